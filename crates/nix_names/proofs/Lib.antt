@@ -1,0 +1,11 @@
+pub mod Base32Bits
+pub mod Base32Chars
+pub mod Base32Digits
+pub mod Base32Laws
+pub mod Base32Reading
+pub mod Base32Texts
+pub mod PathBytes
+pub mod PathDigests
+pub mod PathFaults
+pub mod PathFolders
+pub mod PathTexts

@@ -1,0 +1,6 @@
+use Rattle.std.proofs.Common.{◌≡◌, take}
+use Rattle.nix_names.specs.Base32.{digits_of, text_number}
+use Rattle.nix_names.proofs.base32.bytes_of.Given as goal
+
+abbrev pub invariant-loop-at : goal.invariant-loop-at
+invariant-loop-at l = l.bytes.items ≡ take l.at (digits_of 256 l.n (text_number l.text))

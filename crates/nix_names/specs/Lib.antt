@@ -1,0 +1,6 @@
+pub mod Answers
+pub mod Base32
+pub mod Faults
+pub mod Names
+pub mod Rising
+pub mod StorePaths

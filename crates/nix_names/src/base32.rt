@@ -1,0 +1,225 @@
+//! Bytes as base-32 text and back, in the notation of a store path's hash part (Nix manual, "Store Path").
+//!
+//! n bytes are one number, in which byte i weighs 256 to the power i. Its text has `ceil(8n / 5)` digits of
+//! `0123456789abcdfghijklmnpqrsvwxyz`, the most significant first. The code reads each digit's five bits, and
+//! each byte's eight, where they lie.
+ghost use Rattle.std.specs.Prelude.{◌≡◌, ◌==◌, ◌/◌, ◌%◌, ◌^◌, ◌<◌, ◌≤◌, length, map, reverse, slice_index, string_bytes, IfOk, IfErr, not};
+ghost use Rattle.nix_names.specs.Base32.{alphabet, base32, base32_fault, StandsFor, number, digits_of, text_len, text_number, digit_char, digit_of, is_digit};
+ghost use Rattle.nix_names.specs.Answers.{Answers};
+ghost use Rattle.std.specs.List.{AllPass, position};
+
+use crate::fault::NameFault;
+use std::alloc::{AllocError, Global};
+
+/// The characters of the digits 0 to 31: no e, o, t or u.
+const ALPHABET: &[u8; 32] = b"0123456789abcdfghijklmnpqrsvwxyz";
+
+/// The base-32 text of bytes: `ceil(8n / 5)` characters for n bytes, and none for none.
+///
+/// Fails with `NoMemory` alone. Costs one allocation of the text's length, and one step for each character.
+pub fn to_base32(alloc: Global, bytes: &[u8]) -> Result<String, NameFault>
+    ensures text { IfOk result (λ t. string_bytes t ≡ base32 bytes.now) }
+    ensures stands { IfOk result (λ t. StandsFor (string_bytes t) bytes.now) }
+    ensures only { IfErr result (λ e. e ≡ NameFault.NoMemory) }
+{
+    let len = text_len(bytes.len());
+    let mut text = String::with_capacity(alloc, len)?;
+    for i in 0..len {
+        text.push(digit_char(digit_at(bytes, len - 1 - i)))?;
+    }
+    Ok(text)
+}
+
+/// The `n` bytes that a base-32 text stands for.
+///
+/// Fails with the first of these that holds: `BadLength` where the text has not `ceil(8n / 5)` bytes, `BadChar`
+/// with the place of the first byte that is no digit, counted from 0, and `Overflow` where a bit that the `n`
+/// bytes leave spare is set. So each list of bytes has one text. `NoMemory` comes only where none of them does.
+/// Costs one allocation of `n` bytes, and one step for each character.
+pub fn from_base32(alloc: Global, text: &[u8], n: usize) -> Result<Vec<u8>, NameFault>
+    ensures { Answers (base32_fault text.now n) result (λ bytes. (length bytes.items ≡ n) × StandsFor text.now bytes.items) }
+{
+    if let Some(fault) = fault_of(text, n) {
+        return Err(fault);
+    }
+    Ok(bytes_of(alloc, text, n)?)
+}
+
+/// What is wrong first with a text as that of `n` bytes.
+fn fault_of(text: &[u8], n: usize) -> Option<NameFault>
+    ensures { result ≡ base32_fault text.now n }
+{
+    if n > text.len() || text_len(n) != text.len() {
+        return Some(NameFault::BadLength);
+    }
+    if let Some(place) = first_bad(text) {
+        return Some(NameFault::BadChar(place));
+    }
+    // The spare bits are the low ones of one byte more.
+    let spare = byte_of(text, n);
+    if spare != 0 {
+        return Some(NameFault::Overflow);
+    }
+    None
+}
+
+/// The place of the first character that is no digit.
+fn first_bad(text: &[u8]) -> Option<usize>
+    ensures { result ≡ position (λ c. not (is_digit c)) text.now }
+{
+    text.iter().position(|c| !is_digit(*c))
+}
+
+/// The first `n` bytes of the number that a text of digits writes.
+fn bytes_of(alloc: Global, text: &[u8], n: usize) -> Result<Vec<u8>, AllocError>
+    requires digits { AllPass is_digit text.now }
+    requires within { n ≤ length text.now }
+    ensures { IfOk result (λ bytes. bytes.items ≡ digits_of 256 n (text_number text.now)) }
+{
+    let mut bytes = Vec::with_capacity(alloc, n)?;
+    for at in 0..n {
+        bytes.push(byte_of(text, at))?;
+    }
+    Ok(bytes)
+}
+
+/// How many characters the text of `n` bytes has.
+fn text_len(n: usize) -> usize
+    requires { n < 2 ^ 63 }
+    ensures { result ≡ text_len n }
+{
+    n / 5 * 8 + (n % 5 * 8).div_ceil(5)
+}
+
+/// The character of a digit below 32.
+fn digit_char(digit: u8) -> char
+    requires { digit < 32 }
+    ensures { result ≡ digit_char digit }
+{
+    char::from(ALPHABET[digit as usize])
+}
+
+/// The digit at `place`, counted from the least significant; eight digits are five bytes.
+fn digit_at(bytes: &[u8], place: usize) -> u8
+    ensures { result ≡ number 256 bytes.now / 32 ^ place % 32 }
+{
+    let bit = place % 8 * 5;
+    let at = place / 8 * 5 + bit / 8;
+    let pair = u16::from(byte_at(bytes, at + 1)) * 256 + u16::from(byte_at(bytes, at));
+    ((pair >> (bit % 8)) % 32) as u8
+}
+
+/// The byte at `at`, or 0 past the last.
+fn byte_at(bytes: &[u8], at: usize) -> u8
+    ensures { result ≡ slice_index bytes.now at }
+{
+    bytes.get(at).copied().unwrap_or(0)
+}
+
+/// The byte at `at` of the number that a text of digits writes; five bytes are eight digits.
+fn byte_of(text: &[u8], at: usize) -> u8
+    requires digits { AllPass is_digit text.now }
+    requires within { at ≤ length text.now }
+    ensures { result ≡ text_number text.now / 256 ^ at % 256 }
+{
+    let bit = at % 5 * 8;
+    let place = at / 5 * 8 + bit / 5;
+    let low = u32::from(digit_from_end(text, place));
+    let middle = u32::from(digit_from_end(text, place + 1));
+    let high = u32::from(digit_from_end(text, place + 2));
+    (((high * 1024 + middle * 32 + low) >> (bit % 5)) % 256) as u8
+}
+
+/// The digit at `place`, counted from a text's end, or 0 before its first.
+fn digit_from_end(text: &[u8], place: usize) -> u8
+    ensures { result ≡ slice_index (reverse (map digit_of text.now)) place }
+{
+    if place < text.len() {
+        digit_of(text[text.len() - 1 - place])
+    } else {
+        0
+    }
+}
+
+/// The digit of a character, or 32 where it is none of the alphabet.
+fn digit_of(character: u8) -> u8
+    ensures { result ≡ digit_of character }
+{
+    place_in_alphabet(character).unwrap_or(32) as u8
+}
+
+/// The place of a character in the alphabet.
+fn place_in_alphabet(character: u8) -> Option<usize>
+    ensures { result ≡ position (λ a. a == character) alphabet }
+{
+    ALPHABET.iter().position(|a| *a == character)
+}
+
+/// Whether a character is one of the alphabet.
+pub fn is_digit(character: u8) -> bool
+    ensures { result ≡ is_digit character }
+{
+    ALPHABET.iter().any(|a| *a == character)
+}
+
+#[cfg(test)]
+mod tests {
+    use super::*;
+    use std::test::Fail;
+
+    /// Bytes in hex and their base-32 text.
+    const VECTORS: [(&str, &str); 6] = [
+        ("", ""),
+        ("ff", "7z"),
+        ("0001", "0080"),
+        (
+            "e3b0c44298fc1c149afbf4c8996fb92427ae41e4649b934ca495991b7852b855",
+            "0mdqa9w1p6cmli6976v4wi0sw9r4p5prkj7lzfd1877wk11c9c73",
+        ),
+        (
+            "ba7816bf8f01cfea414140de5dae2223b00361a396177a9cb410ff61f20015ad",
+            "1b8m03r63zqhnjf7l5wnldhh7c134ap5vpj0850ymkq1iyzicy5s",
+        ),
+        (
+            "872b570e3c69850fe2a94c9d996fb92427ae41e4",
+            "wi0sw9r4p5prk7acm7i0z1b97h75faw7",
+        ),
+    ];
+
+    #[test]
+    fn base32_texts(rt: HostRuntime) -> Result<(), Fail> {
+        for (digits, text) in &VECTORS {
+            let bytes = hex::decode(rt.alloc(), *digits)?;
+            assert_eq!(rt; to_base32(rt.alloc(), &bytes)?.as_str(), *text);
+            assert_eq!(rt;
+                from_base32(rt.alloc(), text.as_bytes(), bytes.len())?.as_slice(),
+                bytes.as_slice()
+            );
+        }
+        Ok(())
+    }
+
+    #[test]
+    fn from_base32_one_byte(rt: HostRuntime) -> Result<(), Fail> {
+        assert_eq!(rt;
+            from_base32(rt.alloc(), b"7z", 1)?.as_slice(),
+            [0xff].as_slice()
+        );
+        let refused = [
+            ("8z", NameFault::Overflow),
+            ("0e", NameFault::BadChar(1)),
+            ("ee", NameFault::BadChar(0)),
+            ("ze", NameFault::BadChar(1)),
+            ("000", NameFault::BadLength),
+            ("e", NameFault::BadLength),
+        ];
+        for (text, fault) in &refused {
+            assert_eq!(rt;
+                from_base32(rt.alloc(), text.as_bytes(), 1).err(),
+                Some(*fault),
+                "at {text}"
+            );
+        }
+        Ok(())
+    }
+}

@@ -1,0 +1,79 @@
+//! Why a text is no name, no store path or no base-32 text.
+ghost use Rattle.std.specs.Prelude.{◌≡◌};
+ghost use Rattle.nix_names.specs.Faults.{number_of};
+
+use std::alloc::AllocError;
+use thiserror::Error;
+
+/// Why a call on names refused.
+#[derive(Clone, Copy, Debug, PartialEq, Eq, Error)]
+pub enum NameFault {
+    /// A base-32 text that has not the length of so many bytes.
+    #[error("the text has not the length of so many bytes")]
+    BadLength,
+    /// The place, counted from 0, of the first byte that is no base-32 digit.
+    #[error("byte {0} is no base-32 digit")]
+    BadChar(usize),
+    /// A base-32 text whose number is too large for so many bytes.
+    #[error("the number is too large for so many bytes")]
+    Overflow,
+    /// A text that does not begin with the store folder and a slash.
+    #[error("the path is not in the store folder")]
+    NotInStore,
+    /// What follows the store folder is not 32 base-32 digits and a dash.
+    #[error("the path has no hash part")]
+    BadHashPart,
+    /// Bytes that are no store path's name.
+    #[error("the name is no store path's name")]
+    BadName,
+    /// Bytes that are no store folder.
+    #[error("the folder is no store folder")]
+    BadStoreDir,
+    /// Memory was refused.
+    #[error("memory was refused")]
+    NoMemory,
+}
+
+impl NameFault {
+    /// The fault's number in the table of faults.
+    pub fn number(&self) -> u8
+        ensures { result ≡ number_of self.now }
+    {
+        match self {
+            NameFault::BadLength => 1,
+            NameFault::BadChar(_) => 2,
+            NameFault::Overflow => 3,
+            NameFault::NotInStore => 4,
+            NameFault::BadHashPart => 5,
+            NameFault::BadName => 6,
+            NameFault::BadStoreDir => 7,
+            NameFault::NoMemory => 9,
+        }
+    }
+}
+
+impl From<AllocError> for NameFault {
+    ghost use Rattle.nix_names.specs.declared.fault.NameFault.TheVariants.{NoMemory};
+
+    ghost from_gives = { λ _ fault. fault ≡ NoMemory };
+
+    fn from(_: AllocError) -> Self {
+        NameFault::NoMemory
+    }
+}
+
+#[cfg(test)]
+mod tests {
+    use super::*;
+    use std::test::Fail;
+
+    #[test]
+    fn numbers_and_texts(rt: HostRuntime) -> Result<(), Fail> {
+        assert_eq!(rt; NameFault::BadLength.number(), 1);
+        assert_eq!(rt; NameFault::BadChar(4).number(), 2);
+        assert_eq!(rt; NameFault::NoMemory.number(), 9);
+        let text = format!(in rt.alloc(); "{}", NameFault::BadChar(4))?;
+        assert_eq!(rt; text.as_str(), "byte 4 is no base-32 digit");
+        Ok(())
+    }
+}

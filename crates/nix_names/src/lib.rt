@@ -1,0 +1,30 @@
+//! Base-32 and store paths: the names of things in a Nix store.
+//!
+//! | Module | What is in it |
+//! |---|---|
+//! | `base32` | bytes as base-32 text and back |
+//! | `store_dir` | the folder that a store's paths stand in |
+//! | `store_path` | store paths: parsed, lent, copied, compared |
+//! | `making` | the path of a type, an inner digest, a folder and a name |
+//! | `name` | the bytes of names and components |
+//! | `fault` | why a text is no name, no path or no base-32 text |
+//! | `laws`, `path_laws` | laws over the definitions that contracts cite |
+#![tactic(auto)]
+
+mod base32;
+mod fault;
+pub mod laws;
+mod making;
+mod name;
+pub mod path_laws;
+#[cfg(test)]
+mod path_tests;
+mod store_dir;
+mod store_path;
+
+pub use base32::{from_base32, to_base32};
+pub use fault::NameFault;
+pub use making::{fold20, make_path};
+pub use name::is_name;
+pub use store_dir::StoreDir;
+pub use store_path::{StorePath, parse_path};

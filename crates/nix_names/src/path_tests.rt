@@ -1,0 +1,147 @@
+use crate::*;
+use std::collections::HashMap;
+use std::test::Fail;
+
+// SHA-256 of nothing (FIPS 180-4).
+const NOTHING: &[u8; 64] = b"e3b0c44298fc1c149afbf4c8996fb92427ae41e4649b934ca495991b7852b855";
+
+const EMPTY: &[u8] = b"/nix/store/wi0sw9r4p5prk7acm7i0z1b97h75faw7-empty";
+
+fn nothing() -> [u8; 32] {
+    let mut digest = [0; 32];
+    let _ = hex::decode_to_slice(NOTHING, &mut digest);
+    digest
+}
+
+#[test]
+fn fold_of_empty(rt: HostRuntime) -> Result<(), Fail> {
+    let alloc = rt.alloc();
+    let folded = fold20(&nothing());
+    assert_eq!(rt;
+        hex::encode(alloc, &folded)?.as_str(),
+        "872b570e3c69850fe2a94c9d996fb92427ae41e4"
+    );
+    assert_eq!(rt;
+        to_base32(alloc, &folded)?.as_str(),
+        "wi0sw9r4p5prk7acm7i0z1b97h75faw7"
+    );
+    Ok(())
+}
+
+#[test]
+fn parse_path_cases(rt: HostRuntime) -> Result<(), Fail> {
+    let alloc = rt.alloc();
+    let dir = StoreDir::new(alloc, b"/nix/store")?;
+    let path = parse_path(alloc, &dir, EMPTY)?;
+    assert_eq!(rt; path.text(), EMPTY);
+    assert_eq!(rt;
+        path.hash_part(),
+        b"wi0sw9r4p5prk7acm7i0z1b97h75faw7".as_slice()
+    );
+    assert_eq!(rt; path.name(), b"empty".as_slice());
+    let cases: [(&[u8], NameFault); 5] = [
+        (
+            b"/nix/store/wi0sw9r4p5prk7acm7i0z1b97h75faw7",
+            NameFault::BadHashPart,
+        ),
+        (
+            b"/nix/store/wi0sw9r4p5prk7acm7i0z1b97h75faw7-",
+            NameFault::BadName,
+        ),
+        (
+            b"/nix/store/wi0sw9r4p5prk7acm7i0z1b97h75faw7-.-x",
+            NameFault::BadName,
+        ),
+        (
+            b"/nix/store/ei0sw9r4p5prk7acm7i0z1b97h75faw7-empty",
+            NameFault::BadHashPart,
+        ),
+        (
+            b"/nix/stor/aaaaaaaaaaaaaaaaaaaaaaaaaaaaaaaa-x",
+            NameFault::NotInStore,
+        ),
+    ];
+    for (text, fault) in cases {
+        assert_eq!(rt; parse_path(alloc, &dir, text).err(), Some(fault));
+    }
+    Ok(())
+}
+
+#[test]
+fn text_fingerprints(rt: HostRuntime) -> Result<(), Fail> {
+    let alloc = rt.alloc();
+    let dir = StoreDir::new(alloc, b"/nix/store")?;
+    // As Nix 2.8 prints it for `builtins.toFile "empty" ""`.
+    let empty = make_path(alloc, b"text", &nothing(), &dir, b"empty")?;
+    assert_eq!(rt;
+        empty.text(),
+        b"/nix/store/wflv0hgb0qb1ddc5nxmsg0y9zjjhfvmh-empty".as_slice()
+    );
+    // As its `nix-store --print-fixed-path --recursive sha256` prints it.
+    let source = make_path(alloc, b"source", &nothing(), &dir, b"src")?;
+    assert_eq!(rt;
+        source.text(),
+        b"/nix/store/brxav88rzrya6bhi20qbzdb13b9f9sj5-src".as_slice()
+    );
+    // By sha256sum of the 185 bytes of the fingerprint.
+    let refs =
+        b"text:/nix/store/aaaaaaaaaaaaaaaaaaaaaaaaaaaaaaaa-x:/nix/store/cccccccccccccccccccccccccccccccc-y";
+    let both = make_path(alloc, refs, &nothing(), &dir, b"empty")?;
+    assert_eq!(rt;
+        both.hash_part(),
+        b"9ssrlk9c7rixkm03g2jbzgw38qh9l5k7".as_slice()
+    );
+    assert_eq!(rt;
+        make_path(alloc, b"text", &nothing(), &dir, b"..").err(),
+        Some(NameFault::BadName)
+    );
+    Ok(())
+}
+
+#[test]
+fn store_folders(rt: HostRuntime) -> Result<(), Fail> {
+    let alloc = rt.alloc();
+    assert_eq!(rt;
+        StoreDir::new(alloc, b"/gnu/store")?.text(),
+        b"/gnu/store".as_slice()
+    );
+    let bad: [&[u8]; 6] = [
+        b"",
+        b"/",
+        b"nix",
+        b"/nix/",
+        b"/nix//store",
+        b"/nix/../store",
+    ];
+    for text in bad {
+        assert_eq!(rt;
+            StoreDir::new(alloc, text).err(),
+            Some(NameFault::BadStoreDir)
+        );
+    }
+    Ok(())
+}
+
+#[test]
+fn paths_compare_by_their_text(rt: HostRuntime) -> Result<(), Fail> {
+    let alloc = rt.alloc();
+    let dir = StoreDir::new(alloc, b"/nix/store")?;
+    let x = parse_path(
+        alloc,
+        &dir,
+        b"/nix/store/aaaaaaaaaaaaaaaaaaaaaaaaaaaaaaaa-x",
+    )?;
+    let y = parse_path(
+        alloc,
+        &dir,
+        b"/nix/store/cccccccccccccccccccccccccccccccc-y",
+    )?;
+    assert!(rt; x == x.copy(alloc)?);
+    assert!(rt; x != y);
+    assert!(rt; x < y);
+    let mut seen = HashMap::new(alloc);
+    seen.insert(x.copy(alloc)?, 1)?;
+    assert_eq!(rt; seen.get(&x).copied(), Some(1));
+    assert!(rt; !seen.contains_key(&y));
+    Ok(())
+}

@@ -1,0 +1,235 @@
+//! Store paths: parsed, lent, copied, compared.
+ghost use Rattle.std.specs.Prelude.{◌≡◌, ◌⊎◌, ◌↔◌, IfOk, IfErr, IsTrue, nat_eq, ◌&&◌, ◌+◌, ◌≤◌, ◌++◌, ◌∷◌, [], codes, drop, length, take, MatchResult, Some, None};
+ghost use Rattle.std.specs.List.{list_all, starts_with};
+ghost use Rattle.nix_names.specs.Base32.{is_digit};
+ghost use Rattle.std.specs.Cmp.{partial_equiv_from_equiv, partial_order_from_own_ties};
+ghost use Rattle.std.specs.Cmp.Lexicographic.{pointwise, nat_list_eq_equiv, slice_cmp};
+ghost use Rattle.std.specs.Cmp.Rules.{comparing, hashing};
+ghost use Rattle.std.specs.Hash as fed;
+ghost use Rattle.std.specs.Ordering.{nat_cmp, as_partial_cmp};
+ghost use Rattle.std.proofs.Common.{refl, rules};
+ghost use Rattle.nix_names.specs.Answers.{Answers};
+ghost use Rattle.nix_names.specs.Names.{is_name};
+ghost use Rattle.nix_names.specs.StorePaths.{IsPathOf, IsStorePath, base_fault, base_of, hash_part_of, is_hash_part, name_of, path_fault, path_text};
+
+use crate::base32::is_digit;
+use crate::fault::NameFault;
+use crate::name::is_name;
+use crate::store_dir::StoreDir;
+use std::alloc::Global;
+use std::cmp::Ordering;
+use std::hash::{Hash, Hasher};
+use std::marker::Model;
+
+// The length of a hash part, in bytes.
+const HASH_PART_LEN: usize = 32;
+
+/// A store path, as `/nix/store/<32 base-32 characters>-<name>`. A contract sees its text.
+#[derive(Debug, Drop)]
+pub struct StorePath {
+    text: Vec<u8>,
+    // Where the base name begins, behind the last slash.
+    base_at: usize,
+}
+
+impl Model for StorePath {
+    ghost use Rattle.std.specs.Prelude.{◌≡◌, List, ℕ, drop};
+    ghost use Rattle.nix_names.specs.StorePaths.{IsStorePath, base_of};
+
+    ghost Value = { List ℕ };
+
+    ghost view = { λ path. path.text.items };
+
+    ghost invariant = { λ path. IsStorePath path.text.items × (drop path.base_at path.text.items ≡ base_of path.text.items) };
+}
+
+impl StorePath {
+    /// The whole path, folder and all.
+    pub fn text(&self) -> &[u8]
+        ensures value { result.now ≡ self.now }
+        ensures is_path { IsStorePath self.now }
+    {
+        &self.text
+    }
+
+    /// The 32 base-32 characters that begin the base name.
+    #[tactic(auto, using(crate::proofs::PathTexts::base_long, crate::proofs::PathTexts::hash_part_of_is))]
+    pub fn hash_part(&self) -> &[u8]
+        ensures value { result.now ≡ hash_part_of self.now }
+        ensures is_hash { IsTrue (is_hash_part result.now) }
+    {
+        &self.base()[..HASH_PART_LEN]
+    }
+
+    /// The name, behind the hash part and a dash.
+    #[tactic(auto, using(crate::proofs::PathTexts::base_long, crate::proofs::PathTexts::name_of_is))]
+    pub fn name(&self) -> &[u8]
+        ensures value { result.now ≡ name_of self.now }
+        ensures named { IsTrue (is_name result.now) }
+    {
+        &self.base()[HASH_PART_LEN + 1..]
+    }
+
+    // All behind the last slash.
+    #[tactic(auto, using(crate::proofs::PathTexts::base_at_fits))]
+    fn base(&self) -> &[u8]
+        ensures value { result.now ≡ base_of self.now }
+        ensures is_path { IsStorePath self.now }
+    {
+        &self.text[self.base_at..]
+    }
+
+    /// The same path once more.
+    pub fn copy(&self, alloc: Global) -> Result<StorePath, NameFault>
+        ensures same { IfOk result (λ path. path ≡ self.now) }
+        ensures only { IfErr result (λ e. e ≡ NameFault.NoMemory) }
+    {
+        Ok(StorePath {
+            text: Vec::from_slice(alloc, &self.text)?,
+            base_at: self.base_at,
+        })
+    }
+}
+
+impl PartialEq for StorePath {
+    ghost eq = { pointwise nat_eq };
+
+    ghost laws = { partial_equiv_from_equiv nat_list_eq_equiv };
+
+    fn eq(&self, other: &StorePath) -> bool {
+        self.text() == other.text()
+    }
+}
+
+impl Eq for StorePath {
+    ghost laws = { nat_list_eq_equiv };
+}
+
+impl PartialOrd for StorePath {
+    ghost partial_cmp = { as_partial_cmp (slice_cmp nat_cmp) };
+
+    ghost laws = { partial_order_from_own_ties (Prim.search (comparing, rules)) (Prim.search (comparing, rules)) };
+
+    fn partial_cmp(&self, other: &StorePath) -> Option<Ordering> {
+        Some(self.cmp(other))
+    }
+}
+
+impl Ord for StorePath {
+    ghost cmp = { slice_cmp nat_cmp };
+
+    ghost total = { Prim.search (comparing, rules) };
+
+    ghost matches_partial_cmp = { λ x y. refl };
+
+    ghost matches_eq = { Prim.search (comparing, rules) };
+
+    fn cmp(&self, other: &StorePath) -> Ordering {
+        self.text().cmp(other.text())
+    }
+}
+
+impl Hash for StorePath {
+    ghost hash_input = { fed.slice fed.u8 };
+
+    ghost respects_eq = { Prim.search (hashing, rules) };
+
+    fn hash<H: Hasher>(&self, state: &mut H) {
+        self.text().hash(state);
+    }
+}
+
+/// The path of the store folder that is spelled by these bytes. In this order: `NotInStore` where
+/// they do not begin with the folder and a slash, `BadHashPart` where the next 33 are not 32
+/// base-32 digits and a dash, `BadName` where the rest is no name. Costs one pass and one copy.
+pub fn parse_path(alloc: Global, dir: &StoreDir, text: &[u8]) -> Result<StorePath, NameFault>
+    ensures { Answers (path_fault dir.now text.now) result (λ path. (path ≡ text.now) × IsPathOf dir.now text.now) }
+{
+    check_path(dir.text(), text)?;
+    Ok(StorePath {
+        text: Vec::from_slice(alloc, text)?,
+        base_at: dir.text().len() + 1,
+    })
+}
+
+// The path of the folder with this hash part and name.
+pub fn join_path(
+    alloc: Global,
+    dir: &StoreDir,
+    hash: &[u8],
+    name: &[u8],
+) -> Result<StorePath, NameFault>
+    requires is_hash { IsTrue (is_hash_part hash.now) }
+    requires named { IsTrue (is_name name.now) }
+    ensures ok { IfOk result (λ path. path ≡ path_text dir.now hash.now name.now) }
+    ensures only { IfErr result (λ e. e ≡ NameFault.NoMemory) }
+{
+    let dir = dir.text();
+    let base_at = dir.len() + 1;
+    let mut text = Vec::with_capacity(alloc, base_at + hash.len() + 1 + name.len())?;
+    text.extend_from_slice(dir)?;
+    text.extend_from_slice(b"/")?;
+    text.extend_from_slice(hash)?;
+    text.extend_from_slice(b"-")?;
+    text.extend_from_slice(name)?;
+    Ok(StorePath { text, base_at })
+}
+
+// Err with what is wrong first with a text as a path of the folder.
+fn check_path(dir: &[u8], text: &[u8]) -> Result<(), NameFault>
+    ensures { MatchResult result (λ _. path_fault dir.now text.now ≡ None) (λ e. path_fault dir.now text.now ≡ Some e) }
+{
+    if !is_under(dir, text) {
+        return Err(NameFault::NotInStore);
+    }
+    check_base(&text[dir.len() + 1..])
+}
+
+// Whether a text begins with a folder and a slash.
+#[tactic(auto, using(crate::proofs::PathFaults::starts_with_slash))]
+fn is_under(dir: &[u8], text: &[u8]) -> bool
+    ensures value { result ≡ starts_with nat_eq text.now (dir.now ++ 47 ∷ []) }
+    ensures long { IsTrue result → length dir.now + 1 ≤ length text.now }
+{
+    text.starts_with(dir) && text[dir.len()..].starts_with(b"/")
+}
+
+// Err with what is wrong with a path's base name, the hash part before the name.
+#[tactic(auto, unfolding(crate::specs::StorePaths::base_fault))]
+fn check_base(base: &[u8]) -> Result<(), NameFault>
+    ensures { MatchResult result (λ _. base_fault base.now ≡ None) (λ e. base_fault base.now ≡ Some e) }
+{
+    if !begins_with_hash_part(base) {
+        return Err(NameFault::BadHashPart);
+    }
+    if !is_name(&base[HASH_PART_LEN + 1..]) {
+        return Err(NameFault::BadName);
+    }
+    Ok(())
+}
+
+// Whether a base name begins with a hash part and a dash.
+#[tactic(auto, using(crate::proofs::PathFaults::short_is_no_hash))]
+fn begins_with_hash_part(base: &[u8]) -> bool
+    ensures value { result ≡ (is_hash_part (take 32 base.now) && starts_with nat_eq (drop 32 base.now) (codes "-")) }
+    ensures long { IsTrue result → 33 ≤ length base.now }
+{
+    base.len() > HASH_PART_LEN
+        && is_hash_part(&base[..HASH_PART_LEN])
+        && base[HASH_PART_LEN..].starts_with(b"-")
+}
+
+// Whether some bytes are a hash part.
+#[tactic(auto, unfolding(crate::specs::StorePaths::is_hash_part))]
+fn is_hash_part(hash: &[u8]) -> bool
+    ensures { result ≡ is_hash_part hash.now }
+{
+    hash.len() == HASH_PART_LEN && are_digits(hash)
+}
+
+// Whether each byte is a base-32 digit.
+fn are_digits(bytes: &[u8]) -> bool
+    ensures { result ≡ list_all is_digit bytes.now }
+{
+    bytes.iter().all(|byte| is_digit(*byte))
+}
