@@ -1,0 +1,27 @@
+-- Bytes that were read, whose references were parsed, are found at their own path.
+use Rattle.std.proofs.Common.{◌≡◌, ◌≢◌, ℕ, ◌≤◌, Bool, true, false, not, List, length, refl, sym, ap, subst, ◌∙◌, All, nat_eq}
+use Rattle.std.specs.Cmp.Lexicographic.{pointwise}
+use Rattle.std.proofs.lemmas.Slice.Eq.{bytes_eq-Decides}
+use Rattle.nix_names.specs.StorePaths.{IsPathOf, name_of}
+use Rattle.nix_drv.specs.Checked.{IsDrvPath, IsFoundAt}
+use Rattle.nix_drv.specs.Derivation.{Drv, IsDrvText}
+use Rattle.nix_drv.specs.Outcome.{max_len}
+use Rattle.nix_drv.specs.OwnPath.{is_drv_name, paths_of, text_path}
+use Rattle.nix_drv.specs.References.{IsReferencesOf}
+
+-- the text path with the references of a text is its own path
+pub found_at : (dir path bytes name : List ℕ) (drv : Drv) (refs lent : List (List ℕ)) (own : List ℕ) → name ≡ name_of path → is_drv_name name ≡ true → length bytes ≤ max_len → IsDrvText drv bytes → All (IsPathOf dir) (paths_of drv) → IsReferencesOf (paths_of drv) refs → lent ≡ refs → own ≡ text_path dir name bytes lent → IsFoundAt dir path bytes drv own
+found_at dir path bytes name drv refs lent own named is_drv within is_text good is_refs same is_own = record {
+  read = record { named = subst (λ (n : List ℕ). is_drv_name n ≡ true) named is_drv; within = within; is_text = is_text };
+  in_store = good;
+  own_path = record {
+    refs = refs;
+    rising = is_refs.rising;
+    same = is_refs.same;
+    is_path = is_own ∙ ap (λ (n : List ℕ). text_path dir n bytes lent) named ∙ ap (λ (r : List (List ℕ)). text_path dir (name_of path) bytes r) same;
+  };
+}
+
+-- texts that compare as different are different
+pub differs : (own path : List ℕ) → pointwise nat_eq own path ≡ false → own ≢ path
+differs own path different same = let e : pointwise nat_eq own path ≡ true = (bytes_eq-Decides own path).1 same in cc

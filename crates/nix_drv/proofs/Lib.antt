@@ -1,0 +1,15 @@
+pub mod Steps
+pub mod Fixed
+pub mod Strings
+pub mod Readers
+pub mod Elements
+pub mod Lists
+pub mod Exact
+pub mod Texts
+pub mod Runs
+pub mod Derivations
+pub mod CheckedPaths
+pub mod CheckedOrder
+pub mod CheckedListings
+pub mod CheckedTexts
+pub mod OwnPathLaws

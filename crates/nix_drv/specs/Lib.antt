@@ -1,0 +1,12 @@
+pub mod Strings
+pub mod Grammar
+pub mod Laws
+pub mod Derivation
+pub mod Reading
+pub mod Stops
+pub mod Outcome
+pub mod OwnPath
+pub mod Checked
+pub mod References
+pub mod Sources
+pub mod Listings

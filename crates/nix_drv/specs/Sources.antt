@@ -1,0 +1,91 @@
+-- Where the bytes of derivations come from, and what such a source may answer.
+use Rattle.std.specs.Prelude.{◌≡◌, ◌↔◌, ◌⊎◌, ◌+◌, ◌-◌, ◌^◌, ◌<◌, ◌==◌, ℕ, List, ◌∷◌, Bool, Option, Some, None, Result, Ok, Err, find, if◌then◌else◌}
+use Rattle.std.specs.List.{list_any}
+use Rattle.std.specs.Option.{option_map}
+use Rattle.std.specs.Global.{Vec}
+use Rattle.nix_names.specs.Names.{same_bytes}
+use Rattle.nix_drv.specs.declared.source.SourceFault.{SourceFault}
+use Rattle.nix_drv.specs.declared.source.SourceFault.TheVariants.{Missing, Device, NoMemory}
+
+-- a source's fault by its number in the table of faults
+abbrev pub source_number_of : SourceFault → ℕ
+source_number_of NoMemory = 9
+source_number_of Missing = 17
+source_number_of Device = 18
+
+-- what a source answers for a path: the bytes there, or why there are none
+abbrev pub Answer : Type 0
+Answer = Result (List ℕ) SourceFault
+
+-- two sources may give the same answers
+abbrev pub GivesSame : (List ℕ → Answer → Type 0) → (List ℕ → Answer → Type 0) → Type 0
+GivesSame before after = (path : List ℕ) (answer : Answer) → (before path answer ↔ after path answer)
+
+-- what was fetched is one of the answers that are given, want of memory aside
+abbrev pub IsGiven : (Answer → Type 0) → Result (Vec ℕ) SourceFault → Type 0
+IsGiven gives (Ok bytes) = gives (Ok bytes.items)
+IsGiven gives (Err Missing) = gives (Err Missing)
+IsGiven gives (Err Device) = gives (Err Device)
+IsGiven gives (Err NoMemory) = Unit {0}
+
+-- the greatest count of failures
+abbrev pub most_failures : ℕ
+most_failures = 2 ^ 64 - 1
+
+-- a failed device is counted: the count rose in this call, or stands at the greatest
+abbrev pub IsCounted : (before after : ℕ) → Result (Vec ℕ) SourceFault → Type 0
+IsCounted before after (Ok bytes) = Unit {0}
+IsCounted before after (Err Missing) = Unit {0}
+IsCounted before after (Err Device) = (before < after) ⊎ (after ≡ most_failures)
+IsCounted before after (Err NoMemory) = Unit {0}
+
+-- A list of files, by path and bytes, of which chosen fetches fail; fetches are numbered from 0.
+pub record Listing : Type 0 where
+  pub files : List (List ℕ × List ℕ)
+  pub failing : List ℕ
+  pub fetches : ℕ
+  pub failures : ℕ
+
+-- the bytes of the first file at the path
+abbrev pub bytes_at : List (List ℕ × List ℕ) → List ℕ → Option (List ℕ)
+bytes_at files path = option_map (λ file. file.1) (find (λ file. same_bytes file.0 path) files)
+
+-- what a list of files may give: a path's first bytes, or that it is missing; the device may always fail
+abbrev pub listing_gives : Listing → List ℕ → Answer → Type 0
+listing_gives listing path (Ok bytes) = bytes_at listing.files path ≡ Some bytes
+listing_gives listing path (Err Missing) = bytes_at listing.files path ≡ None
+listing_gives listing path (Err Device) = Unit {0}
+listing_gives listing path (Err NoMemory) = ⊥
+
+-- one more, but the greatest count stays
+abbrev pub counted : ℕ → ℕ
+counted n = if n == most_failures then n else n + 1
+
+-- whether the next fetch is one of those that fail
+abbrev pub is_failing : Listing → Bool
+is_failing listing = list_any (λ number. number == listing.fetches) listing.failing
+
+-- the list of files after a fetch
+abbrev pub after_fetch : Listing → Listing
+after_fetch listing = record {
+  files = listing.files;
+  failing = listing.failing;
+  fetches = counted listing.fetches;
+  failures = if is_failing listing then counted listing.failures else listing.failures;
+}
+
+-- the answer that has these bytes, or that there are none
+abbrev pub found_answer : Option (List ℕ) → Answer
+found_answer (Some bytes) = Ok bytes
+found_answer None = Err Missing
+
+-- what the next fetch of the path answers, want of memory aside
+abbrev pub next_answer : Listing → List ℕ → Answer
+next_answer listing path = if is_failing listing then Err Device else found_answer (bytes_at listing.files path)
+
+-- what was fetched is the answer; memory may be refused where the answer has bytes
+abbrev pub Answers : Answer → Result (Vec ℕ) SourceFault → Type 0
+Answers (Ok bytes) (Ok fetched) = fetched.items ≡ bytes
+Answers (Ok bytes) (Err fault) = fault ≡ NoMemory
+Answers (Err wanted) (Ok fetched) = ⊥
+Answers (Err wanted) (Err fault) = fault ≡ wanted

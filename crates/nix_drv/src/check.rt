@@ -1,0 +1,99 @@
+//! Whether a derivation stands at its own path.
+ghost use Rattle.std.specs.Prelude.{◌≡◌, ◌++◌, [], ◌∷◌, All, IfOk, IfErr, OnOk};
+ghost use Rattle.nix_names.specs.StorePaths.{IsPathOf};
+ghost use Rattle.nix_drv.specs.Checked.{IsCheck};
+ghost use Rattle.nix_drv.specs.OwnPath.{is_drv_name, paths_of};
+ghost use Rattle.nix_drv.specs.References.{IsReferencesOf, IsStrayFault, texts_of};
+
+use crate::derivation::Derivation;
+use crate::fault::DrvFault;
+use crate::reading::read;
+use crate::text_paths::text_path;
+use nix_names::{NameFault, StoreDir, StorePath, parse_path};
+use std::alloc::Global;
+
+/// The derivation whose text these bytes are, which stand at the path. In this order: `NotADrvName`
+/// where the path's name does not end in `.drv` behind at least one byte, `TooLong`, `Syntax` and
+/// `Order` as `read` answers them, `BadReference` with the first input derivation or source that is
+/// no path of the folder, `TextPathMismatch` with the text's own path where that is another path.
+/// Costs one reading, one SHA-256 over the bytes and one sort of the references.
+pub fn check_text(
+    alloc: Global,
+    dir: &StoreDir,
+    path: &StorePath,
+    bytes: &[u8],
+) -> Result<Derivation, DrvFault>
+    ensures { IsCheck dir.now path.now bytes.now result }
+{
+    let name = path.name();
+    if !is_drv_name(name) {
+        return Err(DrvFault::NotADrvName);
+    }
+    let drv = read(alloc, bytes)?;
+    let refs = references(alloc, dir, &drv)?;
+    // The name of a path is a name, so only memory can be refused.
+    let Ok(own) = text_path(alloc, dir, name, bytes, &refs) else {
+        return Err(DrvFault::NoMemory);
+    };
+    if own != *path {
+        return Err(DrvFault::TextPathMismatch(own));
+    }
+    Ok(drv)
+}
+
+// Whether a name is that of a derivation's file.
+fn is_drv_name(name: &[u8]) -> bool
+    ensures { result ≡ is_drv_name name.now }
+{
+    name.len() > 4 && name.ends_with(b".drv")
+}
+
+// The paths that a derivation refers to, as references of its text: rising, each once.
+fn references(alloc: Global, dir: &StoreDir, drv: &Derivation) -> Result<Vec<StorePath>, DrvFault>
+    ensures ok { IfOk result (λ refs. All (IsPathOf dir.now) (paths_of drv.now) × IsReferencesOf (paths_of drv.now) refs.items) }
+    ensures err { IfErr result (IsStrayFault dir.now (paths_of drv.now)) }
+{
+    let mut refs = Vec::new(alloc);
+    add_paths(alloc, dir, paths(drv), &mut refs)?;
+    refs.sort_unstable();
+    refs.dedup();
+    Ok(refs)
+}
+
+// The paths that a derivation refers to. The language's lists are empty, so there are none.
+#[tactic(auto, unfolding(crate::specs::OwnPath::paths_of))]
+fn paths(drv: &Derivation) -> &[Vec<u8>]
+    ensures { texts_of result.now ≡ paths_of drv.now }
+{
+    let _ = drv;
+    &[]
+}
+
+// Adds the paths of the folder that these texts spell.
+fn add_paths(
+    alloc: Global,
+    dir: &StoreDir,
+    texts: &[Vec<u8>],
+    refs: &mut Vec<StorePath>,
+) -> Result<(), DrvFault>
+    ensures added { OnOk result (refs.new.items ≡ refs.old.items ++ texts_of texts.now) }
+    ensures good { OnOk result (All (IsPathOf dir.now) (texts_of texts.now)) }
+    ensures err { IfErr result (IsStrayFault dir.now (texts_of texts.now)) }
+{
+    for text in texts {
+        refs.push(parse_reference(alloc, dir, text)?)?;
+    }
+    Ok(())
+}
+
+// The path of the folder that a text spells.
+fn parse_reference(alloc: Global, dir: &StoreDir, text: &[u8]) -> Result<StorePath, DrvFault>
+    ensures ok { IfOk result (λ path. (path ≡ text.now) × IsPathOf dir.now text.now) }
+    ensures err { IfErr result (IsStrayFault dir.now (text.now ∷ [])) }
+{
+    match parse_path(alloc, dir, text) {
+        Ok(path) => Ok(path),
+        Err(fault) if fault == NameFault::NoMemory => Err(DrvFault::NoMemory),
+        Err(_) => Err(DrvFault::BadReference(Vec::from_slice(alloc, text)?)),
+    }
+}

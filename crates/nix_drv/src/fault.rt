@@ -1,0 +1,94 @@
+//! Why bytes are no derivation, or none that stands at its own path.
+ghost use Rattle.std.specs.Prelude.{◌≡◌};
+ghost use Rattle.nix_drv.specs.Outcome.{number_of};
+ghost use Rattle.nix_drv.specs.declared.fault.DrvFault.TheVariants.{NoMemory};
+ghost use Rattle.nix_drv.specs.declared.fault.Stop.TheVariants.{Memory};
+
+use nix_names::StorePath;
+use std::alloc::{AllocError, AllocFailed};
+use thiserror::Error;
+
+/// Why a call on derivations refused.
+#[derive(Debug, Drop, Error)]
+pub enum DrvFault {
+    /// Memory was refused.
+    #[error("out of memory")]
+    NoMemory,
+    /// The bytes are no text of the language. The place is the length of their longest
+    /// beginning that can still become one.
+    #[error("no derivation from byte {0} on")]
+    Syntax(usize),
+    /// The place of the first element that is not greater than the one before it.
+    #[error("the element at byte {0} is out of order")]
+    Order(usize),
+    /// The text is longer than 4,194,304 bytes.
+    #[error("longer than 4,194,304 bytes")]
+    TooLong,
+    /// The text's own path, which is not the path at which it stands.
+    #[error("the derivation stands at another path than its own")]
+    TextPathMismatch(StorePath),
+    /// The path's name is not that of a derivation's file.
+    #[error("the name is no derivation's name")]
+    NotADrvName,
+    /// The first reference that is no path of the store folder, as it stands in the text.
+    #[error("a reference is no path of the store folder")]
+    BadReference(Vec<u8>),
+}
+
+impl DrvFault {
+    /// The fault's number in the table of faults.
+    pub fn number(&self) -> u8
+        ensures { result ≡ number_of self.now }
+    {
+        match self {
+            DrvFault::NoMemory => 9,
+            DrvFault::Syntax(_) => 10,
+            DrvFault::Order(_) => 11,
+            DrvFault::TooLong => 12,
+            DrvFault::TextPathMismatch(_) => 13,
+            DrvFault::NotADrvName => 14,
+            DrvFault::BadReference(_) => 16,
+        }
+    }
+}
+
+impl From<AllocError> for DrvFault {
+    ghost from_gives = { λ _ e. e ≡ NoMemory };
+
+    fn from(_e: AllocError) -> DrvFault {
+        DrvFault::NoMemory
+    }
+}
+
+impl<T: Drop> From<AllocFailed<T>> for DrvFault {
+    ghost from_gives = { λ _ e. e ≡ NoMemory };
+
+    fn from(_e: AllocFailed<T>) -> DrvFault {
+        DrvFault::NoMemory
+    }
+}
+
+/// Why a reader stopped.
+#[derive(Debug, Drop)]
+pub(crate) enum Stop {
+    /// Memory was refused.
+    Memory,
+    /// So many bytes lie behind the longest beginning that can still become a text.
+    Left(usize),
+}
+
+impl From<AllocError> for Stop {
+    ghost from_gives = { λ _ e. e ≡ Memory };
+
+    fn from(_e: AllocError) -> Stop {
+        Stop::Memory
+    }
+}
+
+impl<T: Drop> From<AllocFailed<T>> for Stop {
+    ghost from_gives = { λ _ e. e ≡ Memory };
+
+    fn from(_e: AllocFailed<T>) -> Stop {
+        Stop::Memory
+    }
+}

@@ -1,0 +1,133 @@
+//! Reading a derivation from its text.
+
+ghost use Rattle.std.specs.Prelude.{◌≡◌, ◌≤◌, ℕ, ◌<◌, true, length, slice_index};
+ghost use Rattle.nix_drv.specs.Strings.{is_plain};
+ghost use Rattle.nix_drv.specs.Grammar.{Str};
+ghost use Rattle.nix_drv.specs.Derivation.{derivation_form, drv_value};
+ghost use Rattle.nix_drv.specs.Reading.{unescaped, escape_at, byte_at, fixed_at, read};
+ghost use Rattle.nix_drv.specs.Stops.{Gives};
+ghost use Rattle.nix_drv.specs.Outcome.{IsReading};
+
+use crate::derivation::Derivation;
+use crate::fault::{DrvFault, Stop};
+use memchr::{memchr2, memchr3};
+use std::alloc::Global;
+
+/// How many bytes a derivation's text may have.
+pub const MAX_LEN: usize = 4_194_304;
+
+fn fixed_of<'a>(bytes: &'a [u8], wanted: &[u8]) -> Result<&'a [u8], Stop>
+    ensures { Gives (λ rest. (tt, rest.now)) result (fixed_at wanted.now bytes.now) }
+{
+    let mut rest = bytes;
+    'wanted: for byte in wanted {
+        let [first, after @ ..] = rest else {
+            return Err(Stop::Left(0));
+        };
+        if first != byte {
+            return Err(Stop::Left(rest.len()));
+        }
+        rest = after;
+    }
+    Ok(rest)
+}
+
+fn unescape(letter: u8) -> Option<u8>
+    ensures { result ≡ unescaped letter }
+{
+    match letter {
+        b'"' => Some(b'"'),
+        b'\\' => Some(b'\\'),
+        b'n' => Some(b'\n'),
+        b'r' => Some(b'\r'),
+        b't' => Some(b'\t'),
+        _ => None,
+    }
+}
+
+fn escape_of(bytes: &[u8]) -> Result<(Option<u8>, &[u8]), Stop>
+    ensures { Gives (λ x. (x.0, x.1.now)) result (escape_at bytes.now) }
+{
+    match bytes {
+        [] => Err(Stop::Left(0)),
+        [letter, rest @ ..] => match unescape(*letter) {
+            None => Err(Stop::Left(bytes.len())),
+            escaped => Ok((escaped, rest)),
+        },
+    }
+}
+
+fn byte_of(bytes: &[u8]) -> Result<(Option<u8>, &[u8]), Stop>
+    ensures { Gives (λ x. (x.0, x.1.now)) result (byte_at bytes.now) }
+{
+    match bytes {
+        [] => Err(Stop::Left(0)),
+        [b'"', rest @ ..] => Ok((None, rest)),
+        [b'\\', rest @ ..] => escape_of(rest),
+        [b'\n' | b'\r' | b'\t', ..] => Err(Stop::Left(bytes.len())),
+        [byte, rest @ ..] => Ok((Some(*byte), rest)),
+    }
+}
+
+fn plain_len(bytes: &[u8]) -> usize
+    ensures within { result ≤ length bytes.now }
+    ensures plain { (k : ℕ) → k < result → is_plain (slice_index bytes.now k) ≡ true }
+{
+    let end = memchr2(b'"', b'\\', bytes).unwrap_or(bytes.len());
+    memchr3(b'\n', b'\r', b'\t', &bytes[..end]).unwrap_or(end)
+}
+
+#[tactic(auto, unfolding(crate::specs::Reading::read))]
+fn str_of(alloc: Global, bytes: &[u8]) -> Result<(Vec<u8>, &[u8]), Stop>
+    ensures { Gives (λ x. (x.0.items, x.1.now)) result (read Str bytes.now) }
+{
+    let mut rest = fixed_of(bytes, b"\"")?;
+    let mut value = Vec::new(alloc);
+    'bytes: loop {
+        let (run, special) = rest.split_at(plain_len(rest));
+        value.extend_from_slice(run)?;
+        match byte_of(special)? {
+            (Some(byte), after) => {
+                value.push(byte)?;
+                rest = after;
+            }
+            (None, after) => return Ok((value, after)),
+        }
+    }
+}
+
+#[tactic(auto, unfolding(crate::specs::Reading::read))]
+fn derivation_of(alloc: Global, bytes: &[u8]) -> Result<(Derivation, &[u8]), Stop>
+    ensures { Gives (λ x. (drv_value x.0, x.1.now)) result (read derivation_form bytes.now) }
+{
+    let rest = fixed_of(bytes, b"Derive([],[],[],")?;
+    let (system, rest) = str_of(alloc, rest)?;
+    let rest = fixed_of(rest, b",")?;
+    let (builder, rest) = str_of(alloc, rest)?;
+    let rest = fixed_of(rest, b",[],[])")?;
+    Ok((Derivation { system, builder }, rest))
+}
+
+/// The derivation whose text the bytes are.
+///
+/// The language is that of store derivations with its five lists empty. Answers
+/// `DrvFault::TooLong` for more than `MAX_LEN` bytes, and else `DrvFault::Syntax` where the bytes
+/// are no derivation's text. Takes time in proportion to the bytes.
+pub fn read(alloc: Global, input: &[u8]) -> Result<Derivation, DrvFault>
+    ensures { IsReading input.now result }
+{
+    if input.len() > MAX_LEN {
+        return Err(DrvFault::TooLong);
+    }
+    match derivation_of(alloc, input) {
+        Ok((derivation, rest)) => {
+            if rest.is_empty() {
+                Ok(derivation)
+            } else {
+                Err(DrvFault::Syntax(input.len() - rest.len()))
+            }
+        }
+        Err(Stop::Left(left)) => Err(DrvFault::Syntax(input.len() - left)),
+        Err(Stop::Memory) => Err(DrvFault::NoMemory),
+    }
+}

@@ -1,0 +1,43 @@
+//! The store path of a text with references.
+ghost use Rattle.std.specs.Prelude.{◌≡◌, Some, None, IfOk, if◌then◌else◌};
+ghost use Rattle.nix_names.specs.Answers.{Answers};
+ghost use Rattle.nix_names.specs.Names.{is_name};
+ghost use Rattle.nix_names.specs.Rising.{IsRising};
+ghost use Rattle.nix_drv.specs.OwnPath.{text_kind, text_path};
+
+use nix_names::{NameFault, StoreDir, StorePath, is_name, make_path};
+use sha2::{Digest, Sha256};
+use std::alloc::{AllocError, Global};
+
+/// The path of a text in a store folder: its name, its bytes, and its references in rising order,
+/// each once. `BadName` where the name is none. Costs one SHA-256 over the bytes, one over the
+/// fingerprint, which holds the references, and one copy of the references.
+#[tactic(auto, unfolding(crate::specs::OwnPath::text_path))]
+pub fn text_path(
+    alloc: Global,
+    dir: &StoreDir,
+    name: &[u8],
+    bytes: &[u8],
+    refs: &[StorePath],
+) -> Result<StorePath, NameFault>
+    requires { IsRising refs.now }
+    ensures { Answers (if is_name name.now then None else Some NameFault.BadName) result (λ path. path ≡ text_path dir.now name.now bytes.now refs.now) }
+{
+    if !is_name(name) {
+        return Err(NameFault::BadName);
+    }
+    let kind = text_kind(alloc, refs)?;
+    make_path(alloc, &kind, &Sha256::digest(bytes), dir, name)
+}
+
+// The type of a text path: `text`, then each reference behind a colon.
+fn text_kind(alloc: Global, refs: &[StorePath]) -> Result<Vec<u8>, AllocError>
+    ensures { IfOk result (λ kind. kind.items ≡ text_kind refs.now) }
+{
+    let mut kind = Vec::from_slice(alloc, b"text")?;
+    for path in refs {
+        kind.extend_from_slice(b":")?;
+        kind.extend_from_slice(path.text())?;
+    }
+    Ok(kind)
+}
