@@ -1,0 +1,32 @@
+-- The words by which a line names a fault: its name, and its value in parentheses.
+use Rattle.std.specs.Prelude.{List, ℕ, ◌++◌, codes, decimal}
+use Rattle.nix_names.specs.declared.fault.NameFault.{NameFault}
+use Rattle.nix_names.specs.declared.fault.NameFault.TheVariants as name
+use Rattle.nix_drv.specs.Strings.{string_text}
+use Rattle.nix_drv.specs.declared.fault.DrvFault.{DrvFault}
+use Rattle.nix_drv.specs.declared.fault.DrvFault.TheVariants.{NoMemory, Syntax, Order, TooLong, TextPathMismatch, NotADrvName, BadReference}
+
+-- a fault's name and its value
+abbrev pub with_value : List ℕ → List ℕ → List ℕ
+with_value fault value = fault ++ codes "(" ++ value ++ codes ")"
+
+-- the words of a fault on names
+abbrev pub name_fault_words : NameFault → List ℕ
+name_fault_words name.BadLength = codes "BadLength"
+name_fault_words (name.BadChar place) = with_value (codes "BadChar") (decimal place)
+name_fault_words name.Overflow = codes "Overflow"
+name_fault_words name.NotInStore = codes "NotInStore"
+name_fault_words name.BadHashPart = codes "BadHashPart"
+name_fault_words name.BadName = codes "BadName"
+name_fault_words name.BadStoreDir = codes "BadStoreDir"
+name_fault_words name.NoMemory = codes "NoMemory"
+
+-- the words of a fault on derivations; a text is spelled as in a derivation's own text
+abbrev pub drv_fault_words : DrvFault → List ℕ
+drv_fault_words NoMemory = codes "NoMemory"
+drv_fault_words (Syntax place) = with_value (codes "Syntax") (decimal place)
+drv_fault_words (Order place) = with_value (codes "Order") (decimal place)
+drv_fault_words TooLong = codes "TooLong"
+drv_fault_words (TextPathMismatch expected) = with_value (codes "TextPathMismatch") expected
+drv_fault_words NotADrvName = codes "NotADrvName"
+drv_fault_words (BadReference text) = with_value (codes "BadReference") (string_text text.items)

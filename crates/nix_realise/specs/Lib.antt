@@ -1,0 +1,3 @@
+pub mod CheckLines
+pub mod FaultWords
+pub mod Folders

@@ -1,0 +1,72 @@
+//! The program `nix_realise`.
+//!
+//! | Module | What is in it |
+//! |---|---|
+//! | `options` | what a command line asks for |
+//! | `words` | the words of a command line, read by `clap` |
+//! | `folder` | derivations read from the files of a folder |
+//! | `fault_words` | the words by which a line names a fault |
+//! | `verdict` | what `check` says of one word |
+//! | `check` | the lines of `check` |
+//! | `stop` | why a run ends without its report |
+//! | `run` | one run of the program |
+#![tactic(auto)]
+
+mod check;
+mod fault_words;
+mod folder;
+mod options;
+mod run;
+mod stop;
+#[cfg(test)]
+mod tests;
+mod verdict;
+mod words;
+
+use run::{print_stop, refuse_words, run};
+use std::alloc::{AllocError, Global};
+use std::io::{BufWriter, ErrorKind, Write};
+use std::process::ExitCode;
+use std::rt::{Env, Files};
+use std::{env, io};
+use stop::Stop;
+
+fn main(rt: HostRuntime) -> ExitCode {
+    let mut err = rt.stderr();
+    let status = match BufWriter::new(rt.alloc(), io::writer(&rt)) {
+        Ok(mut out) => run_arguments(&rt, &mut out, &mut err),
+        Err(_) => print_stop(Stop::NoMemory, &mut err),
+    };
+    ExitCode::from(status)
+}
+
+// Runs the program on the arguments of the process.
+fn run_arguments<R: Env + Files + AllocGlobal, O: Write, E: Write>(
+    rt: &R,
+    out: &mut O,
+    err: &mut E,
+) -> u8 {
+    let alloc = rt.alloc();
+    let arguments = match arguments(rt) {
+        Ok(arguments) => arguments,
+        Err(error) if error.kind() == ErrorKind::InvalidData => return refuse_words(
+            alloc, out, err,
+        ),
+        Err(_) => return print_stop(Stop::NoMemory, err),
+    };
+    match texts(alloc, &arguments) {
+        Ok(words) => run(rt, &words, out, err),
+        Err(_) => print_stop(Stop::NoMemory, err),
+    }
+}
+
+fn arguments<R: Env + AllocGlobal>(rt: &R) -> io::Result<Vec<String>> {
+    Ok(env::args(rt)?.collect(rt.alloc())?)
+}
+
+fn texts(alloc: Global, arguments: &[String]) -> Result<Vec<&str>, AllocError> {
+    arguments
+        .iter()
+        .map(|argument| argument.as_str())
+        .collect(alloc)
+}

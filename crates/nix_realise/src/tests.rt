@@ -1,0 +1,49 @@
+//! Tests of what no clause says: printed texts, statuses, files on disk, refused writes.
+mod files;
+mod lines;
+mod runs;
+
+use crate::run::run;
+use std::io;
+use std::io::Write;
+use std::rt::Files;
+
+/// The derivation of which nothing is set.
+const NOTHING: &[u8; 28] = b"Derive([],[],[],\"\",\"\",[],[])";
+
+/// A run's status, and what it wrote.
+#[derive(Drop)]
+struct Outcome {
+    status: u8,
+    out: Vec<u8>,
+    err: Vec<u8>,
+}
+
+/// Runs the program on a command line.
+fn run_words<'a, R: Files + AllocGlobal>(rt: &R, words: &'a [&'a str]) -> Outcome {
+    let mut out = Vec::new(rt.alloc());
+    let mut err = Vec::new(rt.alloc());
+    let status = run(rt, words, &mut out, &mut err);
+    Outcome { status, out, err }
+}
+
+/// A writer that holds so many bytes, and refuses the next one.
+#[derive(Drop)]
+struct Narrow {
+    room: usize,
+}
+
+impl Write for Narrow {
+    fn write(&mut self, buf: &[u8]) -> io::Result<usize> {
+        if self.room == 0 {
+            return Err(io::Error::other("no room"));
+        }
+        let taken = buf.len().min(self.room);
+        self.room -= taken;
+        Ok(taken)
+    }
+
+    fn flush(&mut self) -> io::Result<()> {
+        Ok(())
+    }
+}

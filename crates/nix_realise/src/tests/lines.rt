@@ -1,0 +1,107 @@
+//! Lines of `check` over files in memory.
+use super::NOTHING;
+use crate::check::check_lines;
+use nix_drv::{ListSource, ListedFile};
+use nix_names::StoreDir;
+use std::alloc::{AllocError, Global};
+use std::test::Fail;
+
+// Each path is what a program of another language made of the rule of text paths.
+const NOTHING_PATH: &str = "/nix/store/5lhp9n6nphjda2gcbmin4vshljbil6kq-nothing.drv";
+
+const LONGEST_PATH: &str = "/nix/store/jk2a2hjia1pk22bkbz224xsar2hj19mj-big.drv";
+
+const TEXT_PATH: &str = "/nix/store/lywz1bhqzs79zmmk12zgdnyld4x8clz1-nothing.txt";
+
+// A list of one file.
+fn one_file(alloc: Global, path: &str, bytes: &[u8]) -> Result<Vec<ListedFile>, AllocError> {
+    let file = ListedFile {
+        path: Vec::from_slice(alloc, path.as_bytes())?,
+        bytes: Vec::from_slice(alloc, bytes)?,
+    };
+    let mut files = Vec::new(alloc);
+    files.push(file)?;
+    Ok(files)
+}
+
+// The lines and the status of one word, whose file has these bytes.
+fn line_of(alloc: Global, path: &str, bytes: &[u8]) -> Result<(Vec<u8>, u8), Fail> {
+    let mut source = ListSource::new(one_file(alloc, path, bytes)?, Vec::new(alloc));
+    let dir = StoreDir::new(alloc, b"/nix/store")?;
+    Ok(check_lines(alloc, &mut source, &dir, &[path])?)
+}
+
+// A derivation's text of 28 bytes and so many more.
+fn longer(alloc: Global, more: usize) -> Result<Vec<u8>, AllocError> {
+    let mut text = Vec::from_slice(alloc, b"Derive([],[],[],\"")?;
+    text.resize(more.saturating_add(17), b'x')?;
+    text.extend_from_slice(b"\",\"\",[],[])")?;
+    Ok(text)
+}
+
+#[test]
+fn nothing_drv(rt: HostRuntime) -> Result<(), Fail> {
+    let (lines, status) = line_of(rt.alloc(), NOTHING_PATH, NOTHING)?;
+    let line = b"ok /nix/store/5lhp9n6nphjda2gcbmin4vshljbil6kq-nothing.drv\n";
+    assert_eq!(rt; lines.as_slice(), line.as_slice());
+    assert_eq!(rt; status, 0);
+    let (lines, status) = line_of(rt.alloc(), NOTHING_PATH, &NOTHING[..27])?;
+    let line = b"bad /nix/store/5lhp9n6nphjda2gcbmin4vshljbil6kq-nothing.drv: Syntax(27)\n";
+    assert_eq!(rt; lines.as_slice(), line.as_slice());
+    assert_eq!(rt; status, 2);
+    Ok(())
+}
+
+#[test]
+fn names_and_paths(rt: HostRuntime) -> Result<(), Fail> {
+    let (lines, _) = line_of(rt.alloc(), TEXT_PATH, NOTHING)?;
+    let line = b"bad /nix/store/lywz1bhqzs79zmmk12zgdnyld4x8clz1-nothing.txt: NotADrvName\n";
+    assert_eq!(rt; lines.as_slice(), line.as_slice());
+    let changed = b"Derive([],[],[],\"\",\"sh\",[],[])";
+    let (lines, _) = line_of(rt.alloc(), NOTHING_PATH, changed)?;
+    let line =
+        b"bad /nix/store/5lhp9n6nphjda2gcbmin4vshljbil6kq-nothing.drv: TextPathMismatch(/nix/store/2ra69nj711sbp6q3y7f2mrx35m5mab8b-nothing.drv)\n";
+    assert_eq!(rt; lines.as_slice(), line.as_slice());
+    Ok(())
+}
+
+#[test]
+fn longest_text(rt: HostRuntime) -> Result<(), Fail> {
+    let longest = longer(rt.alloc(), 4_194_304 - 28)?;
+    let (lines, _) = line_of(rt.alloc(), LONGEST_PATH, &longest)?;
+    let line = b"ok /nix/store/jk2a2hjia1pk22bkbz224xsar2hj19mj-big.drv\n";
+    assert_eq!(rt; lines.as_slice(), line.as_slice());
+    let longest = longer(rt.alloc(), 4_194_305 - 28)?;
+    let (lines, _) = line_of(rt.alloc(), LONGEST_PATH, &longest)?;
+    let line = b"bad /nix/store/jk2a2hjia1pk22bkbz224xsar2hj19mj-big.drv: TooLong\n";
+    assert_eq!(rt; lines.as_slice(), line.as_slice());
+    Ok(())
+}
+
+// The second of three fetches fails; a word that is no path is not fetched.
+#[test]
+fn failing_fetch(rt: HostRuntime) -> Result<(), Fail> {
+    let mut failing = Vec::new(rt.alloc());
+    failing.push(1)?;
+    let files = one_file(rt.alloc(), NOTHING_PATH, NOTHING)?;
+    let mut source = ListSource::new(files, failing);
+    let dir = StoreDir::new(rt.alloc(), b"/nix/store")?;
+    let words = [
+        NOTHING_PATH,
+        "/nix/store/x",
+        NOTHING_PATH,
+        NOTHING_PATH,
+        TEXT_PATH,
+    ];
+    let (lines, status) = check_lines(rt.alloc(), &mut source, &dir, &words)?;
+    let report = b"ok /nix/store/5lhp9n6nphjda2gcbmin4vshljbil6kq-nothing.drv
+bad /nix/store/x: BadHashPart
+bad /nix/store/5lhp9n6nphjda2gcbmin4vshljbil6kq-nothing.drv: Unreadable
+ok /nix/store/5lhp9n6nphjda2gcbmin4vshljbil6kq-nothing.drv
+bad /nix/store/lywz1bhqzs79zmmk12zgdnyld4x8clz1-nothing.txt: Unreadable
+";
+    assert_eq!(rt; lines.as_slice(), report.as_slice());
+    assert_eq!(rt; status, 2);
+    assert_eq!(rt; source.failures(), 1);
+    Ok(())
+}
