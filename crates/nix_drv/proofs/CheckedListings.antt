@@ -1,13 +1,13 @@
 -- A list of files gives what a source may give, and counts its failures.
-use Rattle.std.proofs.Common.{◌≡◌, ◌≢◌, ◌↔◌, ◌⊎◌, inl, inr, ℕ, ◌+◌, ◌<◌, ◌≤◌, Bool, true, false, cond, eqb, List, [], ◌∷◌, map, Option, Some, None, Result, Ok, Err, refl, sym, ap, subst, ◌∙◌, arith}
+use Rattle.std.proofs.Common.{◌≡◌, ◌⊎◌, inl, inr, ℕ, ◌<◌, ◌≤◌, Bool, true, false, cond, eqb, List, [], ◌∷◌, map, Option, Some, None, Result, Ok, Err, refl, sym, ap, subst, ◌∙◌, arith}
 use Rattle.std.specs.Prelude.{find}
 use Rattle.std.specs.Option.{option_map}
 use Rattle.std.specs.Global.{Vec}
 use Rattle.std.proofs.lemmas.Bool.{cases_Bool, eqb-true}
 use Rattle.nix_names.specs.Names.{same_bytes}
-use Rattle.nix_drv.specs.Listings.{pairs_of}
+use Rattle.nix_drv.specs.ListedFiles.{pairs_of}
 use Rattle.nix_drv.specs.declared.listing.ListedFile.{ListedFile}
-use Rattle.nix_drv.specs.Sources.{Answer, Answers, GivesSame, IsCounted, IsGiven, Listing, after_fetch, bytes_at, counted, found_answer, is_failing, listing_gives, most_failures, next_answer}
+use Rattle.nix_drv.specs.Sources.{Answers, GivesSame, IsCounted, IsGiven, Listing, after_fetch, bytes_at, counted, found_answer, is_failing, listing_gives, most_failures, next_answer}
 use Rattle.nix_drv.specs.declared.source.SourceFault.{SourceFault}
 use Rattle.nix_drv.specs.declared.source.SourceFault.TheVariants.{Missing, Device, NoMemory}
 

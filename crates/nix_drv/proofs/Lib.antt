@@ -6,8 +6,15 @@ pub mod Elements
 pub mod Lists
 pub mod Exact
 pub mod Texts
+pub mod Passing
+pub mod Rising
 pub mod Runs
+pub mod Spellings
 pub mod Derivations
+pub mod ListTexts
+pub mod FormTexts
+pub mod ListReadings
+pub mod Back
 pub mod CheckedPaths
 pub mod CheckedOrder
 pub mod CheckedListings

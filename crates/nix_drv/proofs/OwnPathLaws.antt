@@ -1,13 +1,12 @@
 -- A text has one own path: rising lists with the same elements are the same list.
 use Rattle.std.proofs.Common.{◌≡◌, ◌↔◌, ◌⊎◌, inl, inr, ℕ, zero, suc, ◌<◌, List, [], ◌∷◌, length, get_or, refl, sym, ap, subst, ◌∙◌, arith}
 use Rattle.std.specs.List.{Contains}
-use Rattle.std.specs.Ordering.{nat_cmp, ordering_reverse}
+use Rattle.std.specs.Ordering.{nat_cmp}
 use Rattle.std.specs.Cmp.Lexicographic.{slice_cmp}
 use Rattle.std.specs.declared.cmp.Ordering.TheVariants.{Less}
 use Rattle.std.proofs.lemmas.Cmp.{nat_list_cmp_total}
 use Rattle.nix_names.specs.Rising.{IsRising}
-use Rattle.nix_drv.specs.Derivation.{Drv}
-use Rattle.nix_drv.specs.OwnPath.{HasOneOwnPath, IsOwnPath, text_path}
+use Rattle.nix_drv.specs.OwnPath.{HasOneOwnPath, text_path}
 
 -- no text is below itself
 not_below_itself : (x : List ℕ) → slice_cmp nat_cmp x x ≡ Less → ⊥

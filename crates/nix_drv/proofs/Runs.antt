@@ -35,7 +35,7 @@ plain_parts false false true s t e = absurd cc
 plain_parts false false false true t e = absurd cc
 plain_parts false false false false true e = absurd cc
 
-is_plain-true : (b : ℕ) → is_plain b ≡ true → IsPlain b
+pub is_plain-true : (b : ℕ) → is_plain b ≡ true → IsPlain b
 is_plain-true b e =
     let p = plain_parts (eqb b 34) (eqb b 92) (eqb b 10) (eqb b 13) (eqb b 9) e in
     record { no_quote = p.0; no_backslash = p.1; no_newline = p.2; no_return = p.3; no_tab = p.4 }

@@ -1,12 +1,11 @@
 -- What it means that bytes are a derivation that stands at its own path, and the first thing that is wrong where they aren't.
 use Rattle.std.specs.Prelude.{◌≡◌, ◌≢◌, ◌<◌, ◌≤◌, ℕ, List, ◌∷◌, ◌++◌, length, All, IsTrue, Result, Ok, Err}
 use Rattle.nix_names.specs.StorePaths.{IsPathOf, name_of}
-use Rattle.nix_drv.specs.Derivation.{Drv, IsDrvText, derivation_form}
-use Rattle.nix_drv.specs.Grammar.{IsLongestFront}
-use Rattle.nix_drv.specs.Outcome.{max_len}
+use Rattle.nix_drv.specs.Derivation.{Drv, IsDrvText}
+use Rattle.nix_drv.specs.Outcome.{IsReading, max_len}
 use Rattle.nix_drv.specs.OwnPath.{IsOwnPath, is_drv_name, paths_of}
 use Rattle.nix_drv.specs.declared.fault.DrvFault.{DrvFault}
-use Rattle.nix_drv.specs.declared.fault.DrvFault.TheVariants.{Syntax, Order, TooLong, TextPathMismatch, NotADrvName, BadReference, NoMemory}
+use Rattle.nix_drv.specs.declared.fault.DrvFault.TheVariants.{NoMemory, Syntax, Order, TooLong, TextPathMismatch, NotADrvName, NotSorted, BadReference}
 
 -- the path's name is that of a derivation's file
 abbrev pub IsDrvPath : List ℕ → Type 0
@@ -33,15 +32,15 @@ pub record IsFoundAt (dir path bytes : List ℕ) (drv : Drv) (own : List ℕ) : 
   pub own_path : IsOwnPath dir (name_of path) drv bytes own
 
 -- What the check of the bytes at a path of the folder answers. Each refusal comes exactly where it is the first of these that
--- holds: no derivation's name, too long, no derivation's text, a reference outside the folder, another own path. Want of
--- memory comes only under a derivation's name.
+-- holds: no derivation's name; too long, no text of the language, or out of order, as in reading; a reference outside the
+-- folder; another own path. Want of memory comes only under a derivation's name.
 abbrev pub IsCheck : (dir path bytes : List ℕ) → Result Drv DrvFault → Type 0
 IsCheck dir path bytes (Ok drv) = IsFoundAt dir path bytes drv path
 IsCheck dir path bytes (Err NotADrvName) = IsDrvPath path → ⊥
-IsCheck dir path bytes (Err TooLong) = IsDrvPath path × (max_len < length bytes)
-IsCheck dir path bytes (Err (Syntax place)) =
-    IsDrvPath path × (length bytes ≤ max_len) × ((drv : Drv) → IsDrvText drv bytes → ⊥) × IsLongestFront derivation_form bytes place
-IsCheck dir path bytes (Err (Order place)) = ⊥
+IsCheck dir path bytes (Err TooLong) = IsDrvPath path × IsReading bytes (Err TooLong)
+IsCheck dir path bytes (Err (Syntax place)) = IsDrvPath path × IsReading bytes (Err (Syntax place))
+IsCheck dir path bytes (Err (Order place)) = IsDrvPath path × IsReading bytes (Err (Order place))
 IsCheck dir path bytes (Err (BadReference text)) = (drv : Drv) × IsReadAt path bytes drv × IsFirstStray dir (paths_of drv) text.items
 IsCheck dir path bytes (Err (TextPathMismatch expected)) = (drv : Drv) × IsFoundAt dir path bytes drv expected × (expected ≢ path)
 IsCheck dir path bytes (Err NoMemory) = IsDrvPath path
+IsCheck dir path bytes (Err NotSorted) = ⊥

@@ -1,24 +1,46 @@
--- What `read` answers, and the numbers of the faults.
-use Rattle.std.specs.Prelude.{ℕ, ◌<◌, ◌≤◌, List, length, Result, Ok, Err}
+-- What the public calls answer, and the numbers of the faults.
+use Rattle.std.specs.Prelude.{◌≡◌, ℕ, ◌<◌, ◌≤◌, ◌⊎◌, List, length, Vec, Result, Ok, Err}
+use Rattle.std.specs.declared.alloc.Global.{Global}
 use Rattle.nix_drv.specs.declared.fault.DrvFault.{DrvFault}
-use Rattle.nix_drv.specs.declared.fault.DrvFault.TheVariants.{NoMemory, Syntax, Order, TooLong, TextPathMismatch, NotADrvName, BadReference}
+use Rattle.nix_drv.specs.declared.fault.DrvFault.TheVariants.{NoMemory, Syntax, Order, TooLong, TextPathMismatch, NotADrvName, NotSorted, BadReference}
 use Rattle.nix_drv.specs.Grammar.{IsLongestFront}
-use Rattle.nix_drv.specs.Derivation.{Drv, derivation_form, IsDrvText}
+use Rattle.nix_drv.specs.Order.{InOrder, IsFirstViolation}
+use Rattle.nix_drv.specs.Derivation.{Drv, drv_value, derivation_form, IsLooseText, IsDrvText}
 
 -- how many bytes a derivation's text may have
 abbrev pub max_len : ℕ
 max_len = 4194304
 
--- A derivation exactly where the bytes are its text and not too many. Else too many; or no derivation's text, with the length of the longest beginning that can still become one; or memory was refused.
+-- A derivation exactly where the bytes are its text and not too many. Else too many; or no text of the language with its order rules left out, with the length of the longest beginning that can still become one; or a text that breaks them, with the place of the first element that does; or memory was refused.
 abbrev pub IsReading : List ℕ → Result Drv DrvFault → Type 0
 IsReading input (Ok drv) = (length input ≤ max_len) × IsDrvText drv input
 IsReading input (Err TooLong) = max_len < length input
-IsReading input (Err (Syntax place)) = (length input ≤ max_len) × ((drv : Drv) → ¬ IsDrvText drv input) × IsLongestFront derivation_form input place
+IsReading input (Err (Syntax place)) = (length input ≤ max_len) × ((drv : Drv) → ¬ IsLooseText drv input) × IsLongestFront derivation_form input place
+IsReading input (Err (Order place)) = (length input ≤ max_len) × ((drv : Drv) × IsLooseText drv input × IsFirstViolation derivation_form (drv_value drv) place)
 IsReading input (Err NoMemory) = length input ≤ max_len
-IsReading input (Err (Order place)) = ⊥
+IsReading input (Err NotSorted) = ⊥
 IsReading input (Err (TextPathMismatch expected)) = ⊥
 IsReading input (Err NotADrvName) = ⊥
 IsReading input (Err (BadReference text)) = ⊥
+
+-- the derivation of the parts exactly where they keep the order rules
+abbrev pub IsMaking : Drv → Result Drv DrvFault → Type 0
+IsMaking parts (Ok drv) = (drv ≡ parts) × InOrder derivation_form (drv_value parts)
+IsMaking parts (Err fault) = (fault ≡ NotSorted) × (InOrder derivation_form (drv_value parts) → ⊥)
+
+-- the derivation's text, unless memory was refused
+abbrev pub IsWriting : Drv → Result (Vec ℕ Global) DrvFault → Type 0
+IsWriting drv (Ok text) = IsDrvText drv text.items
+IsWriting drv (Err fault) = fault ≡ NoMemory
+
+-- the same derivation, unless memory was refused
+abbrev pub IsCopying : Drv → Result Drv DrvFault → Type 0
+IsCopying drv (Ok copy) = copy ≡ drv
+IsCopying drv (Err fault) = fault ≡ NoMemory
+
+-- reading a derivation's text within the limit answers that derivation, unless memory is refused
+abbrev pub ReadsBack : Type 0
+ReadsBack = (drv : Drv) (text : List ℕ) (answer : Result Drv DrvFault) → IsDrvText drv text → length text ≤ max_len → IsReading text answer → (answer ≡ Ok drv) ⊎ (answer ≡ Err NoMemory)
 
 -- a fault's number in the table of faults
 abbrev pub number_of : DrvFault → ℕ
@@ -28,4 +50,5 @@ number_of (Order place) = 11
 number_of TooLong = 12
 number_of (TextPathMismatch expected) = 13
 number_of NotADrvName = 14
+number_of NotSorted = 15
 number_of (BadReference text) = 16

@@ -1,6 +1,6 @@
 -- *Own path*: the text path at which a derivation's file stands (Nix manual, "Store Path Calculation"; Dolstra, "The Purely
 -- Functional Software Deployment Model", 2006, sections 5.1 and 5.4).
-use Rattle.std.specs.Prelude.{◌≡◌, ◌↔◌, ◌&&◌, Bool, ℕ, List, [], ◌∷◌, ◌++◌, length, flat_map, codes, nat_eq, nat_lt, Contains}
+use Rattle.std.specs.Prelude.{◌≡◌, ◌↔◌, ◌&&◌, Bool, ℕ, List, ◌∷◌, ◌++◌, length, map, flat_map, codes, nat_eq, nat_lt, Contains}
 use Rattle.std.specs.List.{ends_with}
 use Rattle.sha2.specs.Sha256.{sha256}
 use Rattle.nix_names.specs.Rising.{IsRising}
@@ -21,7 +21,7 @@ is_drv_name name = nat_lt 4 (length name) && ends_with nat_eq name (codes ".drv"
 
 -- the paths that a derivation refers to, as they stand in its text: its input derivations, then its sources
 unfoldable pub paths_of : Drv → List (List ℕ)
-paths_of drv = []
+paths_of drv = map (λ input. input.path) drv.inputs ++ drv.sources
 
 -- The path is the own path of a derivation's text: its references are the derivation's paths, each once, in rising order.
 pub record IsOwnPath (dir name : List ℕ) (drv : Drv) (bytes path : List ℕ) : Type 0 where

@@ -1,15 +1,9 @@
 -- The references of a derivation's text, which its own path is made of.
-use Rattle.std.specs.Prelude.{◌≡◌, ◌↔◌, ℕ, List, ◌∷◌, ◌++◌, map, All, Contains, Result, Ok, Err}
-use Rattle.std.specs.Global.{Vec}
+use Rattle.std.specs.Prelude.{◌↔◌, List, ℕ, Contains}
 use Rattle.nix_names.specs.Rising.{IsRising}
-use Rattle.nix_names.specs.StorePaths.{IsPathOf}
 use Rattle.nix_drv.specs.Checked.{IsFirstStray}
 use Rattle.nix_drv.specs.declared.fault.DrvFault.{DrvFault}
-use Rattle.nix_drv.specs.declared.fault.DrvFault.TheVariants.{Syntax, Order, TooLong, TextPathMismatch, NotADrvName, BadReference, NoMemory}
-
--- the bytes of each of some texts
-abbrev pub texts_of : List (Vec ℕ) → List (List ℕ)
-texts_of texts = map (λ text. text.items) texts
+use Rattle.nix_drv.specs.declared.fault.DrvFault.TheVariants.{NoMemory, Syntax, Order, TooLong, TextPathMismatch, NotADrvName, NotSorted, BadReference}
 
 -- The references are the paths, each once, in rising order.
 pub record IsReferencesOf (paths refs : List (List ℕ)) : Type 0 where
@@ -25,3 +19,4 @@ IsStrayFault dir paths (Order place) = ⊥
 IsStrayFault dir paths TooLong = ⊥
 IsStrayFault dir paths (TextPathMismatch expected) = ⊥
 IsStrayFault dir paths NotADrvName = ⊥
+IsStrayFault dir paths NotSorted = ⊥

@@ -1,11 +1,12 @@
 //! Whether a derivation stands at its own path.
-ghost use Rattle.std.specs.Prelude.{◌≡◌, ◌++◌, [], ◌∷◌, All, IfOk, IfErr, OnOk};
+ghost use Rattle.std.specs.Prelude.{◌≡◌, ◌++◌, [], ◌∷◌, map, All, IfOk, IfErr, OnOk};
 ghost use Rattle.nix_names.specs.StorePaths.{IsPathOf};
 ghost use Rattle.nix_drv.specs.Checked.{IsCheck};
 ghost use Rattle.nix_drv.specs.OwnPath.{is_drv_name, paths_of};
-ghost use Rattle.nix_drv.specs.References.{IsReferencesOf, IsStrayFault, texts_of};
+ghost use Rattle.nix_drv.specs.Parts.{bytes_of, path_of};
+ghost use Rattle.nix_drv.specs.References.{IsReferencesOf, IsStrayFault};
 
-use crate::derivation::Derivation;
+use crate::derivation::{Derivation, Input};
 use crate::fault::DrvFault;
 use crate::reading::read;
 use crate::text_paths::text_path;
@@ -54,34 +55,43 @@ fn references(alloc: Global, dir: &StoreDir, drv: &Derivation) -> Result<Vec<Sto
     ensures err { IfErr result (IsStrayFault dir.now (paths_of drv.now)) }
 {
     let mut refs = Vec::new(alloc);
-    add_paths(alloc, dir, paths(drv), &mut refs)?;
+    add_inputs(alloc, dir, drv.inputs(), &mut refs)?;
+    add_sources(alloc, dir, drv.sources(), &mut refs)?;
     refs.sort_unstable();
     refs.dedup();
     Ok(refs)
 }
 
-// The paths that a derivation refers to. The language's lists are empty, so there are none.
-#[tactic(auto, unfolding(crate::specs::OwnPath::paths_of))]
-fn paths(drv: &Derivation) -> &[Vec<u8>]
-    ensures { texts_of result.now ≡ paths_of drv.now }
-{
-    let _ = drv;
-    &[]
-}
-
-// Adds the paths of the folder that these texts spell.
-fn add_paths(
+// Adds the paths of input derivations.
+fn add_inputs(
     alloc: Global,
     dir: &StoreDir,
-    texts: &[Vec<u8>],
+    inputs: &[Input],
     refs: &mut Vec<StorePath>,
 ) -> Result<(), DrvFault>
-    ensures added { OnOk result (refs.new.items ≡ refs.old.items ++ texts_of texts.now) }
-    ensures good { OnOk result (All (IsPathOf dir.now) (texts_of texts.now)) }
-    ensures err { IfErr result (IsStrayFault dir.now (texts_of texts.now)) }
+    ensures added { OnOk result (refs.new.items ≡ refs.old.items ++ map path_of inputs.now) }
+    ensures good { OnOk result (All (IsPathOf dir.now) (map path_of inputs.now)) }
+    ensures err { IfErr result (IsStrayFault dir.now (map path_of inputs.now)) }
 {
-    for text in texts {
-        refs.push(parse_reference(alloc, dir, text)?)?;
+    for input in inputs {
+        refs.push(parse_reference(alloc, dir, &input.path)?)?;
+    }
+    Ok(())
+}
+
+// Adds the paths of sources.
+fn add_sources(
+    alloc: Global,
+    dir: &StoreDir,
+    sources: &[Vec<u8>],
+    refs: &mut Vec<StorePath>,
+) -> Result<(), DrvFault>
+    ensures added { OnOk result (refs.new.items ≡ refs.old.items ++ map bytes_of sources.now) }
+    ensures good { OnOk result (All (IsPathOf dir.now) (map bytes_of sources.now)) }
+    ensures err { IfErr result (IsStrayFault dir.now (map bytes_of sources.now)) }
+{
+    for source in sources {
+        refs.push(parse_reference(alloc, dir, source)?)?;
     }
     Ok(())
 }

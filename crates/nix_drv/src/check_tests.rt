@@ -1,4 +1,5 @@
 use super::*;
+use crate::tests::real::DERIVATIONS;
 use nix_names::{StoreDir, StorePath, parse_path};
 use std::alloc::Global;
 use std::cmp::Ordering;
@@ -77,6 +78,78 @@ fn first_fault(rt: HostRuntime) -> Result<(), Fail> {
     Ok(())
 }
 
+/// A derivation of Nix 2.8.0 that has inputs, a source and arguments.
+const USER_PATH: &[u8] = b"/nix/store/pszp8hiyx2gjz2bjw7jlvm63x58jvx76-user-2.0.drv";
+
+/// Where that derivation stands once the last name in its argument `cat $a $b $c > $out` is `d`.
+const CHANGED_USER_PATH: &[u8] = b"/nix/store/g8qbdhkq7gg88dvj8xiywj8532yx7hbl-user-2.0.drv";
+
+#[test]
+fn derivations_of_nix_stand_at_their_paths(rt: HostRuntime) -> Result<(), Fail> {
+    let alloc = rt.alloc();
+    for written in &DERIVATIONS {
+        assert!(rt; check(alloc, written.path, written.text)?.is_ok());
+    }
+    Ok(())
+}
+
+#[test]
+fn changed_text_old_path(rt: HostRuntime) -> Result<(), Fail> {
+    let alloc = rt.alloc();
+    let user = DERIVATIONS
+        .iter()
+        .find(|written| written.path == USER_PATH)
+        .ok_or("the derivation is one of these")?;
+    let mut text = Vec::from_slice(alloc, user.text)?;
+    *text.get_mut(384).ok_or("the text is longer")? = b'd';
+    match check(alloc, USER_PATH, &text)? {
+        Err(DrvFault::TextPathMismatch(own)) => {
+            assert_eq!(rt; own.text(), CHANGED_USER_PATH);
+        }
+        _ => return Err("the changed text has another path".into()),
+    }
+    assert!(rt; check(alloc, CHANGED_USER_PATH, &text)?.is_ok());
+    Ok(())
+}
+
+#[test]
+fn first_stray_reference(rt: HostRuntime) -> Result<(), Fail> {
+    let alloc = rt.alloc();
+    let rows: [(&[u8], &[u8]); 3] = [
+        (
+            b"Derive([],[(\"/tmp/i.drv\",[\"out\"])],[\"/tmp/a\"],\"\",\"\",[],[])",
+            b"/tmp/i.drv",
+        ),
+        (
+            b"Derive([],[(\"/nix/store/5lhp9n6nphjda2gcbmin4vshljbil6kq-nothing.drv\",[\"out\"])],[\"/nix/store/0gxgilmx7qj69as254xf7j3w4njgmjj4-b\",\"/tmp/a\",\"/tmp/b\"],\"\",\"\",[],[])",
+            b"/tmp/a",
+        ),
+        (
+            b"Derive([],[],[\"/nix/store/x\"],\"\",\"\",[],[])",
+            b"/nix/store/x",
+        ),
+    ];
+    for (text, stray) in rows {
+        match check(alloc, NOTHING_PATH, text)? {
+            Err(DrvFault::BadReference(found)) => assert_eq!(rt; found.as_slice(), stray),
+            _ => return Err("a reference is no path of the folder".into()),
+        }
+    }
+    Ok(())
+}
+
+#[test]
+fn order_before_references(rt: HostRuntime) -> Result<(), Fail> {
+    let falling = b"Derive([],[],[\"/tmp/b\",\"/tmp/a\"],\"\",\"\",[],[])";
+    assert!(rt;
+        matches!(
+            check(rt.alloc(), NOTHING_PATH, falling)?,
+            Err(DrvFault::Order(23))
+        )
+    );
+    Ok(())
+}
+
 #[test]
 fn failing_fetch(rt: HostRuntime) -> Result<(), Fail> {
     let alloc = rt.alloc();
@@ -101,7 +174,6 @@ fn failing_fetch(rt: HostRuntime) -> Result<(), Fail> {
 #[test]
 fn numbers_of_faults(rt: HostRuntime) -> Result<(), Fail> {
     let alloc = rt.alloc();
-    assert_eq!(rt; DrvFault::Order(0).number(), 11);
     assert_eq!(rt;
         DrvFault::TextPathMismatch(in_store(alloc, NOTHING_PATH)?).number(),
         13

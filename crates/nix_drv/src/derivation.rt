@@ -1,14 +1,68 @@
 //! A store derivation.
 
-ghost use Rattle.std.specs.Prelude.{◌≡◌};
+ghost use Rattle.std.specs.Prelude.{◌≡◌, ◌++◌, OnOk, map};
+ghost use Rattle.nix_drv.specs.Grammar.{text};
+ghost use Rattle.nix_drv.specs.Order.{InOrder};
+ghost use Rattle.nix_drv.specs.Derivation.{derivation_form, drv_value};
+ghost use Rattle.nix_drv.specs.Parts.{bytes_of, output_of, input_of, entry_of, drv_of};
+ghost use Rattle.nix_drv.specs.Ordering.{IsOrdering};
+ghost use Rattle.nix_drv.specs.Outcome.{IsCopying, IsMaking};
 
+use crate::fault::DrvFault;
+use crate::forms::{copy_parts, pass_parts, write_parts};
+use std::alloc::{AllocError, Global};
 use std::marker::Model;
 
-/// A derivation, seen as its lists of bytes.
+/// An output of a derivation.
+#[derive(Debug, Drop)]
+pub struct Output {
+    /// Its name, as `out`.
+    pub name: Vec<u8>,
+    /// Its store path; empty in a draft.
+    pub path: Vec<u8>,
+    /// How its content is hashed, as `sha256` or `r:sha256`, where it is fixed; else empty.
+    pub algo: Vec<u8>,
+    /// The hash of its content, in hexadecimal digits, where it is fixed; else empty.
+    pub hash: Vec<u8>,
+}
+
+/// A derivation of which another one uses outputs.
+#[derive(Debug, Drop)]
+pub struct Input {
+    /// The store path of its text.
+    pub path: Vec<u8>,
+    /// The names of the outputs that are used.
+    pub names: Vec<Vec<u8>>,
+}
+
+/// An entry of the builder's environment.
+#[derive(Debug, Drop)]
+pub struct EnvEntry {
+    pub key: Vec<u8>,
+    pub value: Vec<u8>,
+}
+
+/// What a derivation is made of (Nix manual, "Store Derivation"), in any order.
+#[derive(Debug, Drop)]
+pub struct Parts {
+    pub outputs: Vec<Output>,
+    pub inputs: Vec<Input>,
+    /// The store paths of the sources.
+    pub sources: Vec<Vec<u8>>,
+    /// The kind of machine that builds it, as `x86_64-linux`.
+    pub system: Vec<u8>,
+    /// The program that builds it.
+    pub builder: Vec<u8>,
+    /// The builder's arguments.
+    pub args: Vec<Vec<u8>>,
+    pub env: Vec<EnvEntry>,
+}
+
+/// A derivation, seen as its lists of bytes. It keeps the order rules: outputs rise strictly by
+/// name, inputs by path, the names of each input, sources, and the environment by key.
 #[derive(Debug, Drop)]
 pub struct Derivation {
-    pub(crate) system: Vec<u8>,
-    pub(crate) builder: Vec<u8>,
+    parts: Parts,
 }
 
 impl Model for Derivation {
@@ -16,21 +70,101 @@ impl Model for Derivation {
 
     ghost Value = { Drv };
 
-    ghost view = { λ d. record { system = d.system.items; builder = d.builder.items } };
+    ghost use Rattle.nix_drv.specs.Derivation.{derivation_form, drv_value};
+    ghost use Rattle.nix_drv.specs.Order.{InOrder};
+    ghost use Rattle.nix_drv.specs.Parts.{drv_of};
+
+    ghost view = { λ d. drv_of d.parts };
+
+    ghost invariant = { λ d. InOrder derivation_form (drv_value (drv_of d.parts)) };
 }
 
 impl Derivation {
+    /// The derivation of the parts, or the place in their text of the first element that breaks
+    /// the order of its list.
+    pub(crate) fn in_order(parts: Parts) -> Result<Derivation, usize>
+        ensures { IsOrdering (drv_of parts) result }
+    {
+        match pass_parts(&parts) {
+            Ok(_) => Ok(Derivation { parts }),
+            Err(place) => Err(place),
+        }
+    }
+
+    /// The derivation of the parts. Answers `DrvFault::NotSorted` exactly where they break an
+    /// order rule, and drops them then. Takes no memory, and time in proportion to the bytes.
+    pub fn new(parts: Parts) -> Result<Derivation, DrvFault>
+        ensures { IsMaking (drv_of parts) result }
+    {
+        match Derivation::in_order(parts) {
+            Ok(derivation) => Ok(derivation),
+            Err(_) => Err(DrvFault::NotSorted),
+        }
+    }
+
+    /// The same derivation again. Answers `DrvFault::NoMemory` where memory is refused, and no
+    /// other fault.
+    pub fn copy(&self, alloc: Global) -> Result<Derivation, DrvFault>
+        ensures { IsCopying self.now result }
+    {
+        let parts = copy_parts(alloc, &self.parts)?;
+        Ok(Derivation { parts })
+    }
+
+    /// Adds the derivation's text.
+    pub(crate) fn write_to(&self, out: &mut Vec<u8>) -> Result<(), AllocError>
+        ensures ok { OnOk result (out.new.items ≡ out.old.items ++ text derivation_form (drv_value self.now)) }
+        ensures in_order { InOrder derivation_form (drv_value self.now) }
+    {
+        write_parts(&self.parts, out)
+    }
+
+    /// The outputs, by name.
+    pub fn outputs(&self) -> &[Output]
+        ensures { map output_of result.now ≡ self.now.outputs }
+    {
+        &self.parts.outputs
+    }
+
+    /// The input derivations, by path.
+    pub fn inputs(&self) -> &[Input]
+        ensures { map input_of result.now ≡ self.now.inputs }
+    {
+        &self.parts.inputs
+    }
+
+    /// The paths of the sources.
+    pub fn sources(&self) -> &[Vec<u8>]
+        ensures { map bytes_of result.now ≡ self.now.sources }
+    {
+        &self.parts.sources
+    }
+
     /// The kind of machine that builds it.
     pub fn system(&self) -> &[u8]
         ensures { result.now ≡ self.now.system }
     {
-        &self.system
+        &self.parts.system
     }
 
     /// The program that builds it.
     pub fn builder(&self) -> &[u8]
         ensures { result.now ≡ self.now.builder }
     {
-        &self.builder
+        &self.parts.builder
+    }
+
+    /// The builder's arguments, in their order.
+    pub fn args(&self) -> &[Vec<u8>]
+        ensures { map bytes_of result.now ≡ self.now.args }
+    {
+        &self.parts.args
+    }
+
+    /// The builder's environment, by key.
+    pub fn env(&self) -> &[EnvEntry]
+        ensures { map entry_of result.now ≡ self.now.env }
+    {
+        &self.parts.env
     }
 }

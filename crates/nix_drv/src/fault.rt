@@ -18,8 +18,9 @@ pub enum DrvFault {
     /// beginning that can still become one.
     #[error("no derivation from byte {0} on")]
     Syntax(usize),
-    /// The place of the first element that is not greater than the one before it.
-    #[error("the element at byte {0} is out of order")]
+    /// The element at the place isn't greater than the one before it, as its list demands. It is
+    /// the first such element of the text.
+    #[error("out of order at byte {0}")]
     Order(usize),
     /// The text is longer than 4,194,304 bytes.
     #[error("longer than 4,194,304 bytes")]
@@ -30,6 +31,9 @@ pub enum DrvFault {
     /// The path's name is not that of a derivation's file.
     #[error("the name is no derivation's name")]
     NotADrvName,
+    /// The parts break an order rule.
+    #[error("the parts are not sorted")]
+    NotSorted,
     /// The first reference that is no path of the store folder, as it stands in the text.
     #[error("a reference is no path of the store folder")]
     BadReference(Vec<u8>),
@@ -47,6 +51,7 @@ impl DrvFault {
             DrvFault::TooLong => 12,
             DrvFault::TextPathMismatch(_) => 13,
             DrvFault::NotADrvName => 14,
+            DrvFault::NotSorted => 15,
             DrvFault::BadReference(_) => 16,
         }
     }

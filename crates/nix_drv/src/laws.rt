@@ -1,8 +1,10 @@
-//! What holds of the texts of every grammar, proved over the definitions.
+//! What holds of the texts of every grammar, and of own paths, proved over the definitions.
 
 ghost use Rattle.nix_drv.specs.Grammar.{Grammar, IsClear};
-ghost use Rattle.nix_drv.specs.Laws.{HasOneTextEach, HasOneValueEach, HasNoTextWithin};
+ghost use Rattle.nix_drv.specs.Laws.{HasOneTextEach, HasOneValueEach, HasNoTextWithin, OrderMeansRising};
 ghost use Rattle.nix_drv.specs.Derivation.{derivation_form};
+ghost use Rattle.nix_drv.specs.Outcome.{ReadsBack};
+ghost use Rattle.nix_drv.specs.OwnPath.{HasOneOwnPath};
 
 /// A value has one text, a text one value, and no text begins another, in every clear grammar.
 /// The language of derivations is one.
@@ -11,4 +13,21 @@ pub fn texts_tell_values()
     ensures one_value { (g : Grammar) → IsClear g → HasOneValueEach g }
     ensures none_within { (g : Grammar) → IsClear g → HasNoTextWithin g }
     ensures derivations { IsClear derivation_form }
+{}
+
+/// A value keeps the order rules exactly where, in each of its lists that must rise, each key is
+/// less by bytes than the next one.
+pub fn order_means_rising()
+    ensures { (g : Grammar) → OrderMeansRising g }
+{}
+
+/// What `read` may answer for the text that `write` gives of a derivation, within the limit, is
+/// that derivation or want of memory.
+pub fn written_texts_are_read_back()
+    ensures { ReadsBack }
+{}
+
+/// A derivation's text has at most one own path in a folder, under a name.
+pub fn text_has_one_own_path()
+    ensures { HasOneOwnPath }
 {}

@@ -1,36 +1,42 @@
-//! Store derivations: reading them, their own paths, and where their bytes come from.
+//! Store derivations: reading and writing them, their own paths, and where their bytes come from.
 //!
 //! | Module | What is in it |
 //! |---|---|
-//! | `derivation` | a derivation's parts |
+//! | `derivation` | a derivation's parts, in order |
 //! | `reading` | bytes as a derivation |
+//! | `writing` | a derivation as bytes |
+//! | `element` | lists of elements: reading, ordering and writing them |
+//! | `forms` | the elements of a derivation's lists |
 //! | `text_paths` | the store path of a text with references |
 //! | `check` | whether a derivation stands at its own path |
 //! | `source` | where the bytes of derivations come from |
 //! | `listing` | a source that is a list of files in memory |
 //! | `fault` | why bytes are no derivation, or stand at another path |
-//! | `laws`, `path_laws` | laws over the definitions that contracts cite |
+//! | `laws` | laws over the definitions that contracts cite |
 #![tactic(auto)]
 
 mod check;
 #[cfg(test)]
 mod check_tests;
 mod derivation;
+mod element;
 mod fault;
+mod forms;
 pub mod laws;
 mod listing;
-pub mod path_laws;
 mod reading;
 mod source;
 mod text_paths;
+mod writing;
 
 pub use check::check_text;
-pub use derivation::Derivation;
+pub use derivation::{Derivation, EnvEntry, Input, Output, Parts};
 pub use fault::DrvFault;
 pub use listing::{ListSource, ListedFile};
 pub use reading::{MAX_LEN, read};
 pub use source::{DrvSource, SourceFault};
 pub use text_paths::text_path;
+pub use writing::write;
 
 #[cfg(test)]
 mod tests;

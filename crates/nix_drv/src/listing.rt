@@ -2,7 +2,7 @@
 ghost use Rattle.std.specs.Prelude.{◌≡◌, ◌≤◌, find};
 ghost use Rattle.std.specs.Option.{option_copied};
 ghost use Rattle.nix_names.specs.Names.{same_bytes};
-ghost use Rattle.nix_drv.specs.Listings.{pairs_of};
+ghost use Rattle.nix_drv.specs.ListedFiles.{pairs_of};
 ghost use Rattle.nix_drv.specs.Sources.{Answers, GivesSame, IsCounted, IsGiven, after_fetch, bytes_at, listing_gives, next_answer};
 
 use crate::source::{DrvSource, SourceFault};
@@ -28,7 +28,7 @@ pub struct ListSource {
 }
 
 impl Model for ListSource {
-    ghost use Rattle.nix_drv.specs.Listings.{pairs_of};
+    ghost use Rattle.nix_drv.specs.ListedFiles.{pairs_of};
     ghost use Rattle.nix_drv.specs.Sources.{Listing};
 
     ghost Value = { Listing };

@@ -3,20 +3,21 @@
 ghost use Rattle.std.specs.Prelude.{◌≡◌, ◌≤◌, ℕ, ◌<◌, true, length, slice_index};
 ghost use Rattle.nix_drv.specs.Strings.{is_plain};
 ghost use Rattle.nix_drv.specs.Grammar.{Str};
-ghost use Rattle.nix_drv.specs.Derivation.{derivation_form, drv_value};
 ghost use Rattle.nix_drv.specs.Reading.{unescaped, escape_at, byte_at, fixed_at, read};
 ghost use Rattle.nix_drv.specs.Stops.{Gives};
 ghost use Rattle.nix_drv.specs.Outcome.{IsReading};
 
 use crate::derivation::Derivation;
 use crate::fault::{DrvFault, Stop};
+use crate::forms::read_parts;
 use memchr::{memchr2, memchr3};
 use std::alloc::Global;
 
 /// How many bytes a derivation's text may have.
 pub const MAX_LEN: usize = 4_194_304;
 
-fn fixed_of<'a>(bytes: &'a [u8], wanted: &[u8]) -> Result<&'a [u8], Stop>
+/// The bytes behind those that are wanted.
+pub(crate) fn fixed_of<'a>(bytes: &'a [u8], wanted: &[u8]) -> Result<&'a [u8], Stop>
     ensures { Gives (λ rest. (tt, rest.now)) result (fixed_at wanted.now bytes.now) }
 {
     let mut rest = bytes;
@@ -69,7 +70,8 @@ fn byte_of(bytes: &[u8]) -> Result<(Option<u8>, &[u8]), Stop>
     }
 }
 
-fn plain_len(bytes: &[u8]) -> usize
+/// How many bytes from the first on are plain: where a byte follows them, it takes an escape.
+pub(crate) fn plain_len(bytes: &[u8]) -> usize
     ensures within { result ≤ length bytes.now }
     ensures plain { (k : ℕ) → k < result → is_plain (slice_index bytes.now k) ≡ true }
 {
@@ -77,8 +79,9 @@ fn plain_len(bytes: &[u8]) -> usize
     memchr3(b'\n', b'\r', b'\t', &bytes[..end]).unwrap_or(end)
 }
 
+/// The string at the head of the bytes, and those behind it.
 #[tactic(auto, unfolding(crate::specs::Reading::read))]
-fn str_of(alloc: Global, bytes: &[u8]) -> Result<(Vec<u8>, &[u8]), Stop>
+pub(crate) fn str_of(alloc: Global, bytes: &[u8]) -> Result<(Vec<u8>, &[u8]), Stop>
     ensures { Gives (λ x. (x.0.items, x.1.now)) result (read Str bytes.now) }
 {
     let mut rest = fixed_of(bytes, b"\"")?;
@@ -96,33 +99,24 @@ fn str_of(alloc: Global, bytes: &[u8]) -> Result<(Vec<u8>, &[u8]), Stop>
     }
 }
 
-#[tactic(auto, unfolding(crate::specs::Reading::read))]
-fn derivation_of(alloc: Global, bytes: &[u8]) -> Result<(Derivation, &[u8]), Stop>
-    ensures { Gives (λ x. (drv_value x.0, x.1.now)) result (read derivation_form bytes.now) }
-{
-    let rest = fixed_of(bytes, b"Derive([],[],[],")?;
-    let (system, rest) = str_of(alloc, rest)?;
-    let rest = fixed_of(rest, b",")?;
-    let (builder, rest) = str_of(alloc, rest)?;
-    let rest = fixed_of(rest, b",[],[])")?;
-    Ok((Derivation { system, builder }, rest))
-}
-
 /// The derivation whose text the bytes are.
 ///
-/// The language is that of store derivations with its five lists empty. Answers
-/// `DrvFault::TooLong` for more than `MAX_LEN` bytes, and else `DrvFault::Syntax` where the bytes
-/// are no derivation's text. Takes time in proportion to the bytes.
+/// Answers `DrvFault::TooLong` for more than `MAX_LEN` bytes, else `DrvFault::Syntax` where the
+/// bytes aren't in the language with its order rules left out, else `DrvFault::Order` where they
+/// break one. Passes over the bytes once and over the value once.
 pub fn read(alloc: Global, input: &[u8]) -> Result<Derivation, DrvFault>
     ensures { IsReading input.now result }
 {
     if input.len() > MAX_LEN {
         return Err(DrvFault::TooLong);
     }
-    match derivation_of(alloc, input) {
-        Ok((derivation, rest)) => {
+    match read_parts(alloc, input) {
+        Ok((parts, rest)) => {
             if rest.is_empty() {
-                Ok(derivation)
+                match Derivation::in_order(parts) {
+                    Ok(derivation) => Ok(derivation),
+                    Err(place) => Err(DrvFault::Order(place)),
+                }
             } else {
                 Err(DrvFault::Syntax(input.len() - rest.len()))
             }

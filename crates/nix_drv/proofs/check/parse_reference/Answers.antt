@@ -1,4 +1,4 @@
-use Rattle.std.proofs.Common.{◌≡◌, ◌∙◌, sym}
+use Rattle.std.proofs.Common.{◌∙◌, sym}
 use Rattle.nix_drv.proofs.CheckedPaths.{blamed_is_stray, stray_alone}
 use Rattle.nix_drv.proofs.check.parse_reference.Goals as goal
 

@@ -1,0 +1,7 @@
+-- The files of a list as pairs of a path and bytes.
+use Rattle.std.specs.Prelude.{List, ℕ, map}
+use Rattle.nix_drv.specs.declared.listing.ListedFile.{ListedFile}
+
+-- each file's path and bytes
+abbrev pub pairs_of : List ListedFile → List (List ℕ × List ℕ)
+pairs_of files = map (λ file. (file.path.items, file.bytes.items)) files

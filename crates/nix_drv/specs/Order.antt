@@ -1,0 +1,71 @@
+-- The order rules: in a list that must rise, each element's key is greater by bytes than the key of the element before it.
+use Rattle.std.specs.Prelude.{◌≡◌, ℕ, ◌+◌, ◌≤◌, ◌⊎◌, Bool, true, false, not, ◌||◌, if◌then◌else◌, List, [], ◌∷◌, length, Option, Some, None, map}
+use Rattle.std.specs.Cmp.Lexicographic.{slice_cmp}
+use Rattle.std.specs.Ordering.{nat_cmp, is_lt}
+use Rattle.nix_names.specs.Rising.{IsRising}
+use Rattle.nix_drv.specs.Grammar.{ListOrder, Rising, Free, Grammar, Fixed, Str, Then, Many, Value, text}
+
+-- a value of the grammar has a key
+abbrev pub has_key : Grammar → Bool
+has_key (Fixed bytes) = false
+has_key Str = true
+has_key (Then a b) = has_key a || has_key b
+has_key (Many order g) = false
+
+-- an element's key: its first string
+abbrev pub key : (g : Grammar) → Value g → List ℕ
+key (Fixed bytes) v = []
+key Str v = v
+key (Then a b) v = if has_key a then key a v.0 else key b v.1
+key (Many order g) vs = []
+
+-- a list of bytes comes before another
+abbrev pub is_less : List ℕ → List ℕ → Bool
+is_less a b = is_lt (slice_cmp nat_cmp a b)
+
+-- an element with this key may not stand behind one with the key before it, if there is one
+abbrev pub breaks : ListOrder → Option (List ℕ) → List ℕ → Bool
+breaks Free before k = false
+breaks Rising None k = false
+breaks Rising (Some before) k = not (is_less before k)
+
+-- among elements of which the first stands at p, behind one with the key before it, the one at the place breaks the order, or something within one does
+abbrev pub IsViolationAmong : {A : Type 0} → ListOrder → (A → List ℕ) → (A → List ℕ) → (ℕ → A → ℕ → Type 0) → Option (List ℕ) → ℕ → List A → ℕ → Type 0
+IsViolationAmong order key_of text_of Within before p [] place = ⊥
+IsViolationAmong order key_of text_of Within before p (v ∷ vs) place =
+    ((breaks order before (key_of v) ≡ true) × (place ≡ p))
+    ⊎ Within p v place
+    ⊎ IsViolationAmong order key_of text_of Within (Some (key_of v)) (p + length (text_of v) + 1) vs place
+
+-- in the text of the value, which stands at p, the element at the place breaks the order of its list
+unfoldable pub IsViolation : (g : Grammar) → ℕ → Value g → ℕ → Type 0
+IsViolation (Fixed bytes) p v place = ⊥
+IsViolation Str p v place = ⊥
+IsViolation (Then a b) p v place = IsViolation a p v.0 place ⊎ IsViolation b (p + length (text a v.0)) v.1 place
+IsViolation (Many order g) p vs place = IsViolationAmong order (key g) (text g) (IsViolation g) None (p + 1) vs place
+
+-- the value keeps the order rules
+abbrev pub InOrder : (g : Grammar) → Value g → Type 0
+InOrder g v = (place : ℕ) → IsViolation g 0 v place → ⊥
+
+-- the first element of the text that breaks the order of its list stands at the place
+pub record IsFirstViolation (g : Grammar) (v : Value g) (place : ℕ) : Type 0 where
+  pub is_violation : IsViolation g 0 v place
+  pub least : (other : ℕ) → IsViolation g 0 v other → place ≤ other
+
+-- the keys of a list may stand so
+abbrev pub MayStand : ListOrder → List (List ℕ) → Type 0
+MayStand Free ks = Unit {0}
+MayStand Rising ks = IsRising ks
+
+-- each element has the property
+abbrev pub Each : {A : Type 0} → (A → Type 0) → List A → Type 0
+Each P [] = Unit {0}
+Each P (v ∷ vs) = P v × Each P vs
+
+-- the keys of each list that must rise do so, and those of the lists within its elements
+unfoldable pub KeysRise : (g : Grammar) → Value g → Type 0
+KeysRise (Fixed bytes) v = Unit {0}
+KeysRise Str v = Unit {0}
+KeysRise (Then a b) v = KeysRise a v.0 × KeysRise b v.1
+KeysRise (Many order g) vs = MayStand order (map (key g) vs) × Each (KeysRise g) vs

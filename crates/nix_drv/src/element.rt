@@ -1,0 +1,149 @@
+//! What stands in the lists of a derivation, and the lists.
+
+ghost use Rattle.std.specs.Prelude.{◌≡◌, ◌++◌, IfOk, OnOk, map, option_map};
+ghost use Rattle.nix_drv.specs.Grammar.{Grammar, Value, Free, Many, text, IsClear};
+ghost use Rattle.nix_drv.specs.Order.{key as key_of, breaks as breaks_of};
+ghost use Rattle.nix_drv.specs.Listings.{sign_at, list_read, list_text, order_of};
+ghost use Rattle.nix_drv.specs.Reading.{read as read_of};
+ghost use Rattle.nix_drv.specs.Passing.{pass as pass_of};
+ghost use Rattle.nix_drv.specs.Stops.{Gives};
+
+use crate::fault::Stop;
+use crate::reading::fixed_of;
+use std::alloc::{AllocError, Global};
+
+/// An element of a list: how it is read, written and ordered.
+pub(crate) trait Element {
+    ghost form: { Grammar };
+
+    ghost value: { Self → Value form };
+
+    /// What the elements of its list may have to rise by.
+    fn key(&self) -> &[u8]
+        ensures { result.now ≡ key_of form (value self.now) };
+
+    /// The element at the head of the bytes, and those behind it.
+    fn read(alloc: Global, bytes: &[u8]) -> Result<(Self, &[u8]), Stop>
+        ensures { Gives (λ x. (value x.0, x.1.now)) result (read_of form bytes.now) };
+
+    /// The place behind the element's text where it stands at the place, or the place of the
+    /// first element within it that breaks the order of its list.
+    fn pass(&self, place: usize) -> Result<usize, usize>
+        ensures { result ≡ pass_of form place (value self.now) };
+
+    /// Adds the element's text.
+    fn write(&self, out: &mut Vec<u8>) -> Result<(), AllocError>
+        ensures { OnOk result (out.new.items ≡ out.old.items ++ text form (value self.now)) };
+
+    /// An element of the same bytes.
+    fn copy(&self, alloc: Global) -> Result<Self, AllocError>
+        ensures { IfOk result (λ copy. value copy ≡ value self.now) };
+
+    ghost clear: { IsClear (Many Free form) };
+}
+
+/// Whether the elements of a list must rise by their keys.
+#[derive(Clone, Copy)]
+pub(crate) enum Order {
+    Rising,
+    Free,
+}
+
+/// What stands behind an element.
+enum Next {
+    Comma,
+    End,
+}
+
+fn next_of(bytes: &[u8]) -> Result<(Next, &[u8]), Stop>
+    ensures { Gives (λ x. (x.0, x.1.now)) result (sign_at bytes.now) }
+{
+    match bytes {
+        [] => Err(Stop::Left(0)),
+        [b',', rest @ ..] => Ok((Next::Comma, rest)),
+        [b']', rest @ ..] => Ok((Next::End, rest)),
+        _ => Err(Stop::Left(bytes.len())),
+    }
+}
+
+/// The list at the head of the bytes, and those behind it.
+pub(crate) fn read_list<T: Element + Drop>(
+    alloc: Global,
+    bytes: &[u8],
+) -> Result<(Vec<T>, &[u8]), Stop>
+    ensures { Gives (λ x. (map T.value x.0.items, x.1.now)) result (list_read (read_of T.form) bytes.now) }
+{
+    let mut rest = fixed_of(bytes, b"[")?;
+    let mut items = Vec::new(alloc);
+    if let [b']', behind @ ..] = rest {
+        return Ok((items, behind));
+    }
+    'items: loop {
+        let (item, after) = T::read(alloc, rest)?;
+        items.push(item)?;
+        match next_of(after)? {
+            (Next::Comma, behind) => rest = behind,
+            (Next::End, behind) => return Ok((items, behind)),
+        }
+    }
+}
+
+/// Whether an element with this key breaks the order behind one with the key before it.
+fn breaks(order: Order, before: Option<&[u8]>, key: &[u8]) -> bool
+    ensures { result ≡ breaks_of (order_of order) (option_map (λ k. k.now) before.entry) key.now }
+{
+    match (order, before) {
+        (Order::Rising, Some(before)) => !before.cmp(key).is_lt(),
+        _ => false,
+    }
+}
+
+/// The place behind the list's text where it stands at the place, or the place of its first
+/// element that breaks an order. A place past the last number of the machine is that number.
+#[tactic(auto, unfolding(crate::specs::Passing::pass))]
+pub(crate) fn pass_list<T: Element>(order: Order, items: &[T], place: usize) -> Result<usize, usize>
+    ensures { result ≡ pass_of (Many (order_of order) T.form) place (map T.value items.now) }
+{
+    if items.is_empty() {
+        return Ok(place.saturating_add(2));
+    }
+    let mut at = place.saturating_add(1);
+    let mut before: Option<&[u8]> = None;
+    'items: for item in items {
+        let key = item.key();
+        if breaks(order, before, key) {
+            return Err(at);
+        }
+        at = item.pass(at)?.saturating_add(1);
+        before = Some(key);
+    }
+    Ok(at)
+}
+
+/// Adds the list's text.
+pub(crate) fn write_list<T: Element>(items: &[T], out: &mut Vec<u8>) -> Result<(), AllocError>
+    ensures { OnOk result (out.new.items ≡ out.old.items ++ list_text (text T.form) (map T.value items.now)) }
+{
+    let [first, others @ ..] = items else {
+        return out.extend_from_slice(b"[]");
+    };
+    out.push(b'[')?;
+    first.write(out)?;
+    'others: for other in others {
+        out.push(b',')?;
+        other.write(out)?;
+    }
+    out.push(b']')?;
+    Ok(())
+}
+
+/// A list of the same elements.
+pub(crate) fn copy_list<T: Element + Drop>(alloc: Global, items: &[T]) -> Result<Vec<T>, AllocError>
+    ensures { IfOk result (λ copies. map T.value copies.items ≡ map T.value items.now) }
+{
+    let mut copies = Vec::with_capacity(alloc, items.len())?;
+    'items: for item in items {
+        copies.push(item.copy(alloc)?)?;
+    }
+    Ok(copies)
+}

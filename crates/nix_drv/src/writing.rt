@@ -1,0 +1,84 @@
+//! Writing a derivation's text.
+
+ghost use Rattle.std.specs.Prelude.{◌≡◌, ◌++◌, OnOk, is_some, length, count_by};
+ghost use Rattle.nix_drv.specs.Strings.{spelling, string_text, letter};
+ghost use Rattle.nix_drv.specs.Passing.{behind};
+ghost use Rattle.nix_drv.specs.Outcome.{IsWriting};
+
+use crate::derivation::Derivation;
+use crate::fault::DrvFault;
+use crate::reading::plain_len;
+use std::alloc::{AllocError, Global};
+
+/// The letter by which an escape spells the byte, where it takes one.
+fn letter_of(byte: u8) -> Option<u8>
+    ensures { result ≡ letter byte }
+{
+    match byte {
+        b'"' => Some(b'"'),
+        b'\\' => Some(b'\\'),
+        b'\n' => Some(b'n'),
+        b'\r' => Some(b'r'),
+        b'\t' => Some(b't'),
+        _ => None,
+    }
+}
+
+/// Adds the byte as a string spells it.
+fn write_byte(byte: u8, out: &mut Vec<u8>) -> Result<(), AllocError>
+    ensures { OnOk result (out.new.items ≡ out.old.items ++ spelling byte) }
+{
+    match letter_of(byte) {
+        Some(letter) => out.extend_from_slice(&[b'\\', letter]),
+        None => out.extend_from_slice(&[byte]),
+    }
+}
+
+/// Adds the string's text: its plain bytes in runs, the others one by one.
+pub(crate) fn write_str(bytes: &[u8], out: &mut Vec<u8>) -> Result<(), AllocError>
+    ensures { OnOk result (out.new.items ≡ out.old.items ++ string_text bytes.now) }
+{
+    out.push(b'"')?;
+    let mut rest = bytes;
+    'runs: loop {
+        let (run, special) = rest.split_at(plain_len(rest));
+        out.extend_from_slice(run)?;
+        let [byte, behind @ ..] = special else {
+            break;
+        };
+        write_byte(*byte, out)?;
+        rest = behind;
+    }
+    out.push(b'"')?;
+    Ok(())
+}
+
+/// How many of the bytes take an escape.
+fn escapes_in(bytes: &[u8]) -> usize
+    ensures { result ≡ count_by (λ b. is_some (letter b)) bytes.now }
+{
+    bytes
+        .iter()
+        .filter(|byte| letter_of(**byte).is_some())
+        .count()
+}
+
+/// The place behind the string's text where it stands at the place.
+pub(crate) fn pass_str(bytes: &[u8], place: usize) -> usize
+    ensures { result ≡ behind place (length (string_text bytes.now)) }
+{
+    place
+        .saturating_add(bytes.len())
+        .saturating_add(escapes_in(bytes))
+        .saturating_add(2)
+}
+
+/// The derivation's one text. Answers `DrvFault::NoMemory` where memory is refused, and no other
+/// fault. Takes time in proportion to the bytes.
+pub fn write(alloc: Global, derivation: &Derivation) -> Result<Vec<u8>, DrvFault>
+    ensures { IsWriting derivation.now result }
+{
+    let mut text = Vec::new(alloc);
+    derivation.write_to(&mut text)?;
+    Ok(text)
+}
