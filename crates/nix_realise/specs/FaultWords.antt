@@ -4,7 +4,7 @@ use Rattle.nix_names.specs.declared.fault.NameFault.{NameFault}
 use Rattle.nix_names.specs.declared.fault.NameFault.TheVariants as name
 use Rattle.nix_drv.specs.Strings.{string_text}
 use Rattle.nix_drv.specs.declared.fault.DrvFault.{DrvFault}
-use Rattle.nix_drv.specs.declared.fault.DrvFault.TheVariants.{NoMemory, Syntax, Order, TooLong, TextPathMismatch, NotADrvName, BadReference}
+use Rattle.nix_drv.specs.declared.fault.DrvFault.TheVariants.{NoMemory, Syntax, Order, TooLong, TextPathMismatch, NotADrvName, NotSorted, BadReference}
 
 -- a fault's name and its value
 abbrev pub with_value : List ℕ → List ℕ → List ℕ
@@ -29,4 +29,5 @@ drv_fault_words (Order place) = with_value (codes "Order") (decimal place)
 drv_fault_words TooLong = codes "TooLong"
 drv_fault_words (TextPathMismatch expected) = with_value (codes "TextPathMismatch") expected
 drv_fault_words NotADrvName = codes "NotADrvName"
+drv_fault_words NotSorted = codes "NotSorted"
 drv_fault_words (BadReference text) = with_value (codes "BadReference") (string_text text.items)

@@ -1,3 +1,5 @@
+pub mod AddedText
 pub mod CheckLines
 pub mod FaultWords
 pub mod Folders
+pub mod Stops

@@ -41,6 +41,7 @@ pub fn write_drv_fault<W: Write>(out: &mut W, fault: &DrvFault) -> io::Result<()
             out.write_all(b")")
         }
         DrvFault::NotADrvName => out.write_all(b"NotADrvName"),
+        DrvFault::NotSorted => out.write_all(b"NotSorted"),
         DrvFault::BadReference(text) => {
             out.write_all(b"BadReference(")?;
             write_string(out, text)?;

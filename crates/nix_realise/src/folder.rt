@@ -1,5 +1,6 @@
 //! Derivations read from the files of a folder.
-ghost use Rattle.std.specs.Prelude.{◌≡◌, ◌≢◌, ◌≤◌, Err, IfOk, length};
+ghost use Rattle.std.specs.Prelude.{◌≡◌, ◌≢◌, ◌≤◌, ◌↔◌, Err, IfOk, None, length};
+ghost use Rattle.std.specs.IoError.{error_kind, raw_os_error};
 ghost use Rattle.nix_drv.specs.Sources.{IsCounted};
 ghost use Rattle.nix_realise.specs.Folders.{may_give};
 
@@ -47,6 +48,9 @@ impl<'a, R> FolderSource<'a, R> {
 
     // What a failed read answers, counted where the device is to blame.
     fn fault_of(&mut self, error: &io::Error) -> SourceFault
+        ensures missing { (result ≡ SourceFault.Missing) ↔ (error_kind error.now ≡ ErrorKind.NotFound) }
+        ensures memory { (result ≡ SourceFault.NoMemory)
+            ↔ ((error_kind error.now ≡ ErrorKind.OutOfMemory) × (raw_os_error error.now ≡ None)) }
         ensures counted { IsCounted self.old self.new (Err result) }
         ensures counts { self.old ≤ self.new }
         ensures same { result ≢ SourceFault.Device → self.new ≡ self.old }
@@ -68,20 +72,25 @@ impl<R: Files> DrvSource for FolderSource<'_, R> {
     ghost failures = { λ failures. failures };
 
     fn fetch(&mut self, alloc: Global, path: &StorePath) -> Result<Vec<u8>, SourceFault> {
-        match read_start(alloc, self.files, path.text()) {
+        match read_store_file(alloc, self.files, path) {
             Ok(bytes) => Ok(bytes),
             Err(error) => Err(self.fault_of(&error)),
         }
     }
 }
 
-// The first bytes of the file at a path.
-fn read_start<R: Files>(alloc: Global, files: &R, path: &[u8]) -> io::Result<Vec<u8>>
+// The first bytes of the file at a store path.
+fn read_store_file<R: Files>(alloc: Global, files: &R, path: &StorePath) -> io::Result<Vec<u8>>
     ensures { IfOk result (λ bytes. length bytes.items ≤ 4194305) }
 {
-    let Ok(path) = str::from_utf8(path) else {
-        return Err(io::Error::from(ErrorKind::InvalidInput));
-    };
+    read_start(alloc, files, file_path(path)?)
+}
+
+/// The first bytes of the file at a path, at most 4,194,305 of them, so that a file of more than
+/// 4,194,304 is known by their number.
+pub fn read_start<R: Files>(alloc: Global, files: &R, path: &str) -> io::Result<Vec<u8>>
+    ensures { IfOk result (λ bytes. length bytes.items ≤ 4194305) }
+{
     let mut bytes = Vec::new(alloc);
     fs::open(files, path)?
         .take(MAX_READ)
@@ -89,4 +98,14 @@ fn read_start<R: Files>(alloc: Global, files: &R, path: &[u8]) -> io::Result<Vec
     // A reader of bytes that are not known may say more than it was asked for.
     bytes.truncate(MAX_READ as usize);
     Ok(bytes)
+}
+
+/// A store path as the path of a file.
+pub fn file_path(path: &StorePath) -> io::Result<&str> {
+    str::from_utf8(path.text()).map_err(|_| io::Error::from(ErrorKind::InvalidInput))
+}
+
+/// Whether an error is this program's own want of memory, and none of the system's faults.
+pub fn is_no_memory(error: &io::Error) -> bool {
+    error.kind() == ErrorKind::OutOfMemory && error.raw_os_error().is_none()
 }

@@ -4,23 +4,32 @@
 //! |---|---|
 //! | `options` | what a command line asks for |
 //! | `words` | the words of a command line, read by `clap` |
+//! | `store_dir` | the store folder of a command line |
 //! | `folder` | derivations read from the files of a folder |
+//! | `whole_file` | a file that is written whole or not at all |
 //! | `fault_words` | the words by which a line names a fault |
 //! | `verdict` | what `check` says of one word |
 //! | `check` | the lines of `check` |
+//! | `add_text` | the subcommand `add-text` |
 //! | `stop` | why a run ends without its report |
 //! | `run` | one run of the program |
 #![tactic(auto)]
 
+ghost use Rattle.std.specs.Prelude.{◌≡◌, IfOk, map, string_bytes};
+ghost use Rattle.nix_realise.specs.Stops.{IsStatus};
+
+mod add_text;
 mod check;
 mod fault_words;
 mod folder;
 mod options;
 mod run;
 mod stop;
+mod store_dir;
 #[cfg(test)]
 mod tests;
 mod verdict;
+mod whole_file;
 mod words;
 
 use run::{print_stop, refuse_words, run};
@@ -45,7 +54,9 @@ fn run_arguments<R: Env + Files + AllocGlobal, O: Write, E: Write>(
     rt: &R,
     out: &mut O,
     err: &mut E,
-) -> u8 {
+) -> u8
+    ensures { IsStatus result }
+{
     let alloc = rt.alloc();
     let arguments = match arguments(rt) {
         Ok(arguments) => arguments,
@@ -64,9 +75,12 @@ fn arguments<R: Env + AllocGlobal>(rt: &R) -> io::Result<Vec<String>> {
     Ok(env::args(rt)?.collect(rt.alloc())?)
 }
 
-fn texts(alloc: Global, arguments: &[String]) -> Result<Vec<&str>, AllocError> {
-    arguments
-        .iter()
-        .map(|argument| argument.as_str())
-        .collect(alloc)
+fn texts(alloc: Global, arguments: &[String]) -> Result<Vec<&str>, AllocError>
+    ensures { IfOk result (λ words. map (λ w. w.now) words.items ≡ map string_bytes arguments.now) }
+{
+    let mut words = Vec::new(alloc);
+    for argument in arguments {
+        words.push(argument.as_str())?;
+    }
+    Ok(words)
 }

@@ -5,6 +5,8 @@
 pub enum Request<'a> {
     /// `check`: are these texts store derivations, each under its own path?
     Check(CheckRequest<'a>),
+    /// `add-text`: a file's bytes are put into the store.
+    AddText(AddTextRequest<'a>),
 }
 
 /// The words of `check`.
@@ -14,4 +16,15 @@ pub struct CheckRequest<'a> {
     pub store_dir: &'a str,
     /// The paths to check, as they were given and in their order.
     pub drvs: Vec<&'a str>,
+}
+
+/// The words of `add-text`.
+#[derive(Debug, Drop)]
+pub struct AddTextRequest<'a> {
+    /// The store folder, as it was given.
+    pub store_dir: &'a str,
+    /// The name that the text gets in the store.
+    pub name: &'a str,
+    /// The path of the file whose bytes are the text.
+    pub file: &'a str,
 }

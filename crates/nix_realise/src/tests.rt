@@ -1,12 +1,13 @@
 //! Tests of what no clause says: printed texts, statuses, files on disk, refused writes.
+mod added_texts;
 mod files;
 mod lines;
 mod runs;
 
 use crate::run::run;
-use std::io;
 use std::io::Write;
-use std::rt::Files;
+use std::rt::{Env, Files};
+use std::{env, fs, io};
 
 /// The derivation of which nothing is set.
 const NOTHING: &[u8; 28] = b"Derive([],[],[],\"\",\"\",[],[])";
@@ -25,6 +26,18 @@ fn run_words<'a, R: Files + AllocGlobal>(rt: &R, words: &'a [&'a str]) -> Outcom
     let mut err = Vec::new(rt.alloc());
     let status = run(rt, words, &mut out, &mut err);
     Outcome { status, out, err }
+}
+
+/// A folder of its own for each process and test.
+fn new_folder<R: Env + Files + AllocGlobal>(
+    rt: &R,
+    process: u32,
+    test: &str,
+) -> io::Result<String> {
+    let temporary = env::temp_dir(rt)?;
+    let folder = format!(in rt.alloc(); "{}/nufreld-{process}-{test}", temporary.display())?;
+    fs::create_dir(rt, folder.as_str())?;
+    Ok(folder)
 }
 
 /// A writer that holds so many bytes, and refuses the next one.

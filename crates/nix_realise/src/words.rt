@@ -1,5 +1,8 @@
 //! The words of a command line, read by `clap`.
-use crate::options::{CheckRequest, Request};
+ghost use Rattle.std.specs.Prelude.{◌≡◌, IfOk, [], codes, map, option_map, unwrap_or};
+ghost use Rattle.clap.specs.Words.{first_value, found_of, kind_of, matched_of, raw_values};
+
+use crate::options::{AddTextRequest, CheckRequest, Request};
 use clap::error::ErrorKind;
 use clap::{Arg, ArgAction, ArgMatches, Command, Error};
 use std::alloc::{AllocError, Global};
@@ -8,7 +11,15 @@ const STORE_DIR: &str = "store-dir";
 
 const DRVS: &str = "DRV";
 
+const NAME: &str = "NAME";
+
+const FILE: &str = "FILE";
+
 const CHECK: &str = "check";
+
+const ADD_TEXT: &str = "add-text";
+
+const DEFAULT_STORE_DIR: &str = "/nix/store";
 
 /// Reads a command line, whose first word is the program's own name. An error is a mistake in the
 /// words, a request for help, or want of memory; its text is `clap`'s.
@@ -17,33 +28,58 @@ pub fn request<'a>(alloc: Global, words: &'a [&'a str]) -> Result<Request<'a>, E
     let matches = command.try_get_matches_from_mut(words)?;
     match matches.subcommand() {
         Some((CHECK, found)) => Ok(Request::Check(check_request(alloc, found)?)),
+        Some((ADD_TEXT, found)) => Ok(Request::AddText(add_text_request(found))),
         _ => Err(command.error(ErrorKind::MissingSubcommand, "a subcommand is required")?),
     }
 }
 
 /// The usage fault of a command line that has a word which is not UTF-8.
-pub fn not_text(alloc: Global) -> Result<Error, AllocError> {
+pub fn not_text(alloc: Global) -> Result<Error, AllocError>
+    ensures { IfOk result (λ e. kind_of e ≡ ErrorKind.ValueValidation) }
+{
     command(alloc)?.error(
         ErrorKind::ValueValidation,
         "invalid UTF-8 was detected in one or more arguments",
     )
 }
 
-fn check_request<'a>(
-    alloc: Global,
-    found: &ArgMatches<'a>,
-) -> Result<CheckRequest<'a>, AllocError> {
+// What the matches of `check` say.
+fn check_request<'a>(alloc: Global, found: &ArgMatches<'a>) -> Result<CheckRequest<'a>, AllocError>
+    ensures store_dir { IfOk result (λ r. r.store_dir.now ≡ unwrap_or (first_value (found_of found.now) (codes "store-dir")) (codes "/nix/store")) }
+    ensures drvs { IfOk result (λ r. map (λ w. w.now) r.drvs.items ≡ unwrap_or (option_map raw_values (matched_of (found_of found.now) (codes "DRV"))) []) }
+{
     Ok(CheckRequest {
-        store_dir: found.get_str(STORE_DIR).unwrap_or("/nix/store"),
+        store_dir: store_dir_of(found),
         drvs: Vec::from_slice(alloc, found.get_strs(DRVS).unwrap_or(&[]))?,
     })
 }
 
+// What the matches of `add-text` say.
+fn add_text_request<'a>(found: &ArgMatches<'a>) -> AddTextRequest<'a>
+    ensures store_dir { result.store_dir.now ≡ unwrap_or (first_value (found_of found.now) (codes "store-dir")) (codes "/nix/store") }
+    ensures name { result.name.now ≡ unwrap_or (first_value (found_of found.now) (codes "NAME")) [] }
+    ensures file { result.file.now ≡ unwrap_or (first_value (found_of found.now) (codes "FILE")) [] }
+{
+    AddTextRequest {
+        store_dir: store_dir_of(found),
+        name: found.get_str(NAME).unwrap_or(""),
+        file: found.get_str(FILE).unwrap_or(""),
+    }
+}
+
+// The store folder that the matches give, or the usual one.
+fn store_dir_of<'a>(found: &ArgMatches<'a>) -> &'a str
+    ensures { result.now ≡ unwrap_or (first_value (found_of found.now) (codes "store-dir")) (codes "/nix/store") }
+{
+    found.get_str(STORE_DIR).unwrap_or(DEFAULT_STORE_DIR)
+}
+
 fn command<'a>(alloc: Global) -> Result<Command<'a>, AllocError> {
     Command::new(alloc, "nix_realise")
-        .about("Checks store derivations")
+        .about("Checks store derivations and adds texts to a store")
         .subcommand_required(true)
-        .subcommand(check_command(alloc)?)
+        .subcommand(check_command(alloc)?)?
+        .subcommand(add_text_command(alloc)?)
 }
 
 fn check_command<'a>(alloc: Global) -> Result<Command<'a>, AllocError> {
@@ -58,10 +94,26 @@ fn check_command<'a>(alloc: Global) -> Result<Command<'a>, AllocError> {
         )
 }
 
+fn add_text_command<'a>(alloc: Global) -> Result<Command<'a>, AllocError> {
+    Command::new(alloc, ADD_TEXT)
+        .about("Prints the store path of a text and writes the text there")
+        .arg(store_dir(alloc))?
+        .arg(
+            Arg::new(alloc, NAME)
+                .help("The name that the text gets in the store")
+                .required(true),
+        )?
+        .arg(
+            Arg::new(alloc, FILE)
+                .help("The file whose bytes are the text")
+                .required(true),
+        )
+}
+
 fn store_dir<'a>(alloc: Global) -> Arg<'a> {
     Arg::new(alloc, STORE_DIR)
         .long(STORE_DIR)
         .value_name("D")
         .help("The store folder, in paths and on disk")
-        .default_value("/nix/store")
+        .default_value(DEFAULT_STORE_DIR)
 }

@@ -1,23 +1,10 @@
 //! `check` over files on disk.
-use super::{NOTHING, run_words};
+use super::{NOTHING, new_folder, run_words};
 use crate::folder::FolderSource;
 use nix_drv::{DrvSource, SourceFault, text_path};
 use nix_names::StoreDir;
-use std::rt::{Env, Files};
 use std::test::Fail;
-use std::{env, fs, io, process, str};
-
-// A folder of its own for each process and test.
-fn new_folder<R: Env + Files + AllocGlobal>(
-    rt: &R,
-    process: u32,
-    test: &str,
-) -> io::Result<String> {
-    let temporary = env::temp_dir(rt)?;
-    let folder = format!(in rt.alloc(); "{}/nufreld-{process}-{test}", temporary.display())?;
-    fs::create_dir(rt, folder.as_str())?;
-    Ok(folder)
-}
+use std::{fs, io, process, str};
 
 // The line of a word, with its newline.
 fn line<R: AllocGlobal>(rt: &R, path: &str, fault: &str) -> io::Result<String> {

@@ -66,6 +66,20 @@ fn names_and_paths(rt: HostRuntime) -> Result<(), Fail> {
 }
 
 #[test]
+fn order_and_references(rt: HostRuntime) -> Result<(), Fail> {
+    let falling = b"Derive([],[],[\"/tmp/b\",\"/tmp/a\"],\"\",\"\",[],[])";
+    let (lines, _) = line_of(rt.alloc(), NOTHING_PATH, falling)?;
+    let line = b"bad /nix/store/5lhp9n6nphjda2gcbmin4vshljbil6kq-nothing.drv: Order(23)\n";
+    assert_eq!(rt; lines.as_slice(), line.as_slice());
+    let stray = b"Derive([],[(\"/tmp/\\\"i\",[\"out\"])],[\"/tmp/a\"],\"\",\"\",[],[])";
+    let (lines, _) = line_of(rt.alloc(), NOTHING_PATH, stray)?;
+    let line =
+        b"bad /nix/store/5lhp9n6nphjda2gcbmin4vshljbil6kq-nothing.drv: BadReference(\"/tmp/\\\"i\")\n";
+    assert_eq!(rt; lines.as_slice(), line.as_slice());
+    Ok(())
+}
+
+#[test]
 fn longest_text(rt: HostRuntime) -> Result<(), Fail> {
     let longest = longer(rt.alloc(), 4_194_304 - 28)?;
     let (lines, _) = line_of(rt.alloc(), LONGEST_PATH, &longest)?;

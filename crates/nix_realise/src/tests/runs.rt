@@ -15,7 +15,11 @@ fn check_outside_store(rt: HostRuntime) {
 #[test]
 fn help(rt: HostRuntime) {
     let ran = run_words(&rt, &["nix_realise", "--help"]);
-    assert!(rt; ran.out.starts_with(b"Checks store derivations\n\nUsage: nix_realise <COMMAND>\n"));
+    assert!(rt;
+        ran.out.starts_with(
+            b"Checks store derivations and adds texts to a store\n\nUsage: nix_realise <COMMAND>\n"
+        )
+    );
     assert_eq!(rt; ran.err.len(), 0);
     assert_eq!(rt; ran.status, 0);
 }
@@ -34,6 +38,10 @@ fn usage_faults(rt: HostRuntime) -> Result<(), Fail> {
         (
             "nix_realise check",
             "error: the following required arguments were not provided:\n  <DRV>...\n",
+        ),
+        (
+            "nix_realise add-text x",
+            "error: the following required arguments were not provided:\n  <FILE>\n",
         ),
         (
             "nix_realise check -x",
