@@ -1,0 +1,6 @@
+pub mod Answered
+pub mod Findings
+pub mod Folders
+pub mod Pieces
+pub mod Rooms
+pub mod Uniqueness

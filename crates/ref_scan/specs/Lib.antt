@@ -1,0 +1,5 @@
+pub mod Faults
+pub mod Known
+pub mod Room
+pub mod Scan
+pub mod Trees

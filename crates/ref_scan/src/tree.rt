@@ -1,0 +1,101 @@
+//! Trees of files and folders, and the limits of an output.
+ghost use Rattle.std.specs.Prelude.{◌≡◌, ◌≤◌, ◌+◌, ◌↔◌, IsTrue, MatchOption};
+ghost use Rattle.ref_scan.specs.Room.{FitsIn, Fills};
+ghost use Rattle.ref_scan.specs.Scan.{Occurs};
+ghost use Rattle.ref_scan.specs.Trees.{Fits};
+
+use memchr::memmem::Finder;
+
+// The most levels of an output's tree.
+const MAX_DEPTH: usize = 32;
+
+// The most entries of an output's folders, at all depths.
+const MAX_ENTRIES: usize = 65_536;
+
+// The most bytes of an output's files together.
+const MAX_FILE_BYTES: usize = 67_108_864;
+
+/// A file, or a folder with all that is in it.
+#[derive(Debug, Drop)]
+#[cycle(tree)]
+pub enum Tree {
+    /// A file's bytes.
+    File(Vec<u8>),
+    /// A folder's entries, in any order.
+    Dir(Vec<Entry>),
+}
+
+/// A named member of a folder.
+#[derive(Debug, Drop)]
+#[cycle(tree)]
+pub struct Entry {
+    /// The name, without the folder's path.
+    pub name: Vec<u8>,
+    /// What stands under it.
+    pub tree: Tree,
+}
+
+// What a tree may still take up.
+#[derive(Clone, Copy)]
+struct Room {
+    entries: usize,
+    bytes: usize,
+}
+
+impl Tree {
+    /// Whether the tree is within the limits of an output: at most 32 levels (a file and an empty
+    /// folder have one), 65,536 entries (the named members of folders at any depth, without the
+    /// root) and 67,108,864 bytes of files. Takes no memory, and looks at no level past the limit.
+    pub fn fits(&self) -> bool
+        ensures { IsTrue result ↔ Fits self.now }
+    {
+        let room = Room {
+            entries: MAX_ENTRIES,
+            bytes: MAX_FILE_BYTES,
+        };
+        self.room_beside(MAX_DEPTH - 1, room).is_some()
+    }
+
+    // What is left of the room beside the tree, if it fits in with so many levels below its root.
+    fn room_beside(&self, below: usize, room: Room) -> Option<Room>
+        ensures { MatchOption result (¬ FitsIn below room self.now) (λ left. Fills below room self.now left) }
+    {
+        match self {
+            Tree::File(bytes) => Some(Room {
+                bytes: room.bytes.checked_sub(bytes.len())?,
+                ..room
+            }),
+            Tree::Dir(entries) => {
+                let mut left = Room {
+                    entries: room.entries.checked_sub(entries.len())?,
+                    ..room
+                };
+                for entry in entries {
+                    left = entry.tree.room_beside(below.checked_sub(1)?, left)?;
+                }
+                Some(left)
+            }
+        }
+    }
+
+    // Whether the part stands within a file's bytes or within an entry's name.
+    #[tactic(auto, using(crate::proofs::Pieces::searched_start))]
+    pub(crate) fn holds(&self, part: &Finder) -> bool
+        ensures { IsTrue result ↔ Occurs part.now self.now }
+    {
+        match self {
+            Tree::File(bytes) => part.find(bytes).is_some(),
+            Tree::Dir(entries) => {
+                for Entry { name, tree } in entries {
+                    if part.find(name).is_some() {
+                        return true;
+                    }
+                    if tree.holds(part) {
+                        return true;
+                    }
+                }
+                false
+            }
+        }
+    }
+}
