@@ -2,11 +2,12 @@
 use Rattle.std.proofs.Common.{◌≡◌, ◌≢◌, ℕ, ◌≤◌, true, false, List, length, ap, subst, ◌∙◌, All, nat_eq}
 use Rattle.std.specs.Cmp.Lexicographic.{pointwise}
 use Rattle.std.proofs.lemmas.Slice.Eq.{bytes_eq-Decides}
+use Rattle.nix_names.specs.Names.{is_drv_name}
 use Rattle.nix_names.specs.StorePaths.{IsPathOf, name_of}
 use Rattle.nix_drv.specs.Checked.{IsFoundAt}
 use Rattle.nix_drv.specs.Derivation.{Drv, IsDrvText}
 use Rattle.nix_drv.specs.Outcome.{max_len}
-use Rattle.nix_drv.specs.OwnPath.{is_drv_name, paths_of, text_path}
+use Rattle.nix_drv.specs.OwnPath.{paths_of, text_path}
 use Rattle.nix_drv.specs.References.{IsReferencesOf}
 
 -- the text path with the references of a text is its own path

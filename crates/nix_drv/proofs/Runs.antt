@@ -1,5 +1,5 @@
 -- Reading fixed bytes one by one, and a string by runs of plain bytes.
-use Rattle.std.proofs.Common.{◌≡◌, ℕ, zero, suc, ◌<◌, ◌≤◌, Bool, true, false, not, ◌||◌, eqb, List, [], ◌∷◌, ◌++◌, length, get_or, take, drop, Option, Some, None, Result, Ok, Err, refl, sym, ap, ◌∙◌, arith, drop-cons}
+use Rattle.std.proofs.Common.{◌≡◌, ◌⊎◌, inl, inr, subst, ℕ, zero, suc, ◌<◌, ◌≤◌, Bool, true, false, not, ◌||◌, eqb, List, [], ◌∷◌, ◌++◌, length, get_or, take, drop, Option, Some, None, Result, Ok, Err, refl, sym, ap, ◌∙◌, arith, drop-cons}
 use Rattle.std.specs.Prelude.{unwrap_or, slice_index}
 use Rattle.std.proofs.lemmas.Bool.{ne_eqb}
 use Rattle.std.proofs.lemmas.List.{append-nil, nil_from_length, length-take, get_or-take}
@@ -127,3 +127,27 @@ plain_run s end stop quote control first end-is other stop-is k lt =
     let same : slice_index (take end s) k ≡ slice_index s k = get_or-take end s k 0 short in
     is_plain-from (slice_index s k) (none_before (is_byte2 34 92) s quote first k (omega arith))
     (λ e. none_before (is_byte3 10 13 9) (take end s) control other k within (rw same e))
+
+plain_not : (p q r s t : Bool) → ((p || q) ≡ true) ⊎ ((r || s || t) ≡ true) → not (p || q || r || s || t) ≡ false
+plain_not true q r s t e = refl
+plain_not false true r s t e = refl
+plain_not false false true s t e = refl
+plain_not false false false true t e = refl
+plain_not false false false false true e = refl
+plain_not false false false false false (inl e) = absurd cc
+plain_not false false false false false (inr e) = absurd cc
+
+is_plain-not : (b : ℕ) → ((eqb b 34 || eqb b 92) ≡ true) ⊎ ((eqb b 10 || eqb b 13 || eqb b 9) ≡ true) → is_plain b ≡ false
+is_plain-not b = plain_not (eqb b 34) (eqb b 92) (eqb b 10) (eqb b 13) (eqb b 9)
+
+-- the byte behind a run takes an escape, where there is one
+pub plain_end : (s : List ℕ) (end stop : ℕ) (quote control : Option ℕ) → IsFirstByte (is_byte2 34 92) s quote → end ≡ unwrap_or quote (length s) → IsFirstByte (is_byte3 10 13 9) (take end s) control → stop ≡ unwrap_or control end
+    → stop < length s → is_plain (slice_index s stop) ≡ false
+plain_end s end stop quote (Some place) first end-is other stop-is lt =
+    let fits : end ≤ length s = omega (arith, first_within (is_byte2 34 92) s quote first) in
+    let high : place < length (take end s) = other.0.high in
+    let short : place < end = omega (arith, high, length-take end s) in
+    let same : slice_index (take end s) place ≡ slice_index s place = get_or-take end s place 0 short in
+    rw stop-is (is_plain-not (slice_index s place) (inr (subst (λ (b : ℕ). is_byte3 10 13 9 b ≡ true) same other.1)))
+plain_end s end stop (Some place) None first end-is other stop-is lt = rw (stop-is, end-is) (is_plain-not (slice_index s place) (inl first.1))
+plain_end s end stop None None first end-is other stop-is lt = absurd (omega (arith, lt, stop-is, end-is))

@@ -1,15 +1,11 @@
 -- What it means that bytes are a derivation that stands at its own path, and the first thing that is wrong where they aren't.
-use Rattle.std.specs.Prelude.{◌≡◌, ◌≢◌, ◌<◌, ◌≤◌, ℕ, List, ◌∷◌, ◌++◌, length, All, IsTrue, Result, Ok, Err}
-use Rattle.nix_names.specs.StorePaths.{IsPathOf, name_of}
+use Rattle.std.specs.Prelude.{◌≡◌, ◌≢◌, ◌<◌, ◌≤◌, ℕ, List, ◌∷◌, ◌++◌, length, All, Result, Ok, Err}
+use Rattle.nix_names.specs.StorePaths.{IsDrvPath, IsPathOf, name_of}
 use Rattle.nix_drv.specs.Derivation.{Drv, IsDrvText}
 use Rattle.nix_drv.specs.Outcome.{IsReading, max_len}
-use Rattle.nix_drv.specs.OwnPath.{IsOwnPath, is_drv_name, paths_of}
+use Rattle.nix_drv.specs.OwnPath.{IsOwnPath, paths_of}
 use Rattle.nix_drv.specs.declared.fault.DrvFault.{DrvFault}
 use Rattle.nix_drv.specs.declared.fault.DrvFault.TheVariants.{NoMemory, Syntax, Order, TooLong, TextPathMismatch, NotADrvName, NotSorted, BadReference}
-
--- the path's name is that of a derivation's file
-abbrev pub IsDrvPath : List ℕ → Type 0
-IsDrvPath path = IsTrue (is_drv_name (name_of path))
 
 -- The bytes, which stand at the path, are within the limit and are the derivation's text.
 pub record IsReadAt (path bytes : List ℕ) (drv : Drv) : Type 0 where

@@ -1,7 +1,6 @@
 -- *Own path*: the text path at which a derivation's file stands (Nix manual, "Store Path Calculation"; Dolstra, "The Purely
 -- Functional Software Deployment Model", 2006, sections 5.1 and 5.4).
-use Rattle.std.specs.Prelude.{◌≡◌, ◌↔◌, ◌&&◌, Bool, ℕ, List, ◌∷◌, ◌++◌, length, map, flat_map, codes, nat_eq, nat_lt, Contains}
-use Rattle.std.specs.List.{ends_with}
+use Rattle.std.specs.Prelude.{◌≡◌, ◌↔◌, ℕ, List, ◌∷◌, ◌++◌, map, flat_map, codes, Contains}
 use Rattle.sha2.specs.Sha256.{sha256}
 use Rattle.nix_names.specs.Rising.{IsRising}
 use Rattle.nix_names.specs.StorePaths.{store_path}
@@ -14,10 +13,6 @@ text_kind refs = codes "text" ++ flat_map (λ ref. 58 ∷ ref) refs
 -- the path of a text in a folder, by its name, its bytes and its references
 unfoldable pub text_path : (dir name bytes : List ℕ) → (refs : List (List ℕ)) → List ℕ
 text_path dir name bytes refs = store_path (text_kind refs) (sha256 bytes) dir name
-
--- whether a name is that of a derivation's file: it ends in `.drv`, with at least one byte before it
-abbrev pub is_drv_name : List ℕ → Bool
-is_drv_name name = nat_lt 4 (length name) && ends_with nat_eq name (codes ".drv")
 
 -- the paths that a derivation refers to, as they stand in its text: its input derivations, then its sources
 unfoldable pub paths_of : Drv → List (List ℕ)

@@ -2,7 +2,7 @@
 ghost use Rattle.std.specs.Prelude.{◌≡◌, ◌++◌, [], ◌∷◌, map, All, IfOk, IfErr, OnOk};
 ghost use Rattle.nix_names.specs.StorePaths.{IsPathOf};
 ghost use Rattle.nix_drv.specs.Checked.{IsCheck};
-ghost use Rattle.nix_drv.specs.OwnPath.{is_drv_name, paths_of};
+ghost use Rattle.nix_drv.specs.OwnPath.{paths_of};
 ghost use Rattle.nix_drv.specs.Parts.{bytes_of, path_of};
 ghost use Rattle.nix_drv.specs.References.{IsReferencesOf, IsStrayFault};
 
@@ -10,7 +10,7 @@ use crate::derivation::{Derivation, Input};
 use crate::fault::DrvFault;
 use crate::reading::read;
 use crate::text_paths::text_path;
-use nix_names::{NameFault, StoreDir, StorePath, parse_path};
+use nix_names::{NameFault, StoreDir, StorePath, is_drv_name, parse_path};
 use std::alloc::Global;
 
 /// The derivation whose text these bytes are, which stand at the path. In this order: `NotADrvName`
@@ -40,13 +40,6 @@ pub fn check_text(
         return Err(DrvFault::TextPathMismatch(own));
     }
     Ok(drv)
-}
-
-// Whether a name is that of a derivation's file.
-fn is_drv_name(name: &[u8]) -> bool
-    ensures { result ≡ is_drv_name name.now }
-{
-    name.len() > 4 && name.ends_with(b".drv")
 }
 
 // The paths that a derivation refers to, as references of its text: rising, each once.

@@ -1,6 +1,6 @@
 //! Reading a derivation from its text.
 
-ghost use Rattle.std.specs.Prelude.{◌≡◌, ◌≤◌, ℕ, ◌<◌, true, length, slice_index};
+ghost use Rattle.std.specs.Prelude.{false, ◌≡◌, ◌≤◌, ℕ, ◌<◌, true, length, slice_index};
 ghost use Rattle.nix_drv.specs.Strings.{is_plain};
 ghost use Rattle.nix_drv.specs.Grammar.{Str};
 ghost use Rattle.nix_drv.specs.Reading.{unescaped, escape_at, byte_at, fixed_at, read};
@@ -74,6 +74,7 @@ fn byte_of(bytes: &[u8]) -> Result<(Option<u8>, &[u8]), Stop>
 pub(crate) fn plain_len(bytes: &[u8]) -> usize
     ensures within { result ≤ length bytes.now }
     ensures plain { (k : ℕ) → k < result → is_plain (slice_index bytes.now k) ≡ true }
+    ensures ends { result < length bytes.now → is_plain (slice_index bytes.now result) ≡ false }
 {
     let end = memchr2(b'"', b'\\', bytes).unwrap_or(bytes.len());
     memchr3(b'\n', b'\r', b'\t', &bytes[..end]).unwrap_or(end)

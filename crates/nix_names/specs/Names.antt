@@ -1,7 +1,7 @@
 -- The names of store paths and the folders that hold them (Nix manual, "Store Path").
-use Rattle.std.specs.Prelude.{◌≡◌, ◌≢◌, ◌≤◌, ◌==◌, ◌&&◌, ◌||◌, not, Bool, ℕ, List, [], ◌∷◌, length, codes, nat_le, nat_eq, IsTrue, All}
+use Rattle.std.specs.Prelude.{◌≡◌, ◌≢◌, ◌≤◌, ◌==◌, ◌&&◌, ◌||◌, not, Bool, ℕ, List, [], ◌∷◌, length, codes, nat_le, nat_lt, nat_eq, IsTrue, All}
 use Rattle.std.specs.Char.{is_ascii_alphanumeric}
-use Rattle.std.specs.List.{list_all, list_any, starts_with, flat_map}
+use Rattle.std.specs.List.{list_all, list_any, starts_with, ends_with, flat_map}
 use Rattle.std.specs.Cmp.Lexicographic.{pointwise}
 
 -- whether a byte may stand in a name: A-Z a-z 0-9 + - . _ ? =
@@ -21,6 +21,10 @@ is_dotted name =
 -- whether some bytes are a store path's name: 1 to 211 of a name's characters, not dotted
 unfoldable pub is_name : List ℕ → Bool
 is_name name = nat_le 1 (length name) && nat_le (length name) 211 && list_all is_name_char name && not (is_dotted name)
+
+-- whether a name is that of a derivation's file: it ends in `.drv`, with at least one byte before it
+abbrev pub is_drv_name : List ℕ → Bool
+is_drv_name name = nat_lt 4 (length name) && ends_with nat_eq name (codes ".drv")
 
 -- whether some bytes are one component of a store folder
 unfoldable pub is_component : List ℕ → Bool

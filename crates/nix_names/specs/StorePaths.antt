@@ -5,7 +5,7 @@ use Rattle.std.specs.List.{list_all, starts_with, range_with_len, after_last}
 use Rattle.hex.specs.Hex.{encode_lower}
 use Rattle.sha2.specs.Sha256.{sha256}
 use Rattle.nix_names.specs.Base32.{base32, is_digit}
-use Rattle.nix_names.specs.Names.{is_name, IsStoreDir}
+use Rattle.nix_names.specs.Names.{is_drv_name, is_name, IsStoreDir}
 use Rattle.nix_names.specs.declared.fault.NameFault.{NameFault}
 use Rattle.nix_names.specs.declared.fault.NameFault.TheVariants.{NotInStore, BadHashPart, BadName}
 
@@ -60,6 +60,10 @@ hash_part_of text = take 32 (base_of text)
 -- a path's name: all of its base name behind the dash
 abbrev pub name_of : List ℕ → List ℕ
 name_of text = drop 33 (base_of text)
+
+-- a path is that of a derivation's file, by its name
+abbrev pub IsDrvPath : List ℕ → Type 0
+IsDrvPath text = IsTrue (is_drv_name (name_of text))
 
 -- what is wrong with the base name of a path, if anything, the hash part before the name
 unfoldable pub base_fault : List ℕ → Option NameFault

@@ -1,7 +1,7 @@
 //! The names of store paths and the components of store folders, byte by byte.
 ghost use Rattle.std.specs.Prelude.{◌≡◌};
 ghost use Rattle.std.specs.List.{list_all};
-ghost use Rattle.nix_names.specs.Names.{is_component, is_dotted, is_name, is_name_char};
+ghost use Rattle.nix_names.specs.Names.{is_component, is_dotted, is_drv_name, is_name, is_name_char};
 
 // The greatest length of a name, in bytes.
 const MAX_NAME_LEN: usize = 211;
@@ -13,6 +13,13 @@ pub fn is_name(name: &[u8]) -> bool
     ensures { result ≡ is_name name.now }
 {
     1 <= name.len() && name.len() <= MAX_NAME_LEN && are_name_chars(name) && !is_dotted(name)
+}
+
+/// Whether a name is that of a derivation's file: it ends in `.drv`, with at least one byte before it.
+pub fn is_drv_name(name: &[u8]) -> bool
+    ensures { result ≡ is_drv_name name.now }
+{
+    name.len() > 4 && name.ends_with(b".drv")
 }
 
 // Whether some bytes are one component of a store folder.
