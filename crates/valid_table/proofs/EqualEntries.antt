@@ -1,0 +1,59 @@
+-- Entries and their parts that are equal by `==` are the same.
+use Rattle.std.proofs.Common.{◌≡◌, Bool, Decides, ◌&&◌, List, ℕ, refl, sym, ap, nat_eq, true≢false}
+use Rattle.std.specs.Prelude.{None, Option, Some}
+use Rattle.std.specs.Cmp.Lexicographic.{bytes_decides, pointwise, pointwise_decides}
+use Rattle.std.specs.Option.{option_eq}
+use Rattle.std.proofs.lemmas.Bool.{and_from, and_parts}
+use Rattle.valid_table.specs.Equality.{EqualEntriesAreSame, same_entry, same_record, same_registration}
+use Rattle.valid_table.specs.PathInfos.{PathInfo}
+use Rattle.valid_table.specs.declared.entry.Entry.{Entry}
+use Rattle.valid_table.specs.declared.entry.Entry.TheVariants.{Add, Done}
+use Rattle.valid_table.specs.declared.entry.Registration.{Registration}
+
+-- two tests, each of one part
+both_parts : {P Q R : Type 0} (a b : Bool) → Decides a P → Decides b Q → (P → Q → R) → (R → P) → (R → Q) → Decides (a && b) R
+both_parts a b first second join one two =
+    (λ h. let parts = and_parts a b h in join (first.0 parts.0) (second.0 parts.1), λ r. and_from a b (first.1 (one r)) (second.1 (two r)))
+
+-- digests
+digests_decide : (a b : Option (List ℕ)) → Decides (option_eq (pointwise nat_eq) a b) (a ≡ b)
+digests_decide None None = (λ h. refl, λ e. refl)
+digests_decide None (Some y) = (λ h. absurd (true≢false (sym h)), λ e. cc)
+digests_decide (Some x) None = (λ h. absurd (true≢false (sym h)), λ e. cc)
+digests_decide (Some x) (Some y) =
+    (λ h. ap Some ((bytes_decides x y).0 h), λ e. let same : x ≡ y = cc in (bytes_decides x y).1 same)
+
+-- records that are equal by `==` are the same, and the other way
+records_decide : (a b : PathInfo) → Decides (same_record a b) (a ≡ b)
+records_decide a b =
+    both_parts (pointwise (pointwise nat_eq) a.references b.references) (option_eq (pointwise nat_eq) a.digest b.digest)
+    (pointwise_decides bytes_decides a.references b.references) (digests_decide a.digest b.digest)
+    (λ p q j. record { references = p j; digest = q j })
+    (λ e. ap (λ (r : PathInfo). r.references) e)
+    (λ e. ap (λ (r : PathInfo). r.digest) e)
+
+-- so are registrations
+registrations_decide : (a b : Registration) → Decides (same_registration a b) (a ≡ b)
+registrations_decide a b =
+    both_parts (pointwise nat_eq a.path b.path) (same_record a.info b.info) (bytes_decides a.path b.path) (records_decide a.info b.info)
+    (λ p q j. record { path = p j; info = q j })
+    (λ e. ap (λ (r : Registration). r.path) e)
+    (λ e. ap (λ (r : Registration). r.info) e)
+
+-- so are entries
+entries_decide : (a b : Entry) → Decides (same_entry a b) (a ≡ b)
+entries_decide (Add a) (Add b) =
+    let d = registrations_decide a b in
+    (λ h. ap Add (d.0 h), λ e. let same : a ≡ b = cc in d.1 same)
+entries_decide (Add a) (Done deriver outputs) = (λ h. absurd (true≢false (sym h)), λ e. cc)
+entries_decide (Done deriver outputs) (Add b) = (λ h. absurd (true≢false (sym h)), λ e. cc)
+entries_decide (Done deriver outputs) (Done other others) =
+    both_parts (pointwise nat_eq deriver other) (pointwise same_registration outputs others)
+    (bytes_decides deriver other) (pointwise_decides registrations_decide outputs others)
+    (λ p q j. Done (p j) (q j))
+    (λ e. cc)
+    (λ e. cc)
+
+-- the law, as it is stated
+pub equal_entries_are_same : EqualEntriesAreSame
+equal_entries_are_same a b = entries_decide a b

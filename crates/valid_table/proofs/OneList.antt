@@ -1,0 +1,114 @@
+-- The bytes of a journal's text tell its lines, and these tell its entries.
+use Rattle.std.proofs.Common.{◌≡◌, ℕ, List, [], ◌∷◌, ◌++◌, inl, inr, length, map, refl, ap, sym, subst, ◌∙◌, arith, Option}
+use Rattle.std.specs.List.{flat_map}
+use Rattle.std.proofs.lemmas.List.{append_assoc, length-append}
+use Rattle.valid_table.specs.ReadingLaws.{TextHasOneList}
+use Rattle.valid_table.specs.Steps.{Place, Start, Begun, behind}
+use Rattle.valid_table.specs.Texts.{Line, Version, Added, Deriver, Output, Reference, entry_lines, line_text, lines, output_lines, text}
+use Rattle.valid_table.specs.declared.entry.Entry.{Entry}
+use Rattle.valid_table.specs.declared.entry.Entry.TheVariants.{Add, Done}
+use Rattle.valid_table.specs.declared.entry.Registration.{Registration}
+use Rattle.valid_table.proofs.LineLists.{Ends, entries_end, line_of}
+use Rattle.valid_table.proofs.LineTexts.{body, line_and, same_lines}
+
+-- ---- bytes tell lines
+
+-- one or more lines have bytes
+lines_some : (line : Line) (come : List Line) → [] ≡ flat_map line_text (line ∷ come) → ⊥
+lines_some line come e =
+    let rest = flat_map line_text come in
+    absurd (omega (arith, ap length (e ∙ line_and line rest), length-append (body line) (10 ∷ rest)))
+
+-- lines that end a journal from one place are the same where their bytes are
+lines_told : (dir : List ℕ) (from : Place) (a b : List Line) → Ends dir from a → Ends dir from b → flat_map line_text a ≡ flat_map line_text b → a ≡ b
+lines_told dir from [] [] one two e = refl
+lines_told dir from [] (line ∷ b) one two e = absurd (lines_some line b e)
+lines_told dir from (line ∷ a) [] one two e = absurd (lines_some line a (sym e))
+lines_told dir from (line ∷ a) (other ∷ b) one two e =
+    let same = same_lines dir line other (flat_map line_text a) (flat_map line_text b) (line_of dir from line one.0) (line_of dir from other two.0) e in
+    let rest = lines_told dir (behind from line) a b one.1 (subst (λ (l : Line). Ends dir (behind from l) b) (sym same.0) two.1) same.1 in
+    ap (λ (l : Line). l ∷ a) same.0 ∙ ap (λ (tail : List Line). other ∷ tail) rest
+
+-- ---- lines tell entries
+
+-- What lines tell: their entries and, at their front, the references and the outputs of what begins before them.
+record Told : Type 0 where
+  pub references : List (List ℕ)
+  pub outputs : List Registration
+  pub entries : List Entry
+
+-- what a path registers with a digest and the references behind it
+abbrev registration : List ℕ → Option (List ℕ) → Told → Registration
+registration path digest later = record { path = path; info = record { references = later.references; digest = digest } }
+
+-- what a line tells with what those behind it tell
+abbrev with_line : Line → Told → Told
+with_line Version later = later
+with_line (Added path digest) later =
+    record { references = []; outputs = []; entries = Add (registration path digest later) ∷ later.entries }
+with_line (Deriver path) later = record { references = []; outputs = []; entries = Done path later.outputs ∷ later.entries }
+with_line (Output path digest) later =
+    record { references = []; outputs = registration path digest later ∷ later.outputs; entries = later.entries }
+with_line (Reference path) later =
+    record { references = path ∷ later.references; outputs = later.outputs; entries = later.entries }
+
+-- what lines tell
+abbrev told : List Line → Told
+told [] = record { references = []; outputs = []; entries = [] }
+told (line ∷ come) = with_line line (told come)
+
+-- the lines of references tell these
+references_told :
+    (references : List (List ℕ)) (come : List Line) (outputs : List Registration) (entries : List Entry) →
+    told come ≡ record { references = []; outputs = outputs; entries = entries } →
+    told (map Reference references ++ come) ≡ record { references = references; outputs = outputs; entries = entries }
+references_told [] come outputs entries e = e
+references_told (path ∷ references) come outputs entries e = ap (with_line (Reference path)) (references_told references come outputs entries e)
+
+-- those of outputs tell these
+outputs_told :
+    (outputs : List Registration) (come : List Line) (entries : List Entry) →
+    told come ≡ record { references = []; outputs = []; entries = entries } →
+    told (flat_map output_lines outputs ++ come) ≡ record { references = []; outputs = outputs; entries = entries }
+outputs_told [] come entries e = e
+outputs_told (r ∷ outputs) come entries e =
+    let start = Output r.path r.info.digest in
+    let later = flat_map output_lines outputs ++ come in
+    ap (λ (some : List Line). with_line start (told some)) (append_assoc (map Reference r.info.references) (flat_map output_lines outputs) come)
+    ∙ ap (with_line start) (references_told r.info.references later outputs entries (outputs_told outputs come entries e))
+
+-- those of entries tell these
+entries_told : (entries : List Entry) → told (flat_map entry_lines entries) ≡ record { references = []; outputs = []; entries = entries }
+entries_told [] = refl
+entries_told (Add r ∷ entries) =
+    ap (with_line (Added r.path r.info.digest)) (references_told r.info.references (flat_map entry_lines entries) [] entries (entries_told entries))
+entries_told (Done deriver outputs ∷ entries) =
+    ap (with_line (Deriver deriver)) (outputs_told outputs (flat_map entry_lines entries) entries (entries_told entries))
+
+-- entries with the same lines are the same
+same_entries : (a b : List Entry) → lines a ≡ lines b → a ≡ b
+same_entries a b e =
+    sym (ap (λ (t : Told). t.entries) (entries_told a))
+    ∙ ap (λ (some : List Line). (told some).entries) e
+    ∙ ap (λ (t : Told). t.entries) (entries_told b)
+
+-- ---- the law
+
+-- one text is that of one list of entries
+pub text_has_one_list : TextHasOneList
+unfolding text
+text_has_one_list dir bytes a b one two =
+    elim one.bytes_are [
+      | inl first ↦ elim two.bytes_are [
+        | inl second ↦ same_entries a b
+            (lines_told dir Start (lines a) (lines b)
+            (tt, entries_end dir Begun a (tt, λ line may. may) one.of_dir)
+            (tt, entries_end dir Begun b (tt, λ line may. may) two.of_dir)
+            (sym first ∙ second))
+        | inr none ↦ absurd (lines_some Version (flat_map entry_lines a) (sym none.1 ∙ first))
+      ]
+      | inr none ↦ elim two.bytes_are [
+        | inl second ↦ absurd (lines_some Version (flat_map entry_lines b) (sym none.1 ∙ second))
+        | inr also ↦ none.0 ∙ sym also.0
+      ]
+    ]

@@ -1,0 +1,86 @@
+-- The lines of references: where they lead, and where they stop.
+use Rattle.std.proofs.Common.{◌≡◌, ℕ, List, [], ◌∷◌, ◌++◌, length, Option, Some, None, ◌-◌, sym, ap, ◌∙◌, subst, arith}
+use Rattle.std.specs.List.{All, last_or, slice_get}
+use Rattle.std.proofs.lemmas.List.{append-nil, append_assoc}
+use Rattle.std.proofs.lemmas.List.Elements.{All-head, All-push, All-tail}
+use Rattle.nix_names.specs.Names.{IsStoreDir}
+use Rattle.nix_names.specs.StorePaths.{IsPathOf}
+use Rattle.valid_table.specs.LineTexts.{references_text}
+use Rattle.valid_table.specs.Readers.{IsPathLine, SoFarReferences}
+use Rattle.valid_table.specs.Steps.{IsAbove, Goes, Stops, Within}
+use Rattle.valid_table.specs.Texts.{Line, Version, Added, Deriver, Output, Reference, line_text}
+use Rattle.valid_table.proofs.LinePaths.{two_path_lines}
+use Rattle.valid_table.proofs.LineSteps.{behind_path_line, letter_tells, some_begun, stop_behind, stop_here, stop_same}
+use Rattle.valid_table.proofs.RisingPaths.{AreAbove, above_of_rising, last_is, rising_more}
+
+-- behind the lines of references the lines stop where they do behind the last one
+pub lead : (dir : List ℕ) (output before : Option (List ℕ)) (references : List (List ℕ)) (rest : List ℕ) (left : ℕ) → All (IsPathOf dir) references → AreAbove before references
+    → Stops dir (Within output (last_or before references)) rest left → Stops dir (Within output before) (references_text references ++ rest) left
+lead dir output before [] rest left of_dir above h = h
+lead dir output before (path ∷ paths) rest left of_dir above h =
+    stop_behind dir (Within output before) _ (Reference path) (references_text paths ++ rest) left
+    (record {
+      parts = append_assoc (line_text (Reference path)) (references_text paths) rest;
+      may = (All-head (IsPathOf dir) path paths of_dir, above.0);
+      ahead = tt;
+    })
+    (lead dir output (Some path) paths rest left (All-tail (IsPathOf dir) path paths of_dir) above.1 h)
+
+pub references_lead : (dir : List ℕ) (output : Option (List ℕ)) (bytes : List ℕ) (references : List (List ℕ)) (rest : List ℕ) (left : ℕ) → SoFarReferences dir bytes references rest
+    → Stops dir (Within output (last_or None references)) rest left → Stops dir (Within output None) bytes left
+references_lead dir output bytes references rest left so_far h =
+    stop_same dir (Within output None) bytes _ left so_far.parts
+    (lead dir output None references rest left so_far.of_dir (above_of_rising references so_far.rising) h)
+
+-- from within an entry no line but a reference's goes on with a reference's letter
+stuck : (dir : List ℕ) (output before : Option (List ℕ)) (bytes fields : List ℕ) → bytes ≡ 82 ∷ 32 ∷ fields
+    → ((path rest : List ℕ) → IsAbove before path → IsPathLine dir fields path rest → ⊥)
+    → (line : Line) (rest : List ℕ) → Goes dir (Within output before) bytes line rest → ⊥
+stuck dir output before bytes fields begins none Version rest goes = goes.may
+stuck dir output before bytes fields begins none (Added path digest) rest goes = absurd (omega (arith, letter_tells 82 (32 ∷ fields) bytes (Added path digest) rest begins goes.parts))
+stuck dir output before bytes fields begins none (Deriver path) rest goes = absurd (omega (arith, letter_tells 82 (32 ∷ fields) bytes (Deriver path) rest begins goes.parts))
+stuck dir output before bytes fields begins none (Output path digest) rest goes = absurd (omega (arith, letter_tells 82 (32 ∷ fields) bytes (Output path digest) rest begins goes.parts))
+stuck dir output before bytes fields begins none (Reference path) rest goes =
+    none path rest goes.may.1 (record { of_dir = goes.may.0; parts = behind_path_line 82 bytes fields path rest begins goes.parts })
+
+-- a reference's line without a path stops
+pub bad_reference : (dir : List ℕ) (output before : Option (List ℕ)) (bytes fields : List ℕ) → bytes ≡ 82 ∷ 32 ∷ fields
+    → ((path rest : List ℕ) → IsPathLine dir fields path rest → ⊥) → Stops dir (Within output before) bytes (length bytes)
+bad_reference dir output before bytes fields begins none =
+    stop_here dir (Within output before) bytes (some_begun 82 bytes (32 ∷ fields) begins)
+    (stuck dir output before bytes fields begins (λ path rest above line. none path rest line))
+
+-- a reference's line with a path that isn't above the one before it stops
+pub low_reference : (dir : List ℕ) (output before : Option (List ℕ)) (bytes fields path rest : List ℕ) → IsStoreDir dir → bytes ≡ 82 ∷ 32 ∷ fields
+    → IsPathLine dir fields path rest → (IsAbove before path → ⊥) → Stops dir (Within output before) bytes (length bytes)
+low_reference dir output before bytes fields path rest of_dir begins line low =
+    stop_here dir (Within output before) bytes (some_begun 82 bytes (32 ∷ fields) begins)
+    (stuck dir output before bytes fields begins (λ other more above is.
+    let same = two_path_lines dir fields other more path rest of_dir is line in
+    low (rw same.0 at above)))
+
+-- the text of references, and one more line
+text_more : (references : List (List ℕ)) (path behind : List ℕ) → references_text references ++ (82 ∷ 32 ∷ (path ++ 10 ∷ behind)) ≡ references_text (references ++ path ∷ []) ++ behind
+text_more [] path behind =
+    ap (λ (more : List ℕ). 82 ∷ 32 ∷ more) (sym (append_assoc path (10 ∷ []) behind) ∙ ap (λ line. line ++ behind) (sym (append-nil (path ++ 10 ∷ []))))
+text_more (x ∷ references) path behind =
+    append_assoc (line_text (Reference x)) (references_text references) (82 ∷ 32 ∷ (path ++ 10 ∷ behind))
+    ∙ ap (λ more. line_text (Reference x) ++ more) (text_more references path behind)
+    ∙ sym (append_assoc (line_text (Reference x)) (references_text (references ++ path ∷ [])) behind)
+
+-- one more reference
+pub references_more : (dir bytes : List ℕ) (references more : List (List ℕ)) (rest fields path behind : List ℕ) → SoFarReferences dir bytes references rest
+    → rest ≡ 82 ∷ 32 ∷ fields → IsPathLine dir fields path behind → IsAbove (last_or None references) path → more ≡ references ++ path ∷ [] → SoFarReferences dir bytes more behind
+references_more dir bytes references more rest fields path behind so_far begins line above pushed =
+    rw pushed (record {
+      parts = so_far.parts ∙ ap (λ r. references_text references ++ r) (begins ∙ ap (λ (f : List ℕ). 82 ∷ 32 ∷ f) line.parts) ∙ text_more references path behind;
+      of_dir = All-push (IsPathOf dir) references path so_far.of_dir line.of_dir;
+      rising = rising_more references path so_far.rising above;
+    })
+
+-- a path above the last element, as it was looked up
+pub above_last : (paths shown : List (List ℕ)) (last : Option (List ℕ)) (path : List ℕ) → shown ≡ paths → last ≡ slice_get shown (length shown - 1) → IsAbove last path → IsAbove (last_or None paths) path
+above_last paths shown last path same at above = subst (λ o. IsAbove o path) (at ∙ last_is shown ∙ ap (last_or None) same) above
+
+pub above_looked_up : (paths shown : List (List ℕ)) (last : Option (List ℕ)) (path : List ℕ) → shown ≡ paths → last ≡ slice_get shown (length shown - 1) → IsAbove (last_or None paths) path → IsAbove last path
+above_looked_up paths shown last path same at above = subst (λ o. IsAbove o path) (sym (at ∙ last_is shown ∙ ap (last_or None) same)) above

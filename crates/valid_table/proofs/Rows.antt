@@ -1,0 +1,56 @@
+-- The rows of a table, by their numbers, and the paths at them.
+use Rattle.std.proofs.Common.{◌≡◌, ℕ, ◌<◌, true, List, [], length, get_or, nat_eq, Option, Some, None, is_some, sym, ap, subst, ◌∙◌, arith, Contains, MatchOption}
+use Rattle.std.specs.Cmp.Lexicographic.{pointwise, nat_list_eq_equiv}
+use Rattle.std.specs.List.{IsDistinct}
+use Rattle.std.specs.Map.{keys_of}
+use Rattle.std.proofs.lemmas.Bool.{false≢true}
+use Rattle.std.proofs.lemmas.List.{get_or_default, length-map}
+use Rattle.std.proofs.lemmas.List.Quantifiers.{position-Some}
+use Rattle.std.proofs.lemmas.Map.Views.{hash_map_contains_key_iff}
+use Rattle.std.proofs.lemmas.Simd.{map-map}
+use Rattle.std.proofs.lemmas.Slice.Eq.{bytes_eq-Decides}
+use Rattle.indexmap.specs.IndexMap.{IndexMap, get_by, index_of_by, keys}
+use Rattle.valid_table.specs.Closing.{IsRowOf}
+use Rattle.valid_table.specs.Entries.{paths_of}
+use Rattle.valid_table.specs.PathInfos.{PathInfo}
+use Rattle.valid_table.specs.Tables.{registrations_of}
+use Rattle.valid_table.specs.Valid.{IsOnce, IsValid}
+use Rattle.valid_table.specs.declared.entry.Registration.{Registration}
+
+-- the paths that rows register are their keys
+pub paths_are_keys : (rows : List (List ℕ × PathInfo)) → paths_of (registrations_of rows) ≡ keys_of rows
+paths_are_keys rows = map-map (λ (r : Registration). r.path) (λ (row : List ℕ × PathInfo). record { path = row.0; info = row.1 }) rows
+
+-- there are as many paths as rows
+pub path_count : (registrations : List Registration) → length (paths_of registrations) ≡ length registrations
+path_count registrations = length-map registrations (λ (r : Registration). r.path)
+
+-- a row is a registration
+pub row_count : (rows : List (List ℕ × PathInfo)) → length (registrations_of rows) ≡ length rows
+row_count rows = length-map rows (λ (row : List ℕ × PathInfo). let r : Registration = record { path = row.0; info = row.1 } in r)
+
+-- texts that compare as equal are equal
+pub same_text : (x y : List ℕ) → pointwise nat_eq x y ≡ true → x ≡ y
+same_text x y e = (bytes_eq-Decides x y).0 e
+
+-- what a look-up by index answers is the row of the path, or that it is not valid
+pub row_found : {S : Type 0} (m : IndexMap (List ℕ) PathInfo S) (path : List ℕ) (row : Option ℕ) → row ≡ index_of_by (pointwise nat_eq path) m → is_some row ≡ is_some (get_by (pointwise nat_eq path) m) → MatchOption row (IsValid (registrations_of m.entries) path → ⊥) (IsRowOf (registrations_of m.entries) path)
+row_found m path None is found =
+    λ valid.
+    let has : Contains (keys m) path = subst (λ (ks : List (List ℕ)). Contains ks path) (paths_are_keys m.entries) valid in
+    false≢true (found ∙ (hash_map_contains_key_iff nat_list_eq_equiv same_text m path).1 has)
+row_found m path (Some row) is found =
+    let at = position-Some (pointwise nat_eq path) (keys m) row [] (sym is) in
+    let here : path ≡ get_or (keys m) row [] = same_text path (get_or (keys m) row []) at.1 in (
+      omega (arith, at.0, path_count (registrations_of m.entries), ap length (paths_are_keys m.entries)),
+      ap (λ (ks : List (List ℕ)). get_or ks row []) (paths_are_keys m.entries) ∙ sym here,
+    )
+
+-- a path with a row is valid
+pub valid_from_row : (registrations : List Registration) (path : List ℕ) (row : ℕ) → IsRowOf registrations path row → IsValid registrations path
+valid_from_row registrations path row of =
+    let below : row < length (paths_of registrations) = omega (arith, of.0, path_count registrations) in (row, below, get_or_default (paths_of registrations) row path [] below ∙ of.1)
+
+-- the keys of a map are apart, so no path is registered twice
+pub once_from_unique : (rows : List (List ℕ × PathInfo)) → IsDistinct (pointwise nat_eq) (keys_of rows) → IsOnce (registrations_of rows)
+once_from_unique rows unique = subst (IsDistinct (pointwise nat_eq)) (sym (paths_are_keys rows)) unique

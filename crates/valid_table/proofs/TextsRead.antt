@@ -1,0 +1,96 @@
+-- What reading the text of a journal answers: its entries, want of memory apart.
+use Rattle.std.proofs.Common.{◌≢◌, ◌+◌, ◌++◌, ℕ, List, [], ◌∷◌, length, take, drop, get_or, inl, inr, refl, ap, sym, subst, ◌∙◌, arith, codes, nat_eq, Ok, Err}
+use Rattle.std.specs.Prelude.{◌⊎◌, All}
+use Rattle.std.specs.Cmp.Lexicographic.{pointwise}
+use Rattle.std.specs.List.{IsDistinct, flat_map}
+use Rattle.std.proofs.lemmas.List.{append_assoc, get_or_default}
+use Rattle.std.proofs.lemmas.List.Elements.{All-cons, All-nil, Contains-append_left}
+use Rattle.valid_table.specs.BadLines.{IsOtherVersion}
+use Rattle.valid_table.specs.Entering.{AreNew}
+use Rattle.valid_table.specs.Entries.{paths_of, registered, registered_by}
+use Rattle.valid_table.specs.LineFaults.{IsNotClosedAt, IsTwiceAt}
+use Rattle.valid_table.specs.ReadingLaws.{JournalTextsAreRead}
+use Rattle.valid_table.specs.Texts.{IsText, entry_lines, line_text, text}
+use Rattle.valid_table.specs.Valid.{IsClosedBehind, IsJournal, IsOnce}
+use Rattle.valid_table.specs.declared.entry.Entry.{Entry}
+use Rattle.valid_table.specs.declared.entry.Registration.{Registration}
+use Rattle.valid_table.specs.declared.fault.TableFault.TheVariants.{NoMemory, BadLine, NotClosed, Twice, WrongVersion, NotValid, TooLong, Unclosed, AlreadyValid}
+use Rattle.valid_table.proofs.BadLineLaws.{texts_have_no_bad_line}
+use Rattle.valid_table.proofs.CheckedEntries.{entry_lines_are, up_to}
+use Rattle.valid_table.proofs.CheckedJournal.{AreRight, IsRightBehind, IsWrongAt, not_among, right_at, wrong_line}
+use Rattle.valid_table.proofs.JournalLists.{parts_at, paths_of-append}
+use Rattle.valid_table.proofs.OneList.{text_has_one_list}
+use Rattle.valid_table.proofs.PathLists.{once_apart, once_front}
+use Rattle.valid_table.proofs.Separators.{Lacks}
+use Rattle.valid_table.proofs.Versions.{by_number}
+
+-- ---- the version
+
+-- a journal's text isn't that of another version
+not_other_version : (dir bytes : List ℕ) (entries : List Entry) → IsText dir entries bytes → IsOtherVersion bytes → ⊥
+unfolding text
+not_other_version dir bytes entries is other =
+    elim is.bytes_are [
+      | inl whole ↦
+          let rest = flat_map line_text (flat_map entry_lines entries) in
+          let one : Lacks 10 (codes "1") = All-cons (λ b. b ≢ 10) 49 [] (λ e. absurd (omega arith)) (All-nil (λ b. b ≢ 10)) in
+          ((by_number bytes (codes "1" ++ 10 ∷ rest) (codes "1") rest whole refl one).1 other).2 refl
+      | inr none ↦ absurd (omega (arith, ap length (sym none.1 ∙ other.parts)))
+    ]
+
+-- ---- journals have no wrong line
+
+-- of paths without repetition, none is among those before it
+later_new : (known paths : List (List ℕ)) → IsDistinct (pointwise nat_eq) (known ++ paths) → AreNew known paths
+later_new known paths once k d lt there =
+    let path = get_or paths k d in
+    let parts = parts_at paths k path lt (get_or_default paths k d path lt) in
+    let before = known ++ take k paths in
+    let all = ap (λ l. known ++ l) parts ∙ sym (append_assoc known (take k paths) (path ∷ drop (k + 1) paths)) in
+    once_apart before (drop (k + 1) paths) path (subst (IsDistinct (pointwise nat_eq)) all once) (Contains-append_left known (take k paths) path there)
+
+-- closed entries that register no path twice are right
+journal_right : (earlier : List Registration) (entries : List Entry) → IsClosedBehind earlier entries → IsOnce (earlier ++ registered entries) → AreRight earlier entries
+journal_right earlier [] closed once = tt
+journal_right earlier (entry ∷ entries) closed once =
+    let rs = registered_by entry in
+    let now = earlier ++ rs in
+    let later = registered entries in
+    let all : IsOnce (now ++ later) = subst IsOnce (sym (append_assoc earlier rs later)) once in
+    let front = once_front (paths_of now) (paths_of later) (subst (IsDistinct (pointwise nat_eq)) (paths_of-append now later) all) in
+    let new = later_new (paths_of earlier) (paths_of rs) (subst (IsDistinct (pointwise nat_eq)) (paths_of-append earlier rs) front) in (
+      subst (All (IsRightBehind earlier entry)) (sym (entry_lines_are entry)) (up_to (paths_of earlier) (paths_of now) entry rs new closed.0),
+      journal_right now entries closed.1 all,
+    )
+
+-- right entries have no wrong line
+right_not_wrong : (entries : List Entry) (m : ℕ) → AreRight [] entries → IsWrongAt entries m → ⊥
+right_not_wrong entries m right w =
+    let s = w.stands in
+    let here = right_at [] w.before w.entry s.after (subst (AreRight []) s.parts right) in
+    w.wrong (not_among (paths_of (registered w.before)) (paths_of (registered w.before ++ registered_by w.entry)) s.first w.line s.last
+    (subst (All (IsRightBehind (registered w.before) w.entry)) s.is_line here))
+
+-- no line of a journal is at fault
+no_fault : (entries : List Entry) (m : ℕ) → IsJournal entries → IsNotClosedAt entries m ⊎ IsTwiceAt entries m → ⊥
+no_fault entries m is fault = right_not_wrong entries m (journal_right [] entries is.closed is.once) (wrong_line entries m fault)
+
+-- ---- the law
+
+-- the text of a journal is read as just that journal, want of memory apart
+pub journal_texts_are_read : JournalTextsAreRead
+journal_texts_are_read dir bytes entries (Ok others) is_dir within is journal h =
+    inl (ap Ok (h.checked.0 ∙ text_has_one_list dir bytes h.entries entries h.is_text is))
+journal_texts_are_read dir bytes entries (Err NoMemory) is_dir within is journal h = inr refl
+journal_texts_are_read dir bytes entries (Err TooLong) is_dir within is journal h = absurd (omega arith)
+journal_texts_are_read dir bytes entries (Err WrongVersion) is_dir within is journal h = absurd (not_other_version dir bytes entries is h.1)
+journal_texts_are_read dir bytes entries (Err (BadLine n)) is_dir within is journal h = absurd (texts_have_no_bad_line dir bytes entries n is_dir is h.2)
+journal_texts_are_read dir bytes entries (Err (NotClosed n)) is_dir within is journal h =
+    let same = text_has_one_list dir bytes h.entries entries h.is_text is in
+    absurd (no_fault entries n journal (inl (subst (λ es. IsNotClosedAt es n) same h.checked.0)))
+journal_texts_are_read dir bytes entries (Err (Twice n)) is_dir within is journal h =
+    let same = text_has_one_list dir bytes h.entries entries h.is_text is in
+    absurd (no_fault entries n journal (inr (subst (λ es. IsTwiceAt es n) same h.checked.0)))
+journal_texts_are_read dir bytes entries (Err (NotValid path)) is_dir within is journal h = absurd h
+journal_texts_are_read dir bytes entries (Err (Unclosed path)) is_dir within is journal h = absurd h
+journal_texts_are_read dir bytes entries (Err (AlreadyValid path)) is_dir within is journal h = absurd h

@@ -1,0 +1,38 @@
+use Rattle.std.proofs.Common.{arith, take}
+use Rattle.std.specs.Prelude.{Err, Ok}
+use Rattle.std.proofs.lemmas.Result.{err_from_is_err_and}
+use Rattle.valid_table.proofs.CheckedJournal.{check_behind, closed_behind, first_fault, lines_fit, lines_more, paths_more, right_more}
+use Rattle.valid_table.proofs.checking.check_entries.Goals as goal
+
+pub check_entry-requires : goal.check_entry-requires
+check_entry-requires c =
+    let fits = lines_fit c.args.entries.now c.loop-entry.entry-index c.entry-item.result c.loop-entry-test.true c.entry-item.is in
+    record { few = omega (arith, c.requires.few, c.loop-entry.invariant.number) }
+
+pub returns-in_err-line-clause-err : goal.returns-in_err-line-clause-err
+returns-in_err-line-clause-err c =
+    let entries = c.args.entries.now in
+    let i = c.loop-entry.entry-index in
+    let entry = c.entry-item.result in
+    let check = check_behind (take i entries) entry c.loop-entry.paths.keys c.loop-entry.line (Err c.in_err-line.field-0.0) c.loop-entry.invariant.paths c.in_err-line.ensures.checked in
+    let p = err_from_is_err_and c.from_residual.result c.from_residual.ensures.1 in
+    rw (p.1, p.2)
+    (first_fault entries i entry c.loop-entry.line c.in_err-line.field-0.0 c.loop-entry-test.true c.entry-item.is c.loop-entry.invariant.right c.loop-entry.invariant.number check)
+
+pub loop-entry-preserved : goal.loop-entry-preserved
+loop-entry-preserved c =
+    let entries = c.args.entries.now in
+    let i = c.loop-entry.entry-index in
+    let entry = c.entry-item.result in
+    let lt = c.loop-entry-test.true in
+    let is = c.entry-item.is in
+    let check = check_behind (take i entries) entry c.loop-entry.paths.keys c.loop-entry.line (Ok c.in_ok-line.line) c.loop-entry.invariant.paths c.in_ok-line.ensures.checked in
+    record {
+      right = right_more entries i entry lt is c.loop-entry.invariant.right check.0;
+      paths = paths_more entries i entry c.loop-entry.paths.keys _ lt is c.loop-entry.invariant.paths c.in_ok-line.ensures.entered;
+      number = omega (arith, lines_more entries i entry lt is, c.loop-entry.invariant.number, check.1);
+      once = c.in_ok-line.ensures.unique c.loop-entry.invariant.once;
+    }
+
+pub returns-clause-closed : goal.returns-clause-closed
+returns-clause-closed c = closed_behind c.args.entries.now c.loop-entry.entry-index c.loop-entry-test.false c.loop-entry.invariant.right

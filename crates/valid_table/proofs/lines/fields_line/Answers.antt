@@ -1,0 +1,23 @@
+use Rattle.std.proofs.lemmas.Option.{MatchOption-at_none}
+use Rattle.valid_table.proofs.LinePaths.{no_newline, no_space, other_digest, other_path}
+use Rattle.valid_table.proofs.lines.fields_line.Goals as goal
+
+pub returns-in_default : goal.returns-in_default
+returns-in_default c = λ path digest rest. no_space _ _ path digest rest c.in_default.ensures
+
+pub returns-in_default-cut : goal.returns-in_default-cut
+returns-in_default-cut c = λ path digest rest.
+    no_newline _ _ c.in-Some.path.now c.in-Some.fields.now path digest rest c.requires.is_dir c.in-Some.ensures.0 c.in-Some.ensures.1
+    c.in_default-cut.ensures
+
+pub returns-in_default-digest_of : goal.returns-in_default-digest_of
+returns-in_default-digest_of c = λ path digest rest.
+    other_digest _ _ c.in-Some.path.now c.in-Some.fields.now c.in-Some-cut.digest.now c.in-Some-cut.rest.now path digest rest
+    c.requires.is_dir c.in-Some.ensures.0 c.in-Some.ensures.1 c.in-Some-cut.ensures.0 c.in-Some-cut.ensures.1
+    c.in_default-digest_of.ensures
+
+pub returns-in-None : goal.returns-in-None
+returns-in-None c = λ path digest rest.
+    other_path _ _ c.in-Some.path.now c.in-Some.fields.now c.in-Some-cut.digest.now c.in-Some-cut.rest.now path digest rest
+    c.requires.is_dir c.in-Some.ensures.0 c.in-Some.ensures.1 c.in-Some-cut.ensures.0 c.in-Some-cut.ensures.1
+    (MatchOption-at_none _ _ c.in-None.is c.in_ok-path.ensures)

@@ -1,0 +1,18 @@
+-- Entries of a journal, and the paths that they register.
+use Rattle.std.specs.Prelude.{ℕ, List, [], ◌∷◌, flat_map, map}
+use Rattle.valid_table.specs.declared.entry.Entry.{Entry}
+use Rattle.valid_table.specs.declared.entry.Entry.TheVariants.{Add, Done}
+use Rattle.valid_table.specs.declared.entry.Registration.{Registration}
+
+-- the paths, with their records, that one entry registers
+abbrev pub registered_by : Entry → List Registration
+registered_by (Add registration) = registration ∷ []
+registered_by (Done deriver outputs) = outputs
+
+-- those that a list of entries registers, in their order
+abbrev pub registered : List Entry → List Registration
+registered entries = flat_map registered_by entries
+
+-- their paths alone
+abbrev pub paths_of : List Registration → List (List ℕ)
+paths_of registrations = map (λ (r : Registration). r.path) registrations

@@ -1,0 +1,42 @@
+//! Laws over the definitions that contracts cite, each on the contract of a function that does nothing.
+ghost use Rattle.valid_table.specs.BadLines.{BadLineIsOne, TextsHaveNoBadLine};
+ghost use Rattle.valid_table.specs.Closure.{ClosureIsOne, ClosureStays};
+ghost use Rattle.valid_table.specs.Equality.{EqualEntriesAreSame};
+ghost use Rattle.valid_table.specs.ReadingLaws.{JournalTextsAreRead, TextHasOneList};
+
+/// The closure of paths that are valid in a closed list of entries stays the same in each list of
+/// entries that begins with it.
+pub fn closure_stays()
+    ensures { ClosureStays }
+{}
+
+/// Some paths have one closure.
+pub fn closure_is_one()
+    ensures { ClosureIsOne }
+{}
+
+/// The text of a journal of a store folder has no bad line.
+pub fn texts_have_no_bad_line()
+    ensures { TextsHaveNoBadLine }
+{}
+
+/// Bytes have one first bad line at most, in a store folder.
+pub fn bad_line_is_one()
+    ensures { BadLineIsOne }
+{}
+
+/// One text is that of one list of entries.
+pub fn text_has_one_list()
+    ensures { TextHasOneList }
+{}
+
+/// The text of a journal of a store folder, of at most 67108864 bytes, is read as just that journal,
+/// want of memory apart.
+pub fn journal_texts_are_read()
+    ensures { JournalTextsAreRead }
+{}
+
+/// Two entries are equal by `==` exactly where they are the same.
+pub fn equal_entries_are_same()
+    ensures { EqualEntriesAreSame }
+{}

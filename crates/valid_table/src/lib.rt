@@ -1,0 +1,44 @@
+//! The journal of valid paths, the table that it replays to, closures, and where registrations go.
+//!
+//! | Module | What is in it |
+//! |---|---|
+//! | `entry`, `entry_eq` | entries of a journal, and when they are equal |
+//! | `journal` | journals: their entries, one more |
+//! | `lines`, `reading`, `writing` | a journal's text: one line, the whole read, the whole written |
+//! | `entering`, `checking` | the paths that an entry registers, one entry more or line by line |
+//! | `table` | the table of valid paths |
+//! | `closing` | how a closure is found |
+//! | `outlet`, `list_outlet` | where registrations go, and the outlet in memory |
+//! | `fault` | why a call refused |
+//! | `laws` | laws over the definitions that contracts cite |
+#![tactic(auto)]
+
+mod checking;
+mod closing;
+#[cfg(test)]
+mod closure_tests;
+mod entering;
+mod entry;
+mod entry_eq;
+mod fault;
+mod journal;
+#[cfg(test)]
+mod journal_tests;
+pub mod laws;
+mod lines;
+mod list_outlet;
+mod outlet;
+#[cfg(test)]
+mod outlet_tests;
+mod reading;
+#[cfg(test)]
+mod row_tests;
+mod table;
+mod writing;
+
+pub use entry::{Entry, Outputs, Record, Registration};
+pub use fault::{OutletFault, TableFault};
+pub use journal::Journal;
+pub use list_outlet::ListOutlet;
+pub use outlet::Outlet;
+pub use table::Table;

@@ -1,0 +1,174 @@
+//! One line of a journal's text.
+ghost use Rattle.std.specs.Prelude.{◌≡◌, ◌≢◌, ◌↔◌, ◌+◌, ◌-◌, ◌≤◌, ◌++◌, ◌∷◌, [], All, IfOk, IsTrue, List, MatchOption, Option, ℕ, codes, length, take};
+ghost use Rattle.std.specs.Char.{is_ascii_digit};
+ghost use Rattle.hex.specs.Hex.{encode_lower};
+ghost use Rattle.memchr.specs.Find.{is_byte, places};
+ghost use Rattle.nix_names.specs.StorePaths.{IsPathOf};
+ghost use Rattle.nix_names.specs.Names.{IsStoreDir};
+ghost use Rattle.valid_table.specs.BadLines.{IsOtherVersion};
+ghost use Rattle.valid_table.specs.Readers.{IsDeriverLine, IsFieldsLine, IsNoLine, IsPathLine};
+ghost use Rattle.valid_table.specs.Texts.{IsDigest, digest_text};
+
+use hex::FromHex;
+use memchr::{memchr, memchr_iter};
+use nix_names::{NameFault, StoreDir, StorePath, is_drv_name, parse_path};
+use std::alloc::{AllocError, Global};
+
+/// The first line of a journal.
+pub(crate) const VERSION_LINE: &[u8] = b"realiser-journal 1\n";
+
+/// What the first line of each version begins with.
+const JOURNAL: &[u8] = b"realiser-journal ";
+
+/// The bytes before the first one that equals `byte`, and those behind it.
+pub(crate) fn cut(byte: u8, bytes: &[u8]) -> Option<(&[u8], &[u8])>
+    ensures { MatchOption result (All (λ b. b ≢ byte) bytes.now) (λ x. All (λ b. b ≢ byte) x.0.now × (bytes.now ≡ x.0.now ++ byte ∷ x.1.now)) }
+{
+    let at = memchr(byte, bytes)?;
+    Some((&bytes[..at], &bytes[at + 1..]))
+}
+
+/// The bytes behind a letter and a space, where the bytes begin with them.
+pub(crate) fn behind_letter(letter: u8, bytes: &[u8]) -> Option<&[u8]>
+    ensures { MatchOption result (IsNoLine letter bytes.now) (λ rest. bytes.now ≡ letter ∷ 32 ∷ rest.now) }
+{
+    match bytes {
+        [first, b' ', rest @ ..] if *first == letter => Some(rest),
+        _ => None,
+    }
+}
+
+/// The path that is spelled by these bytes, if they are one of the store folder.
+pub(crate) fn path_of(
+    alloc: Global,
+    dir: &StoreDir,
+    text: &[u8],
+) -> Result<Option<StorePath>, AllocError>
+    ensures { IfOk result (λ found. MatchOption found (IsPathOf dir.now text.now → ⊥) (λ path. (path ≡ text.now) × IsPathOf dir.now text.now)) }
+{
+    match parse_path(alloc, dir, text) {
+        Ok(path) => Ok(Some(path)),
+        Err(fault) if fault == NameFault::NoMemory => Err(AllocError),
+        Err(_) => Ok(None),
+    }
+}
+
+/// The digest whose text the bytes are, if they are one's: a dash for none, or 64 lower-case
+/// hexadecimal digits.
+pub(crate) fn digest_of(text: &[u8]) -> Option<Option<[u8; 32]>>
+    ensures { MatchOption result ((digest : Option (List ℕ)) → IsDigest digest → text.now ≢ digest_text digest) (λ digest. IsDigest digest × (text.now ≡ digest_text digest)) }
+{
+    if text == b"-".as_slice() {
+        return Some(None);
+    }
+    let Ok(digest) = <[u8; 32] as FromHex>::from_hex(text) else {
+        return None;
+    };
+    if text == digits_of(&digest).as_slice() {
+        Some(Some(digest))
+    } else {
+        None
+    }
+}
+
+/// A digest's 64 lower-case hexadecimal digits.
+pub(crate) fn digits_of(digest: &[u8; 32]) -> [u8; 64]
+    ensures { result ≡ encode_lower digest.now }
+{
+    let mut digits = [0; 64];
+    let _ = hex::encode_to_slice(digest, &mut digits);
+    digits
+}
+
+/// The path and the newline at the head of the bytes, and what is behind them.
+pub(crate) fn path_line<'a>(
+    alloc: Global,
+    dir: &StoreDir,
+    bytes: &'a [u8],
+) -> Result<Option<(StorePath, &'a [u8])>, AllocError>
+    requires is_dir { IsStoreDir dir.now }
+    ensures { IfOk result (λ found. MatchOption found ((path rest : List ℕ) → IsPathLine dir.now bytes.now path rest → ⊥) (λ x. IsPathLine dir.now bytes.now x.0 x.1.now)) }
+{
+    let Some((line, rest)) = cut(b'\n', bytes) else {
+        return Ok(None);
+    };
+    match path_of(alloc, dir, line)? {
+        Some(path) => Ok(Some((path, rest))),
+        None => Ok(None),
+    }
+}
+
+/// The same of the path of a derivation's file, where an output's line follows.
+pub(crate) fn deriver_line<'a>(
+    alloc: Global,
+    dir: &StoreDir,
+    bytes: &'a [u8],
+) -> Result<Option<(StorePath, &'a [u8])>, AllocError>
+    requires is_dir { IsStoreDir dir.now }
+    ensures { IfOk result (λ found. MatchOption found ((path rest : List ℕ) → IsDeriverLine dir.now bytes.now path rest → ⊥) (λ x. IsDeriverLine dir.now bytes.now x.0 x.1.now)) }
+{
+    let Some((path, rest)) = path_line(alloc, dir, bytes)? else {
+        return Ok(None);
+    };
+    if !is_drv_name(path.name()) {
+        return Ok(None);
+    }
+    match behind_letter(b'O', rest) {
+        Some(_) => Ok(Some((path, rest))),
+        None => Ok(None),
+    }
+}
+
+/// The path, the space, the digest and the newline at the head of the bytes, and what is behind
+/// them.
+pub(crate) fn fields_line<'a>(
+    alloc: Global,
+    dir: &StoreDir,
+    bytes: &'a [u8],
+) -> Result<Option<(StorePath, Option<[u8; 32]>, &'a [u8])>, AllocError>
+    requires is_dir { IsStoreDir dir.now }
+    ensures { IfOk result (λ found. MatchOption found ((path : List ℕ) (digest : Option (List ℕ)) (rest : List ℕ) → IsFieldsLine dir.now bytes.now path digest rest → ⊥) (λ x. IsFieldsLine dir.now bytes.now x.0 x.1 x.2.now)) }
+{
+    let Some((path, fields)) = cut(b' ', bytes) else {
+        return Ok(None);
+    };
+    let Some((digest, rest)) = cut(b'\n', fields) else {
+        return Ok(None);
+    };
+    let Some(digest) = digest_of(digest) else {
+        return Ok(None);
+    };
+    match path_of(alloc, dir, path)? {
+        Some(path) => Ok(Some((path, digest, rest))),
+        None => Ok(None),
+    }
+}
+
+/// The number of the line that begins where so many bytes are left: one more than there are
+/// newlines before.
+pub(crate) fn line_number(bytes: &[u8], left: usize) -> usize
+    requires { left ≤ length bytes.now }
+    ensures { result ≡ 1 + length (places (is_byte 10) (take (length bytes.now - left) bytes.now)) }
+{
+    1 + memchr_iter(b'\n', &bytes[..bytes.len() - left]).count()
+}
+
+/// Whether the bytes begin with the first line of a journal of another version.
+pub(crate) fn is_other_version(bytes: &[u8]) -> bool
+    ensures { IsTrue result ↔ IsOtherVersion bytes.now }
+{
+    let Some(version) = bytes.strip_prefix(JOURNAL) else {
+        return false;
+    };
+    let Some((number, _)) = cut(b'\n', version) else {
+        return false;
+    };
+    is_other_number(number)
+}
+
+/// Whether the bytes are decimal digits, and not `1` alone.
+fn is_other_number(bytes: &[u8]) -> bool
+    ensures { IsTrue result ↔ ((bytes.now ≢ []) × All (λ b. IsTrue (is_ascii_digit b)) bytes.now × (bytes.now ≢ codes "1")) }
+{
+    !bytes.is_empty() && bytes != b"1".as_slice() && bytes.iter().all(|b| b.is_ascii_digit())
+}

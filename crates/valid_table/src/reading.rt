@@ -1,0 +1,239 @@
+//! Reading a journal's text.
+ghost use Rattle.std.specs.Prelude.{◌≡◌, ◌≢◌, ◌↔◌, [], IfErr, IfOk, IsTrue, MatchOption, None, Option, List, ℕ};
+ghost use Rattle.std.specs.List.{last_or};
+ghost use Rattle.std.specs.Option.{option_copied};
+ghost use Rattle.nix_names.specs.Names.{IsStoreDir};
+ghost use Rattle.valid_table.specs.BadLines.{BeginsOutput};
+ghost use Rattle.valid_table.specs.Entries.{paths_of};
+ghost use Rattle.valid_table.specs.Readers.{HasEntry, HasOutputs, HasReferences, HasRegistration, HasToBegin, IsNoLine, StopsInRegistration, StopsWhere};
+ghost use Rattle.valid_table.specs.Reading.{IsReading};
+ghost use Rattle.valid_table.specs.Steps.{IsAbove, Place, Opened, Start, Stops, Within};
+ghost use Rattle.valid_table.specs.Texts.{IsText};
+
+use crate::entry::{Entry, Outputs, Record, Registration};
+use crate::fault::TableFault;
+use crate::journal::Journal;
+use crate::lines::{
+    VERSION_LINE, behind_letter, deriver_line, fields_line, is_other_version, line_number,
+    path_line,
+};
+use nix_names::{StoreDir, StorePath};
+use std::alloc::{AllocError, AllocFailed, Global};
+
+/// How many bytes a journal's text may have.
+const MAX_LEN: usize = 67_108_864;
+
+impl Journal {
+    /// The journal whose text the bytes are; of no bytes, the journal without entries.
+    ///
+    /// Answers the first of these that holds: `TooLong` for more than 67,108,864 bytes,
+    /// `WrongVersion` where the first line is that of another version, `BadLine` with the first line
+    /// that has no line's form, stands where it may not, breaks an order or lacks its newline, and
+    /// then the least line of `NotClosed`, which refers to a path that neither an earlier entry nor
+    /// its own registers, and `Twice`, which registers a path that an earlier entry registered.
+    /// `NoMemory` may come in place of the last three. Lines are counted from 1.
+    ///
+    /// Passes over the bytes once, and once more over their newlines where a line is bad. Costs a copy
+    /// of each path, one more of each that is registered, and one look-up by hash for each path that
+    /// is registered or referred to.
+    pub fn read(alloc: Global, dir: &StoreDir, bytes: &[u8]) -> Result<Journal, TableFault>
+        ensures { IsReading dir.now bytes.now result }
+    {
+        if bytes.len() > MAX_LEN {
+            return Err(TableFault::TooLong);
+        }
+        if is_other_version(bytes) {
+            return Err(TableFault::WrongVersion);
+        }
+        match entries_of(alloc, dir, bytes) {
+            Ok(entries) => Journal::checked(alloc, entries),
+            Err(Stop::Left(left)) => Err(TableFault::BadLine(line_number(bytes, left))),
+            Err(Stop::Memory) => Err(TableFault::NoMemory),
+        }
+    }
+}
+
+/// Why a reader stopped.
+#[derive(Debug, Drop)]
+pub(crate) enum Stop {
+    /// Memory was refused.
+    Memory,
+    /// A line is bad; so many bytes are left, from that line on.
+    Left(usize),
+}
+
+impl From<AllocError> for Stop {
+    ghost use Rattle.valid_table.specs.declared.reading.Stop.TheVariants.{Memory};
+
+    ghost from_gives = { λ _ stop. stop ≡ Memory };
+
+    fn from(_: AllocError) -> Self {
+        Stop::Memory
+    }
+}
+
+impl<T: Drop> From<AllocFailed<T>> for Stop {
+    ghost use Rattle.valid_table.specs.declared.reading.Stop.TheVariants.{Memory};
+
+    ghost from_gives = { λ _ stop. stop ≡ Memory };
+
+    fn from(_: AllocFailed<T>) -> Self {
+        Stop::Memory
+    }
+}
+
+/// Whether a path is greater than the one before it, if any.
+fn is_above(before: Option<&StorePath>, path: &StorePath) -> bool
+    ensures { IsTrue result ↔ IsAbove (option_copied before.entry) path.now }
+{
+    match before {
+        None => true,
+        Some(before) => before < path,
+    }
+}
+
+/// The references at the head of the bytes, and what is behind their lines.
+fn references_of<'a>(
+    alloc: Global,
+    dir: &StoreDir,
+    bytes: &'a [u8],
+) -> Result<(Vec<StorePath>, &'a [u8]), Stop>
+    requires is_dir { IsStoreDir dir.now }
+    ensures ok { IfOk result (λ x. HasReferences dir.now bytes.now x.0.items x.1.now) }
+    ensures left { IfErr result (StopsWhere (λ left. (output : Option (List ℕ)) → Stops dir.now (Within output None) bytes.now left)) }
+{
+    let mut references = Vec::new(alloc);
+    let mut rest = bytes;
+    'references: while let Some(fields) = behind_letter(b'R', rest) {
+        let Some((path, behind)) = path_line(alloc, dir, fields)? else {
+            return Err(Stop::Left(rest.len()));
+        };
+        if !is_above(references.last(), &path) {
+            return Err(Stop::Left(rest.len()));
+        }
+        references.push(path)?;
+        rest = behind;
+    }
+    Ok((references, rest))
+}
+
+/// The path that is registered at the head of the bytes, by a line with this letter, and what is
+/// behind its references. None where no such line begins there. The path has to be greater than the
+/// one before it.
+fn registration_of<'a>(
+    alloc: Global,
+    dir: &StoreDir,
+    letter: u8,
+    before: Option<&StorePath>,
+    bytes: &'a [u8],
+) -> Result<Option<(Registration, &'a [u8])>, Stop>
+    requires is_dir { IsStoreDir dir.now }
+    ensures ok { IfOk result (λ found. MatchOption found (IsNoLine letter bytes.now) (λ x. HasRegistration dir.now letter (option_copied before.entry) bytes.now x.0 x.1.now)) }
+    ensures left { IfErr result (StopsWhere (StopsInRegistration dir.now letter (option_copied before.entry) bytes.now)) }
+{
+    let Some(fields) = behind_letter(letter, bytes) else {
+        return Ok(None);
+    };
+    let Some((path, digest, rest)) = fields_line(alloc, dir, fields)? else {
+        return Err(Stop::Left(bytes.len()));
+    };
+    if !is_above(before, &path) {
+        return Err(Stop::Left(bytes.len()));
+    }
+    let (references, rest) = references_of(alloc, dir, rest)?;
+    let info = Record::new(references, digest);
+    Ok(Some((Registration { path, info }, rest)))
+}
+
+/// The path of the last registration.
+fn last_path(registrations: &[Registration]) -> Option<&StorePath>
+    ensures { option_copied result ≡ last_or None (paths_of registrations.now) }
+{
+    match registrations.last() {
+        Some(last) => Some(&last.path),
+        None => None,
+    }
+}
+
+/// The outputs at the head of the bytes, and what is behind their lines.
+fn outputs_of<'a>(
+    alloc: Global,
+    dir: &StoreDir,
+    bytes: &'a [u8],
+) -> Result<(Vec<Registration>, &'a [u8]), Stop>
+    requires is_dir { IsStoreDir dir.now }
+    requires begins { BeginsOutput bytes.now }
+    ensures ok { IfOk result (λ x. HasOutputs dir.now bytes.now x.0.items x.1.now) }
+    ensures left { IfErr result (StopsWhere (Stops dir.now Opened bytes.now)) }
+{
+    let mut outputs: Vec<Registration> = Vec::new(alloc);
+    let mut rest = bytes;
+    'outputs: loop {
+        let before = last_path(&outputs);
+        let Some((output, behind)) = registration_of(alloc, dir, b'O', before, rest)? else {
+            return Ok((outputs, rest));
+        };
+        outputs.push(output)?;
+        rest = behind;
+    }
+}
+
+/// The entry of a derivation that was built at the head of the bytes, and what is behind its lines.
+/// None where no deriver's line begins there.
+fn done_of<'a>(
+    alloc: Global,
+    dir: &StoreDir,
+    bytes: &'a [u8],
+) -> Result<Option<(Entry, &'a [u8])>, Stop>
+    requires is_dir { IsStoreDir dir.now }
+    ensures ok { IfOk result (λ found. MatchOption found (IsNoLine 68 bytes.now) (λ x. HasEntry dir.now bytes.now x.0 x.1.now)) }
+    ensures left { IfErr result (StopsWhere (λ left. (from : Place) → HasToBegin from bytes.now → Stops dir.now from bytes.now left)) }
+{
+    let Some(fields) = behind_letter(b'D', bytes) else {
+        return Ok(None);
+    };
+    let Some((deriver, rest)) = deriver_line(alloc, dir, fields)? else {
+        return Err(Stop::Left(bytes.len()));
+    };
+    let (outputs, rest) = outputs_of(alloc, dir, rest)?;
+    Ok(Some((Entry::Done(deriver, Outputs::new(outputs)), rest)))
+}
+
+/// The entry at the head of the bytes, and what is behind its lines.
+fn entry_of<'a>(alloc: Global, dir: &StoreDir, bytes: &'a [u8]) -> Result<(Entry, &'a [u8]), Stop>
+    requires is_dir { IsStoreDir dir.now }
+    requires some { bytes.now ≢ [] }
+    ensures ok { IfOk result (λ x. HasEntry dir.now bytes.now x.0 x.1.now) }
+    ensures left { IfErr result (StopsWhere (λ left. (from : Place) → HasToBegin from bytes.now → Stops dir.now from bytes.now left)) }
+{
+    if let Some((added, rest)) = registration_of(alloc, dir, b'A', None, bytes)? {
+        return Ok((Entry::Add(added), rest));
+    }
+    match done_of(alloc, dir, bytes)? {
+        Some(done) => Ok(done),
+        None => Err(Stop::Left(bytes.len())),
+    }
+}
+
+/// The entries whose text the bytes are.
+pub(crate) fn entries_of(alloc: Global, dir: &StoreDir, bytes: &[u8]) -> Result<Vec<Entry>, Stop>
+    ensures is_dir { IsStoreDir dir.now }
+    ensures ok { IfOk result (λ entries. IsText dir.now entries.items bytes.now) }
+    ensures left { IfErr result (StopsWhere (Stops dir.now Start bytes.now)) }
+{
+    // Its contract says that the text is a folder's: without spaces and newlines.
+    let _ = dir.text();
+    let mut entries = Vec::new(alloc);
+    if bytes.is_empty() {
+        return Ok(entries);
+    }
+    let Some(mut rest) = bytes.strip_prefix(VERSION_LINE) else {
+        return Err(Stop::Left(bytes.len()));
+    };
+    'entries: while !rest.is_empty() {
+        let (entry, behind) = entry_of(alloc, dir, rest)?;
+        entries.push(entry)?;
+        rest = behind;
+    }
+    Ok(entries)
+}
