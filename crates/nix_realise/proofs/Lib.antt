@@ -1,2 +1,5 @@
+pub mod AddedTexts
+pub mod AsciiPaths
+pub mod Registrations
 pub mod Reports
 pub mod Writing

@@ -5,6 +5,8 @@ use Rattle.nix_names.specs.declared.fault.NameFault.TheVariants as name
 use Rattle.nix_drv.specs.Strings.{string_text}
 use Rattle.nix_drv.specs.declared.fault.DrvFault.{DrvFault}
 use Rattle.nix_drv.specs.declared.fault.DrvFault.TheVariants.{NoMemory, Syntax, Order, TooLong, TextPathMismatch, NotADrvName, NotSorted, BadReference}
+use Rattle.valid_table.specs.declared.fault.TableFault.{TableFault}
+use Rattle.valid_table.specs.declared.fault.TableFault.TheVariants as table
 
 -- a fault's name and its value
 abbrev pub with_value : List ℕ → List ℕ → List ℕ
@@ -31,3 +33,15 @@ drv_fault_words (TextPathMismatch expected) = with_value (codes "TextPathMismatc
 drv_fault_words NotADrvName = codes "NotADrvName"
 drv_fault_words NotSorted = codes "NotSorted"
 drv_fault_words (BadReference text) = with_value (codes "BadReference") (string_text text.items)
+
+-- the words of a fault on journals; lines are counted from 1
+abbrev pub table_fault_words : TableFault → List ℕ
+table_fault_words table.NoMemory = codes "NoMemory"
+table_fault_words (table.BadLine line) = with_value (codes "BadLine") (decimal line)
+table_fault_words (table.NotClosed line) = with_value (codes "NotClosed") (decimal line)
+table_fault_words (table.Twice line) = with_value (codes "Twice") (decimal line)
+table_fault_words table.WrongVersion = codes "WrongVersion"
+table_fault_words (table.NotValid path) = with_value (codes "NotValid") path
+table_fault_words table.TooLong = codes "TooLong"
+table_fault_words (table.Unclosed path) = with_value (codes "Unclosed") path
+table_fault_words (table.AlreadyValid path) = with_value (codes "AlreadyValid") path

@@ -12,8 +12,9 @@ use std::marker::Model;
 use std::rt::Files;
 use std::{fs, io, str};
 
-// How many bytes of a file are read: one more than a derivation's text may have.
-const MAX_READ: u64 = 4_194_305;
+/// How many bytes of a text's file are read: one more than a text may have, so that a longer one is
+/// known by their number.
+pub const MAX_READ: u64 = 4_194_305;
 
 /// The files on disk, each under the text of its path. A contract sees how often one could not be
 /// read.
@@ -83,20 +84,17 @@ impl<R: Files> DrvSource for FolderSource<'_, R> {
 fn read_store_file<R: Files>(alloc: Global, files: &R, path: &StorePath) -> io::Result<Vec<u8>>
     ensures { IfOk result (λ bytes. length bytes.items ≤ 4194305) }
 {
-    read_start(alloc, files, file_path(path)?)
+    read_start(alloc, files, file_path(path)?, MAX_READ)
 }
 
-/// The first bytes of the file at a path, at most 4,194,305 of them, so that a file of more than
-/// 4,194,304 is known by their number.
-pub fn read_start<R: Files>(alloc: Global, files: &R, path: &str) -> io::Result<Vec<u8>>
-    ensures { IfOk result (λ bytes. length bytes.items ≤ 4194305) }
+/// The first bytes of the file at a path, at most so many of them.
+pub fn read_start<R: Files>(alloc: Global, files: &R, path: &str, most: u64) -> io::Result<Vec<u8>>
+    ensures { IfOk result (λ bytes. length bytes.items ≤ most) }
 {
     let mut bytes = Vec::new(alloc);
-    fs::open(files, path)?
-        .take(MAX_READ)
-        .read_to_end(&mut bytes)?;
+    fs::open(files, path)?.take(most).read_to_end(&mut bytes)?;
     // A reader of bytes that are not known may say more than it was asked for.
-    bytes.truncate(MAX_READ as usize);
+    bytes.truncate(most as usize);
     Ok(bytes)
 }
 

@@ -7,6 +7,7 @@
 //! | `store_dir` | the store folder of a command line |
 //! | `folder` | derivations read from the files of a folder |
 //! | `whole_file` | a file that is written whole or not at all |
+//! | `journal_file` | the journal file: its path, read and written |
 //! | `fault_words` | the words by which a line names a fault |
 //! | `verdict` | what `check` says of one word |
 //! | `check` | the lines of `check` |
@@ -22,6 +23,7 @@ mod add_text;
 mod check;
 mod fault_words;
 mod folder;
+mod journal_file;
 mod options;
 mod run;
 mod stop;

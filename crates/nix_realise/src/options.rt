@@ -23,6 +23,8 @@ pub struct CheckRequest<'a> {
 pub struct AddTextRequest<'a> {
     /// The store folder, as it was given.
     pub store_dir: &'a str,
+    /// The path of the journal file, where one was given.
+    pub journal: Option<&'a str>,
     /// The name that the text gets in the store.
     pub name: &'a str,
     /// The path of the file whose bytes are the text.

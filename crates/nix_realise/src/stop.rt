@@ -2,8 +2,11 @@
 ghost use Rattle.std.specs.Prelude.{◌≡◌};
 ghost use Rattle.nix_realise.specs.Stops.{number_of, status_of};
 
+use crate::fault_words::{TableFaultWords, path_text};
 use nix_names::StorePath;
+use std::alloc::AllocError;
 use std::fmt;
+use valid_table::TableFault;
 
 /// Why a run ends without its report. Its `Display` is where the fault was found and its name.
 #[derive(Drop)]
@@ -16,8 +19,14 @@ pub enum Stop<'a> {
     TooLong(&'a str),
     /// This text, given as a name, is none.
     BadName(&'a str),
+    /// The journal file is there and cannot be read.
+    JournalUnreadable,
+    /// The journal file's bytes are no journal.
+    BadJournal(TableFault),
     /// The file at this path cannot be written.
     NotWritten(StorePath),
+    /// The journal file, which has this path, cannot be written.
+    JournalNotWritten(String),
     /// Memory was refused.
     NoMemory,
     /// Standard output refused a write.
@@ -34,8 +43,9 @@ impl Stop<'_> {
             Stop::BadStoreDir(_) => 7,
             Stop::NoMemory => 9,
             Stop::TooLong(_) => 12,
-            Stop::Unreadable(_) => 20,
-            Stop::NotWritten(_) | Stop::Unwritable => 74,
+            Stop::Unreadable(_) | Stop::JournalUnreadable => 20,
+            Stop::BadJournal(fault) => fault.number(),
+            Stop::NotWritten(_) | Stop::JournalNotWritten(_) | Stop::Unwritable => 74,
         }
     }
 
@@ -44,8 +54,16 @@ impl Stop<'_> {
         ensures { result ≡ status_of self.now }
     {
         match self {
-            Stop::BadStoreDir(_) | Stop::Unreadable(_) | Stop::TooLong(_) | Stop::BadName(_) => 2,
-            Stop::NotWritten(_) | Stop::NoMemory | Stop::Unwritable => 3,
+            Stop::BadStoreDir(_)
+            | Stop::Unreadable(_)
+            | Stop::TooLong(_)
+            | Stop::BadName(_)
+            | Stop::BadJournal(_) => 2,
+            Stop::JournalUnreadable
+            | Stop::NotWritten(_)
+            | Stop::JournalNotWritten(_)
+            | Stop::NoMemory
+            | Stop::Unwritable => 3,
         }
     }
 }
@@ -54,7 +72,7 @@ impl fmt::Display for Stop<'_> {
     ghost use Rattle.std.specs.Prelude.{Some};
     ghost use Rattle.nix_realise.specs.Stops.{stop_words};
 
-    ghost output = { stop_words };
+    ghost output = { λ stop. Some (stop_words stop) };
 
     fn fmt<W: fmt::Write>(&self, f: &mut fmt::Formatter<W>) -> fmt::Result {
         match self {
@@ -62,10 +80,36 @@ impl fmt::Display for Stop<'_> {
             Stop::Unreadable(file) => write!(f, "{file}: Unreadable"),
             Stop::TooLong(file) => write!(f, "{file}: TooLong"),
             Stop::BadName(name) => write!(f, "{name}: BadName"),
-            // The characters of a store path are their own escapes.
-            Stop::NotWritten(path) => write!(f, "{}: Unwritable", path.text().escape_ascii()),
+            Stop::JournalUnreadable => f.write_str("journal: Unreadable"),
+            Stop::BadJournal(fault) => write!(f, "journal: {}", TableFaultWords(fault)),
+            Stop::NotWritten(path) => write!(f, "{}: Unwritable", path_text(path)?),
+            Stop::JournalNotWritten(file) => write!(f, "{file}: Unwritable"),
             Stop::NoMemory => f.write_str("run: NoMemory"),
             Stop::Unwritable => f.write_str("run: Unwritable"),
+        }
+    }
+}
+
+impl From<AllocError> for Stop<'_> {
+    ghost use Rattle.nix_realise.specs.declared.stop.Stop.TheVariants.{NoMemory};
+
+    ghost from_gives = { λ _ stop. stop ≡ NoMemory };
+
+    fn from(_: AllocError) -> Self {
+        Stop::NoMemory
+    }
+}
+
+// A fault on the journal of a run.
+impl From<TableFault> for Stop<'_> {
+    ghost use Rattle.nix_realise.specs.Stops.{stop_of};
+
+    ghost from_gives = { λ fault stop. stop ≡ stop_of fault };
+
+    fn from(fault: TableFault) -> Self {
+        match fault {
+            TableFault::NoMemory => Stop::NoMemory,
+            fault => Stop::BadJournal(fault),
         }
     }
 }

@@ -1,8 +1,10 @@
 //! Tests of what no clause says: printed texts, statuses, files on disk, refused writes.
 mod added_texts;
 mod files;
+mod journals;
 mod lines;
 mod runs;
+mod store;
 
 use crate::run::run;
 use std::io::Write;

@@ -9,6 +9,8 @@ use std::alloc::{AllocError, Global};
 
 const STORE_DIR: &str = "store-dir";
 
+const JOURNAL: &str = "journal";
+
 const DRVS: &str = "DRV";
 
 const NAME: &str = "NAME";
@@ -57,11 +59,13 @@ fn check_request<'a>(alloc: Global, found: &ArgMatches<'a>) -> Result<CheckReque
 // What the matches of `add-text` say.
 fn add_text_request<'a>(found: &ArgMatches<'a>) -> AddTextRequest<'a>
     ensures store_dir { result.store_dir.now ≡ unwrap_or (first_value (found_of found.now) (codes "store-dir")) (codes "/nix/store") }
+    ensures journal { option_map (λ s. s.now) result.journal ≡ first_value (found_of found.now) (codes "journal") }
     ensures name { result.name.now ≡ unwrap_or (first_value (found_of found.now) (codes "NAME")) [] }
     ensures file { result.file.now ≡ unwrap_or (first_value (found_of found.now) (codes "FILE")) [] }
 {
     AddTextRequest {
         store_dir: store_dir_of(found),
+        journal: found.get_str(JOURNAL),
         name: found.get_str(NAME).unwrap_or(""),
         file: found.get_str(FILE).unwrap_or(""),
     }
@@ -96,8 +100,9 @@ fn check_command<'a>(alloc: Global) -> Result<Command<'a>, AllocError> {
 
 fn add_text_command<'a>(alloc: Global) -> Result<Command<'a>, AllocError> {
     Command::new(alloc, ADD_TEXT)
-        .about("Prints the store path of a text and writes the text there")
+        .about("Prints the store path of a text, writes it there and registers it in the journal")
         .arg(store_dir(alloc))?
+        .arg(journal(alloc))?
         .arg(
             Arg::new(alloc, NAME)
                 .help("The name that the text gets in the store")
@@ -116,4 +121,10 @@ fn store_dir<'a>(alloc: Global) -> Arg<'a> {
         .value_name("D")
         .help("The store folder, in paths and on disk")
         .default_value(DEFAULT_STORE_DIR)
+}
+
+fn journal<'a>(alloc: Global) -> Arg<'a> {
+    Arg::new(alloc, JOURNAL).long(JOURNAL).value_name("F").help(
+        "The journal file [default: realiser-journal in the store folder]",
+    )
 }

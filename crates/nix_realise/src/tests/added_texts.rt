@@ -1,59 +1,11 @@
 //! `add-text` over files on disk.
-use super::{Narrow, Outcome, new_folder, run_words};
+use super::store::{Store, has_written};
+use super::{Narrow, run_words};
 use crate::run::run;
-use nix_drv::text_path;
-use nix_names::StoreDir;
 use std::alloc::Global;
 use std::rt::{Env, Files};
 use std::test::Fail;
-use std::{fs, io, process, str};
-
-// A store folder of its own for each test, which holds a file as well, and the path at which
-// `add-text` puts that file's bytes under the name `greeting`.
-#[derive(Drop)]
-struct Store {
-    folder: String,
-    file: String,
-    path: String,
-}
-
-impl Store {
-    fn new<R: Env + Files + AllocGlobal>(
-        rt: &R,
-        process: u32,
-        test: &str,
-        bytes: &[u8],
-    ) -> Result<Store, Fail> {
-        let folder = new_folder(rt, process, test)?;
-        let file = format!(in rt.alloc(); "{folder}/file")?;
-        fs::write(rt, file.as_str(), bytes)?;
-        let dir = StoreDir::new(rt.alloc(), folder.as_bytes())?;
-        let path = text_path(rt.alloc(), &dir, b"greeting", bytes, &[])?;
-        let path = String::from_str(rt.alloc(), str::from_utf8(path.text())?)?;
-        Ok(Store { folder, file, path })
-    }
-
-    fn words(&self) -> [&str; 6] {
-        [
-            "nix_realise",
-            "add-text",
-            "--store-dir",
-            self.folder.as_str(),
-            "greeting",
-            self.file.as_str(),
-        ]
-    }
-
-    // How many files and folders stand in the store folder.
-    fn count<R: Files + AllocGlobal + Clone + Drop>(&self, rt: &R) -> io::Result<usize> {
-        let mut count = 0usize;
-        for entry in fs::read_dir(rt, self.folder.as_str())? {
-            entry?;
-            count = count.saturating_add(1);
-        }
-        Ok(count)
-    }
-}
+use std::{fs, io, process};
 
 // A path's line on standard output, and on standard error where it cannot be written.
 fn lines(alloc: Global, path: &str) -> io::Result<(String, String)> {
@@ -61,12 +13,6 @@ fn lines(alloc: Global, path: &str) -> io::Result<(String, String)> {
         format!(in alloc; "{path}\n")?,
         format!(in alloc; "nix_realise: {path}: Unwritable\n")?,
     ))
-}
-
-fn has_written(ran: &Outcome, out: &str, err: &str, status: u8) -> bool {
-    ran.out.as_slice() == out.as_bytes()
-        && ran.err.as_slice() == err.as_bytes()
-        && ran.status == status
 }
 
 // The bytes under a name in a folder that is none: the path is printed, the file is not written.
@@ -82,6 +28,8 @@ fn meets_no_folder<R: Env + Files + AllocGlobal>(
         "nix_realise",
         "add-text",
         "--store-dir=/dev/null",
+        "--journal",
+        store.journal.as_str(),
         name,
         store.file.as_str(),
     ];
@@ -93,21 +41,34 @@ fn meets_no_folder<R: Env + Files + AllocGlobal>(
 // The paths are what a program of another language made of the rule of text paths.
 #[test]
 fn printed_before_it_is_written(rt: HostRuntime) -> Result<(), Fail> {
-    let store = Store::new(&rt, process::id(rt.process()), "printed", b"hello\n")?;
+    let store = Store::new(
+        &rt,
+        process::id(rt.process()),
+        "greeting",
+        "printed",
+        b"hello\n",
+    )?;
     let path = "/dev/null/2g2phl5n70b95bmal4z8dw7px7x9jiib-greeting";
     assert!(rt; meets_no_folder(&rt, &store, "greeting", b"hello\n", path)?);
     let path = "/dev/null/8nkv2d6s7df7mi87w3gy4rchysg3h3rz-longest";
     let longest = vec![in rt.alloc(); b'x'; 4_194_304]?;
     assert!(rt; meets_no_folder(&rt, &store, "longest", &longest, path)?);
+    assert_eq!(rt; store.count(&rt)?, 1);
     fs::remove_dir_all(&rt, store.folder.as_str())?;
     Ok(())
 }
 
-// The first run finds nothing, the second another file, the third a link; a name that another run
-// left behind is passed over.
+// The first run finds nothing, the second another file, the third a link, each no journal; a name
+// that another run left behind is passed over.
 #[test]
 fn replaced(rt: HostRuntime) -> Result<(), Fail> {
-    let store = Store::new(&rt, process::id(rt.process()), "replaced", b"hello\n")?;
+    let store = Store::new(
+        &rt,
+        process::id(rt.process()),
+        "greeting",
+        "replaced",
+        b"hello\n",
+    )?;
     let left = format!(in rt.alloc(); "{}/.nix_realise-0", store.folder)?;
     fs::write(&rt, left.as_str(), b"left")?;
     let other = format!(in rt.alloc(); "{}/other", store.folder)?;
@@ -126,6 +87,7 @@ fn replaced(rt: HostRuntime) -> Result<(), Fail> {
         assert!(rt; has_written(&ran, out.as_str(), "", 0), "at {before}");
         let written = fs::read(&rt, store.path.as_str())?;
         assert_eq!(rt; written.as_slice(), b"hello\n".as_slice());
+        fs::remove_file(&rt, store.journal.as_str())?;
     }
     assert_eq!(rt;
         fs::read(&rt, other.as_str())?.as_slice(),
@@ -142,7 +104,13 @@ fn replaced(rt: HostRuntime) -> Result<(), Fail> {
 
 #[test]
 fn folder_in_place_of_the_text(rt: HostRuntime) -> Result<(), Fail> {
-    let store = Store::new(&rt, process::id(rt.process()), "in-place", b"hello\n")?;
+    let store = Store::new(
+        &rt,
+        process::id(rt.process()),
+        "greeting",
+        "in-place",
+        b"hello\n",
+    )?;
     fs::create_dir(&rt, store.path.as_str())?;
     let ran = run_words(&rt, &store.words());
     let (out, err) = lines(rt.alloc(), store.path.as_str())?;
@@ -155,7 +123,13 @@ fn folder_in_place_of_the_text(rt: HostRuntime) -> Result<(), Fail> {
 // The folder is looked at before the file, the file before the name.
 #[test]
 fn refused_words(rt: HostRuntime) -> Result<(), Fail> {
-    let store = Store::new(&rt, process::id(rt.process()), "refused", b"hello\n")?;
+    let store = Store::new(
+        &rt,
+        process::id(rt.process()),
+        "greeting",
+        "refused",
+        b"hello\n",
+    )?;
     let long = format!(in rt.alloc(); "{}/long", store.folder)?;
     fs::write(&rt, long.as_str(), vec![in rt.alloc(); b'x'; 4_194_305]?)?;
     let (folder, file) = (store.folder.as_str(), store.file.as_str());
@@ -185,7 +159,13 @@ fn refused_words(rt: HostRuntime) -> Result<(), Fail> {
 // Standard output refuses each byte of the path's line in turn: no file is written.
 #[test]
 fn refused_path(rt: HostRuntime) -> Result<(), Fail> {
-    let store = Store::new(&rt, process::id(rt.process()), "no-path", b"hello\n")?;
+    let store = Store::new(
+        &rt,
+        process::id(rt.process()),
+        "greeting",
+        "no-path",
+        b"hello\n",
+    )?;
     for room in 0..store.path.len().saturating_add(1) {
         let mut err = Vec::new(rt.alloc());
         let status = run(&rt, &store.words(), &mut Narrow { room }, &mut err);
