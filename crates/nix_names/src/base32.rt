@@ -11,7 +11,7 @@ ghost use Rattle.std.specs.List.{AllPass, position};
 use crate::fault::NameFault;
 use std::alloc::{AllocError, Global};
 
-/// The characters of the digits 0 to 31: no e, o, t or u.
+// The characters of the digits 0 to 31: no e, o, t or u.
 const ALPHABET: &[u8; 32] = b"0123456789abcdfghijklmnpqrsvwxyz";
 
 /// The base-32 text of bytes: `ceil(8n / 5)` characters for n bytes, and none for none.
@@ -45,7 +45,7 @@ pub fn from_base32(alloc: Global, text: &[u8], n: usize) -> Result<Vec<u8>, Name
     Ok(bytes_of(alloc, text, n)?)
 }
 
-/// What is wrong first with a text as that of `n` bytes.
+// What is wrong first with a text as that of `n` bytes.
 fn fault_of(text: &[u8], n: usize) -> Option<NameFault>
     ensures { result ≡ base32_fault text.now n }
 {
@@ -63,14 +63,14 @@ fn fault_of(text: &[u8], n: usize) -> Option<NameFault>
     None
 }
 
-/// The place of the first character that is no digit.
+// The place of the first character that is no digit.
 fn first_bad(text: &[u8]) -> Option<usize>
     ensures { result ≡ position (λ c. not (is_digit c)) text.now }
 {
     text.iter().position(|c| !is_digit(*c))
 }
 
-/// The first `n` bytes of the number that a text of digits writes.
+// The first `n` bytes of the number that a text of digits writes.
 fn bytes_of(alloc: Global, text: &[u8], n: usize) -> Result<Vec<u8>, AllocError>
     requires digits { AllPass is_digit text.now }
     requires within { n ≤ length text.now }
@@ -83,7 +83,7 @@ fn bytes_of(alloc: Global, text: &[u8], n: usize) -> Result<Vec<u8>, AllocError>
     Ok(bytes)
 }
 
-/// How many characters the text of `n` bytes has.
+// How many characters the text of `n` bytes has.
 fn text_len(n: usize) -> usize
     requires { n < 2 ^ 63 }
     ensures { result ≡ text_len n }
@@ -91,7 +91,7 @@ fn text_len(n: usize) -> usize
     n / 5 * 8 + (n % 5 * 8).div_ceil(5)
 }
 
-/// The character of a digit below 32.
+// The character of a digit below 32.
 fn digit_char(digit: u8) -> char
     requires { digit < 32 }
     ensures { result ≡ digit_char digit }
@@ -99,7 +99,7 @@ fn digit_char(digit: u8) -> char
     char::from(ALPHABET[digit as usize])
 }
 
-/// The digit at `place`, counted from the least significant; eight digits are five bytes.
+// The digit at `place`, counted from the least significant; eight digits are five bytes.
 fn digit_at(bytes: &[u8], place: usize) -> u8
     ensures { result ≡ number 256 bytes.now / 32 ^ place % 32 }
 {
@@ -109,14 +109,14 @@ fn digit_at(bytes: &[u8], place: usize) -> u8
     ((pair >> (bit % 8)) % 32) as u8
 }
 
-/// The byte at `at`, or 0 past the last.
+// The byte at `at`, or 0 past the last.
 fn byte_at(bytes: &[u8], at: usize) -> u8
     ensures { result ≡ slice_index bytes.now at }
 {
     bytes.get(at).copied().unwrap_or(0)
 }
 
-/// The byte at `at` of the number that a text of digits writes; five bytes are eight digits.
+// The byte at `at` of the number that a text of digits writes; five bytes are eight digits.
 fn byte_of(text: &[u8], at: usize) -> u8
     requires digits { AllPass is_digit text.now }
     requires within { at ≤ length text.now }
@@ -130,7 +130,7 @@ fn byte_of(text: &[u8], at: usize) -> u8
     (((high * 1024 + middle * 32 + low) >> (bit % 5)) % 256) as u8
 }
 
-/// The digit at `place`, counted from a text's end, or 0 before its first.
+// The digit at `place`, counted from a text's end, or 0 before its first.
 fn digit_from_end(text: &[u8], place: usize) -> u8
     ensures { result ≡ slice_index (reverse (map digit_of text.now)) place }
 {
@@ -141,25 +141,26 @@ fn digit_from_end(text: &[u8], place: usize) -> u8
     }
 }
 
-/// The digit of a character, or 32 where it is none of the alphabet.
+// The digit of a character, or 32 where it is none of the alphabet. Costs a few comparisons.
+#[tactic(auto, using(crate::proofs::Base32Runs::digits))]
 fn digit_of(character: u8) -> u8
     ensures { result ≡ digit_of character }
 {
-    place_in_alphabet(character).unwrap_or(32) as u8
+    match character {
+        b'0'..=b'9' => character - b'0',
+        b'a'..=b'd' => character - b'a' + 10,
+        b'f'..=b'n' => character - b'f' + 14,
+        b'p'..=b's' => character - b'p' + 23,
+        b'v'..=b'z' => character - b'v' + 27,
+        _ => 32,
+    }
 }
 
-/// The place of a character in the alphabet.
-fn place_in_alphabet(character: u8) -> Option<usize>
-    ensures { result ≡ position (λ a. a == character) alphabet }
-{
-    ALPHABET.iter().position(|a| *a == character)
-}
-
-/// Whether a character is one of the alphabet.
+/// Whether a character is one of the alphabet. Costs a few comparisons.
 pub fn is_digit(character: u8) -> bool
     ensures { result ≡ is_digit character }
 {
-    ALPHABET.iter().any(|a| *a == character)
+    digit_of(character) < 32
 }
 
 #[cfg(test)]
@@ -167,7 +168,7 @@ mod tests {
     use super::*;
     use std::test::Fail;
 
-    /// Bytes in hex and their base-32 text.
+    // Bytes in hex and their base-32 text.
     const VECTORS: [(&str, &str); 6] = [
         ("", ""),
         ("ff", "7z"),
