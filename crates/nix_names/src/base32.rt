@@ -1,8 +1,9 @@
-//! Bytes as base-32 text and back, in the notation of a store path's hash part (Nix manual, "Store Path").
+//! Bytes as base-32 text and back, in the notation of a store path's hash part (Nix manual,
+//! "Store Path").
 //!
-//! n bytes are one number, in which byte i weighs 256 to the power i. Its text has `ceil(8n / 5)` digits of
-//! `0123456789abcdfghijklmnpqrsvwxyz`, the most significant first. The code reads each digit's five bits, and
-//! each byte's eight, where they lie.
+//! n bytes are one number, in which byte i weighs 256 to the power i. Its text has `ceil(8n / 5)`
+//! digits of `0123456789abcdfghijklmnpqrsvwxyz`, the most significant first. The code reads each
+//! digit's five bits, and each byte's eight, where they lie.
 ghost use Rattle.std.specs.Prelude.{◌≡◌, ◌==◌, ◌/◌, ◌%◌, ◌^◌, ◌<◌, ◌≤◌, length, map, reverse, slice_index, string_bytes, IfOk, IfErr, not};
 ghost use Rattle.nix_names.specs.Base32.{alphabet, base32, base32_fault, StandsFor, number, digits_of, text_len, text_number, digit_char, digit_of, is_digit};
 ghost use Rattle.nix_names.specs.Answers.{Answers};
@@ -16,7 +17,8 @@ const ALPHABET: &[u8; 32] = b"0123456789abcdfghijklmnpqrsvwxyz";
 
 /// The base-32 text of bytes: `ceil(8n / 5)` characters for n bytes, and none for none.
 ///
-/// Fails with `NoMemory` alone. Costs one allocation of the text's length, and one step for each character.
+/// Fails with `NoMemory` alone. Costs one allocation of the text's length, and one step for each
+/// character.
 pub fn to_base32(alloc: Global, bytes: &[u8]) -> Result<String, NameFault>
     ensures text { IfOk result (λ t. string_bytes t ≡ base32 bytes.now) }
     ensures stands { IfOk result (λ t. StandsFor (string_bytes t) bytes.now) }
@@ -32,12 +34,14 @@ pub fn to_base32(alloc: Global, bytes: &[u8]) -> Result<String, NameFault>
 
 /// The `n` bytes that a base-32 text stands for.
 ///
-/// Fails with the first of these that holds: `BadLength` where the text has not `ceil(8n / 5)` bytes, `BadChar`
-/// with the place of the first byte that is no digit, counted from 0, and `Overflow` where a bit that the `n`
-/// bytes leave spare is set. So each list of bytes has one text. `NoMemory` comes only where none of them does.
-/// Costs one allocation of `n` bytes, and one step for each character.
+/// Fails with the first of these that holds: `BadLength` where the text has not `ceil(8n / 5)`
+/// bytes, `BadChar` with the place of the first byte that is no digit, counted from 0, and
+/// `Overflow` where a bit that the `n` bytes leave spare is set. So each list of bytes has one
+/// text. `NoMemory` comes only where none of them does. Costs one allocation of `n` bytes, and a
+/// few steps for each character.
 pub fn from_base32(alloc: Global, text: &[u8], n: usize) -> Result<Vec<u8>, NameFault>
-    ensures { Answers (base32_fault text.now n) result (λ bytes. (length bytes.items ≡ n) × StandsFor text.now bytes.items) }
+    ensures { Answers (base32_fault text.now n) result (λ bytes.
+        (length bytes.items ≡ n) × StandsFor text.now bytes.items) }
 {
     if let Some(fault) = fault_of(text, n) {
         return Err(fault);
