@@ -15,10 +15,10 @@ use Rattle.valid_table.specs.BadLines.{AreLines, BadLineIsOne, BeginsOutput, IsB
 use Rattle.valid_table.specs.Steps.{Place, Start, Begun, Opened, Within, Ahead, Goes, Steps, Stops, behind}
 use Rattle.valid_table.specs.Texts.{IsText, Line, Output, line_text}
 use Rattle.valid_table.specs.declared.entry.Entry.{Entry}
-use Rattle.valid_table.proofs.PathBytes.{HasNoNewline, dir_no_newline, same_line}
-use Rattle.valid_table.proofs.LineTexts.{body, body_no_newline, line_and, texts_are_lines}
+use Rattle.valid_table.proofs.LineTexts.{body, body_lacks, line_and, texts_are_lines}
 use Rattle.valid_table.proofs.LineLists.{Ends, Leads, ends_behind, line_of, lines_of, lines_of_text, text_of_lines}
 use Rattle.valid_table.proofs.StepLists.{ends_go_on, goes_ahead, ends_ahead, steps_ahead, steps_first, steps_lead, steps_meet, steps_more}
+use Rattle.valid_table.proofs.Separators.{Lacks, dir_lacks, newline, same_cut}
 
 -- ---- steps make lines that stand
 
@@ -59,7 +59,7 @@ ending_next dir (Within output last) rest ahead = inl refl
 -- the texts of so many lines that lead on are so many lines
 leads_count : (dir : List ℕ) (n : ℕ) (place : Place) (lines : List Line) → IsStoreDir dir → length lines ≡ n → Leads dir Start lines place → AreLines n (flat_map line_text lines)
 leads_count dir n place lines is_dir long leads =
-    subst (λ (k : ℕ). AreLines k (flat_map line_text lines)) long (texts_are_lines dir (dir_no_newline dir is_dir) lines (lines_of dir Start place lines leads))
+    subst (λ (k : ℕ). AreLines k (flat_map line_text lines)) long (texts_are_lines dir (dir_lacks 10 newline dir is_dir) lines (lines_of dir Start place lines leads))
 
 -- the lines that steps take, in front of what they leave
 pub steps_count : (dir bytes rest : List ℕ) (n : ℕ) (place : Place) → IsStoreDir dir → Steps dir n Start bytes place rest → (front : List ℕ) × (bytes ≡ front ++ rest) × AreLines n front
@@ -68,7 +68,7 @@ steps_count dir bytes rest n place is_dir steps =
     (flat_map line_text led.0, led.3, leads_count dir n place led.0 is_dir led.1 led.2)
 
 -- so many lines have so many newlines
-line_newlines : (line rest : List ℕ) → HasNoNewline line → count_by (is_byte 10) (line ++ 10 ∷ rest) ≡ suc (count_by (is_byte 10) rest)
+line_newlines : (line rest : List ℕ) → Lacks 10 line → count_by (is_byte 10) (line ++ 10 ∷ rest) ≡ suc (count_by (is_byte 10) rest)
 line_newlines [] rest clear = sum_by-cons (λ b. cond (is_byte 10 b) 1 0) 10 rest ∙ omega arith
 line_newlines (b ∷ line) rest clear =
     let other : is_byte 10 b ≡ false = ne_eqb b 10 (All-head (λ c. c ≢ 10) b line clear) in
@@ -131,13 +131,13 @@ ahead_at dir (suc n) from to come front after rest ends lines parts next (line, 
     goes_ahead dir from (front ++ rest) line more goes
 
 -- the first lines of a text, so many, are steps in all bytes that begin with them and go on alike
-steps_through : (dir : List ℕ) → HasNoNewline dir → (n : ℕ) (from : Place) (come : List Line) (front after rest : List ℕ) → Ends dir from come → AreLines n front → flat_map line_text come ≡ front ++ after → EndsAs after rest
+steps_through : (dir : List ℕ) → Lacks 10 dir → (n : ℕ) (from : Place) (come : List Line) (front after rest : List ℕ) → Ends dir from come → AreLines n front → flat_map line_text come ≡ front ++ after → EndsAs after rest
     → (to : Place) × Steps dir n from (front ++ rest) to rest
 steps_through dir clear zero from come front after rest ends none parts next = (from, (refl, ap (λ (bytes : List ℕ). bytes ++ rest) none))
 steps_through dir clear (suc n) from [] front after rest ends (first, more, plain, is, lines) parts next =
     absurd (omega (arith, ap length (parts ∙ ap (λ (bytes : List ℕ). bytes ++ after) is), length-append (first ++ 10 ∷ more) after, length-append first (10 ∷ more)))
 steps_through dir clear (suc n) from (line ∷ come) front after rest ends (first, more, plain, is, lines) parts next =
-    let split = same_line (body line) first (flat_map line_text come) (more ++ after) (body_no_newline dir line clear (line_of dir from line ends.0)) plain
+    let split = same_cut 10 (body line) first (flat_map line_text come) (more ++ after) (body_lacks dir line clear (line_of dir from line ends.0)) plain
     (sym (line_and line (flat_map line_text come)) ∙ parts ∙ ap (λ (bytes : List ℕ). bytes ++ after) is ∙ append_assoc first (10 ∷ more) after) in
     let later = steps_through dir clear n (behind from line) come more after rest ends.1 lines split.1 next in
     let goes : Goes dir from (front ++ rest) line (more ++ rest) = record {
@@ -151,7 +151,7 @@ steps_through dir clear (suc n) from (line ∷ come) front after rest ends (firs
 pub stands_step : (dir bytes rest : List ℕ) (n : ℕ) → IsStoreDir dir → Stands dir n bytes rest → (place : Place) × Steps dir n Start bytes place rest
 stands_step dir bytes rest n is_dir stands =
     let come = lines_of_text dir stands.whole stands.entries stands.is_text in
-    let led = steps_through dir (dir_no_newline dir is_dir) n Start come.0 stands.front stands.after rest come.1 stands.counted (sym come.2 ∙ stands.begins) stands.next in
+    let led = steps_through dir (dir_lacks 10 newline dir is_dir) n Start come.0 stands.front stands.after rest come.1 stands.counted (sym come.2 ∙ stands.begins) stands.next in
     (led.0, subst (λ (s : List ℕ). Steps dir n Start s led.0 rest) (sym stands.parts) led.1)
 
 -- ---- the laws

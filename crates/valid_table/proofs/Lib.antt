@@ -19,7 +19,6 @@ pub mod LineSteps
 pub mod LineTexts
 pub mod OneList
 pub mod OutputLines
-pub mod PathBytes
 pub mod PathLists
 pub mod Reaching
 pub mod ReadAnswers

@@ -1,16 +1,15 @@
 -- Which bytes are a path, and which are a line's path and digest up to its newline.
 use Rattle.std.proofs.Common.{false, ◌≡◌, ◌≢◌, ◌⊎◌, ℕ, List, [], ◌∷◌, ◌++◌, Option, Some, None, inl, inr, sym, ap, ◌∙◌, subst}
 use Rattle.std.proofs.lemmas.Bool.{false≢true}
-use Rattle.std.proofs.lemmas.List.{append_assoc}
 use Rattle.nix_names.specs.Names.{IsStoreDir, is_drv_name}
 use Rattle.nix_names.specs.StorePaths.{IsPathOf, name_of, path_fault}
 use Rattle.nix_names.specs.declared.fault.NameFault.{NameFault}
 use Rattle.nix_names.specs.declared.fault.NameFault.TheVariants.{NoMemory}
 use Rattle.nix_names.proofs.PathFaults.{no_fault_of_path}
-use Rattle.valid_table.specs.LineTexts.{fields_text}
 use Rattle.valid_table.specs.Readers.{IsDeriverLine, IsFieldsLine, IsNoLine, IsPathLine}
 use Rattle.valid_table.specs.Texts.{IsDigest, digest_text}
-use Rattle.valid_table.proofs.Separators.{Lacks, digest_lacks, lacks_not, newline, path_lacks, same_cut, space}
+use Rattle.valid_table.proofs.LineTexts.{fields_apart, two_path_lines}
+use Rattle.valid_table.proofs.Separators.{Lacks, digest_lacks, dir_lacks, lacks_not, newline, path_lacks, same_cut, space}
 
 -- bytes that are refused, not for want of memory, are no path
 pub no_path : (dir text : List ℕ) (fault : NameFault) → (path_fault dir text ≡ Some fault) ⊎ ((path_fault dir text ≡ None) × (fault ≡ NoMemory)) → (fault ≡ NoMemory → ⊥) → IsPathOf dir text → ⊥
@@ -24,23 +23,12 @@ no_path_line dir bytes path rest none is = lacks_not 10 path rest (subst (Lacks 
 -- the path of a line is what stands before the first newline
 pub same_path_line : (dir bytes line behind path rest : List ℕ) → IsStoreDir dir → Lacks 10 line → bytes ≡ line ++ 10 ∷ behind → IsPathLine dir bytes path rest → (path ≡ line) × (rest ≡ behind)
 same_path_line dir bytes line behind path rest of_dir none parts is =
-    same_cut 10 path line rest behind (path_lacks 10 newline dir path of_dir is.of_dir) none (sym is.parts ∙ parts)
-
--- a line's path is one, and what is behind it too
-pub two_path_lines : (dir bytes path rest other more : List ℕ) → IsStoreDir dir → IsPathLine dir bytes path rest → IsPathLine dir bytes other more → (path ≡ other) × (rest ≡ more)
-two_path_lines dir bytes path rest other more of_dir is line =
-    same_path_line dir bytes other more path rest of_dir (path_lacks 10 newline dir other of_dir line.of_dir) line.parts is
+    same_cut 10 path line rest behind (path_lacks 10 newline dir path (dir_lacks 10 newline dir of_dir) is.of_dir) none (sym is.parts ∙ parts)
 
 -- where that is no path, there is no line with a path
 pub other_path_line : (dir bytes line behind path rest : List ℕ) → IsStoreDir dir → Lacks 10 line → bytes ≡ line ++ 10 ∷ behind → (IsPathOf dir line → ⊥) → IsPathLine dir bytes path rest → ⊥
 other_path_line dir bytes line behind path rest of_dir none parts other is =
     other (subst (IsPathOf dir) (same_path_line dir bytes line behind path rest of_dir none parts is).0 is.of_dir)
-
--- the bytes of a path, a space, a digest and a newline, and those behind them
-pub fields_apart : (path : List ℕ) (digest : Option (List ℕ)) (rest : List ℕ) → fields_text path digest ++ rest ≡ path ++ (32 ∷ (digest_text digest ++ (10 ∷ rest)))
-fields_apart path digest rest =
-    append_assoc path (32 ∷ (digest_text digest ++ (10 ∷ []))) rest
-    ∙ ap (λ (more : List ℕ). path ++ (32 ∷ more)) (append_assoc (digest_text digest) (10 ∷ []) rest)
 
 -- without a space there are no fields
 pub no_space : (dir bytes path : List ℕ) (digest : Option (List ℕ)) (rest : List ℕ) → Lacks 32 bytes → IsFieldsLine dir bytes path digest rest → ⊥
@@ -50,7 +38,7 @@ no_space dir bytes path digest rest none is =
 -- the path of the fields is what stands before the first space
 pub behind_space : (dir bytes text fields path : List ℕ) (digest : Option (List ℕ)) (rest : List ℕ) → IsStoreDir dir → Lacks 32 text → bytes ≡ text ++ 32 ∷ fields → IsFieldsLine dir bytes path digest rest → (path ≡ text) × (digest_text digest ++ (10 ∷ rest) ≡ fields)
 behind_space dir bytes text fields path digest rest of_dir none parts is =
-    same_cut 32 path text (digest_text digest ++ (10 ∷ rest)) fields (path_lacks 32 space dir path of_dir is.of_dir) none
+    same_cut 32 path text (digest_text digest ++ (10 ∷ rest)) fields (path_lacks 32 space dir path (dir_lacks 32 space dir of_dir) is.of_dir) none
     (sym (fields_apart path digest rest) ∙ sym is.parts ∙ parts)
 
 -- where no newline stands behind that space, there are no fields
@@ -74,19 +62,13 @@ other_path dir bytes text fields line behind path digest rest of_dir none parts 
     other (subst (IsPathOf dir) (same_fields dir bytes text fields line behind path digest rest of_dir none parts lacks ends is).0 is.of_dir)
 
 -- a line with another path than a `.drv` one is no deriver's
-pub not_drv : (dir bytes path behind name other rest : List ℕ) → IsStoreDir dir → IsPathLine dir bytes path behind → name ≡ name_of path → is_drv_name name ≡ false → IsDeriverLine dir bytes other rest → ⊥
-not_drv dir bytes path behind name other rest of_dir line named fails is =
-    let same = two_path_lines dir bytes other rest path behind of_dir is.line line in
+pub not_drv : (dir bytes path behind name other rest : List ℕ) → IsPathLine dir bytes path behind → name ≡ name_of path → is_drv_name name ≡ false → IsDeriverLine dir bytes other rest → ⊥
+not_drv dir bytes path behind name other rest line named fails is =
+    let same = two_path_lines dir bytes other rest path behind is.line line in
     false≢true (sym fails ∙ ap is_drv_name (named ∙ ap name_of (sym same.0)) ∙ is.named)
 
 -- nor is one that no output follows
-pub not_ahead : (dir bytes path behind other rest : List ℕ) → IsStoreDir dir → IsPathLine dir bytes path behind → IsNoLine 79 behind → IsDeriverLine dir bytes other rest → ⊥
-not_ahead dir bytes path behind other rest of_dir line none is =
-    let same = two_path_lines dir bytes other rest path behind of_dir is.line line in
+pub not_ahead : (dir bytes path behind other rest : List ℕ) → IsPathLine dir bytes path behind → IsNoLine 79 behind → IsDeriverLine dir bytes other rest → ⊥
+not_ahead dir bytes path behind other rest line none is =
+    let same = two_path_lines dir bytes other rest path behind is.line line in
     none is.ahead.0 (sym same.1 ∙ is.ahead.1)
-
--- fields have one path
-pub two_fields : (dir bytes path : List ℕ) (digest : Option (List ℕ)) (rest other : List ℕ) (sum : Option (List ℕ)) (more : List ℕ) → IsStoreDir dir → IsFieldsLine dir bytes path digest rest → IsFieldsLine dir bytes other sum more → path ≡ other
-two_fields dir bytes path digest rest other sum more of_dir is line =
-    (behind_space dir bytes other (digest_text sum ++ (10 ∷ more)) path digest rest of_dir (path_lacks 32 space dir other of_dir line.of_dir)
-    (line.parts ∙ fields_apart other sum more) is).0

@@ -1,64 +1,48 @@
 -- The bytes of a journal's lines: each ends in its only newline, and two lines are told apart by their bytes.
-use Rattle.std.proofs.Common.{◌≡◌, ◌≢◌, ◌<◌, ◌/◌, ◌%◌, ℕ, not, ◌==◌, List, [], ◌∷◌, ◌++◌, length, get_or, drop, refl, ap, sym, ◌∙◌, arith, All, Option, Some, None, Result, Ok, inl, inr}
-use Rattle.std.specs.Prelude.{slice_index, codes, flat_map}
-use Rattle.std.proofs.lemmas.Bool.{cases_lt}
-use Rattle.std.proofs.lemmas.List.{append_assoc, append_cancel_left, get_or_past}
-use Rattle.std.proofs.lemmas.List.Elements.{All-append, All-cons, All-nil, All-head, All-tail}
-use Rattle.hex.specs.Hex.{encode_lower, encode_with, lower_digits, decode_of, IsBytes}
+use Rattle.std.proofs.Common.{◌≡◌, ◌≢◌, ◌==◌, ℕ, not, List, [], ◌∷◌, ◌++◌, length, get_or, drop, refl, ap, sym, ◌∙◌, arith, All, Option, Some, None, Result, Ok}
+use Rattle.std.specs.Prelude.{codes, flat_map}
+use Rattle.std.proofs.lemmas.List.{append_assoc, append_cancel_left}
+use Rattle.std.proofs.lemmas.List.Elements.{All-append, All-cons, All-head, All-tail}
+use Rattle.hex.specs.Hex.{lower_digits, decode_of}
 use Rattle.hex.specs.declared.error.FromHexError.{FromHexError}
 use Rattle.hex.proofs.HexLemmas.{length-encode_with, decode_of-encode_lower}
 use Rattle.nix_names.specs.StorePaths.{IsPathOf}
 use Rattle.valid_table.specs.BadLines.{AreLines}
+use Rattle.valid_table.specs.LineTexts.{fields_text}
+use Rattle.valid_table.specs.Readers.{IsFieldsLine, IsPathLine}
 use Rattle.valid_table.specs.Texts.{IsDigest, Line, Version, Added, Deriver, Output, Reference, digest_text, line_text}
-use Rattle.valid_table.proofs.PathBytes.{HasNoNewline, same_line, same_path, newline_ends_name, space_ends_name, passing_no_newline, path_no_newline}
+use Rattle.valid_table.proofs.Separators.{Lacks, bytes_everywhere, digest_lacks, newline, passing, path_lacks, same_cut, same_path, space}
 
--- ---- digests
+-- ---- fields
 
--- no digit is a newline, at whatever place
-digit_no_newline : (k : ℕ) → slice_index lower_digits k ≢ 10
-digit_no_newline k e =
-    elim (cases_lt k 16) [
-      | inl within ↦ passing_no_newline (λ b. not (b == 10)) lower_digits refl refl k 0 within e
-      | inr past ↦ let none : slice_index lower_digits k ≡ 0 = get_or_past lower_digits k 0 past in absurd (omega arith)
-    ]
-
--- no bytes in hexadecimal digits have a newline
-encoded_no_newline : (bytes : List ℕ) → HasNoNewline (encode_lower bytes)
-unfolding encode_with
-encoded_no_newline [] = All-nil (λ b. b ≢ 10)
-encoded_no_newline (b ∷ bytes) =
-    let low : ℕ = b % 16 in
-    All-cons (λ c. c ≢ 10) (slice_index lower_digits (b / 16)) (slice_index lower_digits low ∷ encode_lower bytes) (digit_no_newline (b / 16))
-    (All-cons (λ c. c ≢ 10) (slice_index lower_digits low) (encode_lower bytes) (digit_no_newline low) (encoded_no_newline bytes))
-
--- no text of a digest has a newline
-pub digest_no_newline : (digest : Option (List ℕ)) → HasNoNewline (digest_text digest)
-digest_no_newline None = passing_no_newline (λ b. not (b == 10)) (codes "-") refl refl
-digest_no_newline (Some digest) = encoded_no_newline digest
-
--- bytes that are below 256 are bytes at whatever place
-are_bytes : (bytes : List ℕ) → All (λ b. b < 256) bytes → IsBytes bytes
-are_bytes bytes each k =
-    elim (cases_lt k (length bytes)) [
-      | inl within ↦ each k 0 within
-      | inr past ↦ let none : slice_index bytes k ≡ 0 = get_or_past bytes k 0 past in omega arith
-    ]
-
--- the bytes of an answer
-abbrev decoded : List ℕ → Result (List ℕ) FromHexError
-decoded bytes = Ok bytes
-
--- two answers with the same bytes
-ok_same : (a b : List ℕ) → decoded a ≡ decoded b → a ≡ b
-ok_same a b e = cc
+-- a path, a space, a digest and a newline, and what is behind them
+pub fields_apart : (path : List ℕ) (digest : Option (List ℕ)) (rest : List ℕ) → fields_text path digest ++ rest ≡ path ++ (32 ∷ (digest_text digest ++ (10 ∷ rest)))
+fields_apart path digest rest =
+    append_assoc path (32 ∷ (digest_text digest ++ (10 ∷ []))) rest
+    ∙ ap (λ (more : List ℕ). path ++ (32 ∷ more)) (append_assoc (digest_text digest) (10 ∷ []) rest)
 
 -- a digest has one text
-pub same_digest : (a b : Option (List ℕ)) → IsDigest a → IsDigest b → digest_text a ≡ digest_text b → a ≡ b
+same_digest : (a b : Option (List ℕ)) → IsDigest a → IsDigest b → digest_text a ≡ digest_text b → a ≡ b
 same_digest None None one two e = refl
 same_digest None (Some b) one two e = absurd (omega (arith, ap length e, length-encode_with lower_digits b, two.0))
 same_digest (Some a) None one two e = absurd (omega (arith, ap length e, length-encode_with lower_digits a, one.0))
 same_digest (Some a) (Some b) one two e =
-    ap Some (ok_same a b (sym (decode_of-encode_lower a (are_bytes a one.1)) ∙ ap decode_of e ∙ decode_of-encode_lower b (are_bytes b two.1)))
+    let told : Result (List ℕ) FromHexError → Result (List ℕ) FromHexError → Type 0 = λ x y. x ≡ y in
+    let same : told (Ok a) (Ok b) = sym (decode_of-encode_lower a (bytes_everywhere a one.1)) ∙ ap decode_of e ∙ decode_of-encode_lower b (bytes_everywhere b two.1) in
+    cc
+
+-- bytes have one path with a newline behind it
+pub two_path_lines : (dir bytes path rest other more : List ℕ) → IsPathLine dir bytes path rest → IsPathLine dir bytes other more → (path ≡ other) × (rest ≡ more)
+two_path_lines dir bytes path rest other more one two =
+    same_path 10 newline dir path other rest more one.of_dir two.of_dir (sym one.parts ∙ two.parts)
+
+-- bytes have one path with a digest behind it
+pub two_fields : (dir bytes path : List ℕ) (digest : Option (List ℕ)) (rest other : List ℕ) (sum : Option (List ℕ)) (more : List ℕ) → IsFieldsLine dir bytes path digest rest → IsFieldsLine dir bytes other sum more
+    → (path ≡ other) × (digest ≡ sum) × (rest ≡ more)
+two_fields dir bytes path digest rest other sum more one two =
+    let paths = same_path 32 space dir path other _ _ one.of_dir two.of_dir (sym (one.parts ∙ fields_apart path digest rest) ∙ two.parts ∙ fields_apart other sum more) in
+    let digests = same_cut 10 (digest_text digest) (digest_text sum) rest more (digest_lacks digest one.is_digest) (digest_lacks sum two.is_digest) paths.1 in
+    (paths.0, same_digest digest sum one.is_digest two.is_digest digests.0, digests.1)
 
 -- ---- lines
 
@@ -70,26 +54,14 @@ IsLineOf dir (Deriver path) = IsPathOf dir path
 IsLineOf dir (Output path digest) = IsPathOf dir path × IsDigest digest
 IsLineOf dir (Reference path) = IsPathOf dir path
 
--- a path and its digest, or a path alone, with what follows, bracketed to the right
-record_and : (path digest rest : List ℕ) → (path ++ (32 ∷ (digest ++ (10 ∷ [])))) ++ rest ≡ path ++ 32 ∷ (digest ++ 10 ∷ rest)
-record_and path digest rest = append_assoc path _ rest ∙ ap (λ (tail : List ℕ). path ++ 32 ∷ tail) (append_assoc digest (10 ∷ []) rest)
-
-path_and : (path rest : List ℕ) → (path ++ (10 ∷ [])) ++ rest ≡ path ++ 10 ∷ rest
-path_and path rest = append_assoc path (10 ∷ []) rest
-
--- the path and the digest of a line are told apart
-same_record : (dir p q : List ℕ) (a b : Option (List ℕ)) (x y : List ℕ) → IsPathOf dir p × IsDigest a → IsPathOf dir q × IsDigest b
-    → (p ++ (32 ∷ (digest_text a ++ (10 ∷ [])))) ++ x ≡ (q ++ (32 ∷ (digest_text b ++ (10 ∷ [])))) ++ y → (p ≡ q) × (a ≡ b) × (x ≡ y)
+-- the fields of two lines, told apart by their bytes
+same_record : (dir p q : List ℕ) (a b : Option (List ℕ)) (x y : List ℕ) → IsPathOf dir p × IsDigest a → IsPathOf dir q × IsDigest b → fields_text p a ++ x ≡ fields_text q b ++ y → (p ≡ q) × (a ≡ b) × (x ≡ y)
 same_record dir p q a b x y one two e =
-    let paths = same_path dir p q 32 32 _ _ one.0 two.0 space_ends_name space_ends_name (sym (record_and p (digest_text a) x) ∙ e ∙ record_and q (digest_text b) y) in
-    let rests = same_line (digest_text a) (digest_text b) x y (digest_no_newline a) (digest_no_newline b) (ap (drop 1) paths.1) in
-    (paths.0, same_digest a b one.1 two.1 rests.0, rests.1)
+    two_fields dir (fields_text p a ++ x) p a x q b y (record { of_dir = one.0; is_digest = one.1; parts = refl }) (record { of_dir = two.0; is_digest = two.1; parts = e })
 
--- and so is a path alone
 same_lone_path : (dir p q x y : List ℕ) → IsPathOf dir p → IsPathOf dir q → (p ++ (10 ∷ [])) ++ x ≡ (q ++ (10 ∷ [])) ++ y → (p ≡ q) × (x ≡ y)
 same_lone_path dir p q x y one two e =
-    let paths = same_path dir p q 10 10 x y one two newline_ends_name newline_ends_name (sym (path_and p x) ∙ e ∙ path_and q y) in
-    (paths.0, ap (drop 1) paths.1)
+    same_path 10 newline dir p q x y one two (sym (append_assoc p (10 ∷ []) x) ∙ e ∙ append_assoc q (10 ∷ []) y)
 
 -- the first byte
 abbrev first : List ℕ → ℕ
@@ -125,35 +97,36 @@ body (Reference path) = codes "R " ++ path
 -- a line and what follows it
 pub line_and : (line : Line) (rest : List ℕ) → line_text line ++ rest ≡ body line ++ 10 ∷ rest
 line_and Version rest = refl
-line_and (Added path digest) rest = ap (λ (tail : List ℕ). codes "A " ++ tail) (record_and path (digest_text digest) rest ∙ sym (append_assoc path (32 ∷ digest_text digest) (10 ∷ rest)))
-line_and (Deriver path) rest = ap (λ (tail : List ℕ). codes "D " ++ tail) (path_and path rest)
-line_and (Output path digest) rest = ap (λ (tail : List ℕ). codes "O " ++ tail) (record_and path (digest_text digest) rest ∙ sym (append_assoc path (32 ∷ digest_text digest) (10 ∷ rest)))
-line_and (Reference path) rest = ap (λ (tail : List ℕ). codes "R " ++ tail) (path_and path rest)
+line_and (Added path digest) rest = ap (λ (tail : List ℕ). codes "A " ++ tail) (fields_apart path digest rest ∙ sym (append_assoc path (32 ∷ digest_text digest) (10 ∷ rest)))
+line_and (Deriver path) rest = ap (λ (tail : List ℕ). codes "D " ++ tail) (append_assoc path (10 ∷ []) rest)
+line_and (Output path digest) rest = ap (λ (tail : List ℕ). codes "O " ++ tail) (fields_apart path digest rest ∙ sym (append_assoc path (32 ∷ digest_text digest) (10 ∷ rest)))
+line_and (Reference path) rest = ap (λ (tail : List ℕ). codes "R " ++ tail) (append_assoc path (10 ∷ []) rest)
 
 -- a letter and a space before bytes without newlines
-lettered : (letter : ℕ) (bytes : List ℕ) → letter ≢ 10 → HasNoNewline bytes → HasNoNewline (letter ∷ 32 ∷ bytes)
+lettered : (letter : ℕ) (bytes : List ℕ) → letter ≢ 10 → Lacks 10 bytes → Lacks 10 (letter ∷ 32 ∷ bytes)
 lettered letter bytes other clear = All-cons (λ b. b ≢ 10) letter (32 ∷ bytes) other (All-cons (λ b. b ≢ 10) 32 bytes (λ e. absurd (omega arith)) clear)
 
 -- a path and its digest have no newline
-record_no_newline : (dir path : List ℕ) (digest : Option (List ℕ)) → HasNoNewline dir → IsPathOf dir path → HasNoNewline (path ++ (32 ∷ digest_text digest))
-record_no_newline dir path digest clear p =
-    All-append (λ b. b ≢ 10) path (32 ∷ digest_text digest) (path_no_newline dir path clear p) (All-cons (λ b. b ≢ 10) 32 (digest_text digest) (λ e. absurd (omega arith)) (digest_no_newline digest))
+record_lacks : (dir path : List ℕ) (digest : Option (List ℕ)) → Lacks 10 dir → IsPathOf dir path × IsDigest digest → Lacks 10 (path ++ (32 ∷ digest_text digest))
+record_lacks dir path digest clear is =
+    All-append (λ b. b ≢ 10) path (32 ∷ digest_text digest) (path_lacks 10 newline dir path clear is.0)
+    (All-cons (λ b. b ≢ 10) 32 (digest_text digest) (λ e. absurd (omega arith)) (digest_lacks digest is.1))
 
 -- a line has no newline before its last byte
-pub body_no_newline : (dir : List ℕ) (line : Line) → HasNoNewline dir → IsLineOf dir line → HasNoNewline (body line)
-body_no_newline dir Version clear p = passing_no_newline (λ b. not (b == 10)) (body Version) refl refl
-body_no_newline dir (Added path digest) clear p = lettered 65 _ (λ e. absurd (omega arith)) (record_no_newline dir path digest clear p.0)
-body_no_newline dir (Deriver path) clear p = lettered 68 path (λ e. absurd (omega arith)) (path_no_newline dir path clear p)
-body_no_newline dir (Output path digest) clear p = lettered 79 _ (λ e. absurd (omega arith)) (record_no_newline dir path digest clear p.0)
-body_no_newline dir (Reference path) clear p = lettered 82 path (λ e. absurd (omega arith)) (path_no_newline dir path clear p)
+pub body_lacks : (dir : List ℕ) (line : Line) → Lacks 10 dir → IsLineOf dir line → Lacks 10 (body line)
+body_lacks dir Version clear is = passing (λ b. not (b == 10)) 10 (body Version) refl refl
+body_lacks dir (Added path digest) clear is = lettered 65 _ (λ e. absurd (omega arith)) (record_lacks dir path digest clear is)
+body_lacks dir (Deriver path) clear is = lettered 68 path (λ e. absurd (omega arith)) (path_lacks 10 newline dir path clear is)
+body_lacks dir (Output path digest) clear is = lettered 79 _ (λ e. absurd (omega arith)) (record_lacks dir path digest clear is)
+body_lacks dir (Reference path) clear is = lettered 82 path (λ e. absurd (omega arith)) (path_lacks 10 newline dir path clear is)
 
 -- the texts of so many lines are so many lines
-pub texts_are_lines : (dir : List ℕ) → HasNoNewline dir → (lines : List Line) → All (IsLineOf dir) lines → AreLines (length lines) (flat_map line_text lines)
+pub texts_are_lines : (dir : List ℕ) → Lacks 10 dir → (lines : List Line) → All (IsLineOf dir) lines → AreLines (length lines) (flat_map line_text lines)
 texts_are_lines dir clear [] each = refl
 texts_are_lines dir clear (line ∷ lines) each = (
   body line,
   flat_map line_text lines,
-  body_no_newline dir line clear (All-head (IsLineOf dir) line lines each),
+  body_lacks dir line clear (All-head (IsLineOf dir) line lines each),
   line_and line (flat_map line_text lines),
   texts_are_lines dir clear lines (All-tail (IsLineOf dir) line lines each),
 )

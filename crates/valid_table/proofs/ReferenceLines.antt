@@ -3,13 +3,12 @@ use Rattle.std.proofs.Common.{◌≡◌, ℕ, List, [], ◌∷◌, ◌++◌, len
 use Rattle.std.specs.List.{All, last_or, slice_get}
 use Rattle.std.proofs.lemmas.List.{append-nil, append_assoc}
 use Rattle.std.proofs.lemmas.List.Elements.{All-head, All-push, All-tail}
-use Rattle.nix_names.specs.Names.{IsStoreDir}
 use Rattle.nix_names.specs.StorePaths.{IsPathOf}
 use Rattle.valid_table.specs.LineTexts.{references_text}
 use Rattle.valid_table.specs.Readers.{IsPathLine, SoFarReferences}
 use Rattle.valid_table.specs.Steps.{IsAbove, Goes, Stops, Within}
 use Rattle.valid_table.specs.Texts.{Line, Version, Added, Deriver, Output, Reference, line_text}
-use Rattle.valid_table.proofs.LinePaths.{two_path_lines}
+use Rattle.valid_table.proofs.LineTexts.{two_path_lines}
 use Rattle.valid_table.proofs.LineSteps.{behind_path_line, letter_tells, some_begun, stop_behind, stop_here, stop_same}
 use Rattle.valid_table.proofs.RisingPaths.{AreAbove, above_of_rising, last_is, rising_more}
 
@@ -51,12 +50,12 @@ bad_reference dir output before bytes fields begins none =
     (stuck dir output before bytes fields begins (λ path rest above line. none path rest line))
 
 -- a reference's line with a path that isn't above the one before it stops
-pub low_reference : (dir : List ℕ) (output before : Option (List ℕ)) (bytes fields path rest : List ℕ) → IsStoreDir dir → bytes ≡ 82 ∷ 32 ∷ fields
+pub low_reference : (dir : List ℕ) (output before : Option (List ℕ)) (bytes fields path rest : List ℕ) → bytes ≡ 82 ∷ 32 ∷ fields
     → IsPathLine dir fields path rest → (IsAbove before path → ⊥) → Stops dir (Within output before) bytes (length bytes)
-low_reference dir output before bytes fields path rest of_dir begins line low =
+low_reference dir output before bytes fields path rest begins line low =
     stop_here dir (Within output before) bytes (some_begun 82 bytes (32 ∷ fields) begins)
     (stuck dir output before bytes fields begins (λ other more above is.
-    let same = two_path_lines dir fields other more path rest of_dir is line in
+    let same = two_path_lines dir fields other more path rest is line in
     low (rw same.0 at above)))
 
 -- the text of references, and one more line

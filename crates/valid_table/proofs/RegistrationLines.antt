@@ -1,21 +1,20 @@
 -- The lines of a path that is registered: where they stop, and what they are.
 use Rattle.std.proofs.Common.{◌≡◌, ℕ, List, ◌∷◌, ◌++◌, length, Option, inl, refl, sym, ap, ◌∙◌, subst}
 use Rattle.std.proofs.lemmas.List.{append_assoc}
-use Rattle.nix_names.specs.Names.{IsStoreDir}
 use Rattle.valid_table.specs.LineTexts.{fields_text, references_text}
 use Rattle.valid_table.specs.PathInfos.{PathInfo}
 use Rattle.valid_table.specs.Readers.{HasReferences, HasRegistration, IsFieldsLine, StopsInRegistration}
 use Rattle.valid_table.specs.Steps.{IsAbove}
-use Rattle.valid_table.proofs.LinePaths.{two_fields}
+use Rattle.valid_table.proofs.LineTexts.{two_fields}
 
 -- a path that isn't above the one before it stops
-pub low_registration : (dir : List ℕ) (letter : ℕ) (before : Option (List ℕ)) (bytes fields path : List ℕ) (digest : Option (List ℕ)) (rest : List ℕ) → IsStoreDir dir → bytes ≡ letter ∷ 32 ∷ fields
+pub low_registration : (dir : List ℕ) (letter : ℕ) (before : Option (List ℕ)) (bytes fields path : List ℕ) (digest : Option (List ℕ)) (rest : List ℕ) → bytes ≡ letter ∷ 32 ∷ fields
     → IsFieldsLine dir fields path digest rest → (IsAbove before path → ⊥) → StopsInRegistration dir letter before bytes (length bytes)
-low_registration dir letter before bytes fields path digest rest of_dir begins line low = inl (record {
+low_registration dir letter before bytes fields path digest rest begins line low = inl (record {
   fields = fields;
   begins = begins;
   is_left = refl;
-  bad = λ other sum more above is. low (subst (IsAbove before) (two_fields dir fields other sum more path digest rest of_dir is line) above);
+  bad = λ other sum more above is. low (subst (IsAbove before) (two_fields dir fields other sum more path digest rest is line).0 above);
 })
 
 -- the text of a line with fields, of the references behind it and of the rest

@@ -1,8 +1,8 @@
 -- Newlines and spaces part a text in one way only, where what stands before them has none; paths and digests have none.
 use Rattle.std.proofs.Common.{◌≡◌, ◌≢◌, ℕ, Bool, true, false, List, [], ◌∷◌, ◌++◌, ◌<◌, length, inl, inr, Option, Some, None, refl, sym, ap, ◌∙◌, subst, arith, IsTrue}
-use Rattle.std.specs.List.{All, AllPass, flat_map}
+use Rattle.std.specs.List.{All, AllPass, flat_map, list_all}
 use Rattle.std.proofs.lemmas.Bool.{and_parts, cases_lt, false≢true}
-use Rattle.std.proofs.lemmas.List.{get_or_past}
+use Rattle.std.proofs.lemmas.List.{append_assoc, append_cancel_left, get_or_past}
 use Rattle.std.proofs.lemmas.List.Elements.{All-append, All-cons, All-head, All-nil, All-tail, All-weaker}
 use Rattle.std.proofs.lemmas.List.Sums.{AllPass-from_list_all}
 use Rattle.hex.specs.Hex.{IsBytes, encode_lower, is_hex_digit}
@@ -16,20 +16,21 @@ use Rattle.valid_table.specs.Texts.{IsDigest, digest_text}
 abbrev pub Lacks : ℕ → List ℕ → Type 0
 Lacks b xs = All (λ x. x ≢ b) xs
 
-heads : (x y : ℕ) (xs ys : List ℕ) → x ∷ xs ≡ y ∷ ys → (x ≡ y) × (xs ≡ ys)
-heads x y xs ys e = (cc, cc)
+-- ---- where a text is cut
 
 -- two texts up to the first such byte are the same, where the wholes are
 pub same_cut : (b : ℕ) (xs ys x y : List ℕ) → Lacks b xs → Lacks b ys → xs ++ (b ∷ x) ≡ ys ++ (b ∷ y) → (xs ≡ ys) × (x ≡ y)
-same_cut b [] [] x y none other e = (refl, (heads b b x y e).1)
+same_cut b [] [] x y none other e = (refl, cc)
 same_cut b [] (c ∷ ys) x y none other e =
-    absurd (All-head (λ z. z ≢ b) c ys other (sym (heads b c x (ys ++ (b ∷ y)) e).0))
+    let same : c ≡ b = cc in
+    absurd (All-head (λ z. z ≢ b) c ys other same)
 same_cut b (a ∷ xs) [] x y none other e =
-    absurd (All-head (λ z. z ≢ b) a xs none (heads a b (xs ++ (b ∷ x)) y e).0)
+    let same : a ≡ b = cc in
+    absurd (All-head (λ z. z ≢ b) a xs none same)
 same_cut b (a ∷ xs) (c ∷ ys) x y none other e =
-    let parts = heads a c (xs ++ (b ∷ x)) (ys ++ (b ∷ y)) e in
-    let rest = same_cut b xs ys x y (All-tail (λ z. z ≢ b) a xs none) (All-tail (λ z. z ≢ b) c ys other) parts.1 in
-    (cc (parts.0, rest.0), rest.1)
+    let rest : xs ++ (b ∷ x) ≡ ys ++ (b ∷ y) = cc in
+    let same = same_cut b xs ys x y (All-tail (λ z. z ≢ b) a xs none) (All-tail (λ z. z ≢ b) c ys other) rest in
+    (cc (same.0), same.1)
 
 -- a text has such a byte
 pub lacks_not : (b : ℕ) (xs rest : List ℕ) → Lacks b (xs ++ (b ∷ rest)) → ⊥
@@ -41,6 +42,11 @@ pub apart : (test : ℕ → Bool) (b : ℕ) (xs : List ℕ) → test b ≡ false
 apart test b xs fails pass =
     All-weaker (λ x. test x ≡ true) (λ x. x ≢ b) (λ x passes same. false≢true (sym fails ∙ ap test (sym same) ∙ passes)) xs pass
 
+pub passing : (test : ℕ → Bool) (b : ℕ) (xs : List ℕ) → test b ≡ false → list_all test xs ≡ true → Lacks b xs
+passing test b xs fails pass = apart test b xs fails (AllPass-from_list_all test xs pass)
+
+-- ---- paths
+
 -- a byte that stands in no path
 pub record IsSeparator (b : ℕ) : Type 0 where
   pub no_name : is_name_char b ≡ false
@@ -48,53 +54,55 @@ pub record IsSeparator (b : ℕ) : Type 0 where
   pub no_slash : 47 ≢ b
   pub no_dash : 45 ≢ b
 
-newline_in_no_name : is_name_char 10 ≡ false
-unfolding is_name_char
-newline_in_no_name = refl
-
 pub newline : IsSeparator 10
-newline = record { no_name = newline_in_no_name; no_digit = refl; no_slash = λ e. absurd (omega arith); no_dash = λ e. absurd (omega arith) }
-
-space_in_no_name : is_name_char 32 ≡ false
 unfolding is_name_char
-space_in_no_name = refl
+newline = record { no_name = refl; no_digit = refl; no_slash = λ e. absurd (omega arith); no_dash = λ e. absurd (omega arith) }
 
 pub space : IsSeparator 32
-space = record { no_name = space_in_no_name; no_digit = refl; no_slash = λ e. absurd (omega arith); no_dash = λ e. absurd (omega arith) }
-
-component_lacks : (b : ℕ) → IsSeparator b → (part : List ℕ) → is_component part ≡ true → Lacks b part
-unfolding is_component
-component_lacks b is part h =
-    apart is_name_char b part is.no_name (AllPass-from_list_all is_name_char part (and_parts _ _ (and_parts _ _ (and_parts _ _ h).0).0).1)
+unfolding is_name_char
+space = record { no_name = refl; no_digit = refl; no_slash = λ e. absurd (omega arith); no_dash = λ e. absurd (omega arith) }
 
 components_lack : (b : ℕ) → IsSeparator b → (parts : List (List ℕ)) → All (λ part. IsTrue (is_component part)) parts → Lacks b (flat_map (λ part. 47 ∷ part) parts)
+unfolding is_component
 components_lack b is [] each = All-nil (λ z. z ≢ b)
 components_lack b is (part ∷ parts) each =
+    let chars = (and_parts _ _ (and_parts _ _ (and_parts _ _ (All-head (λ p. IsTrue (is_component p)) part parts each)).0).0).1 in
     All-append (λ z. z ≢ b) (47 ∷ part) (flat_map (λ part. 47 ∷ part) parts)
-    (All-cons (λ z. z ≢ b) 47 part is.no_slash (component_lacks b is part (All-head (λ p. IsTrue (is_component p)) part parts each)))
+    (All-cons (λ z. z ≢ b) 47 part is.no_slash (passing is_name_char b part is.no_name chars))
     (components_lack b is parts (All-tail (λ p. IsTrue (is_component p)) part parts each))
 
 -- a store folder has none
 pub dir_lacks : (b : ℕ) → IsSeparator b → (dir : List ℕ) → IsStoreDir dir → Lacks b dir
 dir_lacks b is dir h = subst (Lacks b) (sym h.parts) (components_lack b is h.components h.each)
 
-hash_lacks : (b : ℕ) → IsSeparator b → (hash : List ℕ) → is_hash_part hash ≡ true → Lacks b hash
-unfolding is_hash_part
-hash_lacks b is hash h = apart is_digit b hash is.no_digit (AllPass-from_list_all is_digit hash (and_parts _ _ h).1)
+-- nor has what stands behind the folder in a path
+behind_dir : (b : ℕ) → IsSeparator b → (dir path : List ℕ) → IsPathOf dir path → (rest : List ℕ) × (path ≡ dir ++ rest) × Lacks b rest
+unfolding is_hash_part is_name
+behind_dir b is dir path h = (
+  47 ∷ h.hash ++ (45 ∷ h.name),
+  h.parts,
+  All-append (λ z. z ≢ b) (47 ∷ h.hash) (45 ∷ h.name)
+      (All-cons (λ z. z ≢ b) 47 h.hash is.no_slash (passing is_digit b h.hash is.no_digit (and_parts _ _ h.is_hash).1))
+      (All-cons (λ z. z ≢ b) 45 h.name is.no_dash (passing is_name_char b h.name is.no_name (and_parts _ _ (and_parts _ _ h.named).0).1)),
+)
 
-name_lacks : (b : ℕ) → IsSeparator b → (name : List ℕ) → is_name name ≡ true → Lacks b name
-unfolding is_name
-name_lacks b is name h =
-    apart is_name_char b name is.no_name (AllPass-from_list_all is_name_char name (and_parts _ _ (and_parts _ _ h).0).1)
+-- a path of a folder without one has none
+pub path_lacks : (b : ℕ) → IsSeparator b → (dir path : List ℕ) → Lacks b dir → IsPathOf dir path → Lacks b path
+path_lacks b is dir path clear h =
+    let parts = behind_dir b is dir path h in
+    subst (Lacks b) (sym parts.1) (All-append (λ z. z ≢ b) dir parts.0 clear parts.2)
 
--- a path of a store folder has none
-pub path_lacks : (b : ℕ) → IsSeparator b → (dir path : List ℕ) → IsStoreDir dir → IsPathOf dir path → Lacks b path
-path_lacks b is dir path of_dir h =
-    subst (Lacks b) (sym h.parts)
-    (All-append (λ z. z ≢ b) dir _ (dir_lacks b is dir of_dir)
-    (All-append (λ z. z ≢ b) (47 ∷ h.hash) (45 ∷ h.name)
-    (All-cons (λ z. z ≢ b) 47 h.hash is.no_slash (hash_lacks b is h.hash h.is_hash))
-    (All-cons (λ z. z ≢ b) 45 h.name is.no_dash (name_lacks b is h.name h.named))))
+-- two paths of a folder up to a separator are the same, where the wholes are
+pub same_path : (b : ℕ) → IsSeparator b → (dir p q x y : List ℕ) → IsPathOf dir p → IsPathOf dir q → p ++ (b ∷ x) ≡ q ++ (b ∷ y) → (p ≡ q) × (x ≡ y)
+same_path b is dir p q x y one two e =
+    let a = behind_dir b is dir p one in
+    let c = behind_dir b is dir q two in
+    let whole : dir ++ (a.0 ++ (b ∷ x)) ≡ dir ++ (c.0 ++ (b ∷ y)) =
+    sym (ap (λ (t : List ℕ). t ++ (b ∷ x)) a.1 ∙ append_assoc dir a.0 (b ∷ x)) ∙ e ∙ ap (λ (t : List ℕ). t ++ (b ∷ y)) c.1 ∙ append_assoc dir c.0 (b ∷ y) in
+    let same = same_cut b a.0 c.0 x y a.2 c.2 (append_cancel_left dir _ _ whole) in
+    (a.1 ∙ ap (λ (t : List ℕ). dir ++ t) same.0 ∙ sym c.1, same.1)
+
+-- ---- digests
 
 -- the bytes of a digest, at every place
 pub bytes_everywhere : (xs : List ℕ) → All (λ b. b < 256) xs → IsBytes xs

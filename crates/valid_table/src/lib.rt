@@ -15,24 +15,16 @@
 
 mod checking;
 mod closing;
-#[cfg(test)]
-mod closure_tests;
 mod entering;
 mod entry;
 mod entry_eq;
 mod fault;
 mod journal;
-#[cfg(test)]
-mod journal_tests;
 pub mod laws;
 mod lines;
 mod list_outlet;
 mod outlet;
-#[cfg(test)]
-mod outlet_tests;
 mod reading;
-#[cfg(test)]
-mod row_tests;
 mod table;
 mod writing;
 

@@ -16,7 +16,7 @@ returns-then-not-is_above-clause-left c = λ output.
     let unlike = c.if-not-is_above.true in
     references_lead _ output _ _ _ _ c.references.invariant
     (low_reference _ output (last_or None c.references.references.items) _ c.in-Some.fields.now c.in-Some-2.path c.in-Some-2.behind.now
-    c.requires.is_dir c.in-Some.ensures (MatchOption-at_some _ _ _ c.in-Some-2.is c.in_ok-path.ensures)
+    c.in-Some.ensures (MatchOption-at_some _ _ _ c.in-Some-2.is c.in_ok-path.ensures)
     (λ above. false≢true (sym unlike ∙ c.is_above.ensures.1 (above_looked_up _ _ _ c.in-Some-2.path c.deref.ensures.value c.last.ensures.value above))))
 
 pub references-preserved : goal.references-preserved

@@ -1,8 +1,8 @@
 //! The rows of journals: which texts are read, what stands in them, what is written.
-use crate::{Journal, Table, TableFault};
-use nix_names::{StoreDir, StorePath, parse_path};
+use crate::paths::{are, is_written_as, path, read};
 use std::alloc::Global;
 use std::test::Fail;
+use valid_table::{Table, TableFault};
 
 const X: &[u8] = b"/nix/store/aaaaaaaaaaaaaaaaaaaaaaaaaaaaaaaa-x";
 
@@ -37,36 +37,12 @@ struct Refused {
     line: usize,
 }
 
-fn read(alloc: Global, text: &[u8]) -> Result<Journal, TableFault> {
-    match StoreDir::new(alloc, b"/nix/store") {
-        Ok(store) => Journal::read(alloc, &store, text),
-        Err(_) => Err(TableFault::NoMemory),
-    }
-}
-
 // The line that a fault names, or 0.
 fn line_of(fault: &TableFault) -> usize {
     match fault {
         TableFault::BadLine(line) | TableFault::NotClosed(line) | TableFault::Twice(line) => *line,
         _ => 0,
     }
-}
-
-fn path(alloc: Global, text: &[u8]) -> Result<StorePath, Fail> {
-    let store = StoreDir::new(alloc, b"/nix/store")?;
-    Ok(parse_path(alloc, &store, text)?)
-}
-
-fn are(paths: &[StorePath], texts: &[&[u8]]) -> bool {
-    paths.len() == texts.len()
-        && paths
-            .iter()
-            .zip(texts)
-            .all(|(path, text)| path.text() == *text)
-}
-
-fn is_written_as(alloc: Global, journal: &Journal, text: &[u8]) -> Result<bool, Fail> {
-    Ok(journal.write(alloc)?.as_slice() == text)
 }
 
 const ACCEPTED: [Accepted; 6] = [

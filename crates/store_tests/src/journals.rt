@@ -1,10 +1,9 @@
 //! Journals of a few paths, their copies and their tables.
-ghost use Rattle.std.specs.Prelude.{◌≡◌, [], ◌∷◌, IfOk};
-
-use crate::{Entry, Journal, Outputs, Record, Registration, Table, TableFault};
-use nix_names::{StoreDir, StorePath, is_drv_name, parse_path};
+use crate::paths::{path, record};
+use nix_names::is_drv_name;
 use std::alloc::Global;
 use std::test::Fail;
+use valid_table::{Entry, Journal, Outputs, Registration, Table, TableFault};
 
 const X: &[u8] = b"/nix/store/aaaaaaaaaaaaaaaaaaaaaaaaaaaaaaaa-x";
 
@@ -14,25 +13,23 @@ const Z: &[u8] = b"/nix/store/cccccccccccccccccccccccccccccccc-z";
 
 const Z_DRV: &[u8] = b"/nix/store/dddddddddddddddddddddddddddddddd-z.drv";
 
-fn path(alloc: Global, text: &[u8]) -> Result<StorePath, Fail> {
-    let dir = StoreDir::new(alloc, b"/nix/store")?;
-    Ok(parse_path(alloc, &dir, text)?)
-}
-
-// The record of a folder without references, or with this one.
-fn record(alloc: Global, reference: Option<&[u8]>) -> Result<Record, Fail> {
-    let mut references = Vec::new(alloc);
-    if let Some(text) = reference {
-        references = vec![in alloc; path(alloc, text)?]?;
-    }
-    Ok(Record::new(references, None))
+// A path with one reference.
+fn referring(alloc: Global, text: &[u8], reference: &[u8]) -> Result<Registration, Fail> {
+    let info = record(alloc, Some(path(alloc, reference)?))?;
+    let path = path(alloc, text)?;
+    Ok(Registration { path, info })
 }
 
 // The one output with this path, which refers to itself.
 fn output(alloc: Global, text: &[u8]) -> Result<Outputs, Fail> {
-    let path = path(alloc, text)?;
-    let info = record(alloc, Some(text))?;
-    Ok(Outputs::new(vec![in alloc; Registration { path, info }]?))
+    let output = referring(alloc, text, text)?;
+    Ok(Outputs::new(vec![in alloc; output]?))
+}
+
+// Adds a path with one reference.
+fn add(journal: &mut Journal, added: Registration) -> Result<(), TableFault> {
+    let Registration { path, info } = added;
+    journal.add(path, info)
 }
 
 fn number(answer: Result<(), TableFault>) -> u8 {
@@ -46,7 +43,7 @@ fn number(answer: Result<(), TableFault>) -> u8 {
 fn two_paths(alloc: Global) -> Result<Journal, Fail> {
     let mut journal = Journal::new(alloc);
     journal.add(path(alloc, X)?, record(alloc, None)?)?;
-    journal.add(path(alloc, Y)?, record(alloc, Some(X))?)?;
+    add(&mut journal, referring(alloc, Y, X)?)?;
     Ok(journal)
 }
 
@@ -54,9 +51,9 @@ fn two_paths(alloc: Global) -> Result<Journal, Fail> {
 fn refused_paths(rt: HostRuntime) -> Result<(), Fail> {
     let alloc = rt.alloc();
     let mut journal = two_paths(alloc)?;
-    let again = journal.add(path(alloc, X)?, record(alloc, None)?);
+    let again = add(&mut journal, referring(alloc, X, Y)?);
     assert_eq!(rt; number(again), 37);
-    let open = journal.add(path(alloc, Z_DRV)?, record(alloc, Some(Z))?);
+    let open = add(&mut journal, referring(alloc, Z_DRV, Z)?);
     assert_eq!(rt; number(open), 36);
     assert_eq!(rt; journal.entries().len(), 2);
     Ok(())
@@ -78,20 +75,22 @@ fn copied_journal(rt: HostRuntime) -> Result<(), Fail> {
     let alloc = rt.alloc();
     let journal = two_paths(alloc)?;
     assert!(rt; journal.copy(alloc)?.entries() == journal.entries());
-    let path = path(alloc, X)?;
-    let info = record(alloc, Some(Y))?;
-    let other = Entry::Add(Registration { path, info });
+    let other = Entry::Add(referring(alloc, X, Y)?);
     assert!(rt; journal.entries().iter().all(|entry| *entry != other));
     Ok(())
+}
+
+// Whether the table says of Y that it refers to X alone, and nothing of Z.
+fn is_table_of_two(alloc: Global, table: &Table) -> Result<bool, Fail> {
+    let info = table.get(&path(alloc, Y)?).ok_or("no row")?;
+    let is_y = info.references().len() == 1 && info.references()[0].text() == X;
+    Ok(is_y && table.get(&path(alloc, Z)?).is_none())
 }
 
 #[test]
 fn table_of_two_paths(rt: HostRuntime) -> Result<(), Fail> {
     let alloc = rt.alloc();
     let table = Table::replay(alloc, &two_paths(alloc)?)?;
-    assert!(rt; table.get(&path(alloc, Z)?).is_none());
-    let info = table.get(&path(alloc, Y)?).ok_or("no row")?;
-    assert_eq!(rt; info.references().len(), 1);
-    assert_eq!(rt; info.references()[0].text(), X);
+    assert!(rt; is_table_of_two(alloc, &table)?);
     Ok(())
 }

@@ -3,24 +3,16 @@ ghost use Rattle.std.specs.Prelude.{◌≡◌, [], IfOk};
 ghost use Rattle.valid_table.specs.Valid.{references_of};
 ghost use Rattle.valid_table.specs.Entries.{registered_by};
 
-use crate::entry::{Entry, Record, Registration};
-use crate::journal::Journal;
-use crate::list_outlet::ListOutlet;
-use crate::outlet::Outlet;
-use nix_names::{StoreDir, parse_path};
+use crate::paths::path;
 use std::alloc::Global;
 use std::test::Fail;
+use valid_table::{Entry, Journal, ListOutlet, Outlet, Record, Registration};
 
 // An entry that adds a path without references.
 fn added(alloc: Global) -> Result<Entry, Fail>
     ensures { IfOk result (λ entry. references_of (registered_by entry) ≡ []) }
 {
-    let store = StoreDir::new(alloc, b"/nix/store")?;
-    let path = parse_path(
-        alloc,
-        &store,
-        b"/nix/store/aaaaaaaaaaaaaaaaaaaaaaaaaaaaaaaa-x",
-    )?;
+    let path = path(alloc, b"/nix/store/aaaaaaaaaaaaaaaaaaaaaaaaaaaaaaaa-x")?;
     let info = Record::new(Vec::new(alloc), None);
     Ok(Entry::Add(Registration { path, info }))
 }

@@ -1,0 +1,25 @@
+//! Tests across the libraries, of what no clause says: that calls succeed, and what they answer on
+//! texts that were written by hand.
+//!
+//! | Module | What is tried |
+//! |---|---|
+//! | `journal_texts` | which texts are journals, and where the others are wrong |
+//! | `journals` | journals, their copies and their tables |
+//! | `closures` | closures of small tables |
+//! | `outlets` | the plain outlet |
+//! | `many_paths` | thousands of entries, roots and permitted paths |
+//! | `paths` | paths and journals that the tests are made of |
+#![tactic(auto)]
+
+#[cfg(test)]
+mod closures;
+#[cfg(test)]
+mod journal_texts;
+#[cfg(test)]
+mod journals;
+#[cfg(test)]
+mod many_paths;
+#[cfg(test)]
+mod outlets;
+#[cfg(test)]
+mod paths;

@@ -1,0 +1,56 @@
+//! Paths and journals that the tests are made of.
+use nix_names::{StoreDir, StorePath, parse_path};
+use std::alloc::Global;
+use std::test::Fail;
+use valid_table::{Journal, Record, TableFault};
+
+// The path of the store with this text.
+pub(crate) fn path(alloc: Global, text: &[u8]) -> Result<StorePath, Fail> {
+    let dir = StoreDir::new(alloc, b"/nix/store")?;
+    Ok(parse_path(alloc, &dir, text)?)
+}
+
+// Path n: its hash part is the number in 32 digits, and its name `x`.
+pub(crate) fn numbered(alloc: Global, n: usize) -> Result<StorePath, Fail> {
+    let text = format!(in alloc; "/nix/store/{n:032}-x")?;
+    path(alloc, text.as_bytes())
+}
+
+// The paths with these numbers.
+pub(crate) fn all_numbered(alloc: Global, numbers: &[usize]) -> Result<Vec<StorePath>, Fail> {
+    let mut paths = Vec::new(alloc);
+    for n in numbers {
+        paths.push(numbered(alloc, *n)?)?;
+    }
+    Ok(paths)
+}
+
+// The record of a folder without references, or with this one.
+pub(crate) fn record(alloc: Global, reference: Option<StorePath>) -> Result<Record, Fail> {
+    match reference {
+        Some(path) => Ok(Record::new(vec![in alloc; path]?, None)),
+        None => Ok(Record::new(Vec::new(alloc), None)),
+    }
+}
+
+// The journal of the store with this text.
+pub(crate) fn read(alloc: Global, text: &[u8]) -> Result<Journal, TableFault> {
+    match StoreDir::new(alloc, b"/nix/store") {
+        Ok(store) => Journal::read(alloc, &store, text),
+        Err(_) => Err(TableFault::NoMemory),
+    }
+}
+
+// Whether a journal is written as this text.
+pub(crate) fn is_written_as(alloc: Global, journal: &Journal, text: &[u8]) -> Result<bool, Fail> {
+    Ok(journal.write(alloc)?.as_slice() == text)
+}
+
+// Whether the paths have these texts.
+pub(crate) fn are(paths: &[StorePath], texts: &[&[u8]]) -> bool {
+    paths.len() == texts.len()
+        && paths
+            .iter()
+            .zip(texts)
+            .all(|(path, text)| path.text() == *text)
+}
