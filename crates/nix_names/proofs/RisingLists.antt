@@ -1,5 +1,5 @@
 -- Lists of texts that rise strictly: their parts, what a sort makes, and that their members tell them.
-use Rattle.std.proofs.Common.{◌≡◌, ◌↔◌, ◌⊎◌, inl, inr, ℕ, zero, suc, ◌+◌, Bool, true, false, List, [], ◌∷◌, ◌++◌, take, drop, get_or, nat_eq, refl, sym, ap, subst, ◌∙◌, ⊎_elim, IsTrue, arith}
+use Rattle.std.proofs.Common.{◌≡◌, ◌≢◌, ◌↔◌, ◌⊎◌, inl, inr, ℕ, zero, suc, ◌+◌, Bool, true, false, List, [], ◌∷◌, ◌++◌, take, drop, get_or, nat_eq, refl, sym, ap, subst, ◌∙◌, ⊎_elim, IsTrue, arith}
 use Rattle.std.specs.Prelude.{Contains}
 use Rattle.std.specs.BTreeSet.{BTreeSet}
 use Rattle.std.specs.Cmp.Lexicographic.{bytes_decides, nat_list_eq_equiv, pointwise, slice_cmp, texts_ties}
@@ -30,6 +30,13 @@ below_trans = nat_list_cmp_total.trans
 
 pub not_below_itself : (x : List ℕ) → IsBelow x x → ⊥
 not_below_itself x below = let tied = tied_itself nat_list_cmp_total x in let clash : Less ≡ Equal = sym below ∙ tied in cc
+
+-- what `==` says
+pub equal_from_eq : (x y : List ℕ) → pointwise nat_eq x y ≡ true → x ≡ y
+equal_from_eq x y = (bytes_decides x y).0
+
+pub unequal_from_eq : (x y : List ℕ) → pointwise nat_eq x y ≡ false → x ≢ y
+unequal_from_eq x y differ same = false≢true (sym differ ∙ (bytes_decides x y).1 same)
 
 -- what `<` says
 pub below_from_lt : (x y : List ℕ) → is_lt (slice_cmp nat_cmp x y) ≡ true → IsBelow x y
@@ -167,7 +174,7 @@ rising_dedup sorted ordered =
 pub members_of_dedup : (texts sorted : List (List ℕ)) → IsPermutation texts sorted → (text : List ℕ) → Contains (dedup (pointwise nat_eq) sorted) text ↔ Contains texts text
 members_of_dedup texts sorted moved text = (
   λ has. Contains-permutation sorted texts text (IsPermutation-sym texts sorted moved) (Contains-from_dedup (pointwise nat_eq) sorted text has),
-  λ has. Contains-dedup nat_list_eq_equiv (λ x y. (bytes_decides x y).0) sorted text (Contains-permutation texts sorted text moved has),
+  λ has. Contains-dedup nat_list_eq_equiv equal_from_eq sorted text (Contains-permutation texts sorted text moved has),
 )
 
 -- ---- members tell a rising list
