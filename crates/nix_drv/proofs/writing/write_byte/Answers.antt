@@ -1,4 +1,4 @@
-use Rattle.std.proofs.Common.{Some, None, subst, List, ℕ, OnOk}
+use Rattle.std.proofs.Common.{Some, None}
 use Rattle.nix_drv.proofs.Spellings.{by_letter_of}
 use Rattle.nix_drv.proofs.writing.write_byte.Goals as goal
 
