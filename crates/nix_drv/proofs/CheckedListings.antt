@@ -1,11 +1,14 @@
 -- A list of files gives what a source may give, and counts its failures.
-use Rattle.std.proofs.Common.{◌≡◌, ◌⊎◌, inl, inr, ℕ, ◌<◌, ◌≤◌, Bool, true, false, cond, eqb, List, [], ◌∷◌, map, Option, Some, None, Result, Ok, Err, refl, sym, ap, subst, ◌∙◌, arith}
-use Rattle.std.specs.Prelude.{find}
+use Rattle.std.proofs.Common.{◌≡◌, ◌⊎◌, inl, inr, ℕ, ◌<◌, ◌≤◌, Bool, true, false, cond, eqb, List, [], ◌∷◌, ◌++◌, Option, Some, None, Result, Ok, Err, refl, sym, ap, subst, ◌∙◌, arith}
 use Rattle.std.specs.Option.{option_map}
 use Rattle.std.specs.Global.{Vec}
 use Rattle.std.proofs.lemmas.Bool.{cases_Bool, eqb-true}
+use Rattle.std.specs.Map.{lookup}
+use Rattle.std.proofs.lemmas.List.{map-append}
+use Rattle.std.proofs.lemmas.Slice.Eq.{bytes_eq-Decides}
+use Rattle.indexmap.specs.IndexMap.{insert_entry}
 use Rattle.nix_names.specs.Names.{same_bytes}
-use Rattle.nix_drv.specs.ListedFiles.{pairs_of}
+use Rattle.nix_drv.specs.ListedFiles.{entries_of, pairs_of}
 use Rattle.nix_drv.specs.declared.listing.ListedFile.{ListedFile}
 use Rattle.nix_drv.specs.Sources.{Answers, GivesSame, IsCounted, IsGiven, Listing, after_fetch, bytes_at, counted, found_answer, is_failing, listing_gives, most_failures, next_answer}
 use Rattle.nix_drv.specs.declared.source.SourceFault.{SourceFault}
@@ -61,17 +64,66 @@ rises false before = omega arith
 pub failures_rise : (old new : Listing) → new ≡ after_fetch old → old.failures ≤ new.failures
 failures_rise old new is_after = subst (λ (l : Listing). old.failures ≤ l.failures) (sym is_after) (rises (is_failing old) old.failures)
 
-find_mapped : {A B : Type 0} (f : A → B) (test : B → Bool) (xs : List A) → find test (map f xs) ≡ option_map f (find (λ x. test (f x)) xs)
-find_mapped f test [] = refl
-find_mapped f test (x ∷ xs) = elim (test (f x)) as (λ b. cond b (Some (f x)) (find test (map f xs)) ≡ option_map f (cond b (Some x) (find (λ y. test (f y)) xs))) [ true ↦ refl | false ↦ find_mapped f test xs ]
+-- ---- files by their paths
 
-mapped_twice : (found : Option ListedFile) → option_map (λ (file : ListedFile). file.bytes.items) found ≡ option_map (λ (file : List ℕ × List ℕ). file.1) (option_map (λ (file : ListedFile). (file.path.items, file.bytes.items)) found)
-mapped_twice None = refl
-mapped_twice (Some file) = refl
+-- the first of two, where it is there
+abbrev pub or_else : {A : Type 0} → Option A → Option A → Option A
+or_else (Some x) other = Some x
+or_else None other = other
 
--- the bytes of the first file at a path
-pub bytes_found : (files : List ListedFile) (path : List ℕ) (found : Option ListedFile) → found ≡ find (λ file. same_bytes file.path.items path) files → option_map (λ file. file.bytes.items) found ≡ bytes_at (pairs_of files) path
-bytes_found files path found e =
-    mapped_twice found ∙ ap (λ (o : Option ListedFile). option_map (λ (file : List ℕ × List ℕ). file.1) (option_map (λ (file : ListedFile). (file.path.items, file.bytes.items)) o)) e
-    ∙ ap (λ (o : Option (List ℕ × List ℕ)). option_map (λ (file : List ℕ × List ℕ). file.1) o)
-    (sym (find_mapped (λ (file : ListedFile). (file.path.items, file.bytes.items)) (λ (file : List ℕ × List ℕ). same_bytes file.0 path) files))
+-- what is found by a view of the keys and values
+lookup_mapped : (test : List ℕ → Bool) (entries : List (Vec ℕ × Vec ℕ)) → lookup test (entries_of entries) ≡ option_map (λ v. v.items) (lookup (λ k. test k.items) entries)
+lookup_mapped test [] = refl
+lookup_mapped test (e ∷ entries) = elim (test e.0.items) as (λ b. cond b (Some e.1.items) (lookup test (entries_of entries)) ≡ option_map (λ (v : Vec ℕ). v.items) (cond b (Some e.1) (lookup (λ k. test k.items) entries))) [ true ↦ refl | false ↦ lookup_mapped test entries ]
+
+-- the bytes of the entry that is found
+pub bytes_found : (test : List ℕ → Bool) (entries : List (Vec ℕ × Vec ℕ)) (found : Option (Vec ℕ)) → found ≡ lookup (λ k. test k.items) entries → option_map (λ v. v.items) found ≡ lookup test (entries_of entries)
+bytes_found test entries found e = ap (option_map (λ (v : Vec ℕ). v.items)) e ∙ sym (lookup_mapped test entries)
+
+-- files in front decide before the one behind them
+lookup_push : (test : List ℕ → Bool) (files : List (List ℕ × List ℕ)) (path bytes : List ℕ) (other : Option (List ℕ))
+    → or_else (lookup test (files ++ (path, bytes) ∷ [])) other ≡ or_else (lookup test files) (cond (test path) (Some bytes) other)
+lookup_push test [] path bytes other = elim (test path) as (λ b. or_else (cond b (Some bytes) None) other ≡ cond b (Some bytes) other) [ true ↦ refl | false ↦ refl ]
+lookup_push test (e ∷ files) path bytes other =
+    elim (test e.0) as (λ b. or_else (cond b (Some e.1) (lookup test (files ++ (path, bytes) ∷ []))) other ≡ or_else (cond b (Some e.1) (lookup test files)) (cond (test path) (Some bytes) other)) [ true ↦ refl | false ↦ lookup_push test files path bytes other ]
+
+-- an entry that takes the place of one with the same key
+same_twice : (b : Bool) (x y z : Option (List ℕ)) → cond b x z ≡ cond b x (cond b y z)
+same_twice true x y z = refl
+same_twice false x y z = refl
+
+-- two tests that can't both pass
+either_first : (a b : Bool) (x y z : Option (List ℕ)) → (a ≡ true → b ≡ true → ⊥) → cond a x (cond b y z) ≡ cond b y (cond a x z)
+either_first true true x y z apart = absurd (apart refl refl)
+either_first true false x y z apart = refl
+either_first false b x y z apart = refl
+
+-- a new entry is found by its key, and hides no other
+pub lookup_inserted : (wanted : List ℕ) (entries : List (Vec ℕ × Vec ℕ)) (k v : Vec ℕ)
+    → lookup (same_bytes wanted) (entries_of (insert_entry (λ x y. same_bytes x.items y.items) entries k v)) ≡ cond (same_bytes wanted k.items) (Some v.items) (lookup (same_bytes wanted) (entries_of entries))
+lookup_inserted wanted [] k v = refl
+lookup_inserted wanted (e ∷ entries) k v =
+    elim (cases_Bool (same_bytes k.items e.0.items)) [
+      | inl same ↦
+          let keys : k.items ≡ e.0.items = (bytes_eq-Decides k.items e.0.items).0 same in
+          rw (same, keys) (same_twice (same_bytes wanted e.0.items) (Some v.items) (Some e.1.items) (lookup (same_bytes wanted) (entries_of entries)))
+      | inr other ↦
+          let apart : same_bytes wanted e.0.items ≡ true → same_bytes wanted k.items ≡ true → ⊥ =
+          λ is also. let keys : k.items ≡ e.0.items = sym ((bytes_eq-Decides wanted k.items).0 also) ∙ (bytes_eq-Decides wanted e.0.items).0 is in
+          let yes : same_bytes k.items e.0.items ≡ true = (bytes_eq-Decides k.items e.0.items).1 keys in cc in
+          rw (other, lookup_inserted wanted entries k v) (either_first (same_bytes wanted e.0.items) (same_bytes wanted k.items) (Some e.1.items) (Some v.items) (lookup (same_bytes wanted) (entries_of entries)) apart)
+    ]
+
+-- the files that are left decide before those by path
+abbrev pub AreByPath : List ListedFile → List (Vec ℕ × Vec ℕ) → List ListedFile → Type 0
+AreByPath left entries files = (wanted : List ℕ) → or_else (bytes_at (pairs_of left) wanted) (bytes_at (entries_of entries) wanted) ≡ bytes_at (pairs_of files) wanted
+
+-- the last of the files that are left goes to those by path
+pub one_by_path : (left rest : List ListedFile) (entries more : List (Vec ℕ × Vec ℕ)) (files : List ListedFile) (file : ListedFile) → AreByPath left entries files → left ≡ rest ++ file ∷ []
+    → more ≡ insert_entry (λ x y. same_bytes x.items y.items) entries file.path file.bytes → AreByPath rest more files
+one_by_path left rest entries more files file are split inserted wanted =
+    let pairs : pairs_of left ≡ pairs_of rest ++ (file.path.items, file.bytes.items) ∷ [] = ap pairs_of split ∙ map-append (λ (f : ListedFile). (f.path.items, f.bytes.items)) rest (file ∷ []) in
+    let here : bytes_at (entries_of more) wanted ≡ cond (same_bytes wanted file.path.items) (Some file.bytes.items) (bytes_at (entries_of entries) wanted) =
+    ap (λ (es : List (Vec ℕ × Vec ℕ)). bytes_at (entries_of es) wanted) inserted ∙ lookup_inserted wanted entries file.path file.bytes in
+    ap (or_else (bytes_at (pairs_of rest) wanted)) here ∙ sym (lookup_push (same_bytes wanted) (pairs_of rest) file.path.items file.bytes.items (bytes_at (entries_of entries) wanted))
+    ∙ ap (λ (fs : List (List ℕ × List ℕ)). or_else (bytes_at fs wanted) (bytes_at (entries_of entries) wanted)) (sym pairs) ∙ are wanted

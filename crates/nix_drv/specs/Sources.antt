@@ -1,7 +1,7 @@
 -- Where the bytes of derivations come from, and what such a source may answer.
-use Rattle.std.specs.Prelude.{◌≡◌, ◌↔◌, ◌⊎◌, ◌+◌, ◌-◌, ◌^◌, ◌<◌, ◌==◌, ℕ, List, Bool, Option, Some, None, Result, Ok, Err, find, if◌then◌else◌}
+use Rattle.std.specs.Prelude.{◌≡◌, ◌↔◌, ◌⊎◌, ◌+◌, ◌-◌, ◌^◌, ◌<◌, ◌==◌, ℕ, List, Bool, Option, Some, None, Result, Ok, Err, if◌then◌else◌}
 use Rattle.std.specs.List.{list_any}
-use Rattle.std.specs.Option.{option_map}
+use Rattle.std.specs.Map.{lookup}
 use Rattle.std.specs.Global.{Vec}
 use Rattle.nix_names.specs.Names.{same_bytes}
 use Rattle.nix_drv.specs.declared.source.SourceFault.{SourceFault}
@@ -48,7 +48,14 @@ pub record Listing : Type 0 where
 
 -- the bytes of the first file at the path
 abbrev pub bytes_at : List (List ℕ × List ℕ) → List ℕ → Option (List ℕ)
-bytes_at files path = option_map (λ file. file.1) (find (λ file. same_bytes file.0 path) files)
+bytes_at files path = lookup (λ own. same_bytes path own) files
+
+-- The list of files in its first state: it has the same bytes at each path as these files, and the fetches with these numbers fail.
+pub record IsListingOf (files : List (List ℕ × List ℕ)) (failing : List ℕ) (listing : Listing) : Type 0 where
+  pub same : (path : List ℕ) → bytes_at listing.files path ≡ bytes_at files path
+  pub fails : listing.failing ≡ failing
+  pub no_fetches : listing.fetches ≡ 0
+  pub no_failures : listing.failures ≡ 0
 
 -- what a list of files may give: a path's first bytes, or that it is missing; the device may always fail
 abbrev pub listing_gives : Listing → List ℕ → Answer → Type 0

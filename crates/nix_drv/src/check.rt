@@ -2,11 +2,12 @@
 ghost use Rattle.std.specs.Prelude.{◌≡◌, ◌++◌, [], ◌∷◌, map, All, IfOk, IfErr, OnOk};
 ghost use Rattle.nix_names.specs.StorePaths.{IsPathOf};
 ghost use Rattle.nix_drv.specs.Checked.{IsCheck};
+ghost use Rattle.nix_drv.specs.Order.{key as key_of};
 ghost use Rattle.nix_drv.specs.OwnPath.{paths_of};
-ghost use Rattle.nix_drv.specs.Parts.{bytes_of, path_of};
 ghost use Rattle.nix_drv.specs.References.{IsReferencesOf, IsStrayFault};
 
-use crate::derivation::{Derivation, Input};
+use crate::derivation::Derivation;
+use crate::element::Element;
 use crate::fault::DrvFault;
 use crate::reading::read;
 use crate::text_paths::text_path;
@@ -48,43 +49,26 @@ fn references(alloc: Global, dir: &StoreDir, drv: &Derivation) -> Result<Vec<Sto
     ensures err { IfErr result (IsStrayFault dir.now (paths_of drv.now)) }
 {
     let mut refs = Vec::new(alloc);
-    add_inputs(alloc, dir, drv.inputs(), &mut refs)?;
-    add_sources(alloc, dir, drv.sources(), &mut refs)?;
+    add_paths(alloc, dir, drv.inputs(), &mut refs)?;
+    add_paths(alloc, dir, drv.sources(), &mut refs)?;
     refs.sort_unstable();
     refs.dedup();
     Ok(refs)
 }
 
-// Adds the paths of input derivations.
-fn add_inputs(
+// Adds the paths that are the elements' keys.
+fn add_paths<T: Element>(
     alloc: Global,
     dir: &StoreDir,
-    inputs: &[Input],
+    items: &[T],
     refs: &mut Vec<StorePath>,
 ) -> Result<(), DrvFault>
-    ensures added { OnOk result (refs.new.items ≡ refs.old.items ++ map path_of inputs.now) }
-    ensures good { OnOk result (All (IsPathOf dir.now) (map path_of inputs.now)) }
-    ensures err { IfErr result (IsStrayFault dir.now (map path_of inputs.now)) }
+    ensures added { OnOk result (refs.new.items ≡ refs.old.items ++ map (λ item. key_of T.form (T.value item)) items.now) }
+    ensures good { OnOk result (All (IsPathOf dir.now) (map (λ item. key_of T.form (T.value item)) items.now)) }
+    ensures err { IfErr result (IsStrayFault dir.now (map (λ item. key_of T.form (T.value item)) items.now)) }
 {
-    for input in inputs {
-        refs.push(parse_reference(alloc, dir, &input.path)?)?;
-    }
-    Ok(())
-}
-
-// Adds the paths of sources.
-fn add_sources(
-    alloc: Global,
-    dir: &StoreDir,
-    sources: &[Vec<u8>],
-    refs: &mut Vec<StorePath>,
-) -> Result<(), DrvFault>
-    ensures added { OnOk result (refs.new.items ≡ refs.old.items ++ map bytes_of sources.now) }
-    ensures good { OnOk result (All (IsPathOf dir.now) (map bytes_of sources.now)) }
-    ensures err { IfErr result (IsStrayFault dir.now (map bytes_of sources.now)) }
-{
-    for source in sources {
-        refs.push(parse_reference(alloc, dir, source)?)?;
+    for item in items {
+        refs.push(parse_reference(alloc, dir, item.key())?)?;
     }
     Ok(())
 }

@@ -160,7 +160,7 @@ fn failing_fetch(rt: HostRuntime) -> Result<(), Fail> {
         path: Vec::from_slice(alloc, NOTHING_PATH)?,
         bytes: Vec::from_slice(alloc, NOTHING)?,
     })?;
-    let mut source = ListSource::new(files, Vec::from_slice(alloc, &[1])?);
+    let mut source = ListSource::new(alloc, files, Vec::from_slice(alloc, &[1])?)?;
     assert_eq!(rt; source.fetch(alloc, &path)?.as_slice(), NOTHING.as_slice());
     assert_eq!(rt; source.failures(), 0);
     assert!(rt; matches!(source.fetch(alloc, &path), Err(SourceFault::Device)));

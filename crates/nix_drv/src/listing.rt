@@ -1,11 +1,11 @@
 //! A source that is a list of files in memory.
-ghost use Rattle.std.specs.Prelude.{◌≡◌, ◌≤◌, find};
+ghost use Rattle.std.specs.Prelude.{◌≡◌, ◌≤◌, ℕ, List, IfOk, IfErr};
 ghost use Rattle.std.specs.Option.{option_copied};
-ghost use Rattle.nix_names.specs.Names.{same_bytes};
-ghost use Rattle.nix_drv.specs.ListedFiles.{pairs_of};
-ghost use Rattle.nix_drv.specs.Sources.{Answers, GivesSame, IsCounted, IsGiven, after_fetch, bytes_at, listing_gives, next_answer};
+ghost use Rattle.nix_drv.specs.ListedFiles.{entries_of, pairs_of};
+ghost use Rattle.nix_drv.specs.Sources.{Answers, GivesSame, IsCounted, IsGiven, IsListingOf, after_fetch, bytes_at, listing_gives, next_answer};
 
 use crate::source::{DrvSource, SourceFault};
+use indexmap::IndexMap;
 use nix_names::StorePath;
 use std::alloc::Global;
 use std::marker::Model;
@@ -21,32 +21,39 @@ pub struct ListedFile {
 /// one path the first is fetched.
 #[derive(Debug, Drop)]
 pub struct ListSource {
-    files: Vec<ListedFile>,
+    files: IndexMap<Vec<u8>, Vec<u8>>,
     failing: Vec<u64>,
     fetches: u64,
     failures: u64,
 }
 
 impl Model for ListSource {
-    ghost use Rattle.nix_drv.specs.ListedFiles.{pairs_of};
+    ghost use Rattle.nix_drv.specs.ListedFiles.{entries_of};
     ghost use Rattle.nix_drv.specs.Sources.{Listing};
 
     ghost Value = { Listing };
 
-    ghost view = { λ source. record { files = pairs_of source.files.items; failing = source.failing.items; fetches = source.fetches; failures = source.failures } };
+    ghost view = { λ source. record { files = entries_of source.files.entries; failing = source.failing.items; fetches = source.fetches; failures = source.failures } };
 }
 
 impl ListSource {
     /// The source with these files, of which the fetches with these numbers fail, counted from 0.
-    pub fn new(files: Vec<ListedFile>, failing: Vec<u64>) -> ListSource
-        ensures { result ≡ record { files = pairs_of files.items; failing = failing.items; fetches = 0; failures = 0 } }
+    /// Answers `NoMemory` where memory is refused, and no other fault. Costs one entry by hash for
+    /// each file.
+    pub fn new(
+        alloc: Global,
+        files: Vec<ListedFile>,
+        failing: Vec<u64>,
+    ) -> Result<ListSource, SourceFault>
+        ensures ok { IfOk result (IsListingOf (pairs_of files.items) failing.items) }
+        ensures err { IfErr result (λ fault. fault ≡ SourceFault.NoMemory) }
     {
-        ListSource {
-            files,
+        Ok(ListSource {
+            files: by_path(alloc, files)?,
             failing,
             fetches: 0,
             failures: 0,
-        }
+        })
     }
 
     /// How many fetches failed, at most `u64::MAX`.
@@ -80,7 +87,7 @@ impl DrvSource for ListSource {
     ghost failures = { λ listing. listing.failures };
 
     /// The bytes of the first file at the path, unless this fetch is one of those that fail.
-    /// Costs one pass over the files and one copy of the bytes.
+    /// Costs one look-up by hash and one copy of the bytes.
     #[tactic(auto, using(crate::proofs::CheckedListings::keeps_gives, crate::proofs::CheckedListings::answer_is_given, crate::proofs::CheckedListings::device_is_counted, crate::proofs::CheckedListings::failures_rise))]
     fn fetch(&mut self, alloc: Global, path: &StorePath) -> Result<Vec<u8>, SourceFault>
         ensures keeps { GivesSame (listing_gives self.old) (listing_gives self.new) }
@@ -95,17 +102,26 @@ impl DrvSource for ListSource {
     }
 }
 
-// The first file at the path.
-fn first_at<'a>(files: &'a [ListedFile], path: &[u8]) -> Option<&'a ListedFile>
-    ensures { option_copied result ≡ find (λ file. same_bytes file.path.items path.now) files.now }
+// The bytes of the first file at each path. The files go in from the last to the first, since a path
+// keeps the bytes that come last.
+fn by_path(
+    alloc: Global,
+    mut files: Vec<ListedFile>,
+) -> Result<IndexMap<Vec<u8>, Vec<u8>>, SourceFault>
+    ensures ok { IfOk result (λ map. (path : List ℕ) → bytes_at (entries_of map.entries) path ≡ bytes_at (pairs_of files.items) path) }
+    ensures err { IfErr result (λ fault. fault ≡ SourceFault.NoMemory) }
 {
-    files.iter().find(|file| file.path.as_slice() == path)
+    let mut by_path = IndexMap::new(alloc);
+    'files: while let Some(file) = files.pop() {
+        by_path.insert(file.path, file.bytes)?;
+    }
+    Ok(by_path)
 }
 
-// The bytes of the first file at the path.
-fn bytes_at<'a>(files: &'a [ListedFile], path: &[u8]) -> Option<&'a [u8]>
-    ensures { option_copied result ≡ bytes_at (pairs_of files.now) path.now }
+// The bytes at the path.
+fn bytes_at<'a>(files: &'a IndexMap<Vec<u8>, Vec<u8>>, path: &[u8]) -> Option<&'a [u8]>
+    ensures { option_copied result ≡ bytes_at (entries_of files.now.entries) path.now }
 {
-    let file = first_at(files, path)?;
-    Some(&file.bytes)
+    let bytes = files.get(path)?;
+    Some(bytes)
 }

@@ -3,7 +3,7 @@ ghost use Rattle.std.specs.Prelude.{◌≡◌, ◌≤◌, ℕ, List};
 ghost use Rattle.nix_drv.specs.Sources.{Answer, GivesSame, IsCounted, IsGiven, source_number_of};
 
 use nix_names::StorePath;
-use std::alloc::{AllocError, Global};
+use std::alloc::{AllocError, AllocFailed, Global};
 use thiserror::Error;
 
 /// Why a source gave no bytes.
@@ -39,6 +39,16 @@ impl From<AllocError> for SourceFault {
     ghost from_gives = { λ _ fault. fault ≡ NoMemory };
 
     fn from(_: AllocError) -> Self {
+        SourceFault::NoMemory
+    }
+}
+
+impl<T: Drop> From<AllocFailed<T>> for SourceFault {
+    ghost use Rattle.nix_drv.specs.declared.source.SourceFault.TheVariants.{NoMemory};
+
+    ghost from_gives = { λ _ fault. fault ≡ NoMemory };
+
+    fn from(_: AllocFailed<T>) -> Self {
         SourceFault::NoMemory
     }
 }

@@ -26,7 +26,7 @@ fn one_file(alloc: Global, path: &str, bytes: &[u8]) -> Result<Vec<ListedFile>, 
 
 // The lines and the status of one word, whose file has these bytes.
 fn line_of(alloc: Global, path: &str, bytes: &[u8]) -> Result<(Vec<u8>, u8), Fail> {
-    let mut source = ListSource::new(one_file(alloc, path, bytes)?, Vec::new(alloc));
+    let mut source = ListSource::new(alloc, one_file(alloc, path, bytes)?, Vec::new(alloc))?;
     let dir = StoreDir::new(alloc, b"/nix/store")?;
     Ok(check_lines(alloc, &mut source, &dir, &[path])?)
 }
@@ -98,7 +98,7 @@ fn failing_fetch(rt: HostRuntime) -> Result<(), Fail> {
     let mut failing = Vec::new(rt.alloc());
     failing.push(1)?;
     let files = one_file(rt.alloc(), NOTHING_PATH, NOTHING)?;
-    let mut source = ListSource::new(files, failing);
+    let mut source = ListSource::new(rt.alloc(), files, failing)?;
     let dir = StoreDir::new(rt.alloc(), b"/nix/store")?;
     let words = [
         NOTHING_PATH,
