@@ -1,11 +1,20 @@
 -- Trees of files and folders: the pieces in which a reference may stand, and the measures that an output's limits bound.
 use Rattle.std.specs.Prelude.{ℕ, ◌+◌, ◌≤◌, max, List, [], ◌∷◌, ◌++◌, length}
-use Rattle.ref_scan.specs.declared.tree.Tree.{Tree, File, Dir', Row_of-Member, end_of-Member, more_of-Member}
+use Rattle.std.specs.List.{flat_map}
+use Rattle.std.specs.declared.alloc.Global.{Global}
+use Rattle.std.specs.declared.vec.Vec.{Vec}
+use Rattle.ref_scan.specs.declared.tree.Tree.{Tree, File, Pieces, Dir', Row_of-Member, end_of-Member, more_of-Member}
+
+-- the bytes that the pieces of a file make together; no pieces are the empty file
+abbrev pub joined : List (Vec ℕ Global) → List ℕ
+joined parts = flat_map (λ part. part.items) parts
 
 abbrev mutual
-  -- the pieces of a tree: each file's bytes and each entry's name, at any depth, apart; the root has no name
+  -- the pieces of a tree: each file's bytes and each entry's name, at any depth, apart; the root has no name. A file that
+  -- was read in pieces is the one that they make together.
   pub pieces : Tree → List (List ℕ)
   pieces (File bytes) = bytes.items ∷ []
+  pieces (Pieces parts) = joined parts.items ∷ []
   pieces (Dir' shape entries) = pieces_among entries
 
   -- the pieces of a folder's entries
@@ -17,6 +26,7 @@ abbrev mutual
   -- the levels of a tree: one for a file or an empty folder
   pub depth_of : Tree → ℕ
   depth_of (File bytes) = 1
+  depth_of (Pieces parts) = 1
   depth_of (Dir' shape entries) = 1 + depth_among entries
 
   -- the levels below a folder
@@ -28,6 +38,7 @@ abbrev mutual
   -- the named members of folders at any depth; the root is none
   pub entry_count : Tree → ℕ
   entry_count (File bytes) = 0
+  entry_count (Pieces parts) = 0
   entry_count (Dir' shape entries) = entry_count_among entries
 
   -- a folder's members and those below them
@@ -39,6 +50,7 @@ abbrev mutual
   -- the bytes of all files
   pub file_bytes : Tree → ℕ
   file_bytes (File bytes) = length bytes.items
+  file_bytes (Pieces parts) = length (joined parts.items)
   file_bytes (Dir' shape entries) = file_bytes_among entries
 
   -- the bytes of all files of a folder's entries
