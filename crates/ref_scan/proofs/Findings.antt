@@ -9,8 +9,7 @@ use Rattle.std.proofs.lemmas.List.{take_more, take-append-drop}
 use Rattle.std.proofs.lemmas.List.Elements.{Contains-push, Contains-append_left, Contains-push_cases}
 use Rattle.nix_names.specs.Rising.{IsRising}
 use Rattle.nix_names.specs.StorePaths.{hash_part_of}
-use Rattle.ref_scan.specs.Scan.{IsFound, Occurs}
-use Rattle.ref_scan.specs.declared.tree.Tree.{Tree}
+use Rattle.ref_scan.specs.Scan.{IsFoundIn, OccursIn}
 
 abbrev pub Below : List ℕ → List ℕ → Type 0
 Below x y = slice_cmp nat_cmp x y ≡ Less
@@ -42,22 +41,22 @@ rising_front [] ys rises = tt
 rising_front (x ∷ []) ys rises = tt
 rising_front (x ∷ y ∷ xs) ys rises = (rises.0, rising_front (y ∷ xs) ys rises.1)
 
-pub found_none : (tree : Tree) → IsFound tree [] []
-found_none tree =
+pub found_none : (lists : List (List ℕ)) → IsFoundIn lists [] []
+found_none lists =
     record { rising = tt; each = λ path. (λ has. absurd (omega (arith, has.1)), λ h. absurd (omega (arith, h.0.1))) }
 
 pub found_one :
-    (tree : Tree) (seen found : List (List ℕ)) (path : List ℕ) →
+    (lists : List (List ℕ)) (seen found : List (List ℕ)) (path : List ℕ) →
     IsRising (seen ++ path ∷ []) →
-    IsFound tree seen found →
-    Occurs (hash_part_of path) tree →
-    IsFound tree (seen ++ path ∷ []) (found ++ path ∷ [])
-found_one tree seen found path rises before occurs = record {
+    IsFoundIn lists seen found →
+    OccursIn (hash_part_of path) lists →
+    IsFoundIn lists (seen ++ path ∷ []) (found ++ path ∷ [])
+found_one lists seen found path rises before occurs = record {
   rising = rising_push found path before.rising (λ x has. rising_above seen path x rises ((before.each x).0 has).0);
   each = λ x. (
     λ has. ⊎_elim
         (λ earlier. let old = (before.each x).0 earlier in (Contains-append_left seen (path ∷ []) x old.0, old.1))
-        (λ is. subst (λ y. Contains (seen ++ path ∷ []) y × Occurs (hash_part_of y) tree) is (Contains-push seen path, occurs))
+        (λ is. subst (λ y. Contains (seen ++ path ∷ []) y × OccursIn (hash_part_of y) lists) is (Contains-push seen path, occurs))
         (Contains-push_cases found path x has),
     λ h. ⊎_elim
         (λ earlier. Contains-append_left found (path ∷ []) x ((before.each x).1 (earlier, h.1)))
@@ -67,17 +66,17 @@ found_one tree seen found path rises before occurs = record {
 }
 
 pub found_no_more :
-    (tree : Tree) (seen found : List (List ℕ)) (path : List ℕ) →
-    IsFound tree seen found →
-    ¬ Occurs (hash_part_of path) tree →
-    IsFound tree (seen ++ path ∷ []) found
-found_no_more tree seen found path before none = record {
+    (lists : List (List ℕ)) (seen found : List (List ℕ)) (path : List ℕ) →
+    IsFoundIn lists seen found →
+    ¬ OccursIn (hash_part_of path) lists →
+    IsFoundIn lists (seen ++ path ∷ []) found
+found_no_more lists seen found path before none = record {
   rising = before.rising;
   each = λ x. (
     λ has. let old = (before.each x).0 has in (Contains-append_left seen (path ∷ []) x old.0, old.1),
     λ h. ⊎_elim
         (λ earlier. (before.each x).1 (earlier, h.1))
-        (λ is. absurd (none (subst (λ y. Occurs (hash_part_of y) tree) (sym is) h.1)))
+        (λ is. absurd (none (subst (λ y. OccursIn (hash_part_of y) lists) (sym is) h.1)))
         (Contains-push_cases seen path x h.0),
   );
 }

@@ -1,6 +1,14 @@
-pub mod Answered
+pub mod Digits
 pub mod Findings
 pub mod Folders
+pub mod Following
+pub mod HashParts
+pub mod Indexing
 pub mod Pieces
 pub mod Rooms
+pub mod Scanning
+pub mod Seams
+pub mod Searching
 pub mod Uniqueness
+pub mod Walks
+pub mod Windows

@@ -1,15 +1,9 @@
--- Where a part occurs: in some of the pieces of a tree, and by a search.
-use Rattle.std.proofs.Common.{◌≡◌, ◌∙◌, sym, ℕ, zero, suc, ◌+◌, List, [], ◌∷◌, ◌++◌, ◌⊎◌, inl, inr, ⊎_elim, length, take, drop, refl, ap, subst, arith, length-append, ◌↔◌, Option, Some, None}
-use Rattle.std.specs.Prelude.{Any, IsSome}
-use Rattle.std.proofs.lemmas.Bool.{false≢true}
-use Rattle.std.proofs.lemmas.List.{take-append-drop, take_at, drop_at}
-use Rattle.memchr.specs.Find.{FindsNeedle}
-use Rattle.memchr.proofs.lemmas.MatchLemmas.{OccursAt-split, OccursAt-from_part}
-use Rattle.ref_scan.specs.Scan.{Within, Occurs}
-use Rattle.ref_scan.specs.Trees.{pieces}
-use Rattle.ref_scan.specs.declared.tree.Tree.{Tree, File, Dir}
-use Rattle.ref_scan.specs.declared.tree.Entry.{Entry}
-use Rattle.ref_scan.proofs.Folders.{pieces_below, pieces_dir}
+-- Some of a list, and the lists of bytes in which a part stands.
+use Rattle.std.proofs.Common.{◌≡◌, ◌∙◌, sym, ℕ, zero, suc, ◌+◌, List, [], ◌∷◌, ◌++◌, ◌⊎◌, ◌↔◌, inl, inr, ⊎_elim, length, refl, subst, arith}
+use Rattle.std.specs.Prelude.{Any, Contains, IsTrue}
+use Rattle.nix_names.specs.StorePaths.{hash_part_of, is_hash_part}
+use Rattle.ref_scan.specs.Scan.{IsFoundIn, OccursIn, Within}
+use Rattle.ref_scan.proofs.Windows.{within_few}
 
 module _ {X : Type 0} (P : X → Type 0) where
   pub Any-none : Any P [] → ⊥
@@ -41,75 +35,35 @@ module _ {X : Type 0} (P : X → Type 0) where
       (λ later. ⊎_elim (λ a. inl (Any-later x xs a)) inr (Any-either xs ys later))
       (Any-cases x (xs ++ ys) h)
 
--- a search finds a part exactly where it stands within the bytes
-pub found_within : (part bytes : List ℕ) (r : Option ℕ) → FindsNeedle bytes part 0 r → IsSome r → Within part bytes
-found_within part bytes None h some = absurd (false≢true some)
-found_within part bytes (Some k) h some =
-    (take k bytes, drop (k + length part) bytes, sym (take-append-drop k bytes) ∙ ap (λ l. take k bytes ++ l) (OccursAt-split bytes part k h.1))
+  pub Any-last : (xs : List X) (x : X) → P x → Any P (xs ++ x ∷ [])
+  Any-last xs x h = Any-right xs (x ∷ []) (Any-first x [] h)
 
-pub within_found : (part bytes : List ℕ) (r : Option ℕ) → FindsNeedle bytes part 0 r → Within part bytes → IsSome r
-within_found part bytes (Some k) h within = refl
-within_found part bytes None h (before, after, is) =
-    let n = length before in
-    let behind : drop n bytes ≡ part ++ after = ap (drop n) is ∙ drop_at before (part ++ after) n refl in
-    let stands : take (length part) (drop n bytes) ≡ part = ap (take (length part)) behind ∙ take_at part after (length part) refl in
-    let long : length bytes ≡ n + (length part + length after) =
-    ap length is ∙ length-append before (part ++ after) ∙ ap (λ k. n + k) (length-append part after) in
-    absurd (h n (omega arith) (omega arith) (OccursAt-from_part bytes part n (omega arith) stands))
+  pub Any-last_cases : (xs : List X) (x : X) → Any P (xs ++ x ∷ []) → Any P xs ⊎ P x
+  Any-last_cases xs x h =
+      ⊎_elim
+      inl
+      (λ last. ⊎_elim inr (λ none. absurd (Any-none none)) (Any-cases x [] last))
+      (Any-either xs (x ∷ []) h)
 
--- Some piece of a tree has the part exactly where one of these last entries of the tree's folder has it.
-pub record Searched (part : List ℕ) (tree : Tree) (rest : List Entry) : Type 0 where
-  pub ahead : Occurs part tree → Any (Within part) (pieces_below rest)
-  pub back : Any (Within part) (pieces_below rest) → Occurs part tree
+-- no part stands in no bytes
+pub not_in_none : (part : List ℕ) → IsTrue (is_hash_part part) → Within part [] → ⊥
+not_in_none part is = within_few part [] is (omega arith)
 
-pub searched_start : (part : List ℕ) (tree : Tree) (entries : _) (items : List Entry) → tree ≡ Dir entries → items ≡ entries.items → Searched part tree items
-searched_start part tree entries items is same =
-    let held = ap pieces is ∙ pieces_dir entries ∙ ap pieces_below (sym same) in
-    record { ahead = subst (Any (Within part)) held; back = subst (Any (Within part)) (sym held) }
+-- an empty list at the end has no part
+pub occurs_before_none : (part : List ℕ) (lists : List (List ℕ)) → IsTrue (is_hash_part part) → OccursIn part (lists ++ [] ∷ []) → OccursIn part lists
+occurs_before_none part lists is h =
+    ⊎_elim (λ a. a) (λ w. absurd (not_in_none part is w)) (Any-last_cases (Within part) lists [] h)
 
-pub searched_step :
-    (part : List ℕ) (tree : Tree) (e : Entry) (rest : List Entry) →
-    Searched part tree (e ∷ rest) →
-    ¬ Within part e.name.items →
-    ¬ Occurs part e.tree →
-    Searched part tree rest
-searched_step part tree e rest before unnamed none =
-    let P = Within part in
+pub found_before_none :
+    (lists permitted found : List (List ℕ)) →
+    ((path : List ℕ) → Contains permitted path → IsTrue (is_hash_part (hash_part_of path))) →
+    IsFoundIn (lists ++ [] ∷ []) permitted found →
+    IsFoundIn lists permitted found
+found_before_none lists permitted found are_parts before =
     record {
-      ahead = λ h.
-          ⊎_elim
-          (λ named. absurd (unnamed named))
-          (λ later. ⊎_elim (λ here. absurd (none here)) (λ more. more) (Any-either P (pieces e.tree) (pieces_below rest) later))
-          (Any-cases P e.name.items (pieces e.tree ++ pieces_below rest) (before.ahead h));
-      back = λ h.
-          before.back (Any-later P e.name.items (pieces e.tree ++ pieces_below rest) (Any-right P (pieces e.tree) (pieces_below rest) h));
+      rising = before.rising;
+      each = λ path. (
+        λ has. let h = (before.each path).0 has in (h.0, occurs_before_none (hash_part_of path) lists (are_parts path h.0) h.1),
+        λ h. (before.each path).1 (h.0, Any-left (Within (hash_part_of path)) lists ([] ∷ []) h.1),
+      );
     }
-
-pub searched_name :
-    (part : List ℕ) (tree : Tree) (e : Entry) (rest : List Entry) →
-    Searched part tree (e ∷ rest) →
-    Within part e.name.items →
-    Occurs part tree
-searched_name part tree e rest before named =
-    before.back (Any-first (Within part) e.name.items (pieces e.tree ++ pieces_below rest) named)
-
-pub searched_tree :
-    (part : List ℕ) (tree : Tree) (e : Entry) (rest : List Entry) →
-    Searched part tree (e ∷ rest) →
-    Occurs part e.tree →
-    Occurs part tree
-searched_tree part tree e rest before here =
-    let P = Within part in
-    before.back (Any-later P e.name.items (pieces e.tree ++ pieces_below rest) (Any-left P (pieces e.tree) (pieces_below rest) here))
-
-pub searched_none : (part : List ℕ) (tree : Tree) → Searched part tree [] → ¬ Occurs part tree
-searched_none part tree before h = Any-none (Within part) (before.ahead h)
-
--- a file has its bytes alone
-pub file_occurs : (part : List ℕ) (tree : Tree) (bytes : _) → tree ≡ File bytes → Occurs part tree ↔ Within part bytes.items
-file_occurs part tree bytes is =
-    let P = Within part in
-    let same = ap pieces is in (
-      λ h. ⊎_elim (λ here. here) (λ none. absurd (Any-none P none)) (Any-cases P bytes.items [] (subst (Any P) same h)),
-      λ h. subst (Any P) (sym same) (Any-first P bytes.items [] h),
-    )

@@ -5,8 +5,7 @@ use Rattle.std.specs.declared.cmp.Ordering.TheVariants.{Less, Equal}
 use Rattle.std.proofs.lemmas.Cmp.{nat_list_cmp_total, tied_itself}
 use Rattle.nix_names.specs.Rising.{IsRising}
 use Rattle.nix_names.specs.StorePaths.{hash_part_of}
-use Rattle.ref_scan.specs.Scan.{IsFound, Occurs}
-use Rattle.ref_scan.specs.declared.tree.Tree.{Tree}
+use Rattle.ref_scan.specs.Scan.{IsFoundIn, OccursIn}
 use Rattle.ref_scan.proofs.Findings.{Below, rising_later}
 
 has_cases : (x : List ℕ) (xs : List (List ℕ)) (y : List ℕ) → Contains (x ∷ xs) y → (x ≡ y) ⊎ Contains xs y
@@ -78,18 +77,9 @@ rising_same (x ∷ xs) (y ∷ ys) rises rises' same =
     )) in
     cc
 
--- trees in which the same parts occur have the same found paths
-pub found_same :
-    (tree other : Tree) (permitted a b : List (List ℕ)) →
-    ((part : List ℕ) → Occurs part tree ↔ Occurs part other) →
-    IsFound tree permitted a →
-    IsFound other permitted b →
-    a ≡ b
-found_same tree other permitted a b same found found' =
+pub found_once : (lists permitted a b : List (List ℕ)) → IsFoundIn lists permitted a → IsFoundIn lists permitted b → a ≡ b
+found_once lists permitted a b found found' =
     rising_same a b found.rising found'.rising (λ path. (
-      λ has. let h = (found.each path).0 has in (found'.each path).1 (h.0, (same (hash_part_of path)).0 h.1),
-      λ has. let h = (found'.each path).0 has in (found.each path).1 (h.0, (same (hash_part_of path)).1 h.1),
+      λ has. (found'.each path).1 ((found.each path).0 has),
+      λ has. (found.each path).1 ((found'.each path).0 has),
     ))
-
-pub found_once : (tree : Tree) (permitted a b : List (List ℕ)) → IsFound tree permitted a → IsFound tree permitted b → a ≡ b
-found_once tree permitted a b = found_same tree tree permitted a b (λ part. (λ h. h, λ h. h))

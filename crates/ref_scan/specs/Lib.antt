@@ -1,5 +1,9 @@
 pub mod Faults
-pub mod Known
+pub mod Feed
+pub mod Kept
+pub mod Marks
+pub mod Places
 pub mod Room
 pub mod Scan
+pub mod Scanned
 pub mod Trees

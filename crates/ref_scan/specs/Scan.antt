@@ -10,11 +10,19 @@ use Rattle.ref_scan.specs.declared.tree.Tree.{Tree}
 abbrev pub Within : List ℕ → List ℕ → Type 0
 Within part bytes = (before : List ℕ) × (after : List ℕ) × (bytes ≡ before ++ (part ++ after))
 
+-- a part stands within one of some lists of bytes
+abbrev pub OccursIn : List ℕ → List (List ℕ) → Type 0
+OccursIn part lists = Any (Within part) lists
+
 -- a part stands within one piece of a tree
 abbrev pub Occurs : List ℕ → Tree → Type 0
-Occurs part tree = Any (Within part) (pieces tree)
+Occurs part tree = OccursIn part (pieces tree)
 
--- The found paths rise strictly, and are just those of the permitted whose hash part occurs in the tree.
-pub record IsFound (tree : Tree) (permitted found : List (List ℕ)) : Type 0 where
+-- The found paths rise strictly, and are just those of the permitted whose hash part stands within one of the lists.
+pub record IsFoundIn (lists : List (List ℕ)) (permitted found : List (List ℕ)) : Type 0 where
   pub rising : IsRising found
-  pub each : (path : List ℕ) → Contains found path ↔ (Contains permitted path × Occurs (hash_part_of path) tree)
+  pub each : (path : List ℕ) → Contains found path ↔ (Contains permitted path × OccursIn (hash_part_of path) lists)
+
+-- What is found in a tree is what is found in its pieces.
+abbrev pub IsFound : Tree → List (List ℕ) → List (List ℕ) → Type 0
+IsFound tree permitted found = IsFoundIn (pieces tree) permitted found

@@ -4,17 +4,29 @@
 //! |---|---|
 //! | `tree` | trees of files and folders, and the limits of an output |
 //! | `references` | the permitted store paths that a tree refers to |
+//! | `scanner` | the same of bytes that come in pieces |
+//! | `search`, `index`, `alphabet` | some bytes searched for all hash parts at once |
+//! | `seam`, `fed` | what is kept of a piece, and what was fed |
 //! | `fault` | why a scan gave up |
 //! | `laws` | laws over the definitions that contracts cite |
 #![tactic(auto)]
 
+mod alphabet;
 mod fault;
+mod fed;
+mod index;
 pub mod laws;
+#[cfg(test)]
+mod random_tests;
 mod references;
+mod scanner;
+mod seam;
+mod search;
 #[cfg(test)]
 mod tests;
 mod tree;
 
 pub use fault::ScanFault;
 pub use references::scan;
-pub use tree::{Entry, Tree};
+pub use scanner::Scanner;
+pub use tree::{Member, Tree};

@@ -1,23 +1,22 @@
 //! The permitted store paths that a tree refers to.
+ghost use Rattle.std.specs.Prelude.{◌≡◌, ◌++◌, ◌∷◌, [], IfOk};
 ghost use Rattle.nix_names.specs.Rising.{IsRising};
-ghost use Rattle.ref_scan.specs.Known.{Knows};
-ghost use Rattle.ref_scan.specs.Scan.{IsFound, Occurs};
-ghost use Rattle.std.specs.Prelude.{◌↔◌, IfOk, IsTrue};
+ghost use Rattle.ref_scan.specs.Scan.{IsFound};
+ghost use Rattle.ref_scan.specs.Trees.{joined, pieces};
 
 use crate::fault::ScanFault;
-use crate::tree::Tree;
-use memchr::memmem::Finder;
+use crate::scanner::Scanner;
+use crate::tree::{Member, Tree};
 use nix_names::StorePath;
-use std::alloc::{AllocError, Global};
-use std::collections::HashMap;
+use std::alloc::Global;
 
 /// The permitted paths whose hash part occurs in the tree, in their order: within the bytes of one
 /// file or within the name of one entry, at any depth, each apart. Two permitted paths with the
 /// same hash part are both found. `NoMemory`, the only fault, where memory was refused.
 ///
-/// The tree is walked once for each distinct hash part, up to the first place where it occurs; no
-/// bytes of a file are copied. Takes memory for what is found and for a table of the hash parts.
-/// The walk recurses as deep as the tree is, so ask `Tree::fits` of a tree of unknown depth.
+/// The tree is walked once, whatever the number of paths; no bytes of a file are copied. Takes memory
+/// for the permitted paths, for a table of their hash parts and for what is found. The walk recurses
+/// as deep as the tree is, so ask `Tree::fits` of a tree of unknown depth.
 pub fn scan(
     alloc: Global,
     tree: &Tree,
@@ -26,30 +25,44 @@ pub fn scan(
     requires { IsRising permitted.now }
     ensures { IfOk result (λ found. IsFound tree.now permitted.now found.items) }
 {
-    let mut known = HashMap::new(alloc);
-    let mut found = Vec::new(alloc);
-    for path in permitted {
-        if occurs(tree, &mut known, path.hash_part())? {
-            found.push(path.copy(alloc).map_err(|_| ScanFault::NoMemory)?)?;
-        }
-    }
-    Ok(found)
+    let mut scanner = Scanner::new(alloc, permitted)?;
+    feed_tree(&mut scanner, tree);
+    scanner.finish()
 }
 
-// Whether the hash part occurs in the tree, which is sought only where it isn't known yet.
-fn occurs<'p>(
-    tree: &Tree,
-    known: &mut HashMap<&'p [u8], bool>,
-    part: &'p [u8],
-) -> Result<bool, AllocError>
-    requires { Knows known.old tree.now }
-    ensures answer { IfOk result (λ occurs. IsTrue occurs ↔ Occurs part.now tree.now) }
-    ensures known { IfOk result (λ _. Knows known.new tree.now) }
+// Feeds each file and each entry's name as a list of its own.
+fn feed_tree(scanner: &mut Scanner, tree: &Tree)
+    requires { scanner.old.present ≡ [] }
+    ensures { scanner.new ≡ record scanner.old { ended = scanner.old.ended ++ pieces tree.now; present = [] } }
 {
-    if let Some(occurs) = known.get(part) {
-        return Ok(*occurs);
+    match tree {
+        Tree::File(bytes) => feed_list(scanner, bytes),
+        Tree::Pieces(pieces) => {
+            feed_pieces(scanner, pieces);
+            scanner.cut();
+        }
+        Tree::Dir(members) => {
+            for Member { name, tree } in members {
+                feed_list(scanner, name);
+                feed_tree(scanner, tree);
+            }
+        }
     }
-    let occurs = tree.holds(&Finder::new(part));
-    known.insert(part, occurs)?;
-    Ok(occurs)
+}
+
+// Feeds a list of its own.
+fn feed_list(scanner: &mut Scanner, bytes: &[u8])
+    ensures { scanner.new ≡ record scanner.old { ended = scanner.old.ended ++ (scanner.old.present ++ bytes.now) ∷ []; present = [] } }
+{
+    scanner.feed(bytes);
+    scanner.cut();
+}
+
+// Feeds the pieces of one file.
+fn feed_pieces(scanner: &mut Scanner, pieces: &[Vec<u8>])
+    ensures { scanner.new ≡ record scanner.old { present = scanner.old.present ++ joined pieces.now } }
+{
+    for piece in pieces {
+        scanner.feed(piece);
+    }
 }

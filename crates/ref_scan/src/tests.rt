@@ -5,7 +5,7 @@ ghost use Rattle.std.specs.Cmp.Lexicographic.{slice_cmp};
 ghost use Rattle.std.specs.declared.cmp.Ordering.{Ordering};
 ghost use Rattle.nix_names.specs.Rising.{IsRising};
 
-use crate::{Entry, ScanFault, Tree, scan};
+use crate::{Member, ScanFault, Scanner, Tree, scan};
 use nix_names::{StoreDir, StorePath, parse_path};
 use std::alloc::Global;
 use std::test::Fail;
@@ -14,6 +14,12 @@ use std::test::Fail;
 const A: &[u8] = b"aaaaaaaaaaaaaaaaaaaaaaaaaaaaaaaa";
 
 const B: &[u8] = b"aaaaaaaaaaaaaaaaaaaaaaaaaaaaaaab";
+
+// 16 times `a`.
+const HALF: &[u8] = b"aaaaaaaaaaaaaaaa";
+
+// Stands for a cut among pieces.
+const CUT: &[u8] = b"|";
 
 const A_P: &[u8] = b"/nix/store/aaaaaaaaaaaaaaaaaaaaaaaaaaaaaaaa-p";
 
@@ -25,9 +31,46 @@ fn file(alloc: Global, bytes: &[u8]) -> Result<Tree, Fail> {
     Ok(Tree::File(bytes.to_vec(alloc)?))
 }
 
+// A file of these pieces.
+fn in_pieces(alloc: Global, pieces: &[&[u8]]) -> Result<Tree, Fail> {
+    let mut parts = Vec::new(alloc);
+    for piece in pieces {
+        parts.push(piece.to_vec(alloc)?)?;
+    }
+    Ok(Tree::Pieces(parts))
+}
+
+// What a scanner for two paths finds in these pieces, of which `CUT` stands for a cut.
+fn scanned(alloc: Global, pieces: &[&[u8]]) -> Result<Vec<StorePath>, Fail> {
+    let permitted = two_paths(alloc, A_P, B_Q)?;
+    let mut scanner = Scanner::new(alloc, &permitted)?;
+    for piece in pieces {
+        feed_or_cut(&mut scanner, piece);
+    }
+    Ok(scanner.finish()?)
+}
+
+fn feed_or_cut(scanner: &mut Scanner, piece: &[u8]) {
+    if piece == CUT {
+        scanner.cut();
+    } else {
+        scanner.feed(piece);
+    }
+}
+
+// The same of some bytes in pieces of one.
+fn scanned_by_bytes(alloc: Global, bytes: &[u8]) -> Result<Vec<StorePath>, Fail> {
+    let permitted = two_paths(alloc, A_P, B_Q)?;
+    let mut scanner = Scanner::new(alloc, &permitted)?;
+    for byte in bytes {
+        scanner.feed(&[*byte]);
+    }
+    Ok(scanner.finish()?)
+}
+
 fn folder(alloc: Global, name: &[u8], tree: Tree) -> Result<Tree, Fail> {
     let name = name.to_vec(alloc)?;
-    Ok(Tree::Dir(vec![in alloc; Entry { name, tree }]?))
+    Ok(Tree::Dir(vec![in alloc; Member { name, tree }]?))
 }
 
 fn two_paths(alloc: Global, first: &[u8], second: &[u8]) -> Result<Vec<StorePath>, Fail>
@@ -63,7 +106,7 @@ fn wide(alloc: Global, members: usize) -> Result<Tree, Fail> {
     for _ in 0..members {
         let name = b"d".to_vec(alloc)?;
         let tree = Tree::Dir(Vec::new(alloc));
-        entries.push(Entry { name, tree })?;
+        entries.push(Member { name, tree })?;
     }
     Ok(Tree::Dir(entries))
 }
@@ -72,12 +115,19 @@ fn zeros(alloc: Global, len: usize) -> Result<Tree, Fail> {
     Ok(Tree::File(vec![in alloc; 0; len]?))
 }
 
+// A file of so many zeros in one piece and one more in another.
+fn in_zeros(alloc: Global, len: usize) -> Result<Tree, Fail> {
+    let first = vec![in alloc; 0; len]?;
+    let last = vec![in alloc; 0; 1]?;
+    Ok(Tree::Pieces(vec![in alloc; first, last]?))
+}
+
 fn pair(alloc: Global, first: Tree, second: Tree) -> Result<Tree, Fail> {
-    let first = Entry {
+    let first = Member {
         name: b"one".to_vec(alloc)?,
         tree: first,
     };
-    let second = Entry {
+    let second = Member {
         name: b"two".to_vec(alloc)?,
         tree: second,
     };
@@ -119,6 +169,68 @@ fn scan_boundaries(rt: HostRuntime) -> Result<(), Fail> {
         file(alloc, b"aaaaaaaaaaaaaaaa")?,
     )?;
     assert!(rt; are(&scan(alloc, &parted, &permitted)?, &[]));
+    Ok(())
+}
+
+#[test]
+fn scan_boundaries_over_pieces(rt: HostRuntime) -> Result<(), Fail> {
+    let alloc = rt.alloc();
+    let rows: [(&[&[u8]], &[&[u8]]); 9] = [
+        (&[b"aaaaaaaaaaaaaaaaaaaaaaaaaaaaaaa", b"ab"], &[A_P, B_Q]),
+        (&[b"aaaaaaaaaaaaaaaaaaaaaaaaaaaaaaaab"], &[A_P, B_Q]),
+        (&[A, b"b"], &[A_P, B_Q]),
+        (&[b"a", A], &[A_P]),
+        (&[b"aaaaaaaaaaaaaaa", b"aaaaaaaaaaaaaaaa"], &[]),
+        (
+            &[b"", b"-aaaaaaaaaaaaaaaa", b"", b"aaaaaaaaaaaaaaab-"],
+            &[B_Q],
+        ),
+        (&[b"aaaaaaaaaaaaaaaa", b"-", b"aaaaaaaaaaaaaaaa"], &[]),
+        (&[], &[]),
+        (&[b""], &[]),
+    ];
+    let permitted = two_paths(alloc, A_P, B_Q)?;
+    for (pieces, texts) in rows {
+        let tree = in_pieces(alloc, pieces)?;
+        assert!(rt; are(&scan(alloc, &tree, &permitted)?, texts));
+    }
+    Ok(())
+}
+
+#[test]
+fn lists_of_a_scanner(rt: HostRuntime) -> Result<(), Fail> {
+    let alloc = rt.alloc();
+    let rows: [(&[&[u8]], &[&[u8]]); 8] = [
+        (&[HALF, CUT, HALF], &[]),
+        (&[HALF, HALF], &[A_P]),
+        (&[A, CUT, CUT, B], &[A_P, B_Q]),
+        (&[B, CUT, A, b"-"], &[A_P, B_Q]),
+        (&[HALF, CUT, HALF, b"-", B], &[B_Q]),
+        (&[A, b"-", CUT, HALF, CUT, HALF], &[A_P]),
+        (&[CUT, HALF, CUT, b"aaaaaaaaaaaaaaab"], &[]),
+        (&[], &[]),
+    ];
+    for (pieces, texts) in rows {
+        assert!(rt; are(&scanned(alloc, pieces)?, texts));
+    }
+    Ok(())
+}
+
+#[test]
+fn pieces_of_one_byte(rt: HostRuntime) -> Result<(), Fail> {
+    let alloc = rt.alloc();
+    let both = scanned_by_bytes(alloc, b"aaaaaaaaaaaaaaaaaaaaaaaaaaaaaaaab")?;
+    assert!(rt; are(&both, &[A_P, B_Q]));
+    let none = scanned_by_bytes(alloc, b"aaaaaaaaaaaaaaaaaaaaaaaaaaaaaaa-ab")?;
+    assert!(rt; are(&none, &[]));
+    Ok(())
+}
+
+#[test]
+fn limits_of_pieces(rt: HostRuntime) -> Result<(), Fail> {
+    let alloc = rt.alloc();
+    assert!(rt; in_zeros(alloc, 67_108_863)?.fits());
+    assert!(rt; !in_zeros(alloc, 67_108_864)?.fits());
     Ok(())
 }
 

@@ -1,10 +1,7 @@
 //! Trees of files and folders, and the limits of an output.
-ghost use Rattle.std.specs.Prelude.{◌≡◌, ◌≤◌, ◌+◌, ◌↔◌, IsTrue, MatchOption};
+ghost use Rattle.std.specs.Prelude.{◌≡◌, ◌<◌, ◌+◌, ◌↔◌, length, IsTrue, MatchOption};
 ghost use Rattle.ref_scan.specs.Room.{FitsIn, Fills};
-ghost use Rattle.ref_scan.specs.Scan.{Occurs};
-ghost use Rattle.ref_scan.specs.Trees.{Fits};
-
-use memchr::memmem::Finder;
+ghost use Rattle.ref_scan.specs.Trees.{Fits, joined};
 
 // The most levels of an output's tree.
 const MAX_DEPTH: usize = 32;
@@ -21,14 +18,16 @@ const MAX_FILE_BYTES: usize = 67_108_864;
 pub enum Tree {
     /// A file's bytes.
     File(Vec<u8>),
-    /// A folder's entries, in any order.
-    Dir(Vec<Entry>),
+    /// A file's bytes, in the pieces in which it was read. No pieces are the empty file.
+    Pieces(Vec<Vec<u8>>),
+    /// A folder's members, in any order.
+    Dir(Vec<Member>),
 }
 
 /// A named member of a folder.
 #[derive(Debug, Drop)]
 #[cycle(tree)]
-pub struct Entry {
+pub struct Member {
     /// The name, without the folder's path.
     pub name: Vec<u8>,
     /// What stands under it.
@@ -65,6 +64,10 @@ impl Tree {
                 bytes: room.bytes.checked_sub(bytes.len())?,
                 ..room
             }),
+            Tree::Pieces(pieces) => Some(Room {
+                bytes: bytes_beside(pieces, room.bytes)?,
+                ..room
+            }),
             Tree::Dir(entries) => {
                 let mut left = Room {
                     entries: room.entries.checked_sub(entries.len())?,
@@ -77,25 +80,15 @@ impl Tree {
             }
         }
     }
+}
 
-    // Whether the part stands within a file's bytes or within an entry's name.
-    #[tactic(auto, using(crate::proofs::Pieces::searched_start))]
-    pub(crate) fn holds(&self, part: &Finder) -> bool
-        ensures { IsTrue result ↔ Occurs part.now self.now }
-    {
-        match self {
-            Tree::File(bytes) => part.find(bytes).is_some(),
-            Tree::Dir(entries) => {
-                for Entry { name, tree } in entries {
-                    if part.find(name).is_some() {
-                        return true;
-                    }
-                    if tree.holds(part) {
-                        return true;
-                    }
-                }
-                false
-            }
-        }
+// What is left of so many bytes beside a file in pieces.
+fn bytes_beside(pieces: &[Vec<u8>], bytes: usize) -> Option<usize>
+    ensures { MatchOption result (bytes < length (joined pieces.now)) (λ left. left + length (joined pieces.now) ≡ bytes) }
+{
+    let mut left = bytes;
+    for piece in pieces {
+        left = left.checked_sub(piece.len())?;
     }
+    Some(left)
 }

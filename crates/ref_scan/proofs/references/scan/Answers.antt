@@ -1,26 +1,21 @@
-use Rattle.std.proofs.Common.{◌∙◌, ◌+◌, sym, subst, arith}
-use Rattle.std.proofs.lemmas.Bool.{false≢true}
-use Rattle.nix_names.specs.Rising.{IsRising}
-use Rattle.ref_scan.proofs.Findings.{found_one, found_no_more, taken_with, rising_taken, passed_on}
+use Rattle.std.proofs.Common.{◌≡◌, ◌∙◌, ◌++◌, [], ℕ, List, ap, subst}
+use Rattle.std.specs.Prelude.{Contains, IsTrue}
+use Rattle.nix_names.specs.StorePaths.{hash_part_of, is_hash_part}
+use Rattle.ref_scan.specs.Feed.{lists_of}
+use Rattle.ref_scan.specs.Scan.{IsFoundIn}
+use Rattle.ref_scan.specs.Trees.{pieces}
+use Rattle.ref_scan.proofs.Pieces.{found_before_none}
+use Rattle.ref_scan.proofs.Scanning.{feed_of, if_ok}
 use Rattle.ref_scan.proofs.references.scan.Goals as goal
-use Rattle.ref_scan.proofs.references.scan.Goals.{then-branch+in_ok-map_err+in_ok-push, else-branch}
 
-pub loop-path-preserved : goal.loop-path-preserved
-loop-path-preserved c =
+pub returns : goal.returns
+returns c =
     let tree = c.args.tree.now in
-    let taken = taken_with c.args.permitted.now c.loop-path.path-index c.path-item.result (omega arith) c.path-item.is in
-    let answer = rw c.hash_part.ensures.value at c.in_ok-occurs.ensures.answer in
-    record {
-      known = c.in_ok-occurs.ensures.known;
-      so_far =
-          elim c.if-branch.branch [
-            | then-branch+in_ok-map_err+in_ok-push w ↦
-                let rises = subst IsRising taken (rising_taken c.args.permitted.now (c.loop-path.path-index + 1) c.requires) in
-                let copied = passed_on w.copy.result w.map_err.result w.in_ok-map_err.field-0 _ _ w.map_err.ensures.cases w.in_ok-map_err.was w.copy.ensures.same in
-                rw (w.found-is, w.in_ok-push.ensures.items, copied, taken)
-                (found_one tree _ _ _ rises c.loop-path.invariant.so_far (answer.0 w.if-branch.true))
-            | else-branch w ↦
-                rw (w.found-is, taken)
-                (found_no_more tree _ _ _ c.loop-path.invariant.so_far (λ occurs. false≢true (sym w.if-branch.false ∙ answer.1 occurs)))
-          ];
-    }
+    let permitted = c.args.permitted.now in
+    let fed : c.feed_tree.new.scanner ≡ feed_of permitted (pieces tree) [] = c.feed_tree.ensures ∙ ap (λ f. feed_of f.permitted (f.ended ++ pieces tree) []) c.in_ok-scanner.ensures in
+    if_ok c.finish.result _ _
+    (λ found h.
+    found_before_none (pieces tree) permitted found.items
+    (subst (λ f. (path : List ℕ) → Contains f.permitted path → IsTrue (is_hash_part (hash_part_of path))) fed c.finish.ensures.are_parts)
+    (subst (λ f. IsFoundIn (lists_of f) f.permitted found.items) fed h))
+    c.finish.ensures.found

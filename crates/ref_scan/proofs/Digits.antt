@@ -1,0 +1,13 @@
+-- The table of the alphabet is that of its digits.
+use Rattle.std.proofs.Common.{◌≡◌, ◌∙◌, ℕ, ◌<◌, ◌+◌, Bool, true, false, get_or, refl, ap, arith}
+use Rattle.std.specs.Prelude.{map}
+use Rattle.std.specs.List.{range_with_len}
+use Rattle.std.proofs.lemmas.List.FromFn.{get_or-map-range_with_len}
+use Rattle.nix_names.specs.Base32.{is_digit}
+use Rattle.ref_scan.specs.declared.alphabet.TheConstants.{IS_DIGIT}
+
+table_is : IS_DIGIT ≡ map is_digit (range_with_len 0 256)
+table_is = refl
+
+pub table_at : (b : ℕ) → b < 256 → get_or IS_DIGIT b false ≡ is_digit b
+table_at b h = ap (λ t. get_or t b false) table_is ∙ get_or-map-range_with_len is_digit 0 256 b b false h (omega arith)

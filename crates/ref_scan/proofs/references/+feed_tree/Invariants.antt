@@ -1,0 +1,14 @@
+use Rattle.std.proofs.Common.{◌≡◌, ◌++◌, [], drop}
+use Rattle.ref_scan.specs.Trees.{pieces}
+use Rattle.ref_scan.proofs.Folders.{pieces_below}
+use Rattle.ref_scan.proofs.references.+feed_tree.Given as goal
+
+abbrev pub decreases-feed_tree : goal.decreases-feed_tree
+decreases-feed_tree l = goal.size-feed_tree l
+
+abbrev pub invariant-loop-name : goal.invariant-loop-name
+invariant-loop-name l = record {
+  permitted : l.scanner.permitted ≡ l.initial.scanner.permitted;
+  ended : l.scanner.ended ++ pieces_below (drop l.name-index l.name-items) ≡ l.initial.scanner.ended ++ pieces l.fn.tree;
+  present : l.scanner.present ≡ [];
+}

@@ -1,0 +1,43 @@
+//! The base-32 alphabet, as bytes are tested against it.
+ghost use Rattle.std.specs.Prelude.{◌≡◌, ◌<◌, ◌≤◌, IfSome, slice_index, false};
+ghost use Rattle.nix_names.specs.Base32.{is_digit};
+
+const N: bool = false;
+
+const Y: bool = true;
+
+// For each byte whether it is one of `0123456789abcdfghijklmnpqrsvwxyz`.
+static IS_DIGIT: [bool; 256] = [
+    N, N, N, N, N, N, N, N, N, N, N, N, N, N, N, N, N, N, N, N, N, N, N, N, N, N, N, N, N, N, N, N,
+    N, N, N, N, N, N, N, N, N, N, N, N, N, N, N, N, Y, Y, Y, Y, Y, Y, Y, Y, Y, Y, N, N, N, N, N, N,
+    N, N, N, N, N, N, N, N, N, N, N, N, N, N, N, N, N, N, N, N, N, N, N, N, N, N, N, N, N, N, N, N,
+    N, Y, Y, Y, Y, N, Y, Y, Y, Y, Y, Y, Y, Y, Y, N, Y, Y, Y, Y, N, N, Y, Y, Y, Y, Y, N, N, N, N, N,
+    N, N, N, N, N, N, N, N, N, N, N, N, N, N, N, N, N, N, N, N, N, N, N, N, N, N, N, N, N, N, N, N,
+    N, N, N, N, N, N, N, N, N, N, N, N, N, N, N, N, N, N, N, N, N, N, N, N, N, N, N, N, N, N, N, N,
+    N, N, N, N, N, N, N, N, N, N, N, N, N, N, N, N, N, N, N, N, N, N, N, N, N, N, N, N, N, N, N, N,
+    N, N, N, N, N, N, N, N, N, N, N, N, N, N, N, N, N, N, N, N, N, N, N, N, N, N, N, N, N, N, N, N,
+];
+
+// Whether a byte is a base-32 digit.
+#[inline(always)]
+pub(crate) fn is_digit(byte: u8) -> bool
+    ensures { result ≡ is_digit byte }
+{
+    IS_DIGIT[byte as usize]
+}
+
+// The place of the last byte outside the alphabet, from this place on.
+#[inline(always)]
+pub(crate) fn last_foreign(window: &[u8; 32], from: usize) -> Option<usize>
+    requires { from ≤ 32 }
+    ensures { IfSome result (λ place. (place < 32) × (is_digit (slice_index window.now place) ≡ false)) }
+{
+    let mut place = 32;
+    while place > from {
+        place -= 1;
+        if !is_digit(window[place]) {
+            return Some(place);
+        }
+    }
+    None
+}

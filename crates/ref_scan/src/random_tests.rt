@@ -1,0 +1,182 @@
+//! The scanner against a plain search, over random lists in random pieces.
+ghost use Rattle.std.specs.Prelude.{◌<◌, ◌++◌, ◌∷◌, [], IfOk, IsTrue};
+ghost use Rattle.nix_names.specs.Rising.{IsRising};
+
+use crate::Scanner;
+use nix_names::{StoreDir, StorePath, parse_path};
+use std::alloc::Global;
+use std::test::Fail;
+
+const DIGITS: [u8; 32] = *b"0123456789abcdfghijklmnpqrsvwxyz";
+
+const PATHS: usize = 3_000;
+
+#[derive(Drop)]
+struct Random {
+    state: u64,
+}
+
+impl Random {
+    fn below(&mut self, bound: usize) -> usize
+        requires { 0 < bound }
+        ensures { result < bound }
+    {
+        self.state = self
+            .state
+            .wrapping_mul(6_364_136_223_846_793_005)
+            .wrapping_add(1_442_695_040_888_963_407);
+        (self.state >> 33) as usize % bound
+    }
+
+    fn digit(&mut self) -> u8 {
+        DIGITS[self.below(32)]
+    }
+}
+
+// The text of a path: two paths have each hash part, whose first digits count them.
+fn path_text(number: usize) -> [u8; 45] {
+    let part = number / 2;
+    let mut text = *b"/nix/store/00000000000000000000000000000000-a";
+    text[11] = DIGITS[part / 32_768 % 32];
+    text[12] = DIGITS[part / 1024 % 32];
+    text[13] = DIGITS[part / 32 % 32];
+    text[14] = DIGITS[part % 32];
+    let mut random = Random { state: part as u64 };
+    for place in 15..43 {
+        text[place] = random.digit();
+    }
+    text[44] = DIGITS[10 + number % 2];
+    text
+}
+
+// Whether a path is greater than the last one of a list.
+fn follows(paths: &[StorePath], path: &StorePath) -> bool
+    ensures { IsTrue result → IsRising paths.now → IsRising (paths.now ++ path.now ∷ []) }
+{
+    match paths.last() {
+        None => true,
+        Some(last) => last.text().cmp(path.text()).is_lt(),
+    }
+}
+
+// So many paths, in order.
+fn rising_paths(alloc: Global, count: usize) -> Result<Vec<StorePath>, Fail>
+    ensures { IfOk result (λ paths. IsRising paths.items) }
+{
+    let store = StoreDir::new(alloc, b"/nix/store")?;
+    let mut paths = Vec::new(alloc);
+    for number in 0..count {
+        let path = parse_path(alloc, &store, &path_text(number))?;
+        if follows(&paths, &path) {
+            paths.push(path)?;
+        }
+    }
+    Ok(paths)
+}
+
+// Some bytes: hash parts, the first bytes of hash parts, other digits and other bytes.
+fn random_bytes(alloc: Global, random: &mut Random, paths: &[StorePath]) -> Result<Vec<u8>, Fail> {
+    let mut bytes = Vec::new(alloc);
+    for _ in 0..400 {
+        if let Some(path) = paths.get(random.below(PATHS)) {
+            let part = path.hash_part();
+            bytes.extend_from_slice(part.get(..random.below(64)).unwrap_or(part))?;
+        }
+        let len = random.below(40) / (1 + random.below(20));
+        push_random(&mut bytes, random, len)?;
+    }
+    Ok(bytes)
+}
+
+fn push_random(bytes: &mut Vec<u8>, random: &mut Random, len: usize) -> Result<(), Fail> {
+    for _ in 0..len {
+        let byte = if random.below(4) > 0 {
+            random.digit()
+        } else {
+            random.below(256) as u8
+        };
+        bytes.push(byte)?;
+    }
+    Ok(())
+}
+
+// The bytes as lists, cut at random places.
+fn random_lists(alloc: Global, random: &mut Random, bytes: &[u8]) -> Result<Vec<Vec<u8>>, Fail> {
+    let mut lists = Vec::new(alloc);
+    let mut rest = bytes;
+    while !rest.is_empty() {
+        let (list, behind) = rest.split_at((1 + random.below(900)).min(rest.len()));
+        lists.push(list.to_vec(alloc)?)?;
+        rest = behind;
+    }
+    Ok(lists)
+}
+
+// Feeds a list in random pieces.
+fn feed_list(scanner: &mut Scanner, random: &mut Random, list: &[u8]) {
+    let mut rest = list;
+    while !rest.is_empty() {
+        let (piece, behind) = rest.split_at((1 + random.below(70)).min(rest.len()));
+        scanner.feed(piece);
+        rest = behind;
+    }
+    scanner.cut();
+}
+
+fn found(
+    alloc: Global,
+    random: &mut Random,
+    paths: &[StorePath],
+    lists: &[Vec<u8>],
+) -> Result<Vec<StorePath>, Fail>
+    requires { IsRising paths.now }
+{
+    let mut scanner = Scanner::new(alloc, paths)?;
+    for list in lists {
+        feed_list(&mut scanner, random, list);
+    }
+    Ok(scanner.finish()?)
+}
+
+fn occurs(lists: &[Vec<u8>], part: &[u8]) -> bool {
+    lists
+        .iter()
+        .any(|list| list.windows(32).any(|window| window == part))
+}
+
+// Whether these are just the paths whose hash part occurs.
+fn are_found(found: &[StorePath], paths: &[StorePath], lists: &[Vec<u8>]) -> bool {
+    let mut rest = found.iter();
+    for path in paths {
+        if occurs(lists, path.hash_part())
+            && rest.next().map(|next| next.text()) != Some(path.text())
+        {
+            return false;
+        }
+    }
+    rest.next().is_none()
+}
+
+#[test]
+fn same_as_a_plain_search(rt: HostRuntime) -> Result<(), Fail> {
+    let alloc = rt.alloc();
+    let mut random = Random { state: 1 };
+    let paths = rising_paths(alloc, PATHS)?;
+    assert_eq!(rt; paths.len(), PATHS);
+    let bytes = random_bytes(alloc, &mut random, &paths)?;
+    let lists = random_lists(alloc, &mut random, &bytes)?;
+    assert!(rt; agrees(alloc, &mut random, &paths, &lists)?);
+    Ok(())
+}
+
+fn agrees(
+    alloc: Global,
+    random: &mut Random,
+    paths: &[StorePath],
+    lists: &[Vec<u8>],
+) -> Result<bool, Fail>
+    requires { IsRising paths.now }
+{
+    let found = found(alloc, random, paths, lists)?;
+    Ok(found.len() > 60 && are_found(&found, paths, lists))
+}

@@ -1,0 +1,38 @@
+//! The search of some bytes for all hash parts at once.
+ghost use Rattle.std.specs.Prelude.{◌≡◌, ◌≤◌, ℕ, length};
+ghost use Rattle.ref_scan.specs.Places.{IsIndex};
+ghost use Rattle.ref_scan.specs.Marks.{Marked, Searched};
+
+use crate::alphabet::last_foreign;
+use crate::index::Index;
+
+// Marks each part that stands somewhere within the bytes. Looks at each window of 32 bytes from its end, goes on behind
+// a byte outside the alphabet, and looks at no byte twice.
+pub(crate) fn search(index: &Index, met: &mut [bool], bytes: &[u8])
+    requires { IsIndex index.now.places index.now.sieve.items (length met.old) }
+    ensures { Searched index.now.places met.old met.new bytes.now }
+{
+    let mut start = 0;
+    let mut known = 0;
+    while let Some(window) = bytes[start..].first_chunk::<32>() {
+        if let Some(place) = last_foreign(window, known) {
+            start += place + 1;
+            known = 31 - place;
+        } else {
+            mark(index, met, window);
+            start += 1;
+            known = 31;
+        }
+    }
+}
+
+// Marks a window that is a part.
+#[inline(always)]
+fn mark(index: &Index, met: &mut [bool], window: &[u8; 32])
+    requires { IsIndex index.now.places index.now.sieve.items (length met.old) }
+    ensures { Marked index.now.places met.old met.new window.now }
+{
+    if let Some(place) = index.place_of(window) {
+        met[place] = true;
+    }
+}
