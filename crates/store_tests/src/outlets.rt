@@ -13,7 +13,7 @@ fn added(alloc: Global) -> Result<Entry, Fail>
     ensures { IfOk result (λ entry. references_of (registered_by entry) ≡ []) }
 {
     let path = path(alloc, b"/nix/store/aaaaaaaaaaaaaaaaaaaaaaaaaaaaaaaa-x")?;
-    let info = Record::new(Vec::new(alloc), None);
+    let info = Record::new(Vec::new(alloc), None)?;
     Ok(Entry::Add(Registration { path, info }))
 }
 

@@ -28,8 +28,8 @@ pub(crate) fn all_numbered(alloc: Global, numbers: &[usize]) -> Result<Vec<Store
 // The record of a folder without references, or with this one.
 pub(crate) fn record(alloc: Global, reference: Option<StorePath>) -> Result<Record, Fail> {
     match reference {
-        Some(path) => Ok(Record::new(vec![in alloc; path]?, None)),
-        None => Ok(Record::new(Vec::new(alloc), None)),
+        Some(path) => Ok(Record::new(vec![in alloc; path]?, None)?),
+        None => Ok(Record::new(Vec::new(alloc), None)?),
     }
 }
 

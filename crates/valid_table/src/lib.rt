@@ -5,8 +5,9 @@
 //! | `entry`, `entry_eq` | entries of a journal, and when they are equal |
 //! | `journal` | journals: their entries, one more |
 //! | `lines`, `reading`, `writing` | a journal's text: one line, the whole read, the whole written |
-//! | `entering`, `checking` | the paths that an entry registers, one entry more or line by line |
-//! | `table` | the table of valid paths |
+//! | `entering`, `obstacle` | what stands against an entry |
+//! | `checking` | entries whose text was read, line by line |
+//! | `rows`, `table` | the rows of valid paths, and the table of them |
 //! | `closing` | how a closure is found |
 //! | `outlet`, `list_outlet` | where registrations go, and the outlet in memory |
 //! | `fault` | why a call refused |
@@ -23,8 +24,10 @@ mod journal;
 pub mod laws;
 mod lines;
 mod list_outlet;
+mod obstacle;
 mod outlet;
 mod reading;
+mod rows;
 mod table;
 mod writing;
 
@@ -32,5 +35,6 @@ pub use entry::{Entry, Outputs, Record, Registration};
 pub use fault::{OutletFault, TableFault};
 pub use journal::Journal;
 pub use list_outlet::ListOutlet;
+pub use obstacle::Obstacle;
 pub use outlet::Outlet;
 pub use table::Table;
