@@ -13,6 +13,7 @@ pub mod EntryLines
 pub mod EqualEntries
 pub mod Following
 pub mod JournalLists
+pub mod Leading
 pub mod LineLists
 pub mod LinePaths
 pub mod LineSteps
@@ -30,7 +31,6 @@ pub mod Roots
 pub mod Rows
 pub mod Separators
 pub mod Sorting
-pub mod StepLists
 pub mod TableRows
 pub mod TextsRead
 pub mod Versions

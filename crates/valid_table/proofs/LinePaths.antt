@@ -1,5 +1,5 @@
 -- Which bytes are a path, and which are a line's path and digest up to its newline.
-use Rattle.std.proofs.Common.{false, ◌≡◌, ◌≢◌, ◌⊎◌, ℕ, List, [], ◌∷◌, ◌++◌, Option, Some, None, inl, inr, sym, ap, ◌∙◌, subst}
+use Rattle.std.proofs.Common.{false, ◌≡◌, ◌≢◌, ◌⊎◌, ℕ, List, ◌∷◌, ◌++◌, Option, Some, None, inl, inr, sym, ap, ◌∙◌, subst}
 use Rattle.std.proofs.lemmas.Bool.{false≢true}
 use Rattle.nix_names.specs.Names.{IsStoreDir, is_drv_name}
 use Rattle.nix_names.specs.StorePaths.{IsPathOf, name_of, path_fault}

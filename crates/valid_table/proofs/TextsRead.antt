@@ -14,7 +14,7 @@ use Rattle.valid_table.specs.Texts.{IsText, entry_lines, line_text, text}
 use Rattle.valid_table.specs.Valid.{IsClosedBehind, IsJournal, IsOnce}
 use Rattle.valid_table.specs.declared.entry.Entry.{Entry}
 use Rattle.valid_table.specs.declared.entry.Registration.{Registration}
-use Rattle.valid_table.specs.declared.fault.TableFault.TheVariants.{NoMemory, BadLine, NotClosed, Twice, WrongVersion, NotValid, TooLong, Unclosed, AlreadyValid}
+use Rattle.valid_table.specs.declared.fault.TableFault.TheVariants.{NoMemory, BadLine, NotClosed, Twice, WrongVersion, TooLong}
 use Rattle.valid_table.proofs.BadLineLaws.{texts_have_no_bad_line}
 use Rattle.valid_table.proofs.CheckedEntries.{entry_lines_are, up_to}
 use Rattle.valid_table.proofs.CheckedJournal.{AreRight, IsRightBehind, IsWrongAt, not_among, right_at, wrong_line}
@@ -91,6 +91,4 @@ journal_texts_are_read dir bytes entries (Err (NotClosed n)) is_dir within is jo
 journal_texts_are_read dir bytes entries (Err (Twice n)) is_dir within is journal h =
     let same = text_has_one_list dir bytes h.entries entries h.is_text is in
     absurd (no_fault entries n journal (inr (subst (λ es. IsTwiceAt es n) same h.checked.0)))
-journal_texts_are_read dir bytes entries (Err (NotValid path)) is_dir within is journal h = absurd h
-journal_texts_are_read dir bytes entries (Err (Unclosed path)) is_dir within is journal h = absurd h
-journal_texts_are_read dir bytes entries (Err (AlreadyValid path)) is_dir within is journal h = absurd h
+journal_texts_are_read dir bytes entries (Err fault) is_dir within is journal h = absurd h.checked
