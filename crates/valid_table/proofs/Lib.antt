@@ -18,6 +18,7 @@ pub mod LineLists
 pub mod LinePaths
 pub mod LineSteps
 pub mod LineTexts
+pub mod OneAnswer
 pub mod OneList
 pub mod OutputLines
 pub mod PathLists

@@ -27,7 +27,7 @@ use Rattle.valid_table.proofs.Versions.{by_number}
 -- ---- the version
 
 -- a journal's text isn't that of another version
-not_other_version : (dir bytes : List ℕ) (entries : List Entry) → IsText dir entries bytes → IsOtherVersion bytes → ⊥
+pub not_other_version : (dir bytes : List ℕ) (entries : List Entry) → IsText dir entries bytes → IsOtherVersion bytes → ⊥
 unfolding text
 not_other_version dir bytes entries is other =
     elim is.bytes_are [
@@ -72,7 +72,7 @@ right_not_wrong entries m right w =
     (subst (All (IsRightBehind (registered w.before) w.entry)) s.is_line here))
 
 -- no line of a journal is at fault
-no_fault : (entries : List Entry) (m : ℕ) → IsJournal entries → IsNotClosedAt entries m ⊎ IsTwiceAt entries m → ⊥
+pub no_fault : (entries : List Entry) (m : ℕ) → IsJournal entries → IsNotClosedAt entries m ⊎ IsTwiceAt entries m → ⊥
 no_fault entries m is fault = right_not_wrong entries m (journal_right [] entries is.closed is.once) (wrong_line entries m fault)
 
 -- ---- the law

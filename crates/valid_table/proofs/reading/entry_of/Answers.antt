@@ -11,5 +11,5 @@ returns-in_err-added-clause-left c =
 
 pub returns-in-None-clause-left : goal.returns-in-None-clause-left
 returns-in-None-clause-left c = λ from begins.
-    no_entry _ from _ c.requires.some (MatchOption-at_none _ _ c.in_default.is c.in_ok-added.ensures.ok)
+    no_entry _ from _ c.requires (MatchOption-at_none _ _ c.in_default.is c.in_ok-added.ensures.ok)
     (MatchOption-at_none _ _ c.in-None.is c.in_ok-done.ensures.ok) begins
