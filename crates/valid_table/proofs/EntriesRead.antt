@@ -2,15 +2,16 @@
 use Rattle.std.proofs.Common.{◌≡◌, true, ℕ, List, [], ◌∷◌, ◌++◌, length, ◌==◌, inl, refl, sym, ap, ◌∙◌, codes}
 use Rattle.std.specs.List.{flat_map}
 use Rattle.std.proofs.lemmas.Bool.{eqb-true}
-use Rattle.std.proofs.lemmas.List.{append-nil, append_assoc}
+use Rattle.std.proofs.lemmas.List.{append-nil}
 use Rattle.std.proofs.lemmas.List.Concat.{flat_map-append}
 use Rattle.std.proofs.lemmas.List.Elements.{All-nil, All-push}
 use Rattle.valid_table.specs.LineTexts.{lines_text}
 use Rattle.valid_table.specs.Readers.{HasEntry, SoFarEntries}
 use Rattle.valid_table.specs.Steps.{Start, Begun}
-use Rattle.valid_table.specs.Texts.{IsEntryOf, IsText, Version, entry_lines, line_text, lines, text}
+use Rattle.valid_table.specs.Texts.{IsEntryOf, IsText, Line, Version, entry_lines, lines, text}
 use Rattle.valid_table.specs.declared.entry.Entry.{Entry}
 use Rattle.valid_table.proofs.EntryLines.{lead}
+use Rattle.valid_table.proofs.Leading.{text_and}
 use Rattle.valid_table.proofs.LineSteps.{stop_behind}
 
 -- before the first entry the first line was read
@@ -18,18 +19,14 @@ pub version_read : (dir bytes : List ℕ) (entries : List Entry) (rest : List �
 version_read dir bytes entries rest begins none = rw none (record {
   parts = begins;
   of_dir = All-nil (IsEntryOf dir);
-  leads = λ left goes_on. stop_behind dir Start bytes Version rest left (record { parts = begins; may = tt; ahead = tt }) (goes_on Begun tt);
+  leads = λ left goes_on. stop_behind dir Start bytes Version rest left begins tt (goes_on Begun tt);
 })
 
--- the lines of entries and of one more
-lines_more : (entries : List Entry) (entry : Entry) → lines (entries ++ entry ∷ []) ≡ lines entries ++ entry_lines entry
-lines_more entries entry =
-    ap (λ ls. Version ∷ ls) (flat_map-append entry_lines entries (entry ∷ []) ∙ ap (λ ls. flat_map entry_lines entries ++ ls) (append-nil (entry_lines entry)))
-
+-- the text of entries, and of one more
 text_more : (entries : List Entry) (entry : Entry) (rest : List ℕ) → lines_text (lines entries) ++ (lines_text (entry_lines entry) ++ rest) ≡ lines_text (lines (entries ++ entry ∷ [])) ++ rest
 text_more entries entry rest =
-    sym (append_assoc (lines_text (lines entries)) (lines_text (entry_lines entry)) rest)
-    ∙ ap (λ t. t ++ rest) (sym (ap lines_text (lines_more entries entry) ∙ flat_map-append line_text (lines entries) (entry_lines entry)))
+    text_and (lines entries) (entry_lines entry) rest
+    ∙ ap (λ (ls : List Line). lines_text (Version ∷ ls) ++ rest) (sym (flat_map-append entry_lines entries (entry ∷ []) ∙ ap (λ (ls : List Line). flat_map entry_lines entries ++ ls) (append-nil (entry_lines entry))))
 
 -- one more entry
 pub entries_more : (dir bytes : List ℕ) (entries more : List Entry) (rest behind : List ℕ) (entry : Entry) → SoFarEntries dir bytes entries rest → HasEntry dir rest entry behind → more ≡ entries ++ entry ∷ [] → SoFarEntries dir bytes more behind

@@ -13,10 +13,12 @@ pub mod EntryLines
 pub mod EqualEntries
 pub mod Following
 pub mod JournalLists
+pub mod Leading
 pub mod LineLists
 pub mod LinePaths
 pub mod LineSteps
 pub mod LineTexts
+pub mod OneAnswer
 pub mod OneList
 pub mod OutputLines
 pub mod PathLists
@@ -31,7 +33,6 @@ pub mod RowNumbers
 pub mod Separators
 pub mod Searched
 pub mod Sorting
-pub mod StepLists
 pub mod TableRows
 pub mod TakenIn
 pub mod TextsRead

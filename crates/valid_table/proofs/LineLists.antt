@@ -1,290 +1,253 @@
--- Lists of lines that lead from place to place, and the lists that end a journal: just those of entries.
-use Rattle.std.proofs.Common.{◌≡◌, ◌≢◌, ℕ, List, [], ◌∷◌, ◌++◌, ◌⊎◌, inl, inr, refl, ap, sym, subst, ◌∙◌, All, Option, Some, None, map, length, arith}
-use Rattle.std.specs.List.{flat_map}
+-- The lists of lines that make a journal: just those of entries.
+use Rattle.std.proofs.Common.{◌≡◌, ◌≢◌, ℕ, List, [], ◌∷◌, ◌++◌, inl, inr, refl, ap, sym, subst, ◌∙◌, All, Option, Some, None, map}
+use Rattle.std.specs.List.{flat_map, last_or}
 use Rattle.std.proofs.lemmas.List.{append_assoc}
 use Rattle.std.proofs.lemmas.List.Elements.{All-cons, All-nil, All-head, All-tail}
-use Rattle.nix_names.specs.Rising.{IsRising}
-use Rattle.nix_names.specs.StorePaths.{IsDrvPath, IsPathOf}
+use Rattle.nix_names.specs.StorePaths.{IsPathOf}
 use Rattle.valid_table.specs.Entries.{paths_of}
-use Rattle.valid_table.specs.Steps.{Place, Start, Begun, Opened, Within, IsAbove, MayBegin, MayFollow, MayStand, behind}
-use Rattle.valid_table.specs.Texts.{IsDigest, IsEntryOf, IsOf, IsText, Line, Version, Added, Deriver, Output, Reference, entry_lines, line_text, lines, output_lines, text}
+use Rattle.valid_table.specs.LineTexts.{lines_text}
+use Rattle.valid_table.specs.Steps.{Place, Start, Begun, Opened, Within, Ahead, LeadsTo, MayBegin, MayFollow, MayStand, behind}
+use Rattle.valid_table.specs.Texts.{IsDigest, IsEntryOf, IsOf, IsText, Line, Version, Added, Deriver, Output, Reference, entry_lines, lines, output_lines, text}
 use Rattle.valid_table.specs.declared.entry.Entry.{Entry}
 use Rattle.valid_table.specs.declared.entry.Entry.TheVariants.{Add, Done}
 use Rattle.valid_table.specs.declared.entry.Registration.{Registration}
-use Rattle.valid_table.proofs.LineTexts.{IsLineOf}
+use Rattle.valid_table.proofs.RisingPaths.{AreAbove, above_of_rising, rising_of_above}
 
--- lines lead from a place to a place: each may stand where it stands
-abbrev pub Leads : List ℕ → Place → List Line → Place → Type 0
-Leads dir from [] to = from ≡ to
-Leads dir from (line ∷ more) to = MayStand dir from line × Leads dir (behind from line) more to
+-- ---- the lines of entries, and what comes behind them
+
+-- what holds of lines from a place on, where it holds of those behind the first
+abbrev pub IsBackward : List ℕ → (Place → List Line → Type 0) → Type 0
+IsBackward dir Of = (from : Place) (line : Line) (more : List Line) → MayStand dir from line → Of (behind from line) more → Of from (line ∷ more)
+
+-- references that rise behind the one before them
+pub references_back : (dir : List ℕ) (Of : Place → List Line → Type 0) → IsBackward dir Of → (output before : Option (List ℕ)) (references : List (List ℕ)) (more : List Line) → All (IsPathOf dir) references → AreAbove before references
+    → Of (Within output (last_or before references)) more → Of (Within output before) (map Reference references ++ more)
+references_back dir Of back output before [] more of_dir above of = of
+references_back dir Of back output before (path ∷ paths) more of_dir above of =
+    back (Within output before) (Reference path) (map Reference paths ++ more) (All-head (IsPathOf dir) path paths of_dir, above.0)
+    (references_back dir Of back output (Some path) paths more (All-tail (IsPathOf dir) path paths of_dir) above.1 of)
+
+-- the place where an output may stand: behind a deriver, or within the lines of an output before it
+abbrev pub place_at : Option (List ℕ) → Option (List ℕ) → Place
+place_at None last = Opened
+place_at (Some output) last = Within (Some output) last
+
+pub may_stand : (dir : List ℕ) (before last : Option (List ℕ)) (path : List ℕ) (digest : Option (List ℕ)) → MayFollow dir before path digest → MayStand dir (place_at before last) (Output path digest)
+may_stand dir None last path digest may = may
+may_stand dir (Some output) last path digest may = may
+
+-- outputs that rise behind the one before them
+pub outputs_back : (dir : List ℕ) (Of : Place → List Line → Type 0) → IsBackward dir Of → (outputs : List Registration) (before last : Option (List ℕ)) (more : List Line) → All (IsOf dir) outputs → AreAbove before (paths_of outputs)
+    → ((reference : Option (List ℕ)) → Of (place_at (last_or before (paths_of outputs)) reference) more) → Of (place_at before last) (flat_map output_lines outputs ++ more)
+outputs_back dir Of back [] before last more of_dir above of = of last
+outputs_back dir Of back (o ∷ outputs) before last more of_dir above of =
+    let is : IsOf dir o = All-head (IsOf dir) o outputs of_dir in
+    let later = flat_map output_lines outputs ++ more in
+    subst (λ (ls : List Line). Of (place_at before last) (Output o.path o.info.digest ∷ ls)) (sym (append_assoc (map Reference o.info.references) (flat_map output_lines outputs) more))
+    (back (place_at before last) (Output o.path o.info.digest) (map Reference o.info.references ++ later) (may_stand dir before last o.path o.info.digest (is.path, is.digest, above.0))
+    (references_back dir Of back (Some o.path) None o.info.references later is.references (above_of_rising o.info.references is.rising)
+    (outputs_back dir Of back outputs (Some o.path) (last_or None o.info.references) more (All-tail (IsOf dir) o outputs of_dir) above.1 of)))
+
+-- an entry may begin at a place
+abbrev pub MayEnter : List ℕ → Place → Type 0
+MayEnter dir place = (line : Line) → MayBegin dir line → MayStand dir place line
+
+-- a place is behind the lines of an entry
+abbrev pub IsBehind : Entry → Place → Type 0
+IsBehind (Add r) (Within None last) = Unit {0}
+IsBehind (Done deriver outputs) (Within (Some output) last) = Unit {0}
+IsBehind entry place = ⊥
+
+-- behind outputs is behind the last of them
+behind_outputs : (deriver path : List ℕ) (paths : List (List ℕ)) (outputs : List Registration) (reference : Option (List ℕ)) → IsBehind (Done deriver outputs) (place_at (last_or (Some path) paths) reference)
+behind_outputs deriver path [] outputs reference = tt
+behind_outputs deriver path (next ∷ paths) outputs reference = behind_outputs deriver next paths outputs reference
+
+-- an entry
+pub entry_back : (dir : List ℕ) (Of : Place → List Line → Type 0) → IsBackward dir Of → (from : Place) (entry : Entry) (more : List Line) → MayEnter dir from → IsEntryOf dir entry → ((to : Place) → IsBehind entry to → Of to more)
+    → Of from (entry_lines entry ++ more)
+entry_back dir Of back from (Add r) more may is of =
+    back from (Added r.path r.info.digest) (map Reference r.info.references ++ more) (may (Added r.path r.info.digest) (is.path, is.digest))
+    (references_back dir Of back None None r.info.references more is.references (above_of_rising r.info.references is.rising)
+    (of (Within None (last_or None r.info.references)) tt))
+entry_back dir Of back from (Done deriver []) more may is of = absurd (is.2 refl)
+entry_back dir Of back from (Done deriver (o ∷ outputs)) more may is of =
+    back from (Deriver deriver) (flat_map output_lines (o ∷ outputs) ++ more) (may (Deriver deriver) (is.0, is.1))
+    (outputs_back dir Of back (o ∷ outputs) None None more is.4 (above_of_rising (paths_of (o ∷ outputs)) is.3)
+    (λ reference. of (place_at (last_or None (paths_of (o ∷ outputs))) reference) (behind_outputs deriver o.path (paths_of outputs) (o ∷ outputs) reference)))
+
+-- ---- lines that end a journal
 
 -- a journal may end at a place
 abbrev pub MayEnd : Place → Type 0
-MayEnd Start = Unit {0}
-MayEnd Begun = Unit {0}
 MayEnd Opened = ⊥
-MayEnd (Within output last) = Unit {0}
+MayEnd place = Unit {0}
+
+-- there no output has to come
+pub end_ahead : (place : Place) → MayEnd place → Ahead place []
+end_ahead Opened ends = absurd ends
+end_ahead place ends = tt
 
 -- from a place on these lines end a journal
 abbrev pub Ends : List ℕ → Place → List Line → Type 0
-Ends dir place [] = MayEnd place
-Ends dir place (line ∷ more) = MayStand dir place line × Ends dir (behind place line) more
+Ends dir place come = LeadsTo dir MayEnd place come
 
--- lines that lead to a place, and lines that end a journal from there on
-pub ends_behind : (dir : List ℕ) (from to : Place) (first more : List Line) → Leads dir from first to → Ends dir to more → Ends dir from (first ++ more)
-ends_behind dir from to [] more leads ends = subst (λ (place : Place). Ends dir place more) (sym leads) ends
-ends_behind dir from to (line ∷ first) more leads ends = (leads.0, ends_behind dir (behind from line) to first more leads.1 ends)
+-- within the lines of an added path, or of an output, an entry may begin
+pub within_enters : (dir : List ℕ) (output last : Option (List ℕ)) (line : Line) → MayBegin dir line → MayStand dir (Within output last) line
+within_enters dir output last (Added path digest) may = may
+within_enters dir output last (Deriver path) may = may
+within_enters dir output last line may = absurd may
 
--- a line that may stand somewhere has its form
-pub line_of : (dir : List ℕ) (place : Place) (line : Line) → MayStand dir place line → IsLineOf dir line
-line_of dir Start Version may = tt
-line_of dir Begun (Added path digest) may = may
-line_of dir Begun (Deriver path) may = may.0
-line_of dir Opened (Output path digest) may = (may.0, may.1)
-line_of dir (Within output last) (Added path digest) may = may
-line_of dir (Within output last) (Deriver path) may = may.0
-line_of dir (Within (Some before) last) (Output path digest) may = (may.0, may.1)
-line_of dir (Within output last) (Reference path) may = may.0
-line_of dir place line may = absurd may
+-- behind the lines of an entry another may begin, and a journal may end
+behind_enters : (dir : List ℕ) (entry : Entry) (to : Place) → IsBehind entry to → MayEnter dir to × MayEnd to
+behind_enters dir entry (Within output last) is = (within_enters dir output last, tt)
+behind_enters dir (Add r) to is = absurd is
+behind_enters dir (Done deriver outputs) to is = absurd is
 
--- and so has each of some lines that lead on
-pub lines_of : (dir : List ℕ) (from to : Place) (lines : List Line) → Leads dir from lines to → All (IsLineOf dir) lines
-lines_of dir from to [] leads = All-nil (IsLineOf dir)
-lines_of dir from to (line ∷ more) leads =
-    All-cons (IsLineOf dir) line more (line_of dir from line leads.0) (lines_of dir (behind from line) to more leads.1)
+-- the lines of entries end a journal from where an entry may begin
+pub entries_end : (dir : List ℕ) (place : Place) (entries : List Entry) → MayEnter dir place × MayEnd place → All (IsEntryOf dir) entries → Ends dir place (flat_map entry_lines entries)
+entries_end dir place [] begins each = begins.1
+entries_end dir place (entry ∷ entries) begins each =
+    entry_back dir (Ends dir) (λ from line more may ends. (may, ends)) place entry (flat_map entry_lines entries) begins.0 (All-head (IsEntryOf dir) entry entries each)
+    (λ to is. entries_end dir to entries (behind_enters dir entry to is) (All-tail (IsEntryOf dir) entry entries each))
 
 -- ---- what is still to come
 
--- texts rise strictly behind one, if any
-abbrev Rises : Option (List ℕ) → List (List ℕ) → Type 0
-Rises None texts = IsRising texts
-Rises (Some before) texts = IsRising (before ∷ texts)
+-- outputs rise behind one; without one there are none
+abbrev RiseBehind : Option (List ℕ) → List Registration → Type 0
+RiseBehind None outputs = outputs ≡ []
+RiseBehind (Some before) outputs = AreAbove (Some before) (paths_of outputs)
 
--- The lines of some entries.
-record ComeEntries (dir : List ℕ) (come : List Line) : Type 0 where
-  pub entries : List Entry
-  pub each : All (IsEntryOf dir) entries
-  pub are : come ≡ flat_map entry_lines entries
+-- references and outputs may come at a place
+abbrev MayCome : Place → List (List ℕ) → List Registration → Type 0
+MayCome Start references outputs = ⊥
+MayCome Begun references outputs = (references ≡ []) × (outputs ≡ [])
+MayCome Opened references outputs = (references ≡ []) × (outputs ≢ []) × AreAbove None (paths_of outputs)
+MayCome (Within output last) references outputs = AreAbove last references × RiseBehind output outputs
 
--- The lines of some outputs with paths that rise strictly behind one, if any, and then of some entries.
-record ComeOutputs (dir : List ℕ) (before : Option (List ℕ)) (come : List Line) : Type 0 where
-  pub outputs : List Registration
-  pub rising : Rises before (paths_of outputs)
-  pub each : All (IsOf dir) outputs
-  pub rest : List Line
-  pub are : come ≡ flat_map output_lines outputs ++ rest
-  pub more : ComeEntries dir rest
-
--- The lines of some references that rise strictly behind one, if any, and then more.
-record ComeReferences (dir : List ℕ) (before : Option (List ℕ)) (More : List Line → Type 0) (come : List Line) : Type 0 where
+-- At a place the lines of references come, then those of outputs, and then those of entries.
+record Comes (dir : List ℕ) (place : Place) (come : List Line) : Type 0 where
   pub references : List (List ℕ)
-  pub rising : Rises before references
-  pub each : All (IsPathOf dir) references
-  pub rest : List Line
-  pub are : come ≡ map Reference references ++ rest
-  pub more : More rest
+  pub outputs : List Registration
+  pub entries : List Entry
+  pub are : come ≡ map Reference references ++ (flat_map output_lines outputs ++ flat_map entry_lines entries)
+  pub paths_of_dir : All (IsPathOf dir) references
+  pub outputs_of_dir : All (IsOf dir) outputs
+  pub entries_of_dir : All (IsEntryOf dir) entries
+  pub may : MayCome place references outputs
 
--- what is still to come at a place
-abbrev Comes : List ℕ → Place → List Line → Type 0
-Comes dir Start come = (come ≡ []) ⊎ ((entries : List Entry) × All (IsEntryOf dir) entries × (come ≡ lines entries))
-Comes dir Begun come = ComeEntries dir come
-Comes dir Opened come = (outputs : ComeOutputs dir None come) × (outputs.outputs ≢ [])
-Comes dir (Within None last) come = ComeReferences dir last (ComeEntries dir) come
-Comes dir (Within (Some before) last) come = ComeReferences dir last (ComeOutputs dir (Some before)) come
+none_behind : (output : Option (List ℕ)) → RiseBehind output []
+none_behind None = refl
+none_behind (Some before) = tt
 
--- no entries are to come any more; or entries alone, behind the last output, or behind the last reference
-no_entries : (dir : List ℕ) → ComeEntries dir []
-no_entries dir = record { entries = []; each = All-nil (IsEntryOf dir); are = refl }
-
-no_outputs : (dir before : List ℕ) (come : List Line) → ComeEntries dir come → ComeOutputs dir (Some before) come
-no_outputs dir before come more = record { outputs = []; rising = tt; each = All-nil (IsOf dir); rest = come; are = refl; more = more }
-
--- no texts rise
-rises_none : (before : Option (List ℕ)) → Rises before []
-rises_none None = tt
-rises_none (Some before) = tt
-
-no_references : (dir : List ℕ) (before : Option (List ℕ)) (More : List Line → Type 0) (come : List Line) → More come → ComeReferences dir before More come
-no_references dir before More come more = record { references = []; rising = rises_none before; each = All-nil (IsPathOf dir); rest = come; are = refl; more = more }
-
--- a text above the one before it, and texts that rise behind it
-rises_more : (before : Option (List ℕ)) (text : List ℕ) (texts : List (List ℕ)) → IsAbove before text → Rises (Some text) texts → Rises before (text ∷ texts)
-rises_more None text texts above rises = rises
-rises_more (Some before) text texts above rises = (above, rises)
-
--- one more reference
-one_reference : (dir : List ℕ) (before : Option (List ℕ)) (path : List ℕ) (More : List Line → Type 0) (come : List Line) → IsPathOf dir path → IsAbove before path → ComeReferences dir (Some path) More come → ComeReferences dir before More (Reference path ∷ come)
-one_reference dir before path More come is_path above c = record {
-  references = path ∷ c.references;
-  rising = rises_more before path c.references above c.rising;
-  each = All-cons (IsPathOf dir) path c.references is_path c.each;
-  rest = c.rest;
-  are = ap (λ (tail : List Line). Reference path ∷ tail) c.are;
-  more = c.more;
+-- entries alone
+entries_come : (dir : List ℕ) (place : Place) (come : List Line) (entries : List Entry) → MayCome place [] [] → All (IsEntryOf dir) entries → come ≡ flat_map entry_lines entries → Comes dir place come
+entries_come dir place come entries may each are = record {
+  references = [];
+  outputs = [];
+  entries = entries;
+  are = are;
+  paths_of_dir = All-nil (IsPathOf dir);
+  outputs_of_dir = All-nil (IsOf dir);
+  entries_of_dir = each;
+  may = may;
 }
 
 -- what a path registers with a digest and the references that come
-abbrev registration : {dir : List ℕ} {More : List Line → Type 0} {come : List Line} (path : List ℕ) (digest : Option (List ℕ)) → ComeReferences dir None More come → Registration
+abbrev registration : {dir : List ℕ} {place : Place} {come : List Line} (path : List ℕ) (digest : Option (List ℕ)) → Comes dir place come → Registration
 registration path digest c = record { path = path; info = record { references = c.references; digest = digest } }
 
 -- it is of the store folder
-registration_of : {dir : List ℕ} {More : List Line → Type 0} {come : List Line} (path : List ℕ) (digest : Option (List ℕ)) (c : ComeReferences dir None More come) → IsPathOf dir path → IsDigest digest → IsOf dir (registration path digest c)
-registration_of path digest c is_path is_digest = record { path = is_path; digest = is_digest; references = c.each; rising = c.rising }
+registration_of : {dir : List ℕ} {output : Option (List ℕ)} {come : List Line} (path : List ℕ) (digest : Option (List ℕ)) (c : Comes dir (Within output None) come) → IsPathOf dir path → IsDigest digest → IsOf dir (registration path digest c)
+registration_of path digest c is_path is_digest =
+    record { path = is_path; digest = is_digest; references = c.paths_of_dir; rising = rising_of_above c.references c.may.0 }
 
 -- one more added path
-one_added : (dir path : List ℕ) (digest : Option (List ℕ)) (come : List Line) → IsPathOf dir path × IsDigest digest → ComeReferences dir None (ComeEntries dir) come → ComeEntries dir (Added path digest ∷ come)
-one_added dir path digest come is c = record {
-  entries = Add (registration path digest c) ∷ c.more.entries;
-  each = All-cons (IsEntryOf dir) (Add (registration path digest c)) c.more.entries (registration_of path digest c is.0 is.1) c.more.each;
-  are = ap (λ (tail : List Line). Added path digest ∷ tail) (c.are ∙ ap (λ (tail : List Line). map Reference c.references ++ tail) c.more.are);
-}
-
--- one more output
-one_output : (dir : List ℕ) (before : Option (List ℕ)) (path : List ℕ) (digest : Option (List ℕ)) (come : List Line) → MayFollow dir before path digest → ComeReferences dir None (ComeOutputs dir (Some path)) come → ComeOutputs dir before (Output path digest ∷ come)
-one_output dir before path digest come is c = record {
-  outputs = registration path digest c ∷ c.more.outputs;
-  rising = rises_more before path (paths_of c.more.outputs) is.2 c.more.rising;
-  each = All-cons (IsOf dir) (registration path digest c) c.more.outputs (registration_of path digest c is.0 is.1) c.more.each;
-  rest = c.more.rest;
-  are = ap (λ (tail : List Line). Output path digest ∷ tail) (c.are ∙ ap (λ (tail : List Line). map Reference c.references ++ tail) c.more.are ∙ sym (append_assoc (map Reference c.references) (flat_map output_lines c.more.outputs) c.more.rest));
-  more = c.more.more;
-}
-
--- the first output of a derivation
-first_output : (dir path : List ℕ) (digest : Option (List ℕ)) (come : List Line) → MayFollow dir None path digest → ComeReferences dir None (ComeOutputs dir (Some path)) come → Comes dir Opened (Output path digest ∷ come)
-unfolding one_output
-first_output dir path digest come is c = (one_output dir None path digest come is c, λ e. absurd (omega (arith, ap length e)))
+one_added : (dir : List ℕ) (place : Place) (path : List ℕ) (digest : Option (List ℕ)) (come : List Line) → MayCome place [] [] → IsPathOf dir path × IsDigest digest → Comes dir (Within None None) come → Comes dir place (Added path digest ∷ come)
+one_added dir place path digest come may is c =
+    entries_come dir place (Added path digest ∷ come) (Add (registration path digest c) ∷ c.entries) may
+    (All-cons (IsEntryOf dir) (Add (registration path digest c)) c.entries (registration_of path digest c is.0 is.1) c.entries_of_dir)
+    (ap (λ (tail : List Line). Added path digest ∷ tail) (c.are ∙ ap (λ (os : List Registration). map Reference c.references ++ (flat_map output_lines os ++ flat_map entry_lines c.entries)) c.may.1))
 
 -- one more derivation that was built
-one_done : (dir deriver : List ℕ) (come : List Line) → IsPathOf dir deriver × IsDrvPath deriver → Comes dir Opened come → ComeEntries dir (Deriver deriver ∷ come)
-one_done dir deriver come is (c, some) = record {
-  entries = Done deriver c.outputs ∷ c.more.entries;
-  each = All-cons (IsEntryOf dir) (Done deriver c.outputs) c.more.entries (is.0, is.1, some, c.rising, c.each) c.more.each;
-  are = ap (λ (tail : List Line). Deriver deriver ∷ tail) (c.are ∙ ap (λ (tail : List Line). flat_map output_lines c.outputs ++ tail) c.more.are);
+one_done : (dir : List ℕ) (place : Place) (deriver : List ℕ) (come : List Line) → MayCome place [] [] → MayBegin dir (Deriver deriver) → Comes dir Opened come → Comes dir place (Deriver deriver ∷ come)
+one_done dir place deriver come may is c =
+    entries_come dir place (Deriver deriver ∷ come) (Done deriver c.outputs ∷ c.entries) may
+    (All-cons (IsEntryOf dir) (Done deriver c.outputs) c.entries (is.0, is.1, c.may.1, rising_of_above (paths_of c.outputs) c.may.2, c.outputs_of_dir) c.entries_of_dir)
+    (ap (λ (tail : List Line). Deriver deriver ∷ tail) (c.are ∙ ap (λ (rs : List (List ℕ)). map Reference rs ++ (flat_map output_lines c.outputs ++ flat_map entry_lines c.entries)) c.may.0))
+
+-- one more output
+one_output : (dir : List ℕ) (place : Place) (path : List ℕ) (digest : Option (List ℕ)) (come : List Line) → IsPathOf dir path → IsDigest digest → (c : Comes dir (Within (Some path) None) come)
+    → MayCome place [] (registration path digest c ∷ c.outputs) → Comes dir place (Output path digest ∷ come)
+one_output dir place path digest come is_path is_digest c may = record {
+  references = [];
+  outputs = registration path digest c ∷ c.outputs;
+  entries = c.entries;
+  are = ap (λ (tail : List Line). Output path digest ∷ tail) (c.are ∙ sym (append_assoc (map Reference c.references) (flat_map output_lines c.outputs) (flat_map entry_lines c.entries)));
+  paths_of_dir = All-nil (IsPathOf dir);
+  outputs_of_dir = All-cons (IsOf dir) (registration path digest c) c.outputs (registration_of path digest c is_path is_digest) c.outputs_of_dir;
+  entries_of_dir = c.entries_of_dir;
+  may = may;
 }
 
--- entries may come within the lines of an added path, or of an output
-entries_within : (dir : List ℕ) (output last : Option (List ℕ)) (come : List Line) → ComeEntries dir come → Comes dir (Within output last) come
-entries_within dir None last come c = no_references dir last (ComeEntries dir) come c
-entries_within dir (Some before) last come c = no_references dir last (ComeOutputs dir (Some before)) come (no_outputs dir before come c)
+-- one more reference
+one_reference : (dir : List ℕ) (output last : Option (List ℕ)) (path : List ℕ) (come : List Line) → MayStand dir (Within output last) (Reference path) → Comes dir (Within output (Some path)) come → Comes dir (Within output last) (Reference path ∷ come)
+one_reference dir output last path come may c = record {
+  references = path ∷ c.references;
+  outputs = c.outputs;
+  entries = c.entries;
+  are = ap (λ (tail : List Line). Reference path ∷ tail) c.are;
+  paths_of_dir = All-cons (IsPathOf dir) path c.references may.0 c.paths_of_dir;
+  outputs_of_dir = c.outputs_of_dir;
+  entries_of_dir = c.entries_of_dir;
+  may = ((may.1, c.may.0), c.may.1);
+}
 
--- a line that may stand, and what is still to come behind it, are still to come before it
-comes_back : (dir : List ℕ) (from : Place) (line : Line) (come : List Line) → MayStand dir from line → Comes dir (behind from line) come → Comes dir from (line ∷ come)
-comes_back dir Start Version come may c = inr (c.entries, c.each, ap (λ (tail : List Line). Version ∷ tail) c.are)
-comes_back dir Begun (Added path digest) come may c = one_added dir path digest come may c
-comes_back dir Begun (Deriver path) come may c = one_done dir path come may c
-comes_back dir Opened (Output path digest) come may c = first_output dir path digest come may c
-comes_back dir (Within output last) (Added path digest) come may c = entries_within dir output last _ (one_added dir path digest come may c)
-comes_back dir (Within output last) (Deriver path) come may c = entries_within dir output last _ (one_done dir path come may c)
+-- behind the first line they are what is to come
+abbrev ToCome : List ℕ → Place → List Line → Type 0
+ToCome dir Start come = Unit {0}
+ToCome dir place come = Comes dir place come
+
+-- one more line
+comes_back : (dir : List ℕ) (place : Place) (line : Line) (come : List Line) → MayStand dir place line → ToCome dir (behind place line) come → ToCome dir place (line ∷ come)
+comes_back dir Start line come may c = tt
+comes_back dir Begun (Added path digest) come may c = one_added dir Begun path digest come (refl, refl) may c
+comes_back dir Begun (Deriver path) come may c = one_done dir Begun path come (refl, refl) may c
+comes_back dir Opened (Output path digest) come may c =
+    one_output dir Opened path digest come may.0 may.1 c (refl, λ none. cc none, (tt, c.may.1))
+comes_back dir (Within output last) (Added path digest) come may c = one_added dir (Within output last) path digest come (tt, none_behind output) may c
+comes_back dir (Within output last) (Deriver path) come may c = one_done dir (Within output last) path come (tt, none_behind output) may c
 comes_back dir (Within (Some before) last) (Output path digest) come may c =
-    no_references dir last (ComeOutputs dir (Some before)) _ (one_output dir (Some before) path digest come may c)
-comes_back dir (Within None last) (Reference path) come may c = one_reference dir last path (ComeEntries dir) come may.0 may.1 c
-comes_back dir (Within (Some before) last) (Reference path) come may c = one_reference dir last path (ComeOutputs dir (Some before)) come may.0 may.1 c
+    one_output dir (Within (Some before) last) path digest come may.0 may.1 c (tt, (may.2, c.may.1))
+comes_back dir (Within output last) (Reference path) come may c = one_reference dir output last path come may c
 comes_back dir place line come may c = absurd may
 
--- lines that end a journal are those that are still to come
-ends_come : (dir : List ℕ) (from : Place) (come : List Line) → Ends dir from come → Comes dir from come
-ends_come dir Start [] ends = inl refl
-ends_come dir Begun [] ends = no_entries dir
+-- lines that end a journal are to come
+ends_come : (dir : List ℕ) (place : Place) (come : List Line) → Ends dir place come → ToCome dir place come
+ends_come dir Start [] ends = tt
+ends_come dir Begun [] ends = entries_come dir Begun [] [] (refl, refl) (All-nil (IsEntryOf dir)) refl
 ends_come dir Opened [] ends = absurd ends
-ends_come dir (Within output last) [] ends = entries_within dir output last [] (no_entries dir)
-ends_come dir from (line ∷ come) ends = comes_back dir from line come ends.0 (ends_come dir (behind from line) come ends.1)
-
--- ---- the lines of entries
-
--- lines that end a journal from wherever an output, or an added path, ends
-abbrev EndsWithin : List ℕ → Option (List ℕ) → List Line → Type 0
-EndsWithin dir output come = (last : Option (List ℕ)) → Ends dir (Within output last) come
-
--- the first of some texts that rise behind one is above it, and the others rise behind the first
-rises_first : (before : Option (List ℕ)) (text : List ℕ) (texts : List (List ℕ)) → Rises before (text ∷ texts) → IsAbove before text × Rises (Some text) texts
-rises_first None text texts rises = (tt, rises)
-rises_first (Some before) text texts rises = rises
-
--- the lines of references that rise, and lines that end a journal
-references_end : (dir : List ℕ) (output last : Option (List ℕ)) (references : List (List ℕ)) (come : List Line) → Rises last references → All (IsPathOf dir) references → EndsWithin dir output come → Ends dir (Within output last) (map Reference references ++ come)
-references_end dir output last [] come rises each ends = ends last
-references_end dir output last (path ∷ references) come rises each ends =
-    let first = rises_first last path references rises in (
-      (All-head (IsPathOf dir) path references each, first.0),
-      references_end dir output (Some path) references come first.1 (All-tail (IsPathOf dir) path references each) ends,
-    )
-
--- the references of a registration, and what comes behind them
-registration_ends : (dir : List ℕ) (output : Option (List ℕ)) (r : Registration) (come : List Line) → IsOf dir r → EndsWithin dir output come → Ends dir (Within output None) (map Reference r.info.references ++ come)
-registration_ends dir output r come is ends = references_end dir output None r.info.references come is.rising is.references ends
-
--- the references of an output, the outputs behind it, and what comes behind those
-output_ends : (dir : List ℕ) (r : Registration) (outputs : List Registration) (come : List Line) → IsOf dir r → EndsWithin dir (Some r.path) (flat_map output_lines outputs ++ come)
-    → Ends dir (Within (Some r.path) None) ((map Reference r.info.references ++ flat_map output_lines outputs) ++ come)
-output_ends dir r outputs come is ends =
-    subst (λ (tail : List Line). Ends dir (Within (Some r.path) None) tail) (sym (append_assoc (map Reference r.info.references) (flat_map output_lines outputs) come))
-    (registration_ends dir (Some r.path) r (flat_map output_lines outputs ++ come) is ends)
-
--- the lines of outputs that rise behind one, and lines that end a journal
-outputs_end : (dir before : List ℕ) (outputs : List Registration) (come : List Line) → IsRising (before ∷ paths_of outputs) → All (IsOf dir) outputs → ((path : List ℕ) → EndsWithin dir (Some path) come) → EndsWithin dir (Some before) (flat_map output_lines outputs ++ come)
-outputs_end dir before [] come rises each ends last = ends before last
-outputs_end dir before (r ∷ outputs) come rises each ends last =
-    let is = All-head (IsOf dir) r outputs each in (
-      (is.path, is.digest, rises.0),
-      output_ends dir r outputs come is (outputs_end dir r.path outputs come rises.1 (All-tail (IsOf dir) r outputs each) ends),
-    )
-
--- the outputs of a derivation, behind its line
-derived_ends : (dir : List ℕ) (outputs : List Registration) (come : List Line) → outputs ≢ [] → IsRising (paths_of outputs) → All (IsOf dir) outputs → ((path : List ℕ) → EndsWithin dir (Some path) come) → Ends dir Opened (flat_map output_lines outputs ++ come)
-derived_ends dir [] come some rises each ends = absurd (some refl)
-derived_ends dir (r ∷ outputs) come some rises each ends =
-    let is = All-head (IsOf dir) r outputs each in (
-      (is.path, is.digest, tt),
-      output_ends dir r outputs come is (outputs_end dir r.path outputs come rises (All-tail (IsOf dir) r outputs each) ends),
-    )
-
--- an entry may begin at a place
-abbrev pub BeginsEntries : List ℕ → Place → Type 0
-BeginsEntries dir place = MayEnd place × ((line : Line) → MayBegin dir line → MayStand dir place line)
-
--- within the lines of an added path, or of an output, an entry may begin
-within_begins : (dir : List ℕ) (output last : Option (List ℕ)) → BeginsEntries dir (Within output last)
-within_begins dir output last = (tt, may)
-  where
-    may : (line : Line) → MayBegin dir line → MayStand dir (Within output last) line
-    may (Added path digest) h = h
-    may (Deriver path) h = h
-    may line h = absurd h
-
--- the lines of entries end a journal from where an entry may begin
-pub entries_end : (dir : List ℕ) (place : Place) (entries : List Entry) → BeginsEntries dir place → All (IsEntryOf dir) entries → Ends dir place (flat_map entry_lines entries)
-entries_end dir place [] begins each = begins.0
-entries_end dir place (Add r ∷ entries) begins each =
-    let is = All-head (IsEntryOf dir) (Add r) entries each in
-    let rest = All-tail (IsEntryOf dir) (Add r) entries each in (
-      begins.1 (Added r.path r.info.digest) (is.path, is.digest),
-      registration_ends dir None r (flat_map entry_lines entries) is (λ last. entries_end dir (Within None last) entries (within_begins dir None last) rest),
-    )
-entries_end dir place (Done deriver outputs ∷ entries) begins each =
-    let is = All-head (IsEntryOf dir) (Done deriver outputs) entries each in
-    let rest = All-tail (IsEntryOf dir) (Done deriver outputs) entries each in (
-      begins.1 (Deriver deriver) (is.0, is.1),
-      derived_ends dir outputs (flat_map entry_lines entries) is.2 is.3 is.4
-          (λ path last. entries_end dir (Within (Some path) last) entries (within_begins dir (Some path) last) rest),
-    )
+ends_come dir (Within output last) [] ends = entries_come dir (Within output last) [] [] (tt, none_behind output) (All-nil (IsEntryOf dir)) refl
+ends_come dir place (line ∷ come) ends = comes_back dir place line come ends.0 (ends_come dir (behind place line) come ends.1)
 
 -- ---- the texts of journals
 
 -- lines that end a journal from its start are its text
-pub text_of_lines : (dir : List ℕ) (come : List Line) → Ends dir Start come → (entries : List Entry) × IsText dir entries (flat_map line_text come)
+pub text_of_lines : (dir : List ℕ) (come : List Line) → Ends dir Start come → (entries : List Entry) × IsText dir entries (lines_text come)
 unfolding text
-text_of_lines dir come ends =
-    elim (ends_come dir Start come ends) [
-      | inl none ↦ ([], record { of_dir = All-nil (IsEntryOf dir); bytes_are = inr (refl, ap (flat_map line_text) none) })
-      | inr some ↦ (some.0, record { of_dir = some.1; bytes_are = inl (ap (flat_map line_text) some.2) })
-    ]
+text_of_lines dir [] ends = ([], record { of_dir = All-nil (IsEntryOf dir); bytes_are = inr (refl, refl) })
+text_of_lines dir (Version ∷ come) ends =
+    let c : Comes dir Begun come = ends_come dir Begun come ends.1 in
+    let are : come ≡ flat_map entry_lines c.entries = c.are ∙ ap (λ (rs : List (List ℕ)). map Reference rs ++ (flat_map output_lines c.outputs ++ flat_map entry_lines c.entries)) c.may.0
+    ∙ ap (λ (os : List Registration). flat_map output_lines os ++ flat_map entry_lines c.entries) c.may.1 in
+    (c.entries, record { of_dir = c.entries_of_dir; bytes_are = inl (ap (λ (ls : List Line). lines_text (Version ∷ ls)) are) })
+text_of_lines dir (line ∷ come) ends = absurd ends.0
 
 -- a text is that of such lines
-pub lines_of_text : (dir bytes : List ℕ) (entries : List Entry) → IsText dir entries bytes → (come : List Line) × Ends dir Start come × (bytes ≡ flat_map line_text come)
+pub lines_of_text : (dir bytes : List ℕ) (entries : List Entry) → IsText dir entries bytes → (come : List Line) × Ends dir Start come × (bytes ≡ lines_text come)
 unfolding text
 lines_of_text dir bytes entries is =
     elim is.bytes_are [
-      | inl whole ↦ (lines entries, (tt, entries_end dir Begun entries (tt, λ line may. may) is.of_dir), whole)
+      | inl whole ↦ (lines entries, (tt, entries_end dir Begun entries (λ line may. may, tt) is.of_dir), whole)
       | inr none ↦ ([], tt, none.1)
     ]

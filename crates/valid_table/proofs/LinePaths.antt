@@ -1,5 +1,5 @@
 -- Which bytes are a path, and which are a line's path and digest up to its newline.
-use Rattle.std.proofs.Common.{false, ◌≡◌, ◌≢◌, ◌⊎◌, ℕ, List, [], ◌∷◌, ◌++◌, Option, Some, None, inl, inr, sym, ap, ◌∙◌, subst}
+use Rattle.std.proofs.Common.{false, ◌≡◌, ◌≢◌, ◌⊎◌, ℕ, List, ◌∷◌, ◌++◌, Option, Some, None, inl, inr, sym, ap, ◌∙◌, subst}
 use Rattle.std.proofs.lemmas.Bool.{false≢true}
 use Rattle.nix_names.specs.Names.{IsStoreDir, is_drv_name}
 use Rattle.nix_names.specs.StorePaths.{IsPathOf, name_of, path_fault}
@@ -46,20 +46,15 @@ pub no_newline : (dir bytes text fields path : List ℕ) (digest : Option (List 
 no_newline dir bytes text fields path digest rest of_dir none parts lacks is =
     lacks_not 10 (digest_text digest) rest (subst (Lacks 10) (sym (behind_space dir bytes text fields path digest rest of_dir none parts is).1) lacks)
 
--- the digest's text is what stands between that space and the first newline behind it
-pub same_fields : (dir bytes text fields line behind path : List ℕ) (digest : Option (List ℕ)) (rest : List ℕ) → IsStoreDir dir → Lacks 32 text → bytes ≡ text ++ 32 ∷ fields → Lacks 10 line → fields ≡ line ++ 10 ∷ behind → IsFieldsLine dir bytes path digest rest → (path ≡ text) × (digest_text digest ≡ line)
-same_fields dir bytes text fields line behind path digest rest of_dir none parts lacks ends is =
-    let cut = behind_space dir bytes text fields path digest rest of_dir none parts is in
-    (cut.0, (same_cut 10 (digest_text digest) line rest behind (digest_lacks digest is.is_digest) lacks (cut.1 ∙ ends)).0)
-
--- where that is no digest's text, or the other no path, there are no fields
+-- where no digest's text stands up to that newline, or no path up to that space, there are no fields
 pub other_digest : (dir bytes text fields line behind path : List ℕ) (digest : Option (List ℕ)) (rest : List ℕ) → IsStoreDir dir → Lacks 32 text → bytes ≡ text ++ 32 ∷ fields → Lacks 10 line → fields ≡ line ++ 10 ∷ behind → ((d : Option (List ℕ)) → IsDigest d → line ≢ digest_text d) → IsFieldsLine dir bytes path digest rest → ⊥
 other_digest dir bytes text fields line behind path digest rest of_dir none parts lacks ends other is =
-    other digest is.is_digest (sym (same_fields dir bytes text fields line behind path digest rest of_dir none parts lacks ends is).1)
+    let cut = behind_space dir bytes text fields path digest rest of_dir none parts is in
+    other digest is.is_digest (sym (same_cut 10 (digest_text digest) line rest behind (digest_lacks digest is.is_digest) lacks (cut.1 ∙ ends)).0)
 
-pub other_path : (dir bytes text fields line behind path : List ℕ) (digest : Option (List ℕ)) (rest : List ℕ) → IsStoreDir dir → Lacks 32 text → bytes ≡ text ++ 32 ∷ fields → Lacks 10 line → fields ≡ line ++ 10 ∷ behind → (IsPathOf dir text → ⊥) → IsFieldsLine dir bytes path digest rest → ⊥
-other_path dir bytes text fields line behind path digest rest of_dir none parts lacks ends other is =
-    other (subst (IsPathOf dir) (same_fields dir bytes text fields line behind path digest rest of_dir none parts lacks ends is).0 is.of_dir)
+pub other_path : (dir bytes text fields path : List ℕ) (digest : Option (List ℕ)) (rest : List ℕ) → IsStoreDir dir → Lacks 32 text → bytes ≡ text ++ 32 ∷ fields → (IsPathOf dir text → ⊥) → IsFieldsLine dir bytes path digest rest → ⊥
+other_path dir bytes text fields path digest rest of_dir none parts other is =
+    other (subst (IsPathOf dir) (behind_space dir bytes text fields path digest rest of_dir none parts is).0 is.of_dir)
 
 -- a line with another path than a `.drv` one is no deriver's
 pub not_drv : (dir bytes path behind name other rest : List ℕ) → IsPathLine dir bytes path behind → name ≡ name_of path → is_drv_name name ≡ false → IsDeriverLine dir bytes other rest → ⊥

@@ -6,7 +6,7 @@ use Rattle.std.proofs.lemmas.List.Elements.{All-append, All-cons, All-head, All-
 use Rattle.hex.specs.Hex.{lower_digits, decode_of}
 use Rattle.hex.specs.declared.error.FromHexError.{FromHexError}
 use Rattle.hex.proofs.HexLemmas.{length-encode_with, decode_of-encode_lower}
-use Rattle.nix_names.specs.StorePaths.{IsPathOf}
+use Rattle.nix_names.specs.StorePaths.{IsDrvPath, IsPathOf}
 use Rattle.valid_table.specs.BadLines.{AreLines}
 use Rattle.valid_table.specs.LineTexts.{fields_text}
 use Rattle.valid_table.specs.Readers.{IsFieldsLine, IsPathLine}
@@ -50,7 +50,7 @@ two_fields dir bytes path digest rest other sum more one two =
 abbrev pub IsLineOf : List ℕ → Line → Type 0
 IsLineOf dir Version = Unit {0}
 IsLineOf dir (Added path digest) = IsPathOf dir path × IsDigest digest
-IsLineOf dir (Deriver path) = IsPathOf dir path
+IsLineOf dir (Deriver path) = IsPathOf dir path × IsDrvPath path
 IsLineOf dir (Output path digest) = IsPathOf dir path × IsDigest digest
 IsLineOf dir (Reference path) = IsPathOf dir path
 
@@ -74,7 +74,7 @@ same_lines dir (Added p a) (Added q b) x y one two e =
     let same = same_record dir p q a b x y one two (ap (drop 2) e) in
     (ap (λ path. Added path a) same.0 ∙ ap (Added q) same.1, same.2)
 same_lines dir (Deriver p) (Deriver q) x y one two e =
-    let same = same_lone_path dir p q x y one two (ap (drop 2) e) in
+    let same = same_lone_path dir p q x y one.0 two.0 (ap (drop 2) e) in
     (ap Deriver same.0, same.1)
 same_lines dir (Output p a) (Output q b) x y one two e =
     let same = same_record dir p q a b x y one two (ap (drop 2) e) in
@@ -116,7 +116,7 @@ record_lacks dir path digest clear is =
 pub body_lacks : (dir : List ℕ) (line : Line) → Lacks 10 dir → IsLineOf dir line → Lacks 10 (body line)
 body_lacks dir Version clear is = passing (λ b. not (b == 10)) 10 (body Version) refl refl
 body_lacks dir (Added path digest) clear is = lettered 65 _ (λ e. absurd (omega arith)) (record_lacks dir path digest clear is)
-body_lacks dir (Deriver path) clear is = lettered 68 path (λ e. absurd (omega arith)) (path_lacks 10 newline dir path clear is)
+body_lacks dir (Deriver path) clear is = lettered 68 path (λ e. absurd (omega arith)) (path_lacks 10 newline dir path clear is.0)
 body_lacks dir (Output path digest) clear is = lettered 79 _ (λ e. absurd (omega arith)) (record_lacks dir path digest clear is)
 body_lacks dir (Reference path) clear is = lettered 82 path (λ e. absurd (omega arith)) (path_lacks 10 newline dir path clear is)
 

@@ -1,33 +1,31 @@
 -- The bytes of a journal's text tell its lines, and these tell its entries.
-use Rattle.std.proofs.Common.{◌≡◌, ℕ, List, [], ◌∷◌, ◌++◌, inl, inr, length, map, refl, ap, sym, subst, ◌∙◌, arith, Option}
+use Rattle.std.proofs.Common.{◌≡◌, ℕ, List, [], ◌∷◌, ◌++◌, inl, inr, length, map, refl, ap, sym, ◌∙◌, arith, Option}
 use Rattle.std.specs.List.{flat_map}
-use Rattle.std.proofs.lemmas.List.{append_assoc, length-append}
+use Rattle.std.proofs.lemmas.List.{append-nil, append_assoc, length-append}
 use Rattle.valid_table.specs.ReadingLaws.{TextHasOneList}
-use Rattle.valid_table.specs.Steps.{Place, Start, Begun, behind}
-use Rattle.valid_table.specs.Texts.{Line, Version, Added, Deriver, Output, Reference, entry_lines, line_text, lines, output_lines, text}
+use Rattle.valid_table.specs.LineTexts.{lines_text}
+use Rattle.valid_table.specs.Steps.{Place, Start, Begun}
+use Rattle.valid_table.specs.Texts.{Line, Version, Added, Deriver, Output, Reference, entry_lines, lines, output_lines, text}
 use Rattle.valid_table.specs.declared.entry.Entry.{Entry}
 use Rattle.valid_table.specs.declared.entry.Entry.TheVariants.{Add, Done}
 use Rattle.valid_table.specs.declared.entry.Registration.{Registration}
-use Rattle.valid_table.proofs.LineLists.{Ends, entries_end, line_of}
-use Rattle.valid_table.proofs.LineTexts.{body, line_and, same_lines}
+use Rattle.valid_table.proofs.Leading.{aligned, lines_of}
+use Rattle.valid_table.proofs.LineLists.{Ends, MayEnd, entries_end}
+use Rattle.valid_table.proofs.LineTexts.{body, line_and}
 
 -- ---- bytes tell lines
 
--- one or more lines have bytes
-lines_some : (line : Line) (come : List Line) → [] ≡ flat_map line_text (line ∷ come) → ⊥
-lines_some line come e =
-    let rest = flat_map line_text come in
-    absurd (omega (arith, ap length (e ∙ line_and line rest), length-append (body line) (10 ∷ rest)))
-
 -- lines that end a journal from one place are the same where their bytes are
-lines_told : (dir : List ℕ) (from : Place) (a b : List Line) → Ends dir from a → Ends dir from b → flat_map line_text a ≡ flat_map line_text b → a ≡ b
-lines_told dir from [] [] one two e = refl
-lines_told dir from [] (line ∷ b) one two e = absurd (lines_some line b e)
-lines_told dir from (line ∷ a) [] one two e = absurd (lines_some line a (sym e))
-lines_told dir from (line ∷ a) (other ∷ b) one two e =
-    let same = same_lines dir line other (flat_map line_text a) (flat_map line_text b) (line_of dir from line one.0) (line_of dir from other two.0) e in
-    let rest = lines_told dir (behind from line) a b one.1 (subst (λ (l : Line). Ends dir (behind from l) b) (sym same.0) two.1) same.1 in
-    ap (λ (l : Line). l ∷ a) same.0 ∙ ap (λ (tail : List Line). other ∷ tail) rest
+lines_told : (dir : List ℕ) (from : Place) (a b : List Line) → Ends dir from a → Ends dir from b → lines_text a ≡ lines_text b → a ≡ b
+lines_told dir from a b one two e =
+    elim (aligned dir a b [] [] (lines_of dir MayEnd from a one) (lines_of dir MayEnd from b two) (ap (λ (t : List ℕ). t ++ []) e)) [
+      | inl d ↦ sym (d.1 ∙ ap (λ (c : List Line). a ++ c) (none d.0 (d.2 ∙ append-nil (lines_text d.0))) ∙ append-nil a)
+      | inr d ↦ d.1 ∙ ap (λ (c : List Line). b ++ c) (none d.0 (d.2 ∙ append-nil (lines_text d.0))) ∙ append-nil b
+    ]
+  where
+    none : (c : List Line) → [] ≡ lines_text c → c ≡ []
+    none [] e = refl
+    none (line ∷ c) e = absurd (omega (arith, ap length (e ∙ line_and line (lines_text c)), length-append (body line) (10 ∷ lines_text c)))
 
 -- ---- lines tell entries
 
@@ -102,13 +100,13 @@ text_has_one_list dir bytes a b one two =
       | inl first ↦ elim two.bytes_are [
         | inl second ↦ same_entries a b
             (lines_told dir Start (lines a) (lines b)
-            (tt, entries_end dir Begun a (tt, λ line may. may) one.of_dir)
-            (tt, entries_end dir Begun b (tt, λ line may. may) two.of_dir)
+            (tt, entries_end dir Begun a (λ line may. may, tt) one.of_dir)
+            (tt, entries_end dir Begun b (λ line may. may, tt) two.of_dir)
             (sym first ∙ second))
-        | inr none ↦ absurd (lines_some Version (flat_map entry_lines a) (sym none.1 ∙ first))
+        | inr none ↦ absurd (omega (arith, ap length (sym none.1 ∙ first)))
       ]
       | inr none ↦ elim two.bytes_are [
-        | inl second ↦ absurd (lines_some Version (flat_map entry_lines b) (sym none.1 ∙ second))
+        | inl second ↦ absurd (omega (arith, ap length (sym none.1 ∙ second)))
         | inr also ↦ none.0 ∙ sym also.0
       ]
     ]

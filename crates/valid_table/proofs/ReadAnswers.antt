@@ -1,5 +1,5 @@
 -- What reading a journal answers.
-use Rattle.std.proofs.Common.{◌≡◌, ◌+◌, ◌-◌, ◌≤◌, ℕ, suc, List, [], ◌∷◌, length, take, inl, inr, ap, ◌∙◌, subst, arith}
+use Rattle.std.proofs.Common.{◌≡◌, ◌+◌, ◌-◌, ◌≤◌, ℕ, suc, List, [], ◌∷◌, length, take, inl, inr, ap, subst, arith}
 use Rattle.std.proofs.lemmas.List.{length-append}
 use Rattle.memchr.specs.Find.{is_byte, places}
 use Rattle.nix_names.specs.Names.{IsStoreDir}
@@ -7,17 +7,14 @@ use Rattle.valid_table.specs.BadLines.{IsBadLine}
 use Rattle.valid_table.specs.LineTexts.{lines_text}
 use Rattle.valid_table.specs.Reading.{max_len}
 use Rattle.valid_table.specs.Steps.{Start, Stops}
-use Rattle.valid_table.specs.Texts.{IsText, Line, Version, Added, Deriver, Output, Reference, line_text, lines, text}
+use Rattle.valid_table.specs.Texts.{IsText, Line, line_text, lines, text}
 use Rattle.valid_table.specs.declared.entry.Entry.{Entry}
-use Rattle.valid_table.proofs.BadLineLaws.{bad_line, steps_count, stops_count}
+use Rattle.valid_table.proofs.BadLineLaws.{bad_line, stops_count}
+use Rattle.valid_table.proofs.LineTexts.{body, line_and}
 
 -- a line has a byte
 line_some : (line : Line) → 1 ≤ length (line_text line)
-line_some Version = omega arith
-line_some (Added path digest) = omega arith
-line_some (Deriver path) = omega arith
-line_some (Output path digest) = omega arith
-line_some (Reference path) = omega arith
+line_some line = omega (arith, ap length (line_and line []), length-append (line_text line) [], length-append (body line) (10 ∷ []))
 
 -- lines are at most as many as their bytes
 lines_fit : (some : List Line) → length some ≤ length (lines_text some)
@@ -33,14 +30,11 @@ few_lines dir bytes entries within is =
     ]
 
 -- no more bytes are left than there are
-pub left_within : (dir bytes : List ℕ) (left : ℕ) → IsStoreDir dir → Stops dir Start bytes left → left ≤ length bytes
-left_within dir bytes left of_dir h =
-    let counted = steps_count dir bytes h.bad h.count h.place of_dir h.steps in
-    let long : length bytes ≡ length counted.0 + length h.bad = ap length counted.1 ∙ length-append counted.0 h.bad in
-    omega (arith, h.is_left)
+pub left_within : (dir bytes : List ℕ) (left : ℕ) → Stops dir Start bytes left → left ≤ length bytes
+left_within dir bytes left h = omega (arith, h.is_left, ap length h.parts, length-append (lines_text h.lines) h.bad)
 
 -- the line behind the newlines before the place where lines stop is the first bad one
 pub bad_line_number : (dir bytes : List ℕ) (left n : ℕ) → IsStoreDir dir → Stops dir Start bytes left → n ≡ 1 + length (places (is_byte 10) (take (length bytes - left) bytes)) → IsBadLine dir bytes n
 bad_line_number dir bytes left n of_dir h number =
-    let same : suc h.count ≡ n = omega (arith, stops_count dir bytes left of_dir h) in
+    let same : suc (length h.lines) ≡ n = omega (arith, stops_count dir bytes left of_dir h) in
     subst (IsBadLine dir bytes) same (bad_line dir bytes left of_dir h)

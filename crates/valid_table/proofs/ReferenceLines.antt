@@ -1,71 +1,56 @@
 -- The lines of references: where they lead, and where they stop.
-use Rattle.std.proofs.Common.{◌≡◌, ℕ, List, [], ◌∷◌, ◌++◌, length, Option, Some, None, ◌-◌, sym, ap, ◌∙◌, subst, arith}
-use Rattle.std.specs.List.{All, last_or, slice_get}
-use Rattle.std.proofs.lemmas.List.{append-nil, append_assoc}
-use Rattle.std.proofs.lemmas.List.Elements.{All-head, All-push, All-tail}
+use Rattle.std.proofs.Common.{◌≡◌, ℕ, List, [], ◌∷◌, ◌++◌, length, map, Option, None, ◌-◌, sym, ap, ◌∙◌, subst, arith}
+use Rattle.std.specs.List.{last_or, slice_get}
+use Rattle.std.proofs.lemmas.List.{append_assoc, map-append}
+use Rattle.std.proofs.lemmas.List.Elements.{All-push}
 use Rattle.nix_names.specs.StorePaths.{IsPathOf}
-use Rattle.valid_table.specs.LineTexts.{references_text}
+use Rattle.valid_table.specs.LineTexts.{lines_text, references_text}
 use Rattle.valid_table.specs.Readers.{IsPathLine, SoFarReferences}
 use Rattle.valid_table.specs.Steps.{IsAbove, Goes, Stops, Within}
-use Rattle.valid_table.specs.Texts.{Line, Version, Added, Deriver, Output, Reference, line_text}
+use Rattle.valid_table.specs.Texts.{Line, Reference}
 use Rattle.valid_table.proofs.LineTexts.{two_path_lines}
-use Rattle.valid_table.proofs.LineSteps.{behind_path_line, letter_tells, some_begun, stop_behind, stop_here, stop_same}
-use Rattle.valid_table.proofs.RisingPaths.{AreAbove, above_of_rising, last_is, rising_more}
+use Rattle.valid_table.proofs.Leading.{text_push}
+use Rattle.valid_table.proofs.LineLists.{references_back}
+use Rattle.valid_table.proofs.LineSteps.{StopsIn, behind_path_line, letter_tells, stop_here, stops_back, stops_in}
+use Rattle.valid_table.proofs.RisingPaths.{above_of_rising, last_is, rising_more}
 
--- behind the lines of references the lines stop where they do behind the last one
-pub lead : (dir : List ℕ) (output before : Option (List ℕ)) (references : List (List ℕ)) (rest : List ℕ) (left : ℕ) → All (IsPathOf dir) references → AreAbove before references
-    → Stops dir (Within output (last_or before references)) rest left → Stops dir (Within output before) (references_text references ++ rest) left
-lead dir output before [] rest left of_dir above h = h
-lead dir output before (path ∷ paths) rest left of_dir above h =
-    stop_behind dir (Within output before) _ (Reference path) (references_text paths ++ rest) left
-    (record {
-      parts = append_assoc (line_text (Reference path)) (references_text paths) rest;
-      may = (All-head (IsPathOf dir) path paths of_dir, above.0);
-      ahead = tt;
-    })
-    (lead dir output (Some path) paths rest left (All-tail (IsPathOf dir) path paths of_dir) above.1 h)
-
+-- behind references the lines stop where they do behind the last one
 pub references_lead : (dir : List ℕ) (output : Option (List ℕ)) (bytes : List ℕ) (references : List (List ℕ)) (rest : List ℕ) (left : ℕ) → SoFarReferences dir bytes references rest
     → Stops dir (Within output (last_or None references)) rest left → Stops dir (Within output None) bytes left
 references_lead dir output bytes references rest left so_far h =
-    stop_same dir (Within output None) bytes _ left so_far.parts
-    (lead dir output None references rest left so_far.of_dir (above_of_rising references so_far.rising) h)
+    stops_in dir (Within output None) (map Reference references) bytes rest left so_far.parts
+    (references_back dir (StopsIn dir rest left) (stops_back dir rest left) output None references [] so_far.of_dir (above_of_rising references so_far.rising) h)
 
 -- from within an entry no line but a reference's goes on with a reference's letter
 stuck : (dir : List ℕ) (output before : Option (List ℕ)) (bytes fields : List ℕ) → bytes ≡ 82 ∷ 32 ∷ fields
     → ((path rest : List ℕ) → IsAbove before path → IsPathLine dir fields path rest → ⊥)
     → (line : Line) (rest : List ℕ) → Goes dir (Within output before) bytes line rest → ⊥
-stuck dir output before bytes fields begins none Version rest goes = goes.may
-stuck dir output before bytes fields begins none (Added path digest) rest goes = absurd (omega (arith, letter_tells 82 (32 ∷ fields) bytes (Added path digest) rest begins goes.parts))
-stuck dir output before bytes fields begins none (Deriver path) rest goes = absurd (omega (arith, letter_tells 82 (32 ∷ fields) bytes (Deriver path) rest begins goes.parts))
-stuck dir output before bytes fields begins none (Output path digest) rest goes = absurd (omega (arith, letter_tells 82 (32 ∷ fields) bytes (Output path digest) rest begins goes.parts))
 stuck dir output before bytes fields begins none (Reference path) rest goes =
     none path rest goes.may.1 (record { of_dir = goes.may.0; parts = behind_path_line 82 bytes fields path rest begins goes.parts })
+stuck dir output before bytes fields begins none line rest goes = absurd (omega (arith, letter_tells 82 (32 ∷ fields) bytes line rest begins goes.parts))
 
 -- a reference's line without a path stops
 pub bad_reference : (dir : List ℕ) (output before : Option (List ℕ)) (bytes fields : List ℕ) → bytes ≡ 82 ∷ 32 ∷ fields
     → ((path rest : List ℕ) → IsPathLine dir fields path rest → ⊥) → Stops dir (Within output before) bytes (length bytes)
 bad_reference dir output before bytes fields begins none =
-    stop_here dir (Within output before) bytes (some_begun 82 bytes (32 ∷ fields) begins)
+    stop_here dir (Within output before) bytes 82 (32 ∷ fields) begins tt
     (stuck dir output before bytes fields begins (λ path rest above line. none path rest line))
 
 -- a reference's line with a path that isn't above the one before it stops
 pub low_reference : (dir : List ℕ) (output before : Option (List ℕ)) (bytes fields path rest : List ℕ) → bytes ≡ 82 ∷ 32 ∷ fields
     → IsPathLine dir fields path rest → (IsAbove before path → ⊥) → Stops dir (Within output before) bytes (length bytes)
 low_reference dir output before bytes fields path rest begins line low =
-    stop_here dir (Within output before) bytes (some_begun 82 bytes (32 ∷ fields) begins)
+    stop_here dir (Within output before) bytes 82 (32 ∷ fields) begins tt
     (stuck dir output before bytes fields begins (λ other more above is.
     let same = two_path_lines dir fields other more path rest is line in
     low (rw same.0 at above)))
 
 -- the text of references, and one more line
 text_more : (references : List (List ℕ)) (path behind : List ℕ) → references_text references ++ (82 ∷ 32 ∷ (path ++ 10 ∷ behind)) ≡ references_text (references ++ path ∷ []) ++ behind
-text_more [] path behind =
-    ap (λ (more : List ℕ). 82 ∷ 32 ∷ more) (sym (append_assoc path (10 ∷ []) behind) ∙ ap (λ line. line ++ behind) (sym (append-nil (path ++ 10 ∷ []))))
-text_more (x ∷ references) path behind =
-    append_assoc (line_text (Reference x)) (references_text references) (82 ∷ 32 ∷ (path ++ 10 ∷ behind))
-    ∙ ap (λ more. line_text (Reference x) ++ more) (text_more references path behind)
-    ∙ sym (append_assoc (line_text (Reference x)) (references_text (references ++ path ∷ [])) behind)
+text_more references path behind =
+    ap (λ (t : List ℕ). references_text references ++ (82 ∷ 32 ∷ t)) (sym (append_assoc path (10 ∷ []) behind))
+    ∙ text_push (map Reference references) (Reference path) behind
+    ∙ ap (λ (ls : List Line). lines_text ls ++ behind) (sym (map-append Reference references (path ∷ [])))
 
 -- one more reference
 pub references_more : (dir bytes : List ℕ) (references more : List (List ℕ)) (rest fields path behind : List ℕ) → SoFarReferences dir bytes references rest

@@ -20,6 +20,14 @@ pub above_of_rising : (paths : List (List ℕ)) → IsRising paths → AreAbove 
 above_of_rising [] h = tt
 above_of_rising (path ∷ paths) h = (tt, behind_first path paths h)
 
+rising_first : (path : List ℕ) (paths : List (List ℕ)) → AreAbove (Some path) paths → IsRising (path ∷ paths)
+rising_first path [] h = tt
+rising_first path (next ∷ paths) h = (h.0, rising_first next paths h.1)
+
+pub rising_of_above : (paths : List (List ℕ)) → AreAbove None paths → IsRising paths
+rising_of_above [] h = tt
+rising_of_above (path ∷ paths) h = rising_first path paths h.1
+
 -- one more path above the last
 pub rising_more : (paths : List (List ℕ)) (path : List ℕ) → IsRising paths → IsAbove (last_or None paths) path → IsRising (paths ++ path ∷ [])
 rising_more [] path h above = tt

@@ -14,7 +14,7 @@ use Rattle.valid_table.specs.Texts.{IsText, entry_lines, line_text, text}
 use Rattle.valid_table.specs.Valid.{IsClosedBehind, IsJournal, IsOnce}
 use Rattle.valid_table.specs.declared.entry.Entry.{Entry}
 use Rattle.valid_table.specs.declared.entry.Registration.{Registration}
-use Rattle.valid_table.specs.declared.fault.TableFault.TheVariants.{NoMemory, BadLine, NotClosed, Twice, WrongVersion, NotValid, TooLong, Unclosed, AlreadyValid}
+use Rattle.valid_table.specs.declared.fault.TableFault.TheVariants.{NoMemory, BadLine, NotClosed, Twice, WrongVersion, TooLong}
 use Rattle.valid_table.proofs.BadLineLaws.{texts_have_no_bad_line}
 use Rattle.valid_table.proofs.CheckedEntries.{entry_lines_are, up_to}
 use Rattle.valid_table.proofs.CheckedJournal.{AreRight, IsRightBehind, IsWrongAt, not_among, right_at, wrong_line}
@@ -27,7 +27,7 @@ use Rattle.valid_table.proofs.Versions.{by_number}
 -- ---- the version
 
 -- a journal's text isn't that of another version
-not_other_version : (dir bytes : List ℕ) (entries : List Entry) → IsText dir entries bytes → IsOtherVersion bytes → ⊥
+pub not_other_version : (dir bytes : List ℕ) (entries : List Entry) → IsText dir entries bytes → IsOtherVersion bytes → ⊥
 unfolding text
 not_other_version dir bytes entries is other =
     elim is.bytes_are [
@@ -72,7 +72,7 @@ right_not_wrong entries m right w =
     (subst (All (IsRightBehind (registered w.before) w.entry)) s.is_line here))
 
 -- no line of a journal is at fault
-no_fault : (entries : List Entry) (m : ℕ) → IsJournal entries → IsNotClosedAt entries m ⊎ IsTwiceAt entries m → ⊥
+pub no_fault : (entries : List Entry) (m : ℕ) → IsJournal entries → IsNotClosedAt entries m ⊎ IsTwiceAt entries m → ⊥
 no_fault entries m is fault = right_not_wrong entries m (journal_right [] entries is.closed is.once) (wrong_line entries m fault)
 
 -- ---- the law
@@ -91,4 +91,4 @@ journal_texts_are_read dir bytes entries (Err (NotClosed n)) is_dir within is jo
 journal_texts_are_read dir bytes entries (Err (Twice n)) is_dir within is journal h =
     let same = text_has_one_list dir bytes h.entries entries h.is_text is in
     absurd (no_fault entries n journal (inr (subst (λ es. IsTwiceAt es n) same h.checked.0)))
-journal_texts_are_read dir bytes entries (Err other) is_dir within is journal h = absurd h
+journal_texts_are_read dir bytes entries (Err fault) is_dir within is journal h = absurd h.checked

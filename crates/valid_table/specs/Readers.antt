@@ -5,7 +5,7 @@ use Rattle.nix_names.specs.StorePaths.{IsDrvPath, IsPathOf}
 use Rattle.valid_table.specs.BadLines.{BeginsOutput}
 use Rattle.valid_table.specs.Entries.{paths_of}
 use Rattle.valid_table.specs.LineTexts.{fields_text, lines_text, references_text, registration_text}
-use Rattle.valid_table.specs.Steps.{IsAbove, Place, Start, Begun, Opened, Within, Stops}
+use Rattle.valid_table.specs.Steps.{IsAbove, Place, Start, Begun, Within, Stops}
 use Rattle.valid_table.specs.Texts.{IsDigest, IsEntryOf, IsOf, entry_lines, lines, output_lines}
 use Rattle.valid_table.specs.declared.entry.Entry.{Entry}
 use Rattle.valid_table.specs.declared.entry.Entry.TheVariants.{Add, Done}
@@ -106,11 +106,10 @@ pub record HasEntry (dir bytes : List ℕ) (entry : Entry) (rest : List ℕ) : T
 
 -- an entry has to begin at a place, with these bytes
 abbrev pub HasToBegin : Place → List ℕ → Type 0
-HasToBegin Start bytes = ⊥
 HasToBegin Begun bytes = Unit {0}
-HasToBegin Opened bytes = ⊥
 HasToBegin (Within None last) bytes = IsNoLine 82 bytes
 HasToBegin (Within (Some output) last) bytes = IsNoLine 79 bytes × IsNoLine 82 bytes
+HasToBegin place bytes = ⊥
 
 -- The bytes are the lines of a journal with these entries, and the rest, where an entry has to begin.
 pub record SoFarEntries (dir bytes : List ℕ) (entries : List Entry) (rest : List ℕ) : Type 0 where

@@ -7,7 +7,7 @@ use Rattle.valid_table.specs.Texts.{IsText}
 use Rattle.valid_table.specs.Valid.{IsJournal}
 use Rattle.valid_table.specs.declared.entry.Entry.{Entry}
 use Rattle.valid_table.specs.declared.fault.TableFault.{TableFault}
-use Rattle.valid_table.specs.declared.fault.TableFault.TheVariants.{NoMemory, BadLine, NotClosed, Twice, WrongVersion, NotValid, TooLong, Unclosed, AlreadyValid}
+use Rattle.valid_table.specs.declared.fault.TableFault.TheVariants.{NoMemory, BadLine, NotClosed, Twice, WrongVersion, TooLong}
 
 -- the greatest length of a journal's text
 abbrev pub max_len : ℕ
@@ -19,14 +19,9 @@ IsChecking entries (Ok journal) = (journal.entries ≡ entries) × IsJournal ent
 IsChecking entries (Err (NotClosed n)) = IsNotClosedAt entries n × IsLeastFault entries n
 IsChecking entries (Err (Twice n)) = IsTwiceAt entries n × IsLeastFault entries n
 IsChecking entries (Err NoMemory) = Unit {0}
-IsChecking entries (Err (BadLine n)) = ⊥
-IsChecking entries (Err WrongVersion) = ⊥
-IsChecking entries (Err TooLong) = ⊥
-IsChecking entries (Err (NotValid path)) = ⊥
-IsChecking entries (Err (Unclosed path)) = ⊥
-IsChecking entries (Err (AlreadyValid path)) = ⊥
+IsChecking entries (Err fault) = ⊥
 
--- The bytes are the text of these entries, and what is answered is what the entries say.
+-- The bytes are the text of some entries, and what is answered is what these say.
 pub record IsReadAs (dir bytes : List ℕ) (answer : Result JournalValue TableFault) : Type 0 where
   pub within : length bytes ≤ max_len
   pub entries : List Entry
@@ -39,9 +34,4 @@ IsReading dir bytes (Err TooLong) = max_len < length bytes
 IsReading dir bytes (Err WrongVersion) = (length bytes ≤ max_len) × IsOtherVersion bytes
 IsReading dir bytes (Err (BadLine n)) = (length bytes ≤ max_len) × (IsOtherVersion bytes → ⊥) × IsBadLine dir bytes n
 IsReading dir bytes (Err NoMemory) = (length bytes ≤ max_len) × (IsOtherVersion bytes → ⊥)
-IsReading dir bytes (Err (NotClosed n)) = IsReadAs dir bytes (Err (NotClosed n))
-IsReading dir bytes (Err (Twice n)) = IsReadAs dir bytes (Err (Twice n))
-IsReading dir bytes (Err (NotValid path)) = ⊥
-IsReading dir bytes (Err (Unclosed path)) = ⊥
-IsReading dir bytes (Err (AlreadyValid path)) = ⊥
-IsReading dir bytes (Ok journal) = IsReadAs dir bytes (Ok journal)
+IsReading dir bytes answer = IsReadAs dir bytes answer

@@ -1,10 +1,11 @@
 -- How the lines of a journal follow one another, as its readers see it: which line may stand at a place, and the place behind it.
-use Rattle.std.specs.Prelude.{◌≡◌, ◌≢◌, ℕ, zero, suc, List, [], ◌++◌, Option, Some, None, length}
+use Rattle.std.specs.Prelude.{◌≡◌, ◌≢◌, ℕ, List, [], ◌∷◌, ◌++◌, Option, Some, None, length}
 use Rattle.std.specs.Cmp.Lexicographic.{slice_cmp}
 use Rattle.std.specs.Ordering.{nat_cmp}
 use Rattle.std.specs.declared.cmp.Ordering.TheVariants.{Less}
 use Rattle.nix_names.specs.StorePaths.{IsDrvPath, IsPathOf}
 use Rattle.valid_table.specs.BadLines.{BeginsOutput}
+use Rattle.valid_table.specs.LineTexts.{lines_text}
 use Rattle.valid_table.specs.Texts.{IsDigest, Line, Version, Added, Deriver, Output, Reference, line_text}
 
 -- A place between lines: before line 1, behind it, behind a deriver, or within the lines of an output, or of an added path,
@@ -22,11 +23,9 @@ IsAbove (Some before) path = slice_cmp nat_cmp before path ≡ Less
 
 -- a line may stand where an entry may begin
 abbrev pub MayBegin : List ℕ → Line → Type 0
-MayBegin dir Version = ⊥
 MayBegin dir (Added path digest) = IsPathOf dir path × IsDigest digest
 MayBegin dir (Deriver path) = IsPathOf dir path × IsDrvPath path
-MayBegin dir (Output path digest) = ⊥
-MayBegin dir (Reference path) = ⊥
+MayBegin dir line = ⊥
 
 -- an output may stand behind a deriver, or behind an output with a lesser path
 abbrev pub MayFollow : List ℕ → Option (List ℕ) → List ℕ → Option (List ℕ) → Type 0
@@ -35,22 +34,12 @@ MayFollow dir before path digest = IsPathOf dir path × IsDigest digest × IsAbo
 -- a line may stand at a place
 abbrev pub MayStand : List ℕ → Place → Line → Type 0
 MayStand dir Start Version = Unit {0}
-MayStand dir Start (Added path digest) = ⊥
-MayStand dir Start (Deriver path) = ⊥
-MayStand dir Start (Output path digest) = ⊥
-MayStand dir Start (Reference path) = ⊥
 MayStand dir Begun line = MayBegin dir line
-MayStand dir Opened Version = ⊥
-MayStand dir Opened (Added path digest) = ⊥
-MayStand dir Opened (Deriver path) = ⊥
-MayStand dir Opened (Output path digest) = MayFollow dir None path digest
-MayStand dir Opened (Reference path) = ⊥
-MayStand dir (Within output last) Version = ⊥
-MayStand dir (Within output last) (Added path digest) = MayBegin dir (Added path digest)
-MayStand dir (Within output last) (Deriver path) = MayBegin dir (Deriver path)
-MayStand dir (Within (Some before) last) (Output path digest) = MayFollow dir (Some before) path digest
-MayStand dir (Within None last) (Output path digest) = ⊥
 MayStand dir (Within output last) (Reference path) = IsPathOf dir path × IsAbove last path
+MayStand dir (Within (Some before) last) (Output path digest) = MayFollow dir (Some before) path digest
+MayStand dir (Within output last) line = MayBegin dir line
+MayStand dir Opened (Output path digest) = MayFollow dir None path digest
+MayStand dir place line = ⊥
 
 -- the place behind a line
 abbrev pub behind : Place → Line → Place
@@ -59,16 +48,17 @@ behind place (Added path digest) = Within None None
 behind place (Deriver path) = Opened
 behind place (Output path digest) = Within (Some path) None
 behind (Within output last) (Reference path) = Within output (Some path)
-behind Start (Reference path) = Start
-behind Begun (Reference path) = Begun
-behind Opened (Reference path) = Opened
+behind place (Reference path) = place
 
 -- behind a deriver an output comes
 abbrev pub Ahead : Place → List ℕ → Type 0
 Ahead Opened rest = BeginsOutput rest
-Ahead Start rest = Unit {0}
-Ahead Begun rest = Unit {0}
-Ahead (Within output last) rest = Unit {0}
+Ahead place rest = Unit {0}
+
+-- lines lead from a place on, each to the place behind it, and the last to one of which this holds
+abbrev pub LeadsTo : List ℕ → (Place → Type 0) → Place → List Line → Type 0
+LeadsTo dir Is from [] = Is from
+LeadsTo dir Is from (line ∷ more) = MayStand dir from line × LeadsTo dir Is (behind from line) more
 
 -- From a place the bytes go on with a line that may stand there, and then with the rest.
 pub record Goes (dir : List ℕ) (from : Place) (bytes : List ℕ) (line : Line) (rest : List ℕ) : Type 0 where
@@ -76,18 +66,16 @@ pub record Goes (dir : List ℕ) (from : Place) (bytes : List ℕ) (line : Line)
   pub may : MayStand dir from line
   pub ahead : Ahead (behind from line) rest
 
--- so many lines lead from a place and bytes to a place and the rest
-abbrev pub Steps : List ℕ → ℕ → Place → List ℕ → Place → List ℕ → Type 0
-Steps dir zero from bytes to rest = (from ≡ to) × (bytes ≡ rest)
-Steps dir (suc n) from bytes to rest =
-    (line : Line) × (more : List ℕ) × Goes dir from bytes line more × Steps dir n (behind from line) more to rest
+-- With these bytes no line goes on from a place.
+pub record IsStuck (dir bytes : List ℕ) (place : Place) : Type 0 where
+  pub ahead : Ahead place bytes
+  pub stuck : (line : Line) (rest : List ℕ) → Goes dir place bytes line rest → ⊥
 
 -- The lines from a place stop, with so many bytes left, of which no line can be made that may stand there.
 pub record Stops (dir : List ℕ) (from : Place) (bytes : List ℕ) (left : ℕ) : Type 0 where
-  pub count : ℕ
-  pub place : Place
+  pub lines : List Line
   pub bad : List ℕ
-  pub steps : Steps dir count from bytes place bad
+  pub parts : bytes ≡ lines_text lines ++ bad
+  pub leads : LeadsTo dir (IsStuck dir bad) from lines
   pub is_left : length bad ≡ left
   pub some : bad ≢ []
-  pub stuck : (line : Line) (rest : List ℕ) → Goes dir place bad line rest → ⊥

@@ -2,7 +2,7 @@
 ghost use Rattle.valid_table.specs.BadLines.{BadLineIsOne, TextsHaveNoBadLine};
 ghost use Rattle.valid_table.specs.Closure.{ClosureIsOne, ClosureStays};
 ghost use Rattle.valid_table.specs.Equality.{EqualEntriesAreSame};
-ghost use Rattle.valid_table.specs.ReadingLaws.{JournalTextsAreRead, TextHasOneList};
+ghost use Rattle.valid_table.specs.ReadingLaws.{AnswerIsOne, JournalTextsAreRead, TextHasOneList};
 
 /// The closure of paths that are valid in a closed list of entries stays the same in each list of
 /// entries that begins with it.
@@ -34,6 +34,12 @@ pub fn text_has_one_list()
 /// want of memory apart.
 pub fn journal_texts_are_read()
     ensures { JournalTextsAreRead }
+{}
+
+/// Bytes are read with one answer, want of memory apart: two answers that reading them in a store
+/// folder may give are the same, or one of them is `NoMemory`.
+pub fn answer_is_one()
+    ensures { AnswerIsOne }
 {}
 
 /// Two entries are equal by `==` exactly where they are the same.

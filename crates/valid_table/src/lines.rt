@@ -44,8 +44,11 @@ pub(crate) fn path_of(
     dir: &StoreDir,
     text: &[u8],
 ) -> Result<Option<StorePath>, AllocError>
-    ensures { IfOk result (λ found. MatchOption found (IsPathOf dir.now text.now → ⊥) (λ path. (path ≡ text.now) × IsPathOf dir.now text.now)) }
+    ensures is_dir { IsStoreDir dir.now }
+    ensures path { IfOk result (λ found. MatchOption found (IsPathOf dir.now text.now → ⊥) (λ path. (path ≡ text.now) × IsPathOf dir.now text.now)) }
 {
+    // Its contract says that a folder's text has neither spaces nor newlines.
+    let _ = dir.text();
     match parse_path(alloc, dir, text) {
         Ok(path) => Ok(Some(path)),
         Err(fault) if fault == NameFault::NoMemory => Err(AllocError),
@@ -86,7 +89,6 @@ pub(crate) fn path_line<'a>(
     dir: &StoreDir,
     bytes: &'a [u8],
 ) -> Result<Option<(StorePath, &'a [u8])>, AllocError>
-    requires is_dir { IsStoreDir dir.now }
     ensures { IfOk result (λ found. MatchOption found ((path rest : List ℕ) → IsPathLine dir.now bytes.now path rest → ⊥) (λ x. IsPathLine dir.now bytes.now x.0 x.1.now)) }
 {
     let Some((line, rest)) = cut(b'\n', bytes) else {
@@ -104,7 +106,6 @@ pub(crate) fn deriver_line<'a>(
     dir: &StoreDir,
     bytes: &'a [u8],
 ) -> Result<Option<(StorePath, &'a [u8])>, AllocError>
-    requires is_dir { IsStoreDir dir.now }
     ensures { IfOk result (λ found. MatchOption found ((path rest : List ℕ) → IsDeriverLine dir.now bytes.now path rest → ⊥) (λ x. IsDeriverLine dir.now bytes.now x.0 x.1.now)) }
 {
     let Some((path, rest)) = path_line(alloc, dir, bytes)? else {
@@ -126,20 +127,19 @@ pub(crate) fn fields_line<'a>(
     dir: &StoreDir,
     bytes: &'a [u8],
 ) -> Result<Option<(StorePath, Option<[u8; 32]>, &'a [u8])>, AllocError>
-    requires is_dir { IsStoreDir dir.now }
     ensures { IfOk result (λ found. MatchOption found ((path : List ℕ) (digest : Option (List ℕ)) (rest : List ℕ) → IsFieldsLine dir.now bytes.now path digest rest → ⊥) (λ x. IsFieldsLine dir.now bytes.now x.0 x.1 x.2.now)) }
 {
-    let Some((path, fields)) = cut(b' ', bytes) else {
+    let Some((text, fields)) = cut(b' ', bytes) else {
+        return Ok(None);
+    };
+    let Some(path) = path_of(alloc, dir, text)? else {
         return Ok(None);
     };
     let Some((digest, rest)) = cut(b'\n', fields) else {
         return Ok(None);
     };
-    let Some(digest) = digest_of(digest) else {
-        return Ok(None);
-    };
-    match path_of(alloc, dir, path)? {
-        Some(path) => Ok(Some((path, digest, rest))),
+    match digest_of(digest) {
+        Some(digest) => Ok(Some((path, digest, rest))),
         None => Ok(None),
     }
 }

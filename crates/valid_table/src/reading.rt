@@ -98,7 +98,6 @@ fn references_of<'a>(
     dir: &StoreDir,
     bytes: &'a [u8],
 ) -> Result<(Vec<StorePath>, &'a [u8]), Stop>
-    requires is_dir { IsStoreDir dir.now }
     ensures ok { IfOk result (λ x. HasReferences dir.now bytes.now x.0.items x.1.now) }
     ensures left { IfErr result (StopsWhere (λ left. (output : Option (List ℕ)) → Stops dir.now (Within output None) bytes.now left)) }
 {
@@ -127,7 +126,6 @@ fn registration_of<'a>(
     before: Option<&StorePath>,
     bytes: &'a [u8],
 ) -> Result<Option<(Registration, &'a [u8])>, Stop>
-    requires is_dir { IsStoreDir dir.now }
     ensures ok { IfOk result (λ found. MatchOption found (IsNoLine letter bytes.now) (λ x. HasRegistration dir.now letter (option_copied before.entry) bytes.now x.0 x.1.now)) }
     ensures left { IfErr result (StopsWhere (StopsInRegistration dir.now letter (option_copied before.entry) bytes.now)) }
 {
@@ -161,8 +159,7 @@ fn outputs_of<'a>(
     dir: &StoreDir,
     bytes: &'a [u8],
 ) -> Result<(Vec<Registration>, &'a [u8]), Stop>
-    requires is_dir { IsStoreDir dir.now }
-    requires begins { BeginsOutput bytes.now }
+    requires { BeginsOutput bytes.now }
     ensures ok { IfOk result (λ x. HasOutputs dir.now bytes.now x.0.items x.1.now) }
     ensures left { IfErr result (StopsWhere (Stops dir.now Opened bytes.now)) }
 {
@@ -185,7 +182,6 @@ fn done_of<'a>(
     dir: &StoreDir,
     bytes: &'a [u8],
 ) -> Result<Option<(Entry, &'a [u8])>, Stop>
-    requires is_dir { IsStoreDir dir.now }
     ensures ok { IfOk result (λ found. MatchOption found (IsNoLine 68 bytes.now) (λ x. HasEntry dir.now bytes.now x.0 x.1.now)) }
     ensures left { IfErr result (StopsWhere (λ left. (from : Place) → HasToBegin from bytes.now → Stops dir.now from bytes.now left)) }
 {
@@ -201,8 +197,7 @@ fn done_of<'a>(
 
 /// The entry at the head of the bytes, and what is behind its lines.
 fn entry_of<'a>(alloc: Global, dir: &StoreDir, bytes: &'a [u8]) -> Result<(Entry, &'a [u8]), Stop>
-    requires is_dir { IsStoreDir dir.now }
-    requires some { bytes.now ≢ [] }
+    requires { bytes.now ≢ [] }
     ensures ok { IfOk result (λ x. HasEntry dir.now bytes.now x.0 x.1.now) }
     ensures left { IfErr result (StopsWhere (λ left. (from : Place) → HasToBegin from bytes.now → Stops dir.now from bytes.now left)) }
 {

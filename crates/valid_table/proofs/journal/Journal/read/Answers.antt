@@ -8,7 +8,7 @@ checked-requires-clause-few c = few_lines _ _ _ (omega arith) c.in-Ok.ensures.ok
 
 pub line_number-requires : goal.line_number-requires
 line_number-requires c =
-    let fits = left_within _ _ c.in-Err-Left.left c.in-Err-Left.ensures.is_dir (rw c.in-Err-Left.field-0-is at c.in-Err-Left.ensures.left) in
+    let fits = left_within _ _ c.in-Err-Left.left (rw c.in-Err-Left.field-0-is at c.in-Err-Left.ensures.left) in
     omega (arith, c.in-Err-Left.left-is)
 
 pub returns-in-Err-Left : goal.returns-in-Err-Left
