@@ -1,5 +1,4 @@
 pub mod AddedTexts
-pub mod AsciiPaths
+pub mod Endings
 pub mod Registrations
 pub mod Reports
-pub mod Writing
