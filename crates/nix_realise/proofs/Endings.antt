@@ -1,6 +1,6 @@
 -- How a run of `add-text` ends where its text is refused, or where a file is not written.
 use Rattle.std.proofs.Common.{refl, ℕ, List, Option, Err}
-use Rattle.nix_realise.specs.AddedText.{Given, IsAddingText}
+use Rattle.nix_realise.specs.AddedText.{FileBytes, IsAddingText}
 use Rattle.nix_realise.specs.Endings.{EndsBy, IsPrinted, IsWriteFault}
 use Rattle.nix_realise.specs.declared.added_text.AddedText.{AddedText}
 use Rattle.nix_realise.specs.declared.options.AddTextRequest.{AddTextRequest}
@@ -9,7 +9,7 @@ use Rattle.nix_realise.specs.declared.stop.Stop.TheVariants.{NotWritten, Journal
 use Rattle.nix_realise.specs.declared.stop.Stop.TheVariants.{NoMemory, Unwritable}
 
 -- a refused text ends the run with nothing printed
-pub text_refused : (request : AddTextRequest) (gave journal : Given) (before : Option (List ℕ))
+pub text_refused : (request : AddTextRequest) (gave journal : FileBytes) (before : Option (List ℕ))
     (stop : Stop)
     → IsAddingText request gave journal (Err stop)
     → EndsBy request gave journal before before (Err stop)
@@ -20,7 +20,7 @@ text_refused request gave journal before NoMemory h = h
 text_refused request gave journal before stop h = (refl, h)
 
 -- a file is not written behind the printed path
-pub file_not_written : (request : AddTextRequest) (gave journal : Given)
+pub file_not_written : (request : AddTextRequest) (gave journal : FileBytes)
     (before after : Option (List ℕ)) (added : AddedText) (stop : Stop)
     → IsPrinted request gave journal before after added → IsWriteFault added stop
     → EndsBy request gave journal before after (Err stop)

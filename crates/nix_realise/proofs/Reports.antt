@@ -41,15 +41,15 @@ report_nil gives dir = record {
 }
 
 -- the status of some verdicts and one more
-status_of : Bool → ℕ
-status_of good = if good then 0 else 2
+status_for : Bool → ℕ
+status_for good = if good then 0 else 2
 
 and_true : (b : Bool) → (b && true) ≡ b
 and_true true = refl
 and_true false = refl
 
-status_push : (good more : Bool) → status_of (good && more) ≡ (if more then status_of good else 2)
-unfolding status_of
+status_push : (good more : Bool) → status_for (good && more) ≡ (if more then status_for good else 2)
+unfolding status_for
 status_push true true = refl
 status_push true false = refl
 status_push false true = refl
@@ -69,7 +69,7 @@ pub report_push : (gives : List ℕ → Answer → Type 0) (dir : List ℕ) (wor
     → IsReport gives dir words text status → IsVerdict gives dir word verdict
     → all ≡ text ++ line_of word verdict → after ≡ (if is_good verdict then status else 2)
     → IsReport gives dir (words ++ word ∷ []) all after
-unfolding status_of
+unfolding status_for
 report_push gives dir words text status word verdict all after report said grown ends = record {
   rows = report.rows ++ (word, verdict) ∷ [];
   words_are =
@@ -85,7 +85,7 @@ report_push gives dir words text status word verdict all after report said grown
       let good : Bool = list_all (λ row. is_good row.1) report.rows in
       let both = all_good_push report.rows word verdict in
       ends ∙ ap (λ s. if is_good verdict then s else 2) report.is_status
-      ∙ sym (ap status_of both ∙ status_push good (is_good verdict));
+      ∙ sym (ap status_for both ∙ status_push good (is_good verdict));
 }
 
 -- the texts of some words and one more

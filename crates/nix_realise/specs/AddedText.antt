@@ -25,20 +25,20 @@ use Rattle.nix_realise.specs.declared.stop.Stop.TheVariants.{BadName, JournalUnr
 use Rattle.nix_realise.specs.declared.stop.Stop.TheVariants.{NoMemory}
 
 -- what a file gave: its bytes, or why there are none
-abbrev pub Given : Type 0
-Given = Result (List ℕ) FileFault
+abbrev pub FileBytes : Type 0
+FileBytes = Result (List ℕ) FileFault
 
 -- the same of the list that holds the bytes
-abbrev pub given : Result (Vec ℕ) FileFault → Given
-given (Ok bytes) = Ok bytes.items
-given (Err fault) = Err fault
+abbrev pub file_bytes : Result (Vec ℕ) FileFault → FileBytes
+file_bytes (Ok bytes) = Ok bytes.items
+file_bytes (Err fault) = Err fault
 
 -- the greatest length of a text
 abbrev pub max_text_len : ℕ
 max_text_len = 4194304
 
 -- What is answered for the text's bytes, by what FILE gave.
-abbrev pub IsTextOf : Bor (List ℕ) → Given → Result (Vec ℕ) Stop → Type 0
+abbrev pub IsTextOf : Bor (List ℕ) → FileBytes → Result (Vec ℕ) Stop → Type 0
 IsTextOf path gave (Ok bytes) = (gave ≡ Ok bytes.items) × (length bytes.items ≤ max_text_len)
 IsTextOf path gave (Err (Unreadable blamed)) = (blamed ≡ path) × (gave ≡ Err file.Unreadable)
 IsTextOf path gave (Err (TooLong blamed)) =
@@ -55,22 +55,22 @@ IsNewText entries path digest (Some bytes) =
     × (bytes.items ≡ journal_text (entries ++ text_entry path digest ∷ []))
 
 -- The journal file gave the text of some entries, and these are the new bytes.
-pub record IsRenewed (dir : List ℕ) (gave : Given) (path digest : List ℕ) (new : Option (Vec ℕ))
+pub record IsRenewed (dir : List ℕ) (gave : FileBytes) (path digest : List ℕ) (new : Option (Vec ℕ))
     : Type 0 where
   pub bytes : List ℕ
-  pub given_are : gave ≡ Ok bytes
+  pub bytes_are : gave ≡ Ok bytes
   pub entries : List Entry
   pub reading : IsReading dir bytes (Ok entries)
   pub is_new : IsNewText entries path digest new
 
 -- The journal file gave bytes that have this fault as a journal of the folder.
-abbrev pub IsBadJournal : (dir : List ℕ) → Given → TableFault → Type 0
+abbrev pub IsBadJournal : (dir : List ℕ) → FileBytes → TableFault → Type 0
 IsBadJournal dir gave fault =
     (fault ≢ table.NoMemory)
     × ((bytes : List ℕ) × (gave ≡ Ok bytes) × IsReading dir bytes (Err fault))
 
 -- What is answered as the journal, by what its file gave: one whose text that is.
-abbrev pub IsJournalOf : (dir : List ℕ) → Given → Result (List Entry) Stop → Type 0
+abbrev pub IsJournalOf : (dir : List ℕ) → FileBytes → Result (List Entry) Stop → Type 0
 IsJournalOf dir gave (Ok entries) =
     (bytes : List ℕ) × (gave ≡ Ok bytes) × IsReading dir bytes (Ok entries)
 IsJournalOf dir gave (Err JournalUnreadable) = gave ≡ Err file.Unreadable
@@ -79,7 +79,7 @@ IsJournalOf dir gave (Err NoMemory) = Unit {0}
 IsJournalOf dir gave (Err stop) = ⊥
 
 -- What is answered for the journal's new bytes, by what its file gave.
-abbrev pub IsRenewing : (dir : List ℕ) → Given → (path digest : List ℕ)
+abbrev pub IsRenewing : (dir : List ℕ) → FileBytes → (path digest : List ℕ)
     → Result (Option (Vec ℕ)) Stop → Type 0
 IsRenewing dir gave path digest (Ok new) = IsRenewed dir gave path digest new
 IsRenewing dir gave path digest (Err JournalUnreadable) = gave ≡ Err file.Unreadable
@@ -88,18 +88,19 @@ IsRenewing dir gave path digest (Err NoMemory) = Unit {0}
 IsRenewing dir gave path digest (Err stop) = ⊥
 
 -- The store folder is one, and FILE gave these bytes, within the limit.
-abbrev pub HasText : AddTextRequest → Given → (bytes : List ℕ) → Type 0
+abbrev pub HasText : AddTextRequest → FileBytes → (bytes : List ℕ) → Type 0
 HasText request gave bytes =
     IsStoreDir request.store_dir.now × (gave ≡ Ok bytes) × (length bytes ≤ max_text_len)
 
 -- And the name is one.
-abbrev pub HasNamedText : AddTextRequest → Given → (bytes : List ℕ) → Type 0
+abbrev pub HasNamedText : AddTextRequest → FileBytes → (bytes : List ℕ) → Type 0
 HasNamedText request gave bytes = HasText request gave bytes × IsTrue (is_name request.name.now)
 
 -- What is answered. The store folder is tested first, then FILE, the name and the journal, and each
 -- fault comes exactly where nothing is wrong with what is tested before it: the cases exclude one
 -- another, want of memory apart, which never stands in the place of a refused folder.
-abbrev pub IsAddingText : AddTextRequest → (gave journal : Given) → Result AddedText Stop → Type 0
+abbrev pub IsAddingText : AddTextRequest → (gave journal : FileBytes)
+    → Result AddedText Stop → Type 0
 IsAddingText request gave journal (Ok added) =
     HasNamedText request gave added.text.items
     × (added.path ≡ text_path request.store_dir.now request.name.now added.text.items [])

@@ -14,10 +14,6 @@ use Rattle.nix_realise.specs.declared.verdict.Verdict.{Verdict}
 use Rattle.nix_realise.specs.declared.verdict.Verdict.TheVariants.{Good, NoPath, Unreadable}
 use Rattle.nix_realise.specs.declared.verdict.Verdict.TheVariants.{Refused}
 
--- what a source may answer for a path
-abbrev pub Gives : Type 1
-Gives = List ℕ → Answer → Type 0
-
 -- What may be said of a word. It is no path of the folder; or its file can't be read; or bytes that
 -- its file may have are refused as a derivation's text at that path; or they are one.
 abbrev pub IsVerdict : (gives : List ℕ → Answer → Type 0) → (dir word : List ℕ) → Verdict → Type 0

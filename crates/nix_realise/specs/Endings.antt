@@ -2,7 +2,7 @@
 use Rattle.std.specs.Prelude.{◌≡◌, ◌∷◌, ◌++◌, [], ℕ, List, Option, Result, Ok, Err, IsSome}
 use Rattle.std.specs.Io.KnownBytes.{Appends}
 use Rattle.nix_names.specs.Names.{IsStoreDir}
-use Rattle.nix_realise.specs.AddedText.{Given, IsAddingText}
+use Rattle.nix_realise.specs.AddedText.{FileBytes, IsAddingText}
 use Rattle.nix_realise.specs.declared.added_text.AddedText.{AddedText}
 use Rattle.nix_realise.specs.declared.options.AddTextRequest.{AddTextRequest}
 use Rattle.nix_realise.specs.declared.stop.Stop.{Stop}
@@ -22,16 +22,16 @@ IsWriteFault added NoMemory = Unit {0}
 IsWriteFault added stop = ⊥
 
 -- The text was accepted, and the line of its path was printed.
-abbrev pub IsPrinted : AddTextRequest → (gave journal : Given) → (before after : Option (List ℕ))
-    → AddedText → Type 0
+abbrev pub IsPrinted : AddTextRequest → (gave journal : FileBytes)
+    → (before after : Option (List ℕ)) → AddedText → Type 0
 IsPrinted request gave journal before after added =
     IsAddingText request gave journal (Ok added) × Appends before after (path_line added.path)
 
 -- How a run ends, by what the two files gave. Nothing is printed where the text is refused; else
 -- the path is, and then a file may not be written. Of a refused line it is said that the text is
 -- not refused, of want of memory that the folder is not.
-abbrev pub EndsBy : AddTextRequest → (gave journal : Given) → (before after : Option (List ℕ))
-    → Result ℕ Stop → Type 0
+abbrev pub EndsBy : AddTextRequest → (gave journal : FileBytes)
+    → (before after : Option (List ℕ)) → Result ℕ Stop → Type 0
 EndsBy request gave journal before after (Ok status) =
     (status ≡ 0) × ((added : AddedText) × IsPrinted request gave journal before after added)
 EndsBy request gave journal before after (Err (NotWritten path)) =
@@ -50,4 +50,4 @@ EndsBy request gave journal before after (Err stop) =
 -- how a run ends: nothing is known of what the files gave
 abbrev pub Ends : AddTextRequest → (before after : Option (List ℕ)) → Result ℕ Stop → Type 0
 Ends request before after result =
-    (gave : Given) × (journal : Given) × EndsBy request gave journal before after result
+    (gave : FileBytes) × (journal : FileBytes) × EndsBy request gave journal before after result

@@ -9,6 +9,6 @@ use Rattle.nix_realise.specs.declared.stop.Stop.TheVariants.{BadStoreDir, NoMemo
 -- whether there is memory or not.
 abbrev pub IsStoreDirOf : Bor (List ℕ) → Result (List ℕ) Stop → Type 0
 IsStoreDirOf text (Ok dir) = (dir ≡ text.now) × IsStoreDir text.now
-IsStoreDirOf text (Err (BadStoreDir given)) = (given ≡ text) × ¬ (IsStoreDir text.now)
+IsStoreDirOf text (Err (BadStoreDir blamed)) = (blamed ≡ text) × ¬ (IsStoreDir text.now)
 IsStoreDirOf text (Err NoMemory) = ¬ (¬ (IsStoreDir text.now))
 IsStoreDirOf text (Err stop) = ⊥

@@ -4,7 +4,7 @@ ghost use Rattle.sha2.specs.Sha256.{sha256};
 ghost use Rattle.nix_names.specs.Names.{is_name};
 ghost use Rattle.nix_drv.specs.OwnPath.{text_path};
 ghost use Rattle.nix_realise.specs.AddedText.{IsAddingText, IsJournalOf, IsRenewing};
-ghost use Rattle.nix_realise.specs.AddedText.{IsTextOf, given};
+ghost use Rattle.nix_realise.specs.AddedText.{IsTextOf, file_bytes};
 ghost use Rattle.nix_realise.specs.Registering.{IsRegistering};
 
 use crate::files::FileFault;
@@ -45,7 +45,7 @@ pub fn added_text<'a>(
     text: Result<Vec<u8>, FileFault>,
     journal: Result<Vec<u8>, FileFault>,
 ) -> Result<AddedText, Stop<'a>>
-    ensures { IsAddingText request.now (given text) (given journal) result }
+    ensures { IsAddingText request.now (file_bytes text) (file_bytes journal) result }
 {
     let dir = store_dir(alloc, request.store_dir)?;
     let text = text_within(request.file, text)?;
@@ -61,7 +61,7 @@ pub fn added_text<'a>(
 
 // The text's bytes, which are at most as many as a text may have.
 fn text_within<'a>(file: &'a str, text: Result<Vec<u8>, FileFault>) -> Result<Vec<u8>, Stop<'a>>
-    ensures { IsTextOf file.entry (given text) result }
+    ensures { IsTextOf file.entry (file_bytes text) result }
 {
     match text {
         Ok(bytes) if bytes.len() > MAX_LEN => Err(Stop::TooLong(file)),
@@ -100,7 +100,7 @@ fn renewed_journal<'a>(
     path: &StorePath,
     digest: [u8; 32],
 ) -> Result<Option<Vec<u8>>, Stop<'a>>
-    ensures { IsRenewing dir.now (given journal) path.now digest result }
+    ensures { IsRenewing dir.now (file_bytes journal) path.now digest result }
 {
     let mut journal = journal_of(alloc, dir, journal)?;
     if !register_text(alloc, &mut journal, path, digest)? {
@@ -115,7 +115,7 @@ fn journal_of<'a>(
     dir: &StoreDir,
     journal: Result<Vec<u8>, FileFault>,
 ) -> Result<Journal, Stop<'a>>
-    ensures { IsJournalOf dir.now (given journal) result }
+    ensures { IsJournalOf dir.now (file_bytes journal) result }
 {
     match journal {
         Ok(bytes) => Ok(Journal::read(alloc, dir, &bytes)?),

@@ -1,5 +1,6 @@
 //! Files that are read.
-ghost use Rattle.std.specs.Prelude.{◌≤◌, IfOk, length};
+ghost use Rattle.std.specs.Prelude.{◌≡◌, ◌≤◌, ◌↔◌, IfOk, IsOkAnd, IsTrue, None, length};
+ghost use Rattle.std.specs.IoError.{error_kind, raw_os_error};
 
 use nix_names::StorePath;
 use std::alloc::{AllocError, Global};
@@ -21,6 +22,10 @@ pub enum FileFault {
 }
 
 impl From<AllocError> for FileFault {
+    ghost use Rattle.nix_realise.specs.declared.files.FileFault.TheVariants.{NoMemory};
+
+    ghost from_gives = { λ _ fault. fault ≡ NoMemory };
+
     fn from(_: AllocError) -> Self {
         FileFault::NoMemory
     }
@@ -48,16 +53,29 @@ pub fn read_start<R: Files>(alloc: Global, files: &R, path: &str, most: u64) -> 
 }
 
 /// The bytes of a text's file, one more than a text may have at most.
-pub fn read_text<R: Files + AllocGlobal>(rt: &R, path: &str) -> Result<Vec<u8>, FileFault> {
+pub fn read_text<R: Files + AllocGlobal>(rt: &R, path: &str) -> Result<Vec<u8>, FileFault>
+    ensures { IfOk result (λ bytes. length bytes.items ≤ 4194305) }
+{
     Ok(read_start(rt.alloc(), rt, path, MAX_READ)?)
 }
 
-/// A store path as the path of a file.
-pub fn file_path(path: &StorePath) -> io::Result<&str> {
-    str::from_utf8(path.text()).map_err(|_| io::Error::from(ErrorKind::InvalidInput))
+/// A store path as the path of a file. It never fails, since the bytes of a path are ASCII.
+pub fn file_path(path: &StorePath) -> io::Result<&str>
+    ensures { IsOkAnd result (λ text. text.now ≡ path.now) }
+{
+    let Ok(text) = str::from_utf8(path.text()) else {
+        return Err(io::Error::from(ErrorKind::InvalidInput));
+    };
+    Ok(text)
 }
 
 /// Whether an error is this program's own want of memory, and none of the system's faults.
-pub fn is_no_memory(error: &io::Error) -> bool {
-    error.kind() == ErrorKind::OutOfMemory && error.raw_os_error().is_none()
+pub fn is_no_memory(error: &io::Error) -> bool
+    ensures { IsTrue result ↔
+        ((error_kind error.now ≡ ErrorKind.OutOfMemory) × (raw_os_error error.now ≡ None)) }
+{
+    match error.kind() {
+        ErrorKind::OutOfMemory => error.raw_os_error().is_none(),
+        _ => false,
+    }
 }

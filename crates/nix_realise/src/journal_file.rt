@@ -1,5 +1,6 @@
 //! The journal file: its path, read and written.
-ghost use Rattle.std.specs.Prelude.{◌≡◌, ◌⊎◌, IfErr, IfOk, option_map, string_bytes};
+ghost use Rattle.std.specs.Prelude.{◌≡◌, ◌≤◌, ◌⊎◌, IfErr, IfOk, length};
+ghost use Rattle.std.specs.Prelude.{option_map, string_bytes};
 ghost use Rattle.nix_realise.specs.JournalFiles.{journal_path_of};
 
 use crate::files::{FileFault, is_no_memory, read_start};
@@ -34,7 +35,9 @@ pub fn journal_path(
 pub fn read_journal<R: Files + AllocGlobal>(
     rt: &R,
     request: &AddTextRequest<'_>,
-) -> Result<Vec<u8>, FileFault> {
+) -> Result<Vec<u8>, FileFault>
+    ensures { IfOk result (λ bytes. length bytes.items ≤ 67108865) }
+{
     let alloc = rt.alloc();
     let path = journal_path(alloc, request.store_dir, request.journal)?;
     match read_start(alloc, rt, &path, MAX_READ) {

@@ -60,15 +60,23 @@ fn run_arguments<R: Env + Files + AllocGlobal, O: Write, E: Write>(
 ) -> u8
     ensures { IsStatus result }
 {
-    let alloc = rt.alloc();
-    let arguments = match arguments(rt) {
-        Ok(arguments) => arguments,
-        Err(error) if error.kind() == ErrorKind::InvalidData => return refuse_words(
-            alloc, out, err,
-        ),
-        Err(_) => return print_no_memory(err),
-    };
-    match texts(alloc, &arguments) {
+    match arguments(rt) {
+        Ok(arguments) => run_texts(rt, &arguments, out, err),
+        Err(error) if error.kind() == ErrorKind::InvalidData => refuse_words(rt.alloc(), out, err),
+        Err(_) => print_no_memory(err),
+    }
+}
+
+// Runs the program on these arguments.
+fn run_texts<R: Files + AllocGlobal, O: Write, E: Write>(
+    rt: &R,
+    arguments: &[String],
+    out: &mut O,
+    err: &mut E,
+) -> u8
+    ensures { IsStatus result }
+{
+    match texts(rt.alloc(), arguments) {
         Ok(words) => run(rt, &words, out, err),
         Err(_) => print_no_memory(err),
     }

@@ -2,6 +2,7 @@
 ghost use Rattle.std.specs.Prelude.{◌≡◌, ◌⊎◌, IfErr, IfOk, List, ℕ, map};
 ghost use Rattle.std.specs.Io.KnownBytes.{Appends};
 ghost use Rattle.clap.specs.Words.{kind_of};
+ghost use Rattle.nix_names.specs.Names.{IsStoreDir};
 ghost use Rattle.nix_realise.specs.CheckLines.{IsReport};
 ghost use Rattle.nix_realise.specs.Folders.{may_give};
 ghost use Rattle.nix_realise.specs.Stops.{IsStatus, IsStopOf, IsTold, IsUsageStatus};
@@ -34,11 +35,22 @@ pub fn run<'a, R: Files + AllocGlobal, O: Write, E: Write>(
 ) -> u8
     ensures { IsStatus result }
 {
-    let request = match request(rt.alloc(), words) {
-        Ok(request) => request,
-        Err(fault) => return print_usage(rt.alloc(), &fault, out, err),
-    };
-    let outcome = match &request {
+    match request(rt.alloc(), words) {
+        Ok(request) => run_request(rt, &request, out, err),
+        Err(fault) => print_usage(rt.alloc(), &fault, out, err),
+    }
+}
+
+// Runs a subcommand, and ends with its status or with the line that tells why it stopped.
+fn run_request<R: Files + AllocGlobal, O: Write, E: Write>(
+    rt: &R,
+    request: &Request<'_>,
+    out: &mut O,
+    err: &mut E,
+) -> u8
+    ensures { IsStatus result }
+{
+    let outcome = match request {
         Request::Check(request) => check(rt, request, out),
         Request::AddText(request) => add_text(rt, request, out),
     };
@@ -118,13 +130,28 @@ fn check<'a, R: Files + AllocGlobal, O: Write>(
         × Appends (O.contents out.old) (O.contents out.new) text) }
     ensures stop { IfErr result (IsStopOf request.now.store_dir.now) }
 {
-    let dir = store_dir(rt.alloc(), request.store_dir)?;
-    let mut source = FolderSource::new(rt);
-    let Ok((lines, status)) = check_lines(rt.alloc(), &mut source, &dir, &request.drvs) else {
-        return Err(Stop::NoMemory);
-    };
+    let (lines, status) = report(rt, request)?;
     match print_bytes(&lines, out) {
         Ok(()) => Ok(status),
         Err(_) => Err(Stop::Unwritable),
+    }
+}
+
+// The lines of `check` over files on disk, and its status.
+fn report<'a, R: Files + AllocGlobal>(
+    rt: &R,
+    request: &CheckRequest<'a>,
+) -> Result<(Vec<u8>, u8), Stop<'a>>
+    ensures report { IfOk result (λ r.
+        IsReport (λ _ answer. may_give answer) request.now.store_dir.now
+        (map (λ w. w.now) request.now.drvs.items) r.0.items r.1) }
+    ensures is_dir { IfOk result (λ _. IsStoreDir request.now.store_dir.now) }
+    ensures stop { IfErr result (IsStopOf request.now.store_dir.now) }
+{
+    let dir = store_dir(rt.alloc(), request.store_dir)?;
+    let mut source = FolderSource::new(rt);
+    match check_lines(rt.alloc(), &mut source, &dir, &request.drvs) {
+        Ok(report) => Ok(report),
+        Err(_) => Err(Stop::NoMemory),
     }
 }

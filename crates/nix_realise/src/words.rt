@@ -31,8 +31,20 @@ const DEFAULT_STORE_DIR: &str = "/nix/store";
 pub fn request<'a>(alloc: Global, words: &'a [&'a str]) -> Result<Request<'a>, Error> {
     let matches = command(alloc)?.try_get_matches_from(words)?;
     match matches.subcommand() {
-        Some((CHECK, found)) => Ok(Request::Check(check_request(alloc, found)?)),
-        Some((ADD_TEXT, found)) => Ok(Request::AddText(add_text_request(found))),
+        Some((name, found)) => subcommand_request(alloc, name, found),
+        None => Err(no_subcommand(alloc)?),
+    }
+}
+
+// What the matches of the subcommand with this name say.
+fn subcommand_request<'a>(
+    alloc: Global,
+    name: &str,
+    found: &ArgMatches<'a>,
+) -> Result<Request<'a>, Error> {
+    match name {
+        CHECK => Ok(Request::Check(check_request(alloc, found)?)),
+        ADD_TEXT => Ok(Request::AddText(add_text_request(found))),
         _ => Err(no_subcommand(alloc)?),
     }
 }

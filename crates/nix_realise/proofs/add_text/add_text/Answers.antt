@@ -1,13 +1,13 @@
 use Rattle.std.proofs.Common.{ℕ, List, Option, refl}
 use Rattle.std.proofs.lemmas.Result.{err_from_is_err_and}
 use Rattle.nix_realise.proofs.Endings.{file_not_written, text_refused}
-use Rattle.nix_realise.specs.AddedText.{Given, given}
+use Rattle.nix_realise.specs.AddedText.{FileBytes, file_bytes}
 use Rattle.nix_realise.proofs.add_text.add_text.Goals as goal
 
 pub returns-in_err-added : goal.returns-in_err-added
 returns-in_err-added g c =
-    let gave : Given = given c.read_text-text.result in
-    let journal : Given = given c.read_journal-journal.result in
+    let gave : FileBytes = file_bytes c.read_text-text.result in
+    let journal : FileBytes = file_bytes c.read_journal-journal.result in
     let before : Option (List ℕ) = g.O.Write.contents c.args.out.now in
     let e = err_from_is_err_and c.from_residual.result c.from_residual.ensures.1 in
     let ends =
@@ -17,15 +17,15 @@ returns-in_err-added g c =
 
 pub returns-in_default : goal.returns-in_default
 returns-in_default g c = (
-  given c.read_text-text.result,
-  given c.read_journal-journal.result,
+  file_bytes c.read_text-text.result,
+  file_bytes c.read_journal-journal.result,
   (c.in_ok-added.added, c.in_ok-added.ensures),
 )
 
 pub returns-in_err-write_files : goal.returns-in_err-write_files
 returns-in_err-write_files g c =
-    let gave : Given = given c.read_text-text.result in
-    let journal : Given = given c.read_journal-journal.result in
+    let gave : FileBytes = file_bytes c.read_text-text.result in
+    let journal : FileBytes = file_bytes c.read_journal-journal.result in
     let before : Option (List ℕ) = g.O.Write.contents c.args.out.now in
     let after : Option (List ℕ) = g.O.Write.contents c.print_path.new.out in
     let step = c.from_residual-in_err-write_files in
@@ -38,7 +38,7 @@ returns-in_err-write_files g c =
 
 pub returns : goal.returns
 returns g c = (
-  given c.read_text-text.result,
-  given c.read_journal-journal.result,
+  file_bytes c.read_text-text.result,
+  file_bytes c.read_journal-journal.result,
   (refl, (c.in_ok-added.added, (c.in_ok-added.ensures, c.in-Ok.ensures))),
 )
