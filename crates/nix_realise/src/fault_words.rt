@@ -2,6 +2,7 @@
 //!
 //! Each type of fault has one function here, which adds the words to a list of bytes.
 ghost use Rattle.std.specs.Prelude.{◌≡◌, ◌++◌, IfOk, OnOk, decimal};
+ghost use Rattle.std.specs.Io.KnownBytes.{Appends};
 ghost use Rattle.nix_drv.specs.Strings.{spelling, string_text};
 ghost use Rattle.nix_realise.specs.FaultWords.{drv_fault_words, name_fault_words};
 ghost use Rattle.nix_realise.specs.FaultWords.{table_fault_words, with_value};
@@ -12,6 +13,8 @@ use itoa::Buffer;
 use nix_drv::DrvFault;
 use nix_names::NameFault;
 use std::alloc::{AllocError, Global};
+use std::io;
+use std::io::Write;
 use valid_table::TableFault;
 
 /// Adds the words of a fault on names.
@@ -127,32 +130,36 @@ fn write_with_string(name: &[u8], text: &[u8], out: &mut Vec<u8>) -> Result<(), 
 {
     out.extend_from_slice(name)?;
     out.extend_from_slice(b"(")?;
-    write_string(text, out)?;
+    // A list refuses a write for want of memory alone.
+    let Ok(()) = write_string(out, text) else {
+        return Err(AllocError);
+    };
     out.extend_from_slice(b")")
 }
 
-// Adds a string as the derivations' language spells it, with its quotes.
-fn write_string(bytes: &[u8], out: &mut Vec<u8>) -> Result<(), AllocError>
-    ensures { OnOk result (out.new.items ≡ out.old.items ++ string_text bytes.now) }
+// Writes a string as the derivations' language spells it, with its quotes.
+fn write_string<W: Write>(out: &mut W, bytes: &[u8]) -> io::Result<()>
+    ensures { OnOk result
+        (Appends (W.contents out.old) (W.contents out.new) (string_text bytes.now)) }
 {
-    out.extend_from_slice(b"\"")?;
+    out.write_all(b"\"")?;
     for byte in bytes {
-        write_spelling(*byte, out)?;
+        write_spelling(out, *byte)?;
     }
-    out.extend_from_slice(b"\"")
+    out.write_all(b"\"")
 }
 
-// Adds a byte of a string as the derivations' language spells it.
+// Writes a byte of a string as the derivations' language spells it.
 #[tactic(auto, unfolding(nix_drv::specs::Strings::spelling))]
-fn write_spelling(byte: u8, out: &mut Vec<u8>) -> Result<(), AllocError>
-    ensures { OnOk result (out.new.items ≡ out.old.items ++ spelling byte) }
+fn write_spelling<W: Write>(out: &mut W, byte: u8) -> io::Result<()>
+    ensures { OnOk result (Appends (W.contents out.old) (W.contents out.new) (spelling byte)) }
 {
     match byte {
-        b'"' => out.extend_from_slice(b"\\\""),
-        b'\\' => out.extend_from_slice(b"\\\\"),
-        b'\n' => out.extend_from_slice(b"\\n"),
-        b'\r' => out.extend_from_slice(b"\\r"),
-        b'\t' => out.extend_from_slice(b"\\t"),
-        _ => out.extend_from_slice(&[byte]),
+        b'"' => out.write_all(b"\\\""),
+        b'\\' => out.write_all(b"\\\\"),
+        b'\n' => out.write_all(b"\\n"),
+        b'\r' => out.write_all(b"\\r"),
+        b'\t' => out.write_all(b"\\t"),
+        _ => out.write_all(&[byte]),
     }
 }
