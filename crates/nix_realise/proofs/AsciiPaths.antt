@@ -1,5 +1,6 @@
 -- The bytes of a store path are ASCII, so it is text.
-use Rattle.std.proofs.Common.{◌≡◌, ◌<◌, ◌==◌, ℕ, Bool, true, List, [], ◌∷◌, ◌++◌, All, arith, nat_lt, refl, sym, subst, IsTrue, codes, inl, inr}
+use Rattle.std.proofs.Common.{◌≡◌, ◌<◌, ◌==◌, ℕ, Bool, true, List, [], ◌∷◌, ◌++◌, All, arith}
+use Rattle.std.proofs.Common.{nat_lt, refl, sym, subst, IsTrue, codes, inl, inr}
 use Rattle.std.specs.Char.{is_ascii_alphanumeric}
 use Rattle.std.specs.List.{list_all, list_any, flat_map}
 use Rattle.std.specs.Str.{IsUtf8}
@@ -17,16 +18,20 @@ abbrev IsAsciiByte : ℕ → Type 0
 IsAsciiByte b = b < 128
 
 -- what holds of all holds of the first and of the others
-both : (test : ℕ → Bool) (x : ℕ) (xs : List ℕ) → list_all test (x ∷ xs) ≡ true → (test x ≡ true) × (list_all test xs ≡ true)
+both : (test : ℕ → Bool) (x : ℕ) (xs : List ℕ)
+    → list_all test (x ∷ xs) ≡ true → (test x ≡ true) × (list_all test xs ≡ true)
 both test x xs h = and_parts (test x) (list_all test xs) h
 
 -- what equals one of some ASCII bytes is one
-among : (xs : List ℕ) (b : ℕ) → list_all (λ x. nat_lt x 128) xs ≡ true → list_any (λ x. x == b) xs ≡ true → b < 128
+among : (xs : List ℕ) (b : ℕ)
+    → list_all (λ x. nat_lt x 128) xs ≡ true → list_any (λ x. x == b) xs ≡ true → b < 128
 among [] b below found = absurd (false≢true found)
 among (x ∷ xs) b below found =
     let parts = both (λ (y : ℕ). nat_lt y 128) x xs below in
     elim (or_cases (x == b) (list_any (λ y. y == b) xs) found) [
-      | inl here ↦ let same : x ≡ b = eqb-true x b here in let first : nat_lt x 128 ≡ true = parts.0 in grind (arith, nat_tests)
+      | inl here ↦
+          let same : x ≡ b = eqb-true x b here in
+          let first : nat_lt x 128 ≡ true = parts.0 in grind (arith, nat_tests)
       | inr later ↦ among xs b parts.1 later
     ]
 
@@ -41,13 +46,16 @@ letter_is_ascii b h = grind (arith, nat_tests)
 -- a byte of a name is ASCII
 name_char_is_ascii : (b : ℕ) → is_name_char b ≡ true → b < 128
 unfolding is_name_char
-name_char_is_ascii b h = elim (or_cases (is_ascii_alphanumeric b) (list_any (λ c. c == b) (codes "+-._?=")) h) [
-  | inl letter ↦ letter_is_ascii b letter
-  | inr other ↦ among (codes "+-._?=") b refl other
-]
+name_char_is_ascii b h =
+    let others = list_any (λ c. c == b) (codes "+-._?=") in
+    elim (or_cases (is_ascii_alphanumeric b) others h) [
+      | inl letter ↦ letter_is_ascii b letter
+      | inr other ↦ among (codes "+-._?=") b refl other
+    ]
 
 -- bytes that pass a test that only ASCII bytes pass
-all_ascii : (test : ℕ → Bool) → ((b : ℕ) → test b ≡ true → b < 128) → (bytes : List ℕ) → list_all test bytes ≡ true → All IsAsciiByte bytes
+all_ascii : (test : ℕ → Bool) → ((b : ℕ) → test b ≡ true → b < 128)
+    → (bytes : List ℕ) → list_all test bytes ≡ true → All IsAsciiByte bytes
 all_ascii test passes [] h = All-nil IsAsciiByte
 all_ascii test passes (b ∷ bytes) h =
     let parts = both test b bytes h in
@@ -62,29 +70,40 @@ name_passes : (name : List ℕ) → is_name name ≡ true → list_all is_name_c
 unfolding is_name
 name_passes name h = (and_parts _ _ (and_parts _ _ h).0).1
 
-component_passes : (part : List ℕ) → is_component part ≡ true → list_all is_name_char part ≡ true
+component_passes : (part : List ℕ) → is_component part ≡ true
+    → list_all is_name_char part ≡ true
 unfolding is_component
 component_passes part h = (and_parts _ _ (and_parts _ _ (and_parts _ _ h).0).0).1
 
 -- components, each behind a slash, are ASCII
-components_are_ascii : (parts : List (List ℕ)) → All (λ part. IsTrue (is_component part)) parts → All IsAsciiByte (flat_map (λ part. 47 ∷ part) parts)
+components_are_ascii : (parts : List (List ℕ)) → All (λ part. IsTrue (is_component part)) parts
+    → All IsAsciiByte (flat_map (λ part. 47 ∷ part) parts)
 components_are_ascii [] each = All-nil IsAsciiByte
 components_are_ascii (part ∷ parts) each =
-    let first = all_ascii is_name_char name_char_is_ascii part (component_passes part (All-head (λ p. IsTrue (is_component p)) part parts each)) in
+    let Is : List ℕ → Type 0 = λ p. IsTrue (is_component p) in
+    let passes = component_passes part (All-head Is part parts each) in
+    let first = all_ascii is_name_char name_char_is_ascii part passes in
     All-append IsAsciiByte (47 ∷ part) _ (All-cons IsAsciiByte 47 part (omega arith) first)
-    (components_are_ascii parts (All-tail (λ p. IsTrue (is_component p)) part parts each))
+    (components_are_ascii parts (All-tail Is part parts each))
 
 -- a store folder is ASCII
 dir_is_ascii : (dir : List ℕ) → IsStoreDir dir → All IsAsciiByte dir
-dir_is_ascii dir is_dir = subst (All IsAsciiByte) (sym is_dir.parts) (components_are_ascii is_dir.components is_dir.each)
+dir_is_ascii dir is_dir =
+    subst (All IsAsciiByte) (sym is_dir.parts) (components_are_ascii is_dir.components is_dir.each)
 
 -- a store path is text
 pub path_is_text : (path : List ℕ) → IsStorePath path → IsUtf8 path
 path_is_text path is =
-    let hash = all_ascii is_digit digit_is_ascii is.is_path.hash (hash_passes is.is_path.hash is.is_path.is_hash) in
-    let name = all_ascii is_name_char name_char_is_ascii is.is_path.name (name_passes is.is_path.name is.is_path.named) in
-    let base : All IsAsciiByte (is.is_path.hash ++ 45 ∷ is.is_path.name) =
-    All-append IsAsciiByte is.is_path.hash _ hash (All-cons IsAsciiByte 45 is.is_path.name (omega arith) name) in
-    let whole : All IsAsciiByte (path_text is.dir is.is_path.hash is.is_path.name) =
-    All-append IsAsciiByte is.dir _ (dir_is_ascii is.dir is.is_dir) (All-cons IsAsciiByte 47 _ (omega arith) base) in
-    IsUtf8-from_ascii path (IsAscii-from_all path (subst (All IsAsciiByte) (sym is.is_path.parts) whole))
+    let parts = is.is_path in
+    let digits = hash_passes parts.hash parts.is_hash in
+    let hash = all_ascii is_digit digit_is_ascii parts.hash digits in
+    let passes = name_passes parts.name parts.named in
+    let name = all_ascii is_name_char name_char_is_ascii parts.name passes in
+    let base : All IsAsciiByte (parts.hash ++ 45 ∷ parts.name) =
+    All-append IsAsciiByte parts.hash _ hash
+    (All-cons IsAsciiByte 45 parts.name (omega arith) name) in
+    let whole : All IsAsciiByte (path_text is.dir parts.hash parts.name) =
+    All-append IsAsciiByte is.dir _ (dir_is_ascii is.dir is.is_dir)
+    (All-cons IsAsciiByte 47 _ (omega arith) base) in
+    let ascii = subst (All IsAsciiByte) (sym parts.parts) whole in
+    IsUtf8-from_ascii path (IsAscii-from_all path ascii)

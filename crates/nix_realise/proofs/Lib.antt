@@ -1,5 +1,5 @@
 pub mod AddedTexts
 pub mod AsciiPaths
+pub mod Endings
 pub mod Registrations
 pub mod Reports
-pub mod Writing

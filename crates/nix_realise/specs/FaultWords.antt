@@ -4,15 +4,15 @@ use Rattle.nix_names.specs.declared.fault.NameFault.{NameFault}
 use Rattle.nix_names.specs.declared.fault.NameFault.TheVariants as name
 use Rattle.nix_drv.specs.Strings.{string_text}
 use Rattle.nix_drv.specs.declared.fault.DrvFault.{DrvFault}
-use Rattle.nix_drv.specs.declared.fault.DrvFault.TheVariants.{NoMemory, Syntax, Order, TooLong, TextPathMismatch, NotADrvName, NotSorted, BadReference}
+use Rattle.nix_drv.specs.declared.fault.DrvFault.TheVariants as drv
 use Rattle.valid_table.specs.declared.fault.TableFault.{TableFault}
 use Rattle.valid_table.specs.declared.fault.TableFault.TheVariants as table
 
 -- a fault's name and its value
-abbrev pub with_value : List ℕ → List ℕ → List ℕ
-with_value fault value = fault ++ codes "(" ++ value ++ codes ")"
+abbrev pub with_value : (name value : List ℕ) → List ℕ
+with_value name value = name ++ codes "(" ++ value ++ codes ")"
 
--- the words of a fault on names
+-- the words of a fault on names; places are counted from 0
 abbrev pub name_fault_words : NameFault → List ℕ
 name_fault_words name.BadLength = codes "BadLength"
 name_fault_words (name.BadChar place) = with_value (codes "BadChar") (decimal place)
@@ -25,14 +25,14 @@ name_fault_words name.NoMemory = codes "NoMemory"
 
 -- the words of a fault on derivations; a text is spelled as in a derivation's own text
 abbrev pub drv_fault_words : DrvFault → List ℕ
-drv_fault_words NoMemory = codes "NoMemory"
-drv_fault_words (Syntax place) = with_value (codes "Syntax") (decimal place)
-drv_fault_words (Order place) = with_value (codes "Order") (decimal place)
-drv_fault_words TooLong = codes "TooLong"
-drv_fault_words (TextPathMismatch expected) = with_value (codes "TextPathMismatch") expected
-drv_fault_words NotADrvName = codes "NotADrvName"
-drv_fault_words NotSorted = codes "NotSorted"
-drv_fault_words (BadReference text) = with_value (codes "BadReference") (string_text text.items)
+drv_fault_words drv.NoMemory = codes "NoMemory"
+drv_fault_words (drv.Syntax place) = with_value (codes "Syntax") (decimal place)
+drv_fault_words (drv.Order place) = with_value (codes "Order") (decimal place)
+drv_fault_words drv.TooLong = codes "TooLong"
+drv_fault_words (drv.TextPathMismatch path) = with_value (codes "TextPathMismatch") path
+drv_fault_words drv.NotADrvName = codes "NotADrvName"
+drv_fault_words drv.NotSorted = codes "NotSorted"
+drv_fault_words (drv.BadReference text) = with_value (codes "BadReference") (string_text text.items)
 
 -- the words of a fault on journals; lines are counted from 1
 abbrev pub table_fault_words : TableFault → List ℕ

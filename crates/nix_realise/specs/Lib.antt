@@ -1,7 +1,9 @@
 pub mod AddedText
 pub mod CheckLines
+pub mod Endings
 pub mod FaultWords
 pub mod Folders
 pub mod JournalFiles
 pub mod Registering
 pub mod Stops
+pub mod StoreDirs

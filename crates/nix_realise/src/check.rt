@@ -18,7 +18,8 @@ pub fn check_lines<S: DrvSource>(
     words: &[&str],
 ) -> Result<(Vec<u8>, u8), DrvFault>
     ensures keeps { GivesSame (S.gives source.old) (S.gives source.new) }
-    ensures report { IfOk result (λ r. IsReport (S.gives source.old) dir.now (map (λ w. w.now) words.now) r.0.items r.1) }
+    ensures report { IfOk result (λ r.
+        IsReport (S.gives source.old) dir.now (map (λ w. w.now) words.now) r.0.items r.1) }
     ensures only { IfErr result (λ e. e ≡ DrvFault.NoMemory) }
 {
     let mut lines = Vec::new(alloc);
@@ -29,10 +30,7 @@ pub fn check_lines<S: DrvSource>(
         if !verdict.is_good() {
             status = 2;
         }
-        // A list refuses a write for want of memory alone.
-        let Ok(()) = write_line(&mut lines, word, &verdict) else {
-            return Err(DrvFault::NoMemory);
-        };
+        write_line(word, &verdict, &mut lines)?;
     }
     Ok((lines, status))
 }

@@ -1,87 +1,135 @@
-//! The words by which a line names a fault.
-ghost use Rattle.std.specs.Prelude.{◌≡◌, IsOkAnd, OnOk};
-ghost use Rattle.std.specs.Io.KnownBytes.{Appends};
+//! The words by which a line names a fault: its name, and its value in parentheses.
+//!
+//! Each type of fault has one function here, which adds the words to a list of bytes.
+ghost use Rattle.std.specs.Prelude.{◌≡◌, ◌++◌, IfOk, OnOk, decimal};
+ghost use Rattle.nix_drv.specs.Strings.{string_text};
 ghost use Rattle.nix_realise.specs.FaultWords.{drv_fault_words, name_fault_words};
+ghost use Rattle.nix_realise.specs.FaultWords.{table_fault_words, with_value};
+ghost use Rattle.nix_realise.specs.Stops.{stop_fault_words, stop_line};
 
+use crate::stop::Stop;
+use itoa::Buffer;
 use nix_drv::{DrvFault, write_string};
-use nix_names::{NameFault, StorePath};
-use std::io::Write;
-use std::{fmt, io, str};
+use nix_names::NameFault;
+use std::alloc::{AllocError, Global};
 use valid_table::TableFault;
 
-/// Writes the name of a fault on names, and its value in parentheses.
-pub fn write_name_fault<W: Write>(out: &mut W, fault: NameFault) -> io::Result<()>
-    ensures { OnOk result (Appends (W.contents out.old) (W.contents out.new) (name_fault_words fault)) }
+/// Adds the words of a fault on names.
+pub fn write_name_fault(fault: NameFault, out: &mut Vec<u8>) -> Result<(), AllocError>
+    ensures { OnOk result (out.new.items ≡ out.old.items ++ name_fault_words fault) }
 {
     match fault {
-        NameFault::BadLength => out.write_all(b"BadLength"),
-        NameFault::BadChar(place) => write!(out, "BadChar({place})"),
-        NameFault::Overflow => out.write_all(b"Overflow"),
-        NameFault::NotInStore => out.write_all(b"NotInStore"),
-        NameFault::BadHashPart => out.write_all(b"BadHashPart"),
-        NameFault::BadName => out.write_all(b"BadName"),
-        NameFault::BadStoreDir => out.write_all(b"BadStoreDir"),
-        NameFault::NoMemory => out.write_all(b"NoMemory"),
+        NameFault::BadLength => write_name(b"BadLength", out),
+        NameFault::BadChar(place) => write_with_number(b"BadChar", place, out),
+        NameFault::Overflow => write_name(b"Overflow", out),
+        NameFault::NotInStore => write_name(b"NotInStore", out),
+        NameFault::BadHashPart => write_name(b"BadHashPart", out),
+        NameFault::BadName => write_name(b"BadName", out),
+        NameFault::BadStoreDir => write_name(b"BadStoreDir", out),
+        NameFault::NoMemory => write_name(b"NoMemory", out),
     }
 }
 
-/// Writes the name of a fault on derivations, and its value in parentheses: a place in decimal, a
-/// path as it stands, a text as the derivations' language spells it.
-pub fn write_drv_fault<W: Write>(out: &mut W, fault: &DrvFault) -> io::Result<()>
-    ensures { OnOk result (Appends (W.contents out.old) (W.contents out.new) (drv_fault_words fault.now)) }
+/// Adds the words of a fault on derivations: a place in decimal, a path as it stands, a text as the
+/// derivations' language spells it.
+pub fn write_drv_fault(fault: &DrvFault, out: &mut Vec<u8>) -> Result<(), AllocError>
+    ensures { OnOk result (out.new.items ≡ out.old.items ++ drv_fault_words fault.now) }
 {
     match fault {
-        DrvFault::NoMemory => out.write_all(b"NoMemory"),
-        DrvFault::Syntax(place) => write!(out, "Syntax({place})"),
-        DrvFault::Order(place) => write!(out, "Order({place})"),
-        DrvFault::TooLong => out.write_all(b"TooLong"),
-        DrvFault::TextPathMismatch(expected) => {
-            out.write_all(b"TextPathMismatch(")?;
-            out.write_all(expected.text())?;
-            out.write_all(b")")
+        DrvFault::NoMemory => write_name(b"NoMemory", out),
+        DrvFault::Syntax(place) => write_with_number(b"Syntax", *place, out),
+        DrvFault::Order(place) => write_with_number(b"Order", *place, out),
+        DrvFault::TooLong => write_name(b"TooLong", out),
+        DrvFault::TextPathMismatch(path) => {
+            write_with_value(b"TextPathMismatch", path.text(), out)
         }
-        DrvFault::NotADrvName => out.write_all(b"NotADrvName"),
-        DrvFault::NotSorted => out.write_all(b"NotSorted"),
-        DrvFault::BadReference(text) => {
-            out.write_all(b"BadReference(")?;
-            write_string(out, text)?;
-            out.write_all(b")")
-        }
+        DrvFault::NotADrvName => write_name(b"NotADrvName", out),
+        DrvFault::NotSorted => write_name(b"NotSorted", out),
+        DrvFault::BadReference(text) => write_with_string(b"BadReference", text, out),
     }
 }
 
-/// A fault on journals. Its `Display` is its name, and its value in parentheses: a line's number in
-/// decimal, a path as it stands.
-#[derive(Clone, Copy)]
-pub struct TableFaultWords<'a>(pub &'a TableFault);
-
-impl fmt::Display for TableFaultWords<'_> {
-    ghost use Rattle.std.specs.Prelude.{Some};
-    ghost use Rattle.nix_realise.specs.FaultWords.{table_fault_words};
-
-    ghost output = { λ words. Some (table_fault_words words.0.now) };
-
-    fn fmt<W: fmt::Write>(&self, f: &mut fmt::Formatter<W>) -> fmt::Result {
-        match self.0 {
-            TableFault::NoMemory => f.write_str("NoMemory"),
-            TableFault::BadLine(line) => write!(f, "BadLine({line})"),
-            TableFault::NotClosed(line) => write!(f, "NotClosed({line})"),
-            TableFault::Twice(line) => write!(f, "Twice({line})"),
-            TableFault::WrongVersion => f.write_str("WrongVersion"),
-            TableFault::NotValid(path) => write!(f, "NotValid({})", path_text(path)?),
-            TableFault::TooLong => f.write_str("TooLong"),
-            TableFault::Unclosed(path) => write!(f, "Unclosed({})", path_text(path)?),
-            TableFault::AlreadyValid(path) => write!(f, "AlreadyValid({})", path_text(path)?),
-        }
-    }
-}
-
-/// A store path as text. It never fails, since the characters of a path are ASCII.
-pub fn path_text(path: &StorePath) -> Result<&str, fmt::Error>
-    ensures { IsOkAnd result (λ text. text.now ≡ path.now) }
+/// Adds the words of a fault on journals: a line's number in decimal, a path as it stands.
+pub fn write_table_fault(fault: &TableFault, out: &mut Vec<u8>) -> Result<(), AllocError>
+    ensures { OnOk result (out.new.items ≡ out.old.items ++ table_fault_words fault.now) }
 {
-    let Ok(text) = str::from_utf8(path.text()) else {
-        return Err(fmt::Error);
+    match fault {
+        TableFault::NoMemory => write_name(b"NoMemory", out),
+        TableFault::BadLine(line) => write_with_number(b"BadLine", *line, out),
+        TableFault::NotClosed(line) => write_with_number(b"NotClosed", *line, out),
+        TableFault::Twice(line) => write_with_number(b"Twice", *line, out),
+        TableFault::WrongVersion => write_name(b"WrongVersion", out),
+        TableFault::NotValid(path) => write_with_value(b"NotValid", path.text(), out),
+        TableFault::TooLong => write_name(b"TooLong", out),
+        TableFault::Unclosed(path) => write_with_value(b"Unclosed", path.text(), out),
+        TableFault::AlreadyValid(path) => write_with_value(b"AlreadyValid", path.text(), out),
+    }
+}
+
+/// Adds the words of the fault by which a run ends.
+pub fn write_stop_fault(stop: &Stop<'_>, out: &mut Vec<u8>) -> Result<(), AllocError>
+    ensures { OnOk result (out.new.items ≡ out.old.items ++ stop_fault_words stop.now) }
+{
+    match stop {
+        Stop::BadStoreDir(_) => write_name(b"BadStoreDir", out),
+        Stop::Unreadable(_) => write_name(b"Unreadable", out),
+        Stop::TooLong(_) => write_name(b"TooLong", out),
+        Stop::BadName(_) => write_name(b"BadName", out),
+        Stop::JournalUnreadable => write_name(b"Unreadable", out),
+        Stop::BadJournal(fault) => write_table_fault(fault, out),
+        Stop::NotWritten(_) => write_name(b"Unwritable", out),
+        Stop::JournalNotWritten => write_name(b"Unwritable", out),
+        Stop::NoMemory => write_name(b"NoMemory", out),
+        Stop::Unwritable => write_name(b"Unwritable", out),
+    }
+}
+
+/// The line that tells why a run ends without its report, with its newline.
+pub fn stop_line(alloc: Global, stop: &Stop<'_>) -> Result<Vec<u8>, AllocError>
+    ensures { IfOk result (λ line. line.items ≡ stop_line stop.now) }
+{
+    let mut line = Vec::from_slice(alloc, b"nix_realise: ")?;
+    line.extend_from_slice(stop.blamed())?;
+    line.extend_from_slice(b": ")?;
+    write_stop_fault(stop, &mut line)?;
+    line.extend_from_slice(b"\n")?;
+    Ok(line)
+}
+
+// Adds a name alone.
+fn write_name(name: &[u8], out: &mut Vec<u8>) -> Result<(), AllocError>
+    ensures { OnOk result (out.new.items ≡ out.old.items ++ name.now) }
+{
+    out.extend_from_slice(name)
+}
+
+// Adds a name, and a number in parentheses.
+fn write_with_number(name: &[u8], number: usize, out: &mut Vec<u8>) -> Result<(), AllocError>
+    ensures { OnOk result (out.new.items ≡ out.old.items ++ with_value name.now (decimal number)) }
+{
+    write_with_value(name, Buffer::new().format(number).as_bytes(), out)
+}
+
+// Adds a name, and a value in parentheses.
+fn write_with_value(name: &[u8], value: &[u8], out: &mut Vec<u8>) -> Result<(), AllocError>
+    ensures { OnOk result (out.new.items ≡ out.old.items ++ with_value name.now value.now) }
+{
+    out.extend_from_slice(name)?;
+    out.extend_from_slice(b"(")?;
+    out.extend_from_slice(value)?;
+    out.extend_from_slice(b")")
+}
+
+// Adds a name, and in parentheses a text as the derivations' language spells it.
+fn write_with_string(name: &[u8], text: &[u8], out: &mut Vec<u8>) -> Result<(), AllocError>
+    ensures { OnOk result
+        (out.new.items ≡ out.old.items ++ with_value name.now (string_text text.now)) }
+{
+    out.extend_from_slice(name)?;
+    out.extend_from_slice(b"(")?;
+    // A list refuses a write for want of memory alone.
+    let Ok(()) = write_string(out, text) else {
+        return Err(AllocError);
     };
-    Ok(text)
+    out.extend_from_slice(b")")
 }

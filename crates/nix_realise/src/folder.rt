@@ -4,17 +4,14 @@ ghost use Rattle.std.specs.IoError.{error_kind, raw_os_error};
 ghost use Rattle.nix_drv.specs.Sources.{IsCounted};
 ghost use Rattle.nix_realise.specs.Folders.{may_give};
 
+use crate::files::{MAX_READ, file_path, read_start};
 use nix_drv::{DrvSource, SourceFault};
 use nix_names::StorePath;
 use std::alloc::Global;
-use std::io::{ErrorKind, Read};
+use std::io;
+use std::io::ErrorKind;
 use std::marker::Model;
 use std::rt::Files;
-use std::{fs, io, str};
-
-/// How many bytes of a text's file are read: one more than a text may have, so that a longer one is
-/// known by their number.
-pub const MAX_READ: u64 = 4_194_305;
 
 /// The files on disk, each under the text of its path. A contract sees how often one could not be
 /// read.
@@ -49,7 +46,8 @@ impl<'a, R> FolderSource<'a, R> {
 
     // What a failed read answers, counted where the device is to blame.
     fn fault_of(&mut self, error: &io::Error) -> SourceFault
-        ensures missing { (result ≡ SourceFault.Missing) ↔ (error_kind error.now ≡ ErrorKind.NotFound) }
+        ensures missing { (result ≡ SourceFault.Missing)
+            ↔ (error_kind error.now ≡ ErrorKind.NotFound) }
         ensures memory { (result ≡ SourceFault.NoMemory)
             ↔ ((error_kind error.now ≡ ErrorKind.OutOfMemory) × (raw_os_error error.now ≡ None)) }
         ensures counted { IsCounted self.old self.new (Err result) }
@@ -85,25 +83,4 @@ fn read_store_file<R: Files>(alloc: Global, files: &R, path: &StorePath) -> io::
     ensures { IfOk result (λ bytes. length bytes.items ≤ 4194305) }
 {
     read_start(alloc, files, file_path(path)?, MAX_READ)
-}
-
-/// The first bytes of the file at a path, at most so many of them.
-pub fn read_start<R: Files>(alloc: Global, files: &R, path: &str, most: u64) -> io::Result<Vec<u8>>
-    ensures { IfOk result (λ bytes. length bytes.items ≤ most) }
-{
-    let mut bytes = Vec::new(alloc);
-    fs::open(files, path)?.take(most).read_to_end(&mut bytes)?;
-    // A reader of bytes that are not known may say more than it was asked for.
-    bytes.truncate(most as usize);
-    Ok(bytes)
-}
-
-/// A store path as the path of a file.
-pub fn file_path(path: &StorePath) -> io::Result<&str> {
-    str::from_utf8(path.text()).map_err(|_| io::Error::from(ErrorKind::InvalidInput))
-}
-
-/// Whether an error is this program's own want of memory, and none of the system's faults.
-pub fn is_no_memory(error: &io::Error) -> bool {
-    error.kind() == ErrorKind::OutOfMemory && error.raw_os_error().is_none()
 }

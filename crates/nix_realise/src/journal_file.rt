@@ -1,15 +1,15 @@
-//! The journal file: its path, read into a journal, and written.
-ghost use Rattle.std.specs.Prelude.{◌≡◌, ◌⊎◌, ℕ, List, IfOk, IfErr, option_map, string_bytes};
-ghost use Rattle.nix_realise.specs.JournalFiles.{IsJournalOf, IsReadFrom, journal_path_of};
+//! The journal file: its path, read and written.
+ghost use Rattle.std.specs.Prelude.{◌≡◌, ◌≤◌, ◌⊎◌, IfErr, IfOk, length};
+ghost use Rattle.std.specs.Prelude.{option_map, string_bytes};
+ghost use Rattle.nix_realise.specs.JournalFiles.{journal_path_of};
 
-use crate::folder::{is_no_memory, read_start};
+use crate::files::{FileFault, is_no_memory, read_start};
+use crate::options::AddTextRequest;
 use crate::stop::Stop;
 use crate::whole_file::write_whole;
-use nix_names::StoreDir;
 use std::alloc::{AllocError, Global};
 use std::io::ErrorKind;
 use std::rt::Files;
-use valid_table::Journal;
 
 // How many bytes of a journal file are read: one more than a journal may have.
 const MAX_READ: u64 = 67_108_865;
@@ -21,7 +21,8 @@ pub fn journal_path(
     store_dir: &str,
     given: Option<&str>,
 ) -> Result<String, AllocError>
-    ensures { IfOk result (λ path. string_bytes path ≡ journal_path_of store_dir.now (option_map (λ f. f.now) given.entry)) }
+    ensures { IfOk result (λ path. string_bytes path
+        ≡ journal_path_of store_dir.now (option_map (λ f. f.now) given.entry)) }
 {
     match given {
         Some(path) => String::from_str(alloc, path),
@@ -29,43 +30,35 @@ pub fn journal_path(
     }
 }
 
-/// The journal of the store folder in the file at a path. Where no file is found it has no entries;
-/// any other fault on reading the file is `JournalUnreadable`. At most 67,108,865 bytes are read.
-pub fn read_journal<'a, R: Files + AllocGlobal>(
+/// The bytes of the journal file, one more than a journal may have at most; none where no file is
+/// found.
+pub fn read_journal<R: Files + AllocGlobal>(
     rt: &R,
-    dir: &StoreDir,
-    path: &str,
-) -> Result<Journal, Stop<'a>>
-    ensures { IsReadFrom dir.now result }
+    request: &AddTextRequest<'_>,
+) -> Result<Vec<u8>, FileFault>
+    ensures { IfOk result (λ bytes. length bytes.items ≤ 67108865) }
 {
     let alloc = rt.alloc();
-    match read_start(alloc, rt, path, MAX_READ) {
-        Ok(bytes) => journal_of(alloc, dir, &bytes),
-        Err(error) if error.kind() == ErrorKind::NotFound => journal_of(alloc, dir, &[]),
-        Err(error) if is_no_memory(&error) => Err(Stop::NoMemory),
-        Err(_) => Err(Stop::JournalUnreadable),
+    let path = journal_path(alloc, request.store_dir, request.journal)?;
+    match read_start(alloc, rt, &path, MAX_READ) {
+        Ok(bytes) => Ok(bytes),
+        Err(error) if error.kind() == ErrorKind::NotFound => Ok(Vec::new(alloc)),
+        Err(error) => Err(FileFault::from(error)),
     }
 }
 
-// The journal that some bytes are.
-fn journal_of<'a>(alloc: Global, dir: &StoreDir, bytes: &[u8]) -> Result<Journal, Stop<'a>>
-    ensures { IsJournalOf dir.now bytes.now result }
-{
-    Ok(Journal::read(alloc, dir, bytes)?)
-}
-
-/// Writes a journal whole at a path.
+/// Puts a journal file with these bytes in the place of the one that is there, if any.
 pub fn write_journal<'a, R: Files + AllocGlobal>(
     rt: &R,
-    path: String,
-    journal: &Journal,
+    request: &AddTextRequest<'a>,
+    bytes: &[u8],
 ) -> Result<(), Stop<'a>>
-    ensures { IfErr result (λ stop. (stop ≡ Stop.NoMemory) ⊎ (stop ≡ Stop.JournalNotWritten path)) }
+    ensures { IfErr result (λ stop. (stop ≡ Stop.NoMemory) ⊎ (stop ≡ Stop.JournalNotWritten)) }
 {
-    let text = journal.write(rt.alloc())?;
-    match write_whole(rt, &path, &text) {
+    let path = journal_path(rt.alloc(), request.store_dir, request.journal)?;
+    match write_whole(rt, &path, bytes) {
         Ok(()) => Ok(()),
         Err(error) if is_no_memory(&error) => Err(Stop::NoMemory),
-        Err(_) => Err(Stop::JournalNotWritten(path)),
+        Err(_) => Err(Stop::JournalNotWritten),
     }
 }

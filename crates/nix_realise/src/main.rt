@@ -5,26 +5,28 @@
 //! | `options` | what a command line asks for |
 //! | `words` | the words of a command line, read by `clap` |
 //! | `store_dir` | the store folder of a command line |
+//! | `files` | files that are read |
 //! | `folder` | derivations read from the files of a folder |
 //! | `whole_file` | a file that is written whole or not at all |
 //! | `journal_file` | the journal file: its path, read and written |
-//! | `fault_words` | the words by which a line names a fault |
-//! | `verdict` | what `check` says of one word |
-//! | `check` | the lines of `check` |
-//! | `add_text` | the subcommand `add-text` |
-//! | `stop` | why a run ends without its report |
-//! | `run` | one run of the program |
+//! | `stop`, `fault_words` | why a run ends without its report; the words of faults |
+//! | `verdict`, `check` | what `check` says of one word; its lines |
+//! | `added_text`, `add_text` | what `add-text` makes of a text; the subcommand |
+//! | `printing`, `run` | what is printed; one run of the program |
 #![tactic(auto)]
 
 ghost use Rattle.std.specs.Prelude.{◌≡◌, IfOk, map, string_bytes};
 ghost use Rattle.nix_realise.specs.Stops.{IsStatus};
 
 mod add_text;
+mod added_text;
 mod check;
 mod fault_words;
+mod files;
 mod folder;
 mod journal_file;
 mod options;
+mod printing;
 mod run;
 mod stop;
 mod store_dir;
@@ -34,19 +36,18 @@ mod verdict;
 mod whole_file;
 mod words;
 
-use run::{print_stop, refuse_words, run};
+use run::{print_no_memory, refuse_words, run};
 use std::alloc::{AllocError, Global};
 use std::io::{BufWriter, ErrorKind, Write};
 use std::process::ExitCode;
 use std::rt::{Env, Files};
 use std::{env, io};
-use stop::Stop;
 
 fn main(rt: HostRuntime) -> ExitCode {
     let mut err = rt.stderr();
     let status = match BufWriter::new(rt.alloc(), io::writer(&rt)) {
         Ok(mut out) => run_arguments(&rt, &mut out, &mut err),
-        Err(_) => print_stop(Stop::NoMemory, &mut err),
+        Err(_) => print_no_memory(&mut err),
     };
     ExitCode::from(status)
 }
@@ -59,26 +60,37 @@ fn run_arguments<R: Env + Files + AllocGlobal, O: Write, E: Write>(
 ) -> u8
     ensures { IsStatus result }
 {
-    let alloc = rt.alloc();
-    let arguments = match arguments(rt) {
-        Ok(arguments) => arguments,
-        Err(error) if error.kind() == ErrorKind::InvalidData => return refuse_words(
-            alloc, out, err,
-        ),
-        Err(_) => return print_stop(Stop::NoMemory, err),
-    };
-    match texts(alloc, &arguments) {
-        Ok(words) => run(rt, &words, out, err),
-        Err(_) => print_stop(Stop::NoMemory, err),
+    match arguments(rt) {
+        Ok(arguments) => run_texts(rt, &arguments, out, err),
+        Err(error) if error.kind() == ErrorKind::InvalidData => refuse_words(rt.alloc(), out, err),
+        Err(_) => print_no_memory(err),
     }
 }
 
+// Runs the program on these arguments.
+fn run_texts<R: Files + AllocGlobal, O: Write, E: Write>(
+    rt: &R,
+    arguments: &[String],
+    out: &mut O,
+    err: &mut E,
+) -> u8
+    ensures { IsStatus result }
+{
+    match texts(rt.alloc(), arguments) {
+        Ok(words) => run(rt, &words, out, err),
+        Err(_) => print_no_memory(err),
+    }
+}
+
+// The arguments of the process.
 fn arguments<R: Env + AllocGlobal>(rt: &R) -> io::Result<Vec<String>> {
     Ok(env::args(rt)?.collect(rt.alloc())?)
 }
 
+// The arguments as texts.
 fn texts(alloc: Global, arguments: &[String]) -> Result<Vec<&str>, AllocError>
-    ensures { IfOk result (λ words. map (λ w. w.now) words.items ≡ map string_bytes arguments.now) }
+    ensures { IfOk result (λ words.
+        map (λ w. w.now) words.items ≡ map string_bytes arguments.now) }
 {
     let mut words = Vec::new(alloc);
     for argument in arguments {

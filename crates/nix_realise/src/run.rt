@@ -1,24 +1,28 @@
 //! One run of the program.
-ghost use Rattle.std.specs.Prelude.{◌≡◌, ◌⊎◌, IfErr, IfOk, IfSome, List, OnOk, ℕ, map};
+ghost use Rattle.std.specs.Prelude.{◌≡◌, ◌⊎◌, IfErr, IfOk, List, ℕ, map};
 ghost use Rattle.std.specs.Io.KnownBytes.{Appends};
 ghost use Rattle.clap.specs.Words.{kind_of};
+ghost use Rattle.nix_names.specs.Names.{IsStoreDir};
 ghost use Rattle.nix_realise.specs.CheckLines.{IsReport};
 ghost use Rattle.nix_realise.specs.Folders.{may_give};
-ghost use Rattle.nix_realise.specs.Stops.{IsStatus, IsStopOf, IsUsageStatus, status_of};
+ghost use Rattle.nix_realise.specs.Stops.{IsStatus, IsStopOf, IsTold, IsUsageStatus};
 
 use crate::add_text::add_text;
 use crate::check::check_lines;
+use crate::fault_words::stop_line;
 use crate::folder::FolderSource;
 use crate::options::{CheckRequest, Request};
+use crate::printing::{print_bytes, print_text};
 use crate::stop::Stop;
 use crate::store_dir::store_dir;
 use crate::words::{not_text, request};
 use clap::error::ErrorKind;
 use std::alloc::Global;
-use std::fmt::Display;
-use std::io;
 use std::io::Write;
 use std::rt::Files;
+
+// The line of a run that ends for want of memory.
+const NO_MEMORY_LINE: &[u8; 27] = b"nix_realise: run: NoMemory\n";
 
 /// Runs the program on a command line, whose first word is the program's own name, and gives the
 /// status: 0, 2 where the input was refused or a word of `check` is bad, 3 for want of memory or a
@@ -31,17 +35,28 @@ pub fn run<'a, R: Files + AllocGlobal, O: Write, E: Write>(
 ) -> u8
     ensures { IsStatus result }
 {
-    let request = match request(rt.alloc(), words) {
-        Ok(request) => request,
-        Err(fault) => return print_usage(&fault, out, err),
-    };
-    let outcome = match &request {
+    match request(rt.alloc(), words) {
+        Ok(request) => run_request(rt, &request, out, err),
+        Err(fault) => print_usage(rt.alloc(), &fault, out, err),
+    }
+}
+
+// Runs a subcommand, and ends with its status or with the line that tells why it stopped.
+fn run_request<R: Files + AllocGlobal, O: Write, E: Write>(
+    rt: &R,
+    request: &Request<'_>,
+    out: &mut O,
+    err: &mut E,
+) -> u8
+    ensures { IsStatus result }
+{
+    let outcome = match request {
         Request::Check(request) => check(rt, request, out),
         Request::AddText(request) => add_text(rt, request, out),
     };
     match outcome {
         Ok(status) => status,
-        Err(stop) => print_stop(stop, err),
+        Err(stop) => print_stop(rt.alloc(), &stop, err),
     }
 }
 
@@ -50,47 +65,57 @@ pub fn refuse_words<O: Write, E: Write>(alloc: Global, out: &mut O, err: &mut E)
     ensures { (result ≡ 2) ⊎ (result ≡ 3) }
 {
     match not_text(alloc) {
-        Ok(fault) => print_usage(&fault, out, err),
-        Err(_) => print_stop(Stop::NoMemory, err),
+        Ok(fault) => print_usage(alloc, &fault, out, err),
+        Err(_) => print_no_memory(err),
     }
 }
 
-/// Ends a run with a line that names the fault, and gives its status, or 3 where the line is
-/// refused.
-pub fn print_stop<E: Write>(stop: Stop<'_>, err: &mut E) -> u8
-    ensures { (result ≡ status_of stop.entry) ⊎ (result ≡ 3) }
+/// Ends a run with a line that names the fault, and gives its status. Where there is no memory for
+/// the line, or it is refused, the status is 3.
+pub fn print_stop<E: Write>(alloc: Global, stop: &Stop<'_>, err: &mut E) -> u8
+    ensures { IsTold (E.contents err.old) (E.contents err.new) stop.now result }
 {
-    match print(format_args!("nix_realise: {stop}\n"), err) {
+    let Ok(line) = stop_line(alloc, stop) else {
+        return print_no_memory(err);
+    };
+    match print_bytes(&line, err) {
         Ok(()) => stop.status(),
         Err(_) => 3,
     }
 }
 
-// Ends a run with the text of `clap`: a mistake in the words, or the help that was asked for.
-fn print_usage<O: Write, E: Write>(fault: &clap::Error, out: &mut O, err: &mut E) -> u8
+/// Ends a run for want of memory: status 3, and takes none.
+pub fn print_no_memory<E: Write>(err: &mut E) -> u8
+    ensures { result ≡ 3 }
+{
+    // The status is the same where the line is refused.
+    let _ = print_bytes(NO_MEMORY_LINE, err);
+    3
+}
+
+// Ends a run with the text of `clap`: a mistake in the words, or the help or version that was asked
+// for.
+fn print_usage<O: Write, E: Write>(
+    alloc: Global,
+    fault: &clap::Error,
+    out: &mut O,
+    err: &mut E,
+) -> u8
     ensures { IsUsageStatus (kind_of fault.now) result }
 {
     if fault.kind() == ErrorKind::OutOfMemory {
-        return print_stop(Stop::NoMemory, err);
+        return print_no_memory(err);
     }
     if fault.use_stderr() {
-        return match print(fault, err) {
+        return match print_text(fault, err) {
             Ok(()) => 2,
             Err(_) => 3,
         };
     }
-    match print(fault, out) {
+    match print_text(fault, out) {
         Ok(()) => 0,
-        Err(_) => print_stop(Stop::Unwritable, err),
+        Err(_) => print_stop(alloc, &Stop::Unwritable, err),
     }
-}
-
-// Writes a text, and all that stands before it.
-fn print<D: Display + Drop, W: Write>(text: D, to: &mut W) -> io::Result<()>
-    ensures { OnOk result (IfSome (D.output text) (Appends (W.contents to.old) (W.contents to.new))) }
-{
-    write!(to, "{text}")?;
-    to.flush()
 }
 
 // The subcommand `check`: prints its lines and gives its status.
@@ -100,21 +125,33 @@ fn check<'a, R: Files + AllocGlobal, O: Write>(
     out: &mut O,
 ) -> Result<u8, Stop<'a>>
     ensures report { IfOk result (λ status. (text : List ℕ)
-        × IsReport (λ _ answer. may_give answer) request.now.store_dir.now (map (λ w. w.now) request.now.drvs.items) text status
+        × IsReport (λ _ answer. may_give answer) request.now.store_dir.now
+        (map (λ w. w.now) request.now.drvs.items) text status
         × Appends (O.contents out.old) (O.contents out.new) text) }
     ensures stop { IfErr result (IsStopOf request.now.store_dir.now) }
 {
-    let alloc = rt.alloc();
-    let dir = store_dir(alloc, request.store_dir)?;
+    let (lines, status) = report(rt, request)?;
+    match print_bytes(&lines, out) {
+        Ok(()) => Ok(status),
+        Err(_) => Err(Stop::Unwritable),
+    }
+}
+
+// The lines of `check` over files on disk, and its status.
+fn report<'a, R: Files + AllocGlobal>(
+    rt: &R,
+    request: &CheckRequest<'a>,
+) -> Result<(Vec<u8>, u8), Stop<'a>>
+    ensures report { IfOk result (λ r.
+        IsReport (λ _ answer. may_give answer) request.now.store_dir.now
+        (map (λ w. w.now) request.now.drvs.items) r.0.items r.1) }
+    ensures is_dir { IfOk result (λ _. IsStoreDir request.now.store_dir.now) }
+    ensures stop { IfErr result (IsStopOf request.now.store_dir.now) }
+{
+    let dir = store_dir(rt.alloc(), request.store_dir)?;
     let mut source = FolderSource::new(rt);
-    let Ok((lines, status)) = check_lines(alloc, &mut source, &dir, &request.drvs) else {
-        return Err(Stop::NoMemory);
-    };
-    let Ok(()) = out.write_all(&lines) else {
-        return Err(Stop::Unwritable);
-    };
-    let Ok(()) = out.flush() else {
-        return Err(Stop::Unwritable);
-    };
-    Ok(status)
+    match check_lines(rt.alloc(), &mut source, &dir, &request.drvs) {
+        Ok(report) => Ok(report),
+        Err(_) => Err(Stop::NoMemory),
+    }
 }

@@ -1,14 +1,12 @@
 //! Why a run ends without its report.
 ghost use Rattle.std.specs.Prelude.{◌≡◌};
-ghost use Rattle.nix_realise.specs.Stops.{number_of, status_of};
+ghost use Rattle.nix_realise.specs.Stops.{blamed_of, number_of, status_of};
 
-use crate::fault_words::{TableFaultWords, path_text};
 use nix_names::StorePath;
 use std::alloc::AllocError;
-use std::fmt;
 use valid_table::TableFault;
 
-/// Why a run ends without its report. Its `Display` is where the fault was found and its name.
+/// Why a run ends without its report.
 #[derive(Drop)]
 pub enum Stop<'a> {
     /// This text, given as the store folder, is none.
@@ -25,8 +23,8 @@ pub enum Stop<'a> {
     BadJournal(TableFault),
     /// The file at this path cannot be written.
     NotWritten(StorePath),
-    /// The journal file, which has this path, cannot be written.
-    JournalNotWritten(String),
+    /// The journal file cannot be written.
+    JournalNotWritten,
     /// Memory was refused.
     NoMemory,
     /// Standard output refused a write.
@@ -45,7 +43,7 @@ impl Stop<'_> {
             Stop::TooLong(_) => 12,
             Stop::Unreadable(_) | Stop::JournalUnreadable => 20,
             Stop::BadJournal(fault) => fault.number(),
-            Stop::NotWritten(_) | Stop::JournalNotWritten(_) | Stop::Unwritable => 74,
+            Stop::NotWritten(_) | Stop::JournalNotWritten | Stop::Unwritable => 74,
         }
     }
 
@@ -61,31 +59,24 @@ impl Stop<'_> {
             | Stop::BadJournal(_) => 2,
             Stop::JournalUnreadable
             | Stop::NotWritten(_)
-            | Stop::JournalNotWritten(_)
+            | Stop::JournalNotWritten
             | Stop::NoMemory
             | Stop::Unwritable => 3,
         }
     }
-}
 
-impl fmt::Display for Stop<'_> {
-    ghost use Rattle.std.specs.Prelude.{Some};
-    ghost use Rattle.nix_realise.specs.Stops.{stop_words};
-
-    ghost output = { λ stop. Some (stop_words stop) };
-
-    fn fmt<W: fmt::Write>(&self, f: &mut fmt::Formatter<W>) -> fmt::Result {
+    /// What the fault is found in: a word as it was given, a path, the journal or the run.
+    pub fn blamed(&self) -> &[u8]
+        ensures { result.now ≡ blamed_of self.now }
+    {
         match self {
-            Stop::BadStoreDir(dir) => write!(f, "{dir}: BadStoreDir"),
-            Stop::Unreadable(file) => write!(f, "{file}: Unreadable"),
-            Stop::TooLong(file) => write!(f, "{file}: TooLong"),
-            Stop::BadName(name) => write!(f, "{name}: BadName"),
-            Stop::JournalUnreadable => f.write_str("journal: Unreadable"),
-            Stop::BadJournal(fault) => write!(f, "journal: {}", TableFaultWords(fault)),
-            Stop::NotWritten(path) => write!(f, "{}: Unwritable", path_text(path)?),
-            Stop::JournalNotWritten(file) => write!(f, "{file}: Unwritable"),
-            Stop::NoMemory => f.write_str("run: NoMemory"),
-            Stop::Unwritable => f.write_str("run: Unwritable"),
+            Stop::BadStoreDir(word)
+            | Stop::Unreadable(word)
+            | Stop::TooLong(word)
+            | Stop::BadName(word) => word.as_bytes(),
+            Stop::NotWritten(path) => path.text(),
+            Stop::JournalUnreadable | Stop::BadJournal(_) | Stop::JournalNotWritten => b"journal",
+            Stop::NoMemory | Stop::Unwritable => b"run",
         }
     }
 }

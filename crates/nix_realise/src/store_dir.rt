@@ -1,16 +1,13 @@
 //! The store folder of a command line.
-ghost use Rattle.std.specs.Prelude.{◌≡◌, ◌⊎◌, Err, IfOk, IfErr};
-ghost use Rattle.nix_names.specs.Names.{IsStoreDir};
+ghost use Rattle.nix_realise.specs.StoreDirs.{IsStoreDirOf};
 
 use crate::stop::Stop;
 use nix_names::{NameFault, StoreDir};
 use std::alloc::Global;
 
-/// The store folder with this text: `BadStoreDir` where it is none.
+/// The store folder with this text: `BadStoreDir` where it is none, be there memory or not.
 pub fn store_dir<'a>(alloc: Global, text: &'a str) -> Result<StoreDir, Stop<'a>>
-    ensures ok { IfOk result (λ dir. (dir ≡ text.now) × IsStoreDir text.now) }
-    ensures err { IfErr result (λ stop. (stop ≡ Stop.NoMemory) ⊎ ((stop ≡ Stop.BadStoreDir text.entry) × ¬ (IsStoreDir text.now))) }
-    ensures no_dir { ¬ (IsStoreDir text.now) → result ≡ Err (Stop.BadStoreDir text.entry) }
+    ensures { IsStoreDirOf text.entry result }
 {
     match StoreDir::new(alloc, text.as_bytes()) {
         Ok(dir) => Ok(dir),

@@ -1,15 +1,13 @@
 //! What `check` says of one word.
-ghost use Rattle.std.specs.Prelude.{◌≡◌, IfOk, IfErr, OnOk};
-ghost use Rattle.std.specs.Io.KnownBytes.{Appends};
+ghost use Rattle.std.specs.Prelude.{◌≡◌, ◌++◌, IfOk, IfErr, OnOk};
 ghost use Rattle.nix_drv.specs.Sources.{GivesSame};
-ghost use Rattle.nix_realise.specs.CheckLines.{IsVerdict, is_good, line_of};
+ghost use Rattle.nix_realise.specs.CheckLines.{IsVerdict, bad_line, is_good, line_of};
+ghost use Rattle.nix_realise.specs.CheckLines.{verdict_words};
 
 use crate::fault_words::{write_drv_fault, write_name_fault};
 use nix_drv::{DrvFault, DrvSource, SourceFault, check_text};
 use nix_names::{NameFault, StoreDir, parse_path};
-use std::alloc::Global;
-use std::io;
-use std::io::Write;
+use std::alloc::{AllocError, Global};
 
 /// What is said of a word that should be the path of a store derivation.
 #[derive(Drop)]
@@ -62,23 +60,45 @@ pub fn judge<S: DrvSource>(
     }
 }
 
-/// Writes the line of a word, with a newline.
-pub fn write_line<W: Write>(out: &mut W, word: &[u8], verdict: &Verdict) -> io::Result<()>
-    ensures { OnOk result (Appends (W.contents out.old) (W.contents out.new) (line_of word.now verdict.now)) }
+/// Adds the line of a word, with a newline.
+pub fn write_line(word: &[u8], verdict: &Verdict, out: &mut Vec<u8>) -> Result<(), AllocError>
+    ensures { OnOk result (out.new.items ≡ out.old.items ++ line_of word.now verdict.now) }
 {
-    if let Verdict::Good = verdict {
-        out.write_all(b"ok ")?;
-        out.write_all(word)?;
-        return out.write_all(b"\n");
-    }
-    out.write_all(b"bad ")?;
-    out.write_all(word)?;
-    out.write_all(b": ")?;
     match verdict {
-        Verdict::Good => {}
-        Verdict::NoPath(fault) => write_name_fault(out, *fault)?,
-        Verdict::Unreadable => out.write_all(b"Unreadable")?,
-        Verdict::Refused(fault) => write_drv_fault(out, fault)?,
+        Verdict::Good => write_good_line(word, out),
+        verdict => write_bad_line(word, verdict, out),
     }
-    out.write_all(b"\n")
+}
+
+// Adds the line of a word with which nothing is wrong.
+fn write_good_line(word: &[u8], out: &mut Vec<u8>) -> Result<(), AllocError>
+    ensures { OnOk result (out.new.items ≡ out.old.items ++ line_of word.now Verdict.Good) }
+{
+    out.extend_from_slice(b"ok ")?;
+    out.extend_from_slice(word)?;
+    out.extend_from_slice(b"\n")
+}
+
+// Adds the line of a word with which something is wrong.
+fn write_bad_line(word: &[u8], verdict: &Verdict, out: &mut Vec<u8>) -> Result<(), AllocError>
+    ensures { OnOk result
+        (out.new.items ≡ out.old.items ++ bad_line word.now (verdict_words verdict.now)) }
+{
+    out.extend_from_slice(b"bad ")?;
+    out.extend_from_slice(word)?;
+    out.extend_from_slice(b": ")?;
+    write_verdict_fault(verdict, out)?;
+    out.extend_from_slice(b"\n")
+}
+
+// Adds the words of what is wrong with a word; none where nothing is.
+fn write_verdict_fault(verdict: &Verdict, out: &mut Vec<u8>) -> Result<(), AllocError>
+    ensures { OnOk result (out.new.items ≡ out.old.items ++ verdict_words verdict.now) }
+{
+    match verdict {
+        Verdict::Good => Ok(()),
+        Verdict::NoPath(fault) => write_name_fault(*fault, out),
+        Verdict::Unreadable => out.extend_from_slice(b"Unreadable"),
+        Verdict::Refused(fault) => write_drv_fault(fault, out),
+    }
 }

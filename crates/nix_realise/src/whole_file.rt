@@ -1,4 +1,5 @@
 //! A file that is written whole or not at all.
+use std::alloc::Global;
 use std::fs::{File, OpenFile};
 use std::io::{ErrorKind, Write};
 use std::path::{Path, PathBuf};
@@ -27,8 +28,7 @@ pub fn write_whole<R: Files + AllocGlobal>(rt: &R, path: &str, bytes: &[u8]) -> 
 // be writing under one, and one that was killed may have left its own.
 fn create_beside<R: Files + AllocGlobal>(rt: &R, path: &str) -> io::Result<(R::File, PathBuf)> {
     for number in 0..u32::MAX {
-        let name = format!(in rt.alloc(); ".nix_realise-{number}")?;
-        let temporary = Path::new(path).with_file_name(rt.alloc(), name.as_str())?;
+        let temporary = temporary_path(rt.alloc(), path, number)?;
         match File::create_new(rt, temporary.as_path()) {
             Ok(file) => return Ok((file, temporary)),
             Err(error) if error.kind() == ErrorKind::AlreadyExists => {}
@@ -36,6 +36,12 @@ fn create_beside<R: Files + AllocGlobal>(rt: &R, path: &str) -> io::Result<(R::F
         }
     }
     Err(io::Error::from(ErrorKind::AlreadyExists))
+}
+
+// The path with this number under which the bytes for a path are written, in the same folder.
+fn temporary_path(alloc: Global, path: &str, number: u32) -> io::Result<PathBuf> {
+    let name = format!(in alloc; ".nix_realise-{number}")?;
+    Ok(Path::new(path).with_file_name(alloc, name.as_str())?)
 }
 
 // Writes the bytes, and hands them to the disk.

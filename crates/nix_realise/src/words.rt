@@ -7,6 +7,9 @@ use clap::error::ErrorKind;
 use clap::{Arg, ArgAction, ArgMatches, Command, Error};
 use std::alloc::{AllocError, Global};
 
+// The version of this crate.
+const VERSION: &str = "0.1.0";
+
 const STORE_DIR: &str = "store-dir";
 
 const JOURNAL: &str = "journal";
@@ -24,15 +27,33 @@ const ADD_TEXT: &str = "add-text";
 const DEFAULT_STORE_DIR: &str = "/nix/store";
 
 /// Reads a command line, whose first word is the program's own name. An error is a mistake in the
-/// words, a request for help, or want of memory; its text is `clap`'s.
+/// words, a request for help or the version, or want of memory; its text is `clap`'s.
 pub fn request<'a>(alloc: Global, words: &'a [&'a str]) -> Result<Request<'a>, Error> {
-    let mut command = command(alloc)?;
-    let matches = command.try_get_matches_from_mut(words)?;
+    let matches = command(alloc)?.try_get_matches_from(words)?;
     match matches.subcommand() {
-        Some((CHECK, found)) => Ok(Request::Check(check_request(alloc, found)?)),
-        Some((ADD_TEXT, found)) => Ok(Request::AddText(add_text_request(found))),
-        _ => Err(command.error(ErrorKind::MissingSubcommand, "a subcommand is required")?),
+        Some((name, found)) => subcommand_request(alloc, name, found),
+        None => Err(no_subcommand(alloc)?),
     }
+}
+
+// What the matches of the subcommand with this name say.
+fn subcommand_request<'a>(
+    alloc: Global,
+    name: &str,
+    found: &ArgMatches<'a>,
+) -> Result<Request<'a>, Error> {
+    match name {
+        CHECK => Ok(Request::Check(check_request(alloc, found)?)),
+        ADD_TEXT => Ok(Request::AddText(add_text_request(found))),
+        _ => Err(no_subcommand(alloc)?),
+    }
+}
+
+// The usage fault of a command line without a subcommand.
+fn no_subcommand(alloc: Global) -> Result<Error, AllocError>
+    ensures { IfOk result (λ e. kind_of e ≡ ErrorKind.MissingSubcommand) }
+{
+    command(alloc)?.error(ErrorKind::MissingSubcommand, "a subcommand is required")
 }
 
 /// The usage fault of a command line that has a word which is not UTF-8.
@@ -47,8 +68,10 @@ pub fn not_text(alloc: Global) -> Result<Error, AllocError>
 
 // What the matches of `check` say.
 fn check_request<'a>(alloc: Global, found: &ArgMatches<'a>) -> Result<CheckRequest<'a>, AllocError>
-    ensures store_dir { IfOk result (λ r. r.store_dir.now ≡ unwrap_or (first_value (found_of found.now) (codes "store-dir")) (codes "/nix/store")) }
-    ensures drvs { IfOk result (λ r. map (λ w. w.now) r.drvs.items ≡ unwrap_or (option_map raw_values (matched_of (found_of found.now) (codes "DRV"))) []) }
+    ensures store_dir { IfOk result (λ r. r.store_dir.now
+        ≡ unwrap_or (first_value (found_of found.now) (codes "store-dir")) (codes "/nix/store")) }
+    ensures drvs { IfOk result (λ r. map (λ w. w.now) r.drvs.items
+        ≡ unwrap_or (option_map raw_values (matched_of (found_of found.now) (codes "DRV"))) []) }
 {
     Ok(CheckRequest {
         store_dir: store_dir_of(found),
@@ -58,10 +81,14 @@ fn check_request<'a>(alloc: Global, found: &ArgMatches<'a>) -> Result<CheckReque
 
 // What the matches of `add-text` say.
 fn add_text_request<'a>(found: &ArgMatches<'a>) -> AddTextRequest<'a>
-    ensures store_dir { result.store_dir.now ≡ unwrap_or (first_value (found_of found.now) (codes "store-dir")) (codes "/nix/store") }
-    ensures journal { option_map (λ s. s.now) result.journal ≡ first_value (found_of found.now) (codes "journal") }
-    ensures name { result.name.now ≡ unwrap_or (first_value (found_of found.now) (codes "NAME")) [] }
-    ensures file { result.file.now ≡ unwrap_or (first_value (found_of found.now) (codes "FILE")) [] }
+    ensures store_dir { result.store_dir.now
+        ≡ unwrap_or (first_value (found_of found.now) (codes "store-dir")) (codes "/nix/store") }
+    ensures journal { option_map (λ s. s.now) result.journal
+        ≡ first_value (found_of found.now) (codes "journal") }
+    ensures name { result.name.now
+        ≡ unwrap_or (first_value (found_of found.now) (codes "NAME")) [] }
+    ensures file { result.file.now
+        ≡ unwrap_or (first_value (found_of found.now) (codes "FILE")) [] }
 {
     AddTextRequest {
         store_dir: store_dir_of(found),
@@ -73,19 +100,23 @@ fn add_text_request<'a>(found: &ArgMatches<'a>) -> AddTextRequest<'a>
 
 // The store folder that the matches give, or the usual one.
 fn store_dir_of<'a>(found: &ArgMatches<'a>) -> &'a str
-    ensures { result.now ≡ unwrap_or (first_value (found_of found.now) (codes "store-dir")) (codes "/nix/store") }
+    ensures { result.now
+        ≡ unwrap_or (first_value (found_of found.now) (codes "store-dir")) (codes "/nix/store") }
 {
     found.get_str(STORE_DIR).unwrap_or(DEFAULT_STORE_DIR)
 }
 
+// The program's command line.
 fn command<'a>(alloc: Global) -> Result<Command<'a>, AllocError> {
     Command::new(alloc, "nix_realise")
+        .version(VERSION)
         .about("Checks store derivations and adds texts to a store")
         .subcommand_required(true)
         .subcommand(check_command(alloc)?)?
         .subcommand(add_text_command(alloc)?)
 }
 
+// The subcommand `check`.
 fn check_command<'a>(alloc: Global) -> Result<Command<'a>, AllocError> {
     Command::new(alloc, CHECK)
         .about("Checks that each text is a store derivation and stands under its own path")
@@ -98,6 +129,7 @@ fn check_command<'a>(alloc: Global) -> Result<Command<'a>, AllocError> {
         )
 }
 
+// The subcommand `add-text`.
 fn add_text_command<'a>(alloc: Global) -> Result<Command<'a>, AllocError> {
     Command::new(alloc, ADD_TEXT)
         .about("Prints the store path of a text, writes it there and registers it in the journal")
@@ -115,6 +147,7 @@ fn add_text_command<'a>(alloc: Global) -> Result<Command<'a>, AllocError> {
         )
 }
 
+// The option that names the store folder.
 fn store_dir<'a>(alloc: Global) -> Arg<'a> {
     Arg::new(alloc, STORE_DIR)
         .long(STORE_DIR)
@@ -123,6 +156,7 @@ fn store_dir<'a>(alloc: Global) -> Arg<'a> {
         .default_value(DEFAULT_STORE_DIR)
 }
 
+// The option that names the journal file.
 fn journal<'a>(alloc: Global) -> Arg<'a> {
     Arg::new(alloc, JOURNAL).long(JOURNAL).value_name("F").help(
         "The journal file [default: realiser-journal in the store folder]",

@@ -3,4 +3,5 @@ use Rattle.nix_realise.proofs.texts.Given as goal
 
 -- the arguments so far
 abbrev pub invariant-loop-argument : goal.invariant-loop-argument
-invariant-loop-argument l = map (λ w. w.now) l.words.items ≡ map string_bytes (take l.argument-index l.arguments)
+invariant-loop-argument l =
+    map (λ w. w.now) l.words.items ≡ map string_bytes (take l.argument-index l.arguments)

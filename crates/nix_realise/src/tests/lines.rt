@@ -59,8 +59,8 @@ fn names_and_paths(rt: HostRuntime) -> Result<(), Fail> {
     assert_eq!(rt; lines.as_slice(), line.as_slice());
     let changed = b"Derive([],[],[],\"\",\"sh\",[],[])";
     let (lines, _) = line_of(rt.alloc(), NOTHING_PATH, changed)?;
-    let line =
-        b"bad /nix/store/5lhp9n6nphjda2gcbmin4vshljbil6kq-nothing.drv: TextPathMismatch(/nix/store/2ra69nj711sbp6q3y7f2mrx35m5mab8b-nothing.drv)\n";
+    let line = b"bad /nix/store/5lhp9n6nphjda2gcbmin4vshljbil6kq-nothing.drv: TextPathMismatch(\
+        /nix/store/2ra69nj711sbp6q3y7f2mrx35m5mab8b-nothing.drv)\n";
     assert_eq!(rt; lines.as_slice(), line.as_slice());
     Ok(())
 }
@@ -73,32 +73,40 @@ fn order_and_references(rt: HostRuntime) -> Result<(), Fail> {
     assert_eq!(rt; lines.as_slice(), line.as_slice());
     let stray = b"Derive([],[(\"/tmp/\\\"i\",[\"out\"])],[\"/tmp/a\"],\"\",\"\",[],[])";
     let (lines, _) = line_of(rt.alloc(), NOTHING_PATH, stray)?;
-    let line =
-        b"bad /nix/store/5lhp9n6nphjda2gcbmin4vshljbil6kq-nothing.drv: BadReference(\"/tmp/\\\"i\")\n";
+    let line = b"bad /nix/store/5lhp9n6nphjda2gcbmin4vshljbil6kq-nothing.drv: \
+        BadReference(\"/tmp/\\\"i\")\n";
     assert_eq!(rt; lines.as_slice(), line.as_slice());
     Ok(())
 }
 
+// Whether the text of so many bytes at its path gets this line.
+fn has_line(alloc: Global, length: usize, line: &[u8]) -> Result<bool, Fail> {
+    let text = longer(alloc, length.saturating_sub(28))?;
+    let (lines, _) = line_of(alloc, LONGEST_PATH, &text)?;
+    Ok(lines.as_slice() == line)
+}
+
 #[test]
 fn longest_text(rt: HostRuntime) -> Result<(), Fail> {
-    let longest = longer(rt.alloc(), 4_194_304 - 28)?;
-    let (lines, _) = line_of(rt.alloc(), LONGEST_PATH, &longest)?;
     let line = b"ok /nix/store/jk2a2hjia1pk22bkbz224xsar2hj19mj-big.drv\n";
-    assert_eq!(rt; lines.as_slice(), line.as_slice());
-    let longest = longer(rt.alloc(), 4_194_305 - 28)?;
-    let (lines, _) = line_of(rt.alloc(), LONGEST_PATH, &longest)?;
+    assert!(rt; has_line(rt.alloc(), 4_194_304, line)?);
     let line = b"bad /nix/store/jk2a2hjia1pk22bkbz224xsar2hj19mj-big.drv: TooLong\n";
-    assert_eq!(rt; lines.as_slice(), line.as_slice());
+    assert!(rt; has_line(rt.alloc(), 4_194_305, line)?);
     Ok(())
+}
+
+// A source of one file, whose second fetch fails.
+fn failing_source(alloc: Global) -> Result<ListSource, Fail> {
+    let mut failing = Vec::new(alloc);
+    failing.push(1)?;
+    let files = one_file(alloc, NOTHING_PATH, NOTHING)?;
+    Ok(ListSource::new(alloc, files, failing)?)
 }
 
 // The second of three fetches fails; a word that is no path is not fetched.
 #[test]
 fn failing_fetch(rt: HostRuntime) -> Result<(), Fail> {
-    let mut failing = Vec::new(rt.alloc());
-    failing.push(1)?;
-    let files = one_file(rt.alloc(), NOTHING_PATH, NOTHING)?;
-    let mut source = ListSource::new(rt.alloc(), files, failing)?;
+    let mut source = failing_source(rt.alloc())?;
     let dir = StoreDir::new(rt.alloc(), b"/nix/store")?;
     let words = [
         NOTHING_PATH,

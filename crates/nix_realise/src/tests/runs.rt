@@ -25,6 +25,14 @@ fn help(rt: HostRuntime) {
 }
 
 #[test]
+fn version(rt: HostRuntime) {
+    let ran = run_words(&rt, &["nix_realise", "--version"]);
+    assert_eq!(rt; ran.out.as_slice(), b"nix_realise 0.1.0\n".as_slice());
+    assert_eq!(rt; ran.err.len(), 0);
+    assert_eq!(rt; ran.status, 0);
+}
+
+#[test]
 fn usage_faults(rt: HostRuntime) -> Result<(), Fail> {
     for (line, text) in [
         (

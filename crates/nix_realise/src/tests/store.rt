@@ -2,9 +2,13 @@
 use super::{Outcome, new_folder};
 use nix_drv::text_path;
 use nix_names::StoreDir;
+use std::alloc::Global;
 use std::rt::{Env, Files};
 use std::test::Fail;
 use std::{fs, io, str};
+
+/// The text of a file that greets.
+pub const GREETING: &str = "hello\n";
 
 /// A store folder that holds a file, too, and no journal.
 #[derive(Drop)]
@@ -20,28 +24,36 @@ pub struct Store {
 }
 
 impl Store {
-    pub fn new<R: Env + Files + AllocGlobal>(
+    /// A store folder beside a file that greets, which gets the name `greeting`.
+    pub fn greeting<R: Env + Files + AllocGlobal>(
         rt: &R,
         process: u32,
-        name: &str,
         test: &str,
+    ) -> Result<Store, Fail> {
+        Store::new(
+            rt,
+            new_folder(rt, process, test)?,
+            "greeting",
+            GREETING.as_bytes(),
+        )
+    }
+
+    /// A store folder beside a file with these bytes, which get the name.
+    pub fn new<R: Files + AllocGlobal>(
+        rt: &R,
+        folder: String,
+        name: &str,
         bytes: &[u8],
     ) -> Result<Store, Fail> {
-        let folder = new_folder(rt, process, test)?;
-        let file = format!(in rt.alloc(); "{folder}/file")?;
-        fs::write(rt, file.as_str(), bytes)?;
-        let dir = StoreDir::new(rt.alloc(), folder.as_bytes())?;
-        let path = text_path(rt.alloc(), &dir, name.as_bytes(), bytes, &[])?;
-        let path = String::from_str(rt.alloc(), str::from_utf8(path.text())?)?;
-        let name = String::from_str(rt.alloc(), name)?;
-        let journal = format!(in rt.alloc(); "{folder}/realiser-journal")?;
-        Ok(Store {
+        let store = Store {
+            file: format!(in rt.alloc(); "{folder}/file")?,
+            path: path_of(rt.alloc(), folder.as_str(), name, bytes)?,
+            journal: format!(in rt.alloc(); "{folder}/realiser-journal")?,
+            name: String::from_str(rt.alloc(), name)?,
             folder,
-            name,
-            file,
-            path,
-            journal,
-        })
+        };
+        fs::write(rt, store.file.as_str(), bytes)?;
+        Ok(store)
     }
 
     /// The words of `add-text`.
@@ -70,15 +82,47 @@ impl Store {
         ]
     }
 
-    /// How many files and folders stand in the store folder.
-    pub fn count<R: Files + AllocGlobal + Clone + Drop>(&self, rt: &R) -> io::Result<usize> {
+    /// The path of a file in the store folder.
+    pub fn at<R: AllocGlobal>(&self, rt: &R, file: &str) -> io::Result<String> {
+        Ok(format!(in rt.alloc(); "{}/{file}", self.folder)?)
+    }
+
+    /// The line of the text's path.
+    pub fn line<R: AllocGlobal>(&self, rt: &R) -> io::Result<String> {
+        Ok(format!(in rt.alloc(); "{}\n", self.path)?)
+    }
+
+    /// Whether a run printed the text's path, and ended well.
+    pub fn is_printed<R: AllocGlobal>(&self, rt: &R, ran: &Outcome) -> io::Result<bool> {
+        Ok(has_written(ran, self.line(rt)?.as_str(), "", 0))
+    }
+
+    /// Removes the store folder, and says whether so many files and folders stood in it.
+    pub fn held<R: Files + AllocGlobal + Clone + Drop>(
+        self,
+        rt: &R,
+        wanted: usize,
+    ) -> io::Result<bool> {
         let mut count = 0usize;
         for entry in fs::read_dir(rt, self.folder.as_str())? {
             entry?;
             count = count.saturating_add(1);
         }
-        Ok(count)
+        fs::remove_dir_all(rt, self.folder.as_str())?;
+        Ok(count == wanted)
     }
+}
+
+// The text path of some bytes under a name.
+fn path_of(alloc: Global, folder: &str, name: &str, bytes: &[u8]) -> Result<String, Fail> {
+    let dir = StoreDir::new(alloc, folder.as_bytes())?;
+    let path = text_path(alloc, &dir, name.as_bytes(), bytes, &[])?;
+    Ok(String::from_str(alloc, str::from_utf8(path.text())?)?)
+}
+
+/// Whether a file has this text.
+pub fn has<R: Files + AllocGlobal>(rt: &R, file: &str, text: &str) -> io::Result<bool> {
+    Ok(fs::read(rt, file)?.as_slice() == text.as_bytes())
 }
 
 /// Whether a run wrote these texts, and had this status.

@@ -7,5 +7,6 @@ use Rattle.nix_realise.proofs.check.check_lines.Given as goal
 abbrev pub invariant-loop-word : goal.invariant-loop-word
 invariant-loop-word g l = record {
   keeps : GivesSame (g.S.DrvSource.gives l.fn.source) (g.S.DrvSource.gives l.source);
-  report : IsReport (g.S.DrvSource.gives l.fn.source) l.dir (map (λ w. w.now) (take l.word-index l.words)) l.lines.items l.status;
+  report : IsReport (g.S.DrvSource.gives l.fn.source) l.dir
+      (map (λ w. w.now) (take l.word-index l.words)) l.lines.items l.status;
 }

@@ -1,0 +1,17 @@
+use Rattle.std.proofs.Common.{◌≡◌, ◌∙◌, [], sym}
+use Rattle.std.proofs.lemmas.Bool.{false≢true}
+use Rattle.std.proofs.lemmas.Result.{err_from_is_err_and}
+use Rattle.valid_table.specs.Entries.{registered}
+use Rattle.valid_table.specs.Valid.{IsValid}
+use Rattle.nix_realise.proofs.Registrations.{refused_for_memory}
+use Rattle.nix_realise.proofs.added_text.register_text.Goals as goal
+
+pub returns-in_err-add : goal.returns-in_err-add
+returns-in_err-add c =
+    let p = err_from_is_err_and c.from_residual.result c.from_residual.ensures.1 in
+    let fresh : ¬ (IsValid (registered c.args.journal.now) c.args.path.now) =
+    λ v. false≢true (sym c.if-registers.false ∙ c.registers.ensures.1 v) in
+    let none : c.new-2.result.references ≡ [] = c.new-2.ensures.references ∙ c.new.ensures.items in
+    rw (p.1, p.2)
+    (refused_for_memory _ _ c.args.path.now _ c.new-2.result _ fresh c.in-Ok.ensures.same none
+    c.in_err-add.ensures)
