@@ -7,8 +7,7 @@ use Rattle.nix_names.specs.Names.{IsStoreDir}
 use Rattle.valid_table.specs.BadLines.{IsBadLine, IsOtherVersion}
 use Rattle.valid_table.specs.LineFaults.{IsLeastFault, IsNotClosedAt, IsTwiceAt, StandsAt}
 use Rattle.valid_table.specs.Reading.{IsChecking, IsReadAs, IsReading, max_len}
-use Rattle.valid_table.specs.ReadingLaws.{AnswerIsOne, AreOneAnswer, answered}
-use Rattle.valid_table.specs.Tables.{JournalValue}
+use Rattle.valid_table.specs.ReadingLaws.{AnswerIsOne}
 use Rattle.valid_table.specs.Texts.{Line, Version, Added, Output, Reference, entry_lines, lines}
 use Rattle.valid_table.specs.declared.entry.Entry.{Entry}
 use Rattle.valid_table.specs.declared.fault.TableFault.{TableFault}
@@ -54,8 +53,12 @@ one_least entries m n here least there also = omega (arith, least n there, also 
 
 -- ---- answers
 
+-- two answers are the same, or one is want of memory
+abbrev AreOne : Result (List Entry) TableFault → Result (List Entry) TableFault → Type 0
+AreOne a b = (a ≡ b) ⊎ (a ≡ Err NoMemory) ⊎ (b ≡ Err NoMemory)
+
 -- want of memory apart, entries have one answer
-one_check : (entries : List Entry) (a b : Result JournalValue TableFault) → IsChecking entries a → IsChecking entries b → AreOneAnswer a b
+one_check : (entries : List Entry) (a b : Result (List Entry) TableFault) → IsChecking entries a → IsChecking entries b → AreOne a b
 one_check entries (Err NoMemory) b one two = inr (inl refl)
 one_check entries a (Err NoMemory) one two = inr (inr refl)
 one_check entries (Ok a) (Ok b) one two = inl (ap Ok (one.0 ∙ sym two.0))
@@ -79,7 +82,7 @@ one_check entries (Err (Twice m)) (Err b) one two = absurd two
 one_check entries a b one two = absurd one
 
 -- bytes past the limit
-too_long : (dir bytes : List ℕ) (b : Result JournalValue TableFault) → max_len < length bytes → IsReading dir bytes b → Err TooLong ≡ b
+too_long : (dir bytes : List ℕ) (b : Result (List Entry) TableFault) → max_len < length bytes → IsReading dir bytes b → Err TooLong ≡ b
 too_long dir bytes (Err TooLong) long h = refl
 too_long dir bytes (Err WrongVersion) long h = absurd (omega (arith, h.0))
 too_long dir bytes (Err (BadLine n)) long h = absurd (omega (arith, h.0))
@@ -87,7 +90,7 @@ too_long dir bytes (Err NoMemory) long h = absurd (omega (arith, h.0))
 too_long dir bytes b long h = absurd (omega (arith, h.within))
 
 -- bytes of another version
-wrong_version : (dir bytes : List ℕ) (b : Result JournalValue TableFault) → length bytes ≤ max_len → IsOtherVersion bytes → IsReading dir bytes b → Err WrongVersion ≡ b
+wrong_version : (dir bytes : List ℕ) (b : Result (List Entry) TableFault) → length bytes ≤ max_len → IsOtherVersion bytes → IsReading dir bytes b → Err WrongVersion ≡ b
 wrong_version dir bytes (Err TooLong) within other h = absurd (omega arith)
 wrong_version dir bytes (Err WrongVersion) within other h = refl
 wrong_version dir bytes (Err (BadLine n)) within other h = absurd (h.1 other)
@@ -95,7 +98,7 @@ wrong_version dir bytes (Err NoMemory) within other h = absurd (h.1 other)
 wrong_version dir bytes b within other h = absurd (not_other_version dir bytes h.entries h.is_text other)
 
 -- bytes with a bad line
-wrong_line : (dir bytes : List ℕ) (n : ℕ) (b : Result JournalValue TableFault) → IsStoreDir dir → length bytes ≤ max_len → (IsOtherVersion bytes → ⊥) → IsBadLine dir bytes n → IsReading dir bytes b → AreOneAnswer (Err (BadLine n)) b
+wrong_line : (dir bytes : List ℕ) (n : ℕ) (b : Result (List Entry) TableFault) → IsStoreDir dir → length bytes ≤ max_len → (IsOtherVersion bytes → ⊥) → IsBadLine dir bytes n → IsReading dir bytes b → AreOne (Err (BadLine n)) b
 wrong_line dir bytes n (Err TooLong) is_dir within one bad h = absurd (omega arith)
 wrong_line dir bytes n (Err WrongVersion) is_dir within one bad h = absurd (one h.1)
 wrong_line dir bytes n (Err (BadLine m)) is_dir within one bad h = inl (ap (λ (k : ℕ). Err (BadLine k)) (bad_line_is_one dir bytes n m is_dir bad h.2))
@@ -103,7 +106,7 @@ wrong_line dir bytes n (Err NoMemory) is_dir within one bad h = inr (inr refl)
 wrong_line dir bytes n b is_dir within one bad h = absurd (texts_have_no_bad_line dir bytes h.entries n is_dir h.is_text bad)
 
 -- the text of entries
-read_as : (dir bytes : List ℕ) (a b : Result JournalValue TableFault) → IsStoreDir dir → IsReadAs dir bytes a → IsReading dir bytes b → AreOneAnswer a b
+read_as : (dir bytes : List ℕ) (a b : Result (List Entry) TableFault) → IsStoreDir dir → IsReadAs dir bytes a → IsReading dir bytes b → AreOne a b
 read_as dir bytes a (Err TooLong) is_dir is h = absurd (omega (arith, is.within))
 read_as dir bytes a (Err WrongVersion) is_dir is h = absurd (not_other_version dir bytes is.entries is.is_text h.1)
 read_as dir bytes a (Err (BadLine n)) is_dir is h = absurd (texts_have_no_bad_line dir bytes is.entries n is_dir is.is_text h.2)
@@ -114,8 +117,8 @@ read_as dir bytes a b is_dir is h =
 
 -- two answers for the same bytes are the same, or one is want of memory
 pub answer_is_one : AnswerIsOne
-answer_is_one dir bytes (Err TooLong) b is_dir one two = inl (ap answered (too_long dir bytes b one two))
-answer_is_one dir bytes (Err WrongVersion) b is_dir one two = inl (ap answered (wrong_version dir bytes b one.0 one.1 two))
+answer_is_one dir bytes (Err TooLong) b is_dir one two = inl (too_long dir bytes b one two)
+answer_is_one dir bytes (Err WrongVersion) b is_dir one two = inl (wrong_version dir bytes b one.0 one.1 two)
 answer_is_one dir bytes (Err (BadLine n)) b is_dir one two = wrong_line dir bytes n b is_dir one.0 one.1 one.2 two
 answer_is_one dir bytes (Err NoMemory) b is_dir one two = inr (inl refl)
 answer_is_one dir bytes a b is_dir one two = read_as dir bytes a b is_dir one two

@@ -14,22 +14,27 @@ abbrev pub max_len : ℕ
 max_len = 67108864
 
 -- what is answered for entries whose text was read
-abbrev pub IsChecking : List Entry → Result JournalValue TableFault → Type 0
-IsChecking entries (Ok journal) = (journal.entries ≡ entries) × IsJournal entries
+abbrev pub IsChecking : List Entry → Result (List Entry) TableFault → Type 0
+IsChecking entries (Ok journal) = (journal ≡ entries) × IsJournal entries
 IsChecking entries (Err (NotClosed n)) = IsNotClosedAt entries n × IsLeastFault entries n
 IsChecking entries (Err (Twice n)) = IsTwiceAt entries n × IsLeastFault entries n
 IsChecking entries (Err NoMemory) = Unit {0}
 IsChecking entries (Err fault) = ⊥
 
 -- The bytes are the text of some entries, and what is answered is what these say.
-pub record IsReadAs (dir bytes : List ℕ) (answer : Result JournalValue TableFault) : Type 0 where
+pub record IsReadAs (dir bytes : List ℕ) (answer : Result (List Entry) TableFault) : Type 0 where
   pub within : length bytes ≤ max_len
   pub entries : List Entry
   pub is_text : IsText dir entries bytes
   pub checked : IsChecking entries answer
 
+-- an answer by what was read: a journal's entries, whatever room it has
+abbrev pub answered : Result JournalValue TableFault → Result (List Entry) TableFault
+answered (Ok journal) = Ok journal.entries
+answered (Err fault) = Err fault
+
 -- what is answered for bytes
-abbrev pub IsReading : (dir bytes : List ℕ) → Result JournalValue TableFault → Type 0
+abbrev pub IsReading : (dir bytes : List ℕ) → Result (List Entry) TableFault → Type 0
 IsReading dir bytes (Err TooLong) = max_len < length bytes
 IsReading dir bytes (Err WrongVersion) = (length bytes ≤ max_len) × IsOtherVersion bytes
 IsReading dir bytes (Err (BadLine n)) = (length bytes ≤ max_len) × (IsOtherVersion bytes → ⊥) × IsBadLine dir bytes n

@@ -1,8 +1,7 @@
 -- That the text of a journal is read as just that journal, and that bytes have one answer.
-use Rattle.std.specs.Prelude.{◌≡◌, ◌⊎◌, ◌≤◌, ℕ, List, length, MatchResult, Result, Ok, Err}
+use Rattle.std.specs.Prelude.{◌≡◌, ◌⊎◌, ◌≤◌, ℕ, List, length, Result, Ok, Err}
 use Rattle.nix_names.specs.Names.{IsStoreDir}
 use Rattle.valid_table.specs.Reading.{IsReading, max_len}
-use Rattle.valid_table.specs.Tables.{JournalValue}
 use Rattle.valid_table.specs.Texts.{IsText}
 use Rattle.valid_table.specs.Valid.{IsJournal}
 use Rattle.valid_table.specs.declared.entry.Entry.{Entry}
@@ -16,20 +15,11 @@ TextHasOneList = (dir bytes : List ℕ) (a b : List Entry) → IsText dir a byte
 -- the text of a journal, within the limit, is read as just that journal, want of memory apart
 abbrev pub JournalTextsAreRead : Type 0
 JournalTextsAreRead =
-    (dir bytes : List ℕ) (entries : List Entry) (answer : Result JournalValue TableFault) → IsStoreDir dir → length bytes ≤ max_len
-    → IsText dir entries bytes → IsJournal entries → IsReading dir bytes answer → MatchResult answer (λ journal. journal.entries ≡ entries) (λ fault. fault ≡ NoMemory)
-
--- an answer by what was read, whatever room a journal has
-abbrev pub answered : Result JournalValue TableFault → Result (List Entry) TableFault
-answered (Ok journal) = Ok journal.entries
-answered (Err fault) = Err fault
-
--- two answers are the same, or one is want of memory
-abbrev pub AreOneAnswer : Result JournalValue TableFault → Result JournalValue TableFault → Type 0
-AreOneAnswer a b = (answered a ≡ answered b) ⊎ (a ≡ Err NoMemory) ⊎ (b ≡ Err NoMemory)
+    (dir bytes : List ℕ) (entries : List Entry) (answer : Result (List Entry) TableFault) → IsStoreDir dir → length bytes ≤ max_len
+    → IsText dir entries bytes → IsJournal entries → IsReading dir bytes answer → (answer ≡ Ok entries) ⊎ (answer ≡ Err NoMemory)
 
 -- two answers for the same bytes are the same, or one is want of memory
 abbrev pub AnswerIsOne : Type 0
 AnswerIsOne =
-    (dir bytes : List ℕ) (a b : Result JournalValue TableFault) → IsStoreDir dir → IsReading dir bytes a → IsReading dir bytes b
-    → AreOneAnswer a b
+    (dir bytes : List ℕ) (a b : Result (List Entry) TableFault) → IsStoreDir dir → IsReading dir bytes a → IsReading dir bytes b
+    → (a ≡ b) ⊎ (a ≡ Err NoMemory) ⊎ (b ≡ Err NoMemory)

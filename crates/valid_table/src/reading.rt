@@ -6,7 +6,7 @@ ghost use Rattle.nix_names.specs.Names.{IsStoreDir};
 ghost use Rattle.valid_table.specs.BadLines.{BeginsOutput};
 ghost use Rattle.valid_table.specs.Entries.{paths_of};
 ghost use Rattle.valid_table.specs.Readers.{HasEntry, HasOutputs, HasReferences, HasRegistration, HasToBegin, IsNoLine, StopsInRegistration, StopsWhere};
-ghost use Rattle.valid_table.specs.Reading.{IsReading};
+ghost use Rattle.valid_table.specs.Reading.{IsReading, answered};
 ghost use Rattle.valid_table.specs.Steps.{IsAbove, Place, Opened, Start, Stops, Within};
 ghost use Rattle.valid_table.specs.Texts.{IsText};
 
@@ -37,7 +37,7 @@ impl Journal {
     /// of each path, one more of each that is registered, and one look-up by hash for each path that
     /// is registered or referred to.
     pub fn read(alloc: Global, dir: &StoreDir, bytes: &[u8]) -> Result<Journal, TableFault>
-        ensures { IsReading dir.now bytes.now result }
+        ensures { IsReading dir.now bytes.now (answered result) }
     {
         if bytes.len() > MAX_LEN {
             return Err(TableFault::TooLong);
