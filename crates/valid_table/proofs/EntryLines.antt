@@ -1,5 +1,5 @@
 -- The lines of entries: where they lead, where they stop, and what they are.
-use Rattle.std.proofs.Common.{◌≡◌, ◌≢◌, ℕ, List, [], ◌∷◌, ◌++◌, length, Some, None, inl, inr, refl, sym, ap, ◌∙◌, subst, arith}
+use Rattle.std.proofs.Common.{◌≡◌, drop, ◌≢◌, ℕ, List, [], ◌∷◌, ◌++◌, length, Some, None, inl, inr, refl, sym, ap, ◌∙◌, subst, arith}
 use Rattle.std.specs.List.{flat_map}
 use Rattle.std.proofs.lemmas.List.{append_assoc}
 use Rattle.valid_table.specs.LineTexts.{lines_text}
@@ -11,7 +11,7 @@ use Rattle.valid_table.specs.declared.entry.Entry.TheVariants.{Add, Done}
 use Rattle.valid_table.specs.declared.entry.Registration.{Registration}
 use Rattle.valid_table.proofs.Leading.{line_of}
 use Rattle.valid_table.proofs.LineLists.{IsBehind, entry_back, within_enters}
-use Rattle.valid_table.proofs.LineSteps.{StopsIn, behind_fields_line, behind_path_line, letter_tells, stop_behind, stop_here, stops_back, stops_in}
+use Rattle.valid_table.proofs.LineSteps.{StopsIn, first, stop_behind, stop_here, stops_back, stops_in}
 
 -- ---- where an entry has to begin
 
@@ -45,8 +45,8 @@ lead dir bytes entry rest from left h begins goes_on =
 bad_added : (dir : List ℕ) (from : Place) (bytes : List ℕ) (left : ℕ) → (h : IsBadFields dir 65 None bytes left) → (line : Line) (rest : List ℕ) → Goes dir from bytes line rest → ⊥
 bad_added dir from bytes left h (Added path digest) rest goes =
     let is = line_of dir from (Added path digest) goes.may in
-    h.bad path digest rest tt (record { of_dir = is.0; is_digest = is.1; parts = behind_fields_line 65 bytes h.fields path digest rest h.begins goes.parts })
-bad_added dir from bytes left h line rest goes = absurd (omega (arith, letter_tells 65 (32 ∷ h.fields) bytes line rest h.begins goes.parts))
+    h.bad path digest rest tt (record { of_dir = is.0; is_digest = is.1; parts = ap (drop 2) (sym h.begins ∙ goes.parts) })
+bad_added dir from bytes left h line rest goes = absurd (omega (arith, ap first (sym h.begins ∙ goes.parts)))
 
 -- reading an added path stops where its line, or one of its references, is bad
 pub added_stops : (dir : List ℕ) (from : Place) (bytes : List ℕ) (left : ℕ) → StopsInRegistration dir 65 None bytes left → HasToBegin from bytes → Stops dir from bytes left
@@ -60,8 +60,8 @@ added_stops dir from bytes left (inr h) begins =
 bad_deriver : (dir : List ℕ) (from : Place) (bytes fields : List ℕ) → bytes ≡ 68 ∷ 32 ∷ fields → ((path rest : List ℕ) → IsDeriverLine dir fields path rest → ⊥) → (line : Line) (rest : List ℕ) → Goes dir from bytes line rest → ⊥
 bad_deriver dir from bytes fields begun none (Deriver path) rest goes =
     let is = line_of dir from (Deriver path) goes.may in
-    none path rest (record { line = record { of_dir = is.0; parts = behind_path_line 68 bytes fields path rest begun goes.parts }; named = is.1; ahead = goes.ahead })
-bad_deriver dir from bytes fields begun none line rest goes = absurd (omega (arith, letter_tells 68 (32 ∷ fields) bytes line rest begun goes.parts))
+    none path rest (record { line = record { of_dir = is.0; parts = ap (drop 2) (sym begun ∙ goes.parts) ∙ append_assoc path (10 ∷ []) rest }; named = is.1; ahead = goes.ahead })
+bad_deriver dir from bytes fields begun none line rest goes = absurd (omega (arith, ap first (sym begun ∙ goes.parts)))
 
 pub deriver_stops : (dir : List ℕ) (from : Place) (bytes fields : List ℕ) → bytes ≡ 68 ∷ 32 ∷ fields → ((path rest : List ℕ) → IsDeriverLine dir fields path rest → ⊥) → HasToBegin from bytes → Stops dir from bytes (length bytes)
 deriver_stops dir from bytes fields begun none begins =

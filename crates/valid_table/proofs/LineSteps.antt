@@ -1,43 +1,17 @@
 -- Single lines, as steps from one place to the next.
-use Rattle.std.proofs.Common.{◌≡◌, ℕ, List, [], ◌∷◌, ◌++◌, length, Option, refl, sym, ap, ◌∙◌, subst}
+use Rattle.std.proofs.Common.{◌≡◌, ℕ, List, [], ◌∷◌, ◌++◌, length, get_or, refl, sym, ap, ◌∙◌, subst}
 use Rattle.std.proofs.lemmas.List.{append-nil, append_assoc}
-use Rattle.valid_table.specs.LineTexts.{fields_text, lines_text}
+use Rattle.valid_table.specs.LineTexts.{lines_text}
 use Rattle.valid_table.specs.Readers.{StopsWhere}
 use Rattle.valid_table.specs.declared.reading.Stop.{Stop}
 use Rattle.valid_table.specs.declared.reading.Stop.TheVariants.{Memory, Left}
 use Rattle.valid_table.specs.Steps.{Place, Ahead, Goes, MayStand, Stops, behind}
-use Rattle.valid_table.specs.Texts.{Line, Version, Added, Deriver, Output, Reference, line_text}
+use Rattle.valid_table.specs.Texts.{Line, line_text}
 use Rattle.valid_table.proofs.LineLists.{IsBackward}
 
--- the letter that a line begins with
-abbrev pub letter_of : Line → ℕ
-letter_of Version = 114
-letter_of (Added path digest) = 65
-letter_of (Deriver path) = 68
-letter_of (Output path digest) = 79
-letter_of (Reference path) = 82
-
-first : (x y : ℕ) (xs ys : List ℕ) → x ∷ xs ≡ y ∷ ys → x ≡ y
-first x y xs ys e = cc
-
-second : (a b c d : ℕ) (xs ys : List ℕ) → a ∷ b ∷ xs ≡ c ∷ d ∷ ys → xs ≡ ys
-second a b c d xs ys e = cc
-
--- the bytes of a line begin with its letter
-pub letter_tells : (c : ℕ) (more bytes : List ℕ) (line : Line) (rest : List ℕ) → bytes ≡ c ∷ more → bytes ≡ line_text line ++ rest → c ≡ letter_of line
-letter_tells c more bytes Version rest begins parts = first _ _ _ _ (sym begins ∙ parts)
-letter_tells c more bytes (Added path digest) rest begins parts = first _ _ _ _ (sym begins ∙ parts)
-letter_tells c more bytes (Deriver path) rest begins parts = first _ _ _ _ (sym begins ∙ parts)
-letter_tells c more bytes (Output path digest) rest begins parts = first _ _ _ _ (sym begins ∙ parts)
-letter_tells c more bytes (Reference path) rest begins parts = first _ _ _ _ (sym begins ∙ parts)
-
--- what stands behind the letter of a line with a path alone, and of one with a digest
-pub behind_path_line : (letter : ℕ) (bytes fields path rest : List ℕ) → bytes ≡ letter ∷ 32 ∷ fields → bytes ≡ letter ∷ 32 ∷ ((path ++ (10 ∷ [])) ++ rest) → fields ≡ path ++ 10 ∷ rest
-behind_path_line letter bytes fields path rest begins parts =
-    second _ _ _ _ _ _ (sym begins ∙ parts) ∙ append_assoc path (10 ∷ []) rest
-
-pub behind_fields_line : (letter : ℕ) (bytes fields path : List ℕ) (digest : Option (List ℕ)) (rest : List ℕ) → bytes ≡ letter ∷ 32 ∷ fields → bytes ≡ letter ∷ 32 ∷ (fields_text path digest ++ rest) → fields ≡ fields_text path digest ++ rest
-behind_fields_line letter bytes fields path digest rest begins parts = second _ _ _ _ _ _ (sym begins ∙ parts)
+-- the first byte
+abbrev pub first : List ℕ → ℕ
+first bytes = get_or bytes 0 0
 
 -- where no line goes on with bytes that begin with something, the lines stop
 pub stop_here : (dir : List ℕ) (place : Place) (bad : List ℕ) (c : ℕ) (more : List ℕ) → bad ≡ c ∷ more → Ahead place bad → ((line : Line) (rest : List ℕ) → Goes dir place bad line rest → ⊥) → Stops dir place bad (length bad)

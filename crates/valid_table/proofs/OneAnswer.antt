@@ -1,5 +1,5 @@
 -- Reading the same bytes gives one answer, want of memory apart.
-use Rattle.std.proofs.Common.{◌≡◌, ◌+◌, ◌<◌, ◌≤◌, ◌⊎◌, ℕ, suc, List, [], ◌∷◌, ◌++◌, length, get_or, inl, inr, refl, ap, sym, subst, ◌∙◌, arith, Result, Ok, Err}
+use Rattle.std.proofs.Common.{◌≡◌, ◌<◌, ◌≤◌, ◌⊎◌, ℕ, suc, List, ◌∷◌, ◌++◌, length, get_or, inl, inr, refl, ap, sym, subst, ◌∙◌, arith, Result, Ok, Err}
 use Rattle.std.specs.List.{flat_map}
 use Rattle.std.proofs.lemmas.List.{append_assoc, get_or_at, length-append}
 use Rattle.std.proofs.lemmas.List.Concat.{flat_map-append}
@@ -7,7 +7,7 @@ use Rattle.nix_names.specs.Names.{IsStoreDir}
 use Rattle.valid_table.specs.BadLines.{IsBadLine, IsOtherVersion}
 use Rattle.valid_table.specs.LineFaults.{IsLeastFault, IsNotClosedAt, IsTwiceAt, StandsAt}
 use Rattle.valid_table.specs.Reading.{IsChecking, IsReadAs, IsReading, max_len}
-use Rattle.valid_table.specs.ReadingLaws.{AnswerIsOne}
+use Rattle.valid_table.specs.ReadingLaws.{AnswerIsOne, JournalTextsAreRead}
 use Rattle.valid_table.specs.Texts.{Line, Version, Added, Output, Reference, entry_lines, lines}
 use Rattle.valid_table.specs.declared.entry.Entry.{Entry}
 use Rattle.valid_table.specs.declared.fault.TableFault.{TableFault}
@@ -122,3 +122,12 @@ answer_is_one dir bytes (Err WrongVersion) b is_dir one two = inl (wrong_version
 answer_is_one dir bytes (Err (BadLine n)) b is_dir one two = wrong_line dir bytes n b is_dir one.0 one.1 one.2 two
 answer_is_one dir bytes (Err NoMemory) b is_dir one two = inr (inl refl)
 answer_is_one dir bytes a b is_dir one two = read_as dir bytes a b is_dir one two
+
+-- the text of a journal is read as just that journal, want of memory apart
+pub journal_texts_are_read : JournalTextsAreRead
+journal_texts_are_read dir bytes entries answer is_dir within is journal h =
+    elim (answer_is_one dir bytes (Ok entries) answer is_dir (record { within = within; entries = entries; is_text = is; checked = (refl, journal) }) h) [
+      | inl same ↦ inl (sym same)
+      | inr (inl other) ↦ cc other
+      | inr (inr memory) ↦ inr memory
+    ]

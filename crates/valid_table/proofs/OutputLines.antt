@@ -1,5 +1,5 @@
 -- The lines of outputs: where they lead, where they stop, and what they are.
-use Rattle.std.proofs.Common.{◌≡◌, ◌⊎◌, ℕ, List, [], ◌∷◌, ◌++◌, Option, Some, None, inl, inr, sym, ap, ◌∙◌, subst, arith}
+use Rattle.std.proofs.Common.{◌≡◌, ◌⊎◌, ℕ, List, [], ◌∷◌, ◌++◌, drop, Option, Some, None, inl, inr, sym, ap, ◌∙◌, subst, arith}
 use Rattle.std.specs.List.{flat_map, last_or}
 use Rattle.std.proofs.lemmas.List.{append-nil, map-append}
 use Rattle.std.proofs.lemmas.List.Concat.{flat_map-append}
@@ -14,7 +14,7 @@ use Rattle.valid_table.specs.Texts.{IsOf, Line, Output, output_lines}
 use Rattle.valid_table.specs.declared.entry.Registration.{Registration}
 use Rattle.valid_table.proofs.Leading.{text_and}
 use Rattle.valid_table.proofs.LineLists.{may_stand, outputs_back, place_at}
-use Rattle.valid_table.proofs.LineSteps.{StopsIn, behind_fields_line, letter_tells, stop_behind, stop_here, stops_back, stops_in}
+use Rattle.valid_table.proofs.LineSteps.{StopsIn, first, stop_behind, stop_here, stops_back, stops_in}
 use Rattle.valid_table.proofs.RisingPaths.{above_of_rising, rising_more}
 
 -- outputs' lines, and those of one more
@@ -38,8 +38,8 @@ letter_ahead (Some output) last bytes fields begins = tt
 stuck : (dir : List ℕ) (before last : Option (List ℕ)) (bytes : List ℕ) (left : ℕ) → (h : IsBadFields dir 79 before bytes left) → (line : Line) (rest : List ℕ) → Goes dir (place_at before last) bytes line rest → ⊥
 stuck dir before last bytes left h (Output path digest) rest go =
     let may = may_follow dir before last path digest go.may in
-    h.bad path digest rest may.2 (record { of_dir = may.0; is_digest = may.1; parts = behind_fields_line 79 bytes h.fields path digest rest h.begins go.parts })
-stuck dir before last bytes left h line rest go = absurd (omega (arith, letter_tells 79 (32 ∷ h.fields) bytes line rest h.begins go.parts))
+    h.bad path digest rest may.2 (record { of_dir = may.0; is_digest = may.1; parts = ap (drop 2) (sym h.begins ∙ go.parts) })
+stuck dir before last bytes left h line rest go = absurd (omega (arith, ap first (sym h.begins ∙ go.parts)))
 
 -- reading an output stops where its line, or one of its references, is bad
 output_stops : (dir : List ℕ) (before last : Option (List ℕ)) (bytes : List ℕ) (left : ℕ) → StopsInRegistration dir 79 before bytes left → Stops dir (place_at before last) bytes left

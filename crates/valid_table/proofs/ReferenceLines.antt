@@ -1,5 +1,5 @@
 -- The lines of references: where they lead, and where they stop.
-use Rattle.std.proofs.Common.{◌≡◌, ℕ, List, [], ◌∷◌, ◌++◌, length, map, Option, None, ◌-◌, sym, ap, ◌∙◌, subst, arith}
+use Rattle.std.proofs.Common.{◌≡◌, ℕ, List, [], ◌∷◌, ◌++◌, length, drop, map, Option, None, ◌-◌, sym, ap, ◌∙◌, subst, arith}
 use Rattle.std.specs.List.{last_or, slice_get}
 use Rattle.std.proofs.lemmas.List.{append_assoc, map-append}
 use Rattle.std.proofs.lemmas.List.Elements.{All-push}
@@ -11,7 +11,7 @@ use Rattle.valid_table.specs.Texts.{Line, Reference}
 use Rattle.valid_table.proofs.LineTexts.{two_path_lines}
 use Rattle.valid_table.proofs.Leading.{text_push}
 use Rattle.valid_table.proofs.LineLists.{references_back}
-use Rattle.valid_table.proofs.LineSteps.{StopsIn, behind_path_line, letter_tells, stop_here, stops_back, stops_in}
+use Rattle.valid_table.proofs.LineSteps.{StopsIn, first, stop_here, stops_back, stops_in}
 use Rattle.valid_table.proofs.RisingPaths.{above_of_rising, last_is, rising_more}
 
 -- behind references the lines stop where they do behind the last one
@@ -26,8 +26,8 @@ stuck : (dir : List ℕ) (output before : Option (List ℕ)) (bytes fields : Lis
     → ((path rest : List ℕ) → IsAbove before path → IsPathLine dir fields path rest → ⊥)
     → (line : Line) (rest : List ℕ) → Goes dir (Within output before) bytes line rest → ⊥
 stuck dir output before bytes fields begins none (Reference path) rest goes =
-    none path rest goes.may.1 (record { of_dir = goes.may.0; parts = behind_path_line 82 bytes fields path rest begins goes.parts })
-stuck dir output before bytes fields begins none line rest goes = absurd (omega (arith, letter_tells 82 (32 ∷ fields) bytes line rest begins goes.parts))
+    none path rest goes.may.1 (record { of_dir = goes.may.0; parts = ap (drop 2) (sym begins ∙ goes.parts) ∙ append_assoc path (10 ∷ []) rest })
+stuck dir output before bytes fields begins none line rest goes = absurd (omega (arith, ap first (sym begins ∙ goes.parts)))
 
 -- a reference's line without a path stops
 pub bad_reference : (dir : List ℕ) (output before : Option (List ℕ)) (bytes fields : List ℕ) → bytes ≡ 82 ∷ 32 ∷ fields

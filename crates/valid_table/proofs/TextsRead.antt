@@ -1,5 +1,5 @@
--- What reading the text of a journal answers: its entries, want of memory apart.
-use Rattle.std.proofs.Common.{◌≢◌, ◌+◌, ◌++◌, ℕ, List, [], ◌∷◌, length, take, drop, get_or, inl, inr, refl, ap, sym, subst, ◌∙◌, arith, codes, nat_eq, Ok, Err}
+-- The text of a journal has no wrong version, and no wrong line.
+use Rattle.std.proofs.Common.{◌≢◌, ◌+◌, ◌++◌, ℕ, List, [], ◌∷◌, length, take, drop, get_or, inl, inr, refl, ap, sym, subst, ◌∙◌, arith, codes, nat_eq}
 use Rattle.std.specs.Prelude.{◌⊎◌, All}
 use Rattle.std.specs.Cmp.Lexicographic.{pointwise}
 use Rattle.std.specs.List.{IsDistinct, flat_map}
@@ -9,17 +9,13 @@ use Rattle.valid_table.specs.BadLines.{IsOtherVersion}
 use Rattle.valid_table.specs.Entering.{AreNew}
 use Rattle.valid_table.specs.Entries.{paths_of, registered, registered_by}
 use Rattle.valid_table.specs.LineFaults.{IsNotClosedAt, IsTwiceAt}
-use Rattle.valid_table.specs.ReadingLaws.{JournalTextsAreRead}
 use Rattle.valid_table.specs.Texts.{IsText, entry_lines, line_text, text}
 use Rattle.valid_table.specs.Valid.{IsClosedBehind, IsJournal, IsOnce}
 use Rattle.valid_table.specs.declared.entry.Entry.{Entry}
 use Rattle.valid_table.specs.declared.entry.Registration.{Registration}
-use Rattle.valid_table.specs.declared.fault.TableFault.TheVariants.{NoMemory, BadLine, NotClosed, Twice, WrongVersion, TooLong}
-use Rattle.valid_table.proofs.BadLineLaws.{texts_have_no_bad_line}
 use Rattle.valid_table.proofs.CheckedEntries.{entry_lines_are, up_to}
 use Rattle.valid_table.proofs.CheckedJournal.{AreRight, IsRightBehind, IsWrongAt, not_among, right_at, wrong_line}
 use Rattle.valid_table.proofs.JournalLists.{parts_at, paths_of-append}
-use Rattle.valid_table.proofs.OneList.{text_has_one_list}
 use Rattle.valid_table.proofs.PathLists.{once_apart, once_front}
 use Rattle.valid_table.proofs.Separators.{Lacks}
 use Rattle.valid_table.proofs.Versions.{by_number}
@@ -74,21 +70,3 @@ right_not_wrong entries m right w =
 -- no line of a journal is at fault
 pub no_fault : (entries : List Entry) (m : ℕ) → IsJournal entries → IsNotClosedAt entries m ⊎ IsTwiceAt entries m → ⊥
 no_fault entries m is fault = right_not_wrong entries m (journal_right [] entries is.closed is.once) (wrong_line entries m fault)
-
--- ---- the law
-
--- the text of a journal is read as just that journal, want of memory apart
-pub journal_texts_are_read : JournalTextsAreRead
-journal_texts_are_read dir bytes entries (Ok others) is_dir within is journal h =
-    inl (ap Ok (h.checked.0 ∙ text_has_one_list dir bytes h.entries entries h.is_text is))
-journal_texts_are_read dir bytes entries (Err NoMemory) is_dir within is journal h = inr refl
-journal_texts_are_read dir bytes entries (Err TooLong) is_dir within is journal h = absurd (omega arith)
-journal_texts_are_read dir bytes entries (Err WrongVersion) is_dir within is journal h = absurd (not_other_version dir bytes entries is h.1)
-journal_texts_are_read dir bytes entries (Err (BadLine n)) is_dir within is journal h = absurd (texts_have_no_bad_line dir bytes entries n is_dir is h.2)
-journal_texts_are_read dir bytes entries (Err (NotClosed n)) is_dir within is journal h =
-    let same = text_has_one_list dir bytes h.entries entries h.is_text is in
-    absurd (no_fault entries n journal (inl (subst (λ es. IsNotClosedAt es n) same h.checked.0)))
-journal_texts_are_read dir bytes entries (Err (Twice n)) is_dir within is journal h =
-    let same = text_has_one_list dir bytes h.entries entries h.is_text is in
-    absurd (no_fault entries n journal (inr (subst (λ es. IsTwiceAt es n) same h.checked.0)))
-journal_texts_are_read dir bytes entries (Err fault) is_dir within is journal h = absurd h.checked

@@ -1,4 +1,4 @@
-use Rattle.valid_table.proofs.TextsRead.{journal_texts_are_read}
+use Rattle.valid_table.proofs.OneAnswer.{journal_texts_are_read}
 use Rattle.valid_table.proofs.laws.journal_texts_are_read.Goals as goal
 
 pub returns : goal.returns
