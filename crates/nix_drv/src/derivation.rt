@@ -99,8 +99,8 @@ impl Model for Derivation {
 }
 
 impl Derivation {
-    /// The derivation of the parts, or the place in their text of the first element that breaks
-    /// the order of its list.
+    // The derivation of the parts, or the place in their text of the first element that breaks
+    // the order of its list.
     pub(crate) fn in_order(parts: Parts) -> Result<Derivation, usize>
         ensures { IsOrdering (drv_of parts) result }
     {
@@ -130,7 +130,7 @@ impl Derivation {
         Ok(Derivation { parts })
     }
 
-    /// Adds the derivation's text.
+    // Adds the derivation's text.
     pub(crate) fn write_to(&self, out: &mut Vec<u8>) -> Result<(), AllocError>
         ensures ok { OnOk result (out.new.items ≡ out.old.items ++ text derivation_form (drv_value self.now)) }
         ensures in_order { InOrder derivation_form (drv_value self.now) }

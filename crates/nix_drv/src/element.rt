@@ -12,44 +12,44 @@ use crate::fault::Stop;
 use crate::reading::fixed_of;
 use std::alloc::{AllocError, Global};
 
-/// An element of a list: how it is read, written and ordered.
+// An element of a list: how it is read, written and ordered.
 pub(crate) trait Element {
     ghost form: { Grammar };
 
     ghost value: { Self → Value form };
 
-    /// What the elements of its list may have to rise by.
+    // What the elements of its list may have to rise by.
     fn key(&self) -> &[u8]
         ensures { result.now ≡ key_of form (value self.now) };
 
-    /// The element at the head of the bytes, and those behind it.
+    // The element at the head of the bytes, and those behind it.
     fn read(alloc: Global, bytes: &[u8]) -> Result<(Self, &[u8]), Stop>
         ensures { Gives (λ x. (value x.0, x.1.now)) result (read_of form bytes.now) };
 
-    /// The place behind the element's text where it stands at the place, or the place of the
-    /// first element within it that breaks the order of its list.
+    // The place behind the element's text where it stands at the place, or the place of the
+    // first element within it that breaks the order of its list.
     fn pass(&self, place: usize) -> Result<usize, usize>
         ensures { result ≡ pass_of form place (value self.now) };
 
-    /// Adds the element's text.
+    // Adds the element's text.
     fn write(&self, out: &mut Vec<u8>) -> Result<(), AllocError>
         ensures { OnOk result (out.new.items ≡ out.old.items ++ text form (value self.now)) };
 
-    /// An element of the same bytes.
+    // An element of the same bytes.
     fn copy(&self, alloc: Global) -> Result<Self, AllocError>
         ensures { IfOk result (λ copy. value copy ≡ value self.now) };
 
     ghost clear: { IsClear (Many Free form) };
 }
 
-/// Whether the elements of a list must rise by their keys.
+// Whether the elements of a list must rise by their keys.
 #[derive(Clone, Copy)]
 pub(crate) enum Order {
     Rising,
     Free,
 }
 
-/// What stands behind an element.
+// What stands behind an element.
 enum Next {
     Comma,
     End,
@@ -66,7 +66,7 @@ fn next_of(bytes: &[u8]) -> Result<(Next, &[u8]), Stop>
     }
 }
 
-/// The list at the head of the bytes, and those behind it.
+// The list at the head of the bytes, and those behind it.
 pub(crate) fn read_list<T: Element + Drop>(
     alloc: Global,
     bytes: &[u8],
@@ -88,7 +88,7 @@ pub(crate) fn read_list<T: Element + Drop>(
     }
 }
 
-/// Whether an element with this key breaks the order behind one with the key before it.
+// Whether an element with this key breaks the order behind one with the key before it.
 fn breaks(order: Order, before: Option<&[u8]>, key: &[u8]) -> bool
     ensures { result ≡ breaks_of (order_of order) (option_map (λ k. k.now) before.entry) key.now }
 {
@@ -98,8 +98,8 @@ fn breaks(order: Order, before: Option<&[u8]>, key: &[u8]) -> bool
     }
 }
 
-/// The place behind the list's text where it stands at the place, or the place of its first
-/// element that breaks an order. A place past the last number of the machine is that number.
+// The place behind the list's text where it stands at the place, or the place of its first
+// element that breaks an order. A place past the last number of the machine is that number.
 #[tactic(auto, unfolding(crate::specs::Passing::pass))]
 pub(crate) fn pass_list<T: Element>(order: Order, items: &[T], place: usize) -> Result<usize, usize>
     ensures { result ≡ pass_of (Many (order_of order) T.form) place (map T.value items.now) }
@@ -120,7 +120,7 @@ pub(crate) fn pass_list<T: Element>(order: Order, items: &[T], place: usize) -> 
     Ok(at)
 }
 
-/// Adds the list's text.
+// Adds the list's text.
 pub(crate) fn write_list<T: Element>(items: &[T], out: &mut Vec<u8>) -> Result<(), AllocError>
     ensures { OnOk result (out.new.items ≡ out.old.items ++ list_text (text T.form) (map T.value items.now)) }
 {
@@ -137,7 +137,7 @@ pub(crate) fn write_list<T: Element>(items: &[T], out: &mut Vec<u8>) -> Result<(
     Ok(())
 }
 
-/// A list of the same elements.
+// A list of the same elements.
 pub(crate) fn copy_list<T: Element + Drop>(alloc: Global, items: &[T]) -> Result<Vec<T>, AllocError>
     ensures { IfOk result (λ copies. map T.value copies.items ≡ map T.value items.now) }
 {

@@ -73,12 +73,12 @@ impl<T: Drop> From<AllocFailed<T>> for DrvFault {
     }
 }
 
-/// Why a reader stopped.
+// Why a reader stopped.
 #[derive(Debug, Drop)]
 pub(crate) enum Stop {
-    /// Memory was refused.
+    // Memory was refused.
     Memory,
-    /// So many bytes lie behind the longest beginning that can still become a text.
+    // So many bytes lie behind the longest beginning that can still become a text.
     Left(usize),
 }
 

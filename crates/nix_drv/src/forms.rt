@@ -204,7 +204,7 @@ impl Element for Output {
     ghost clear = { Prim.search rules };
 }
 
-/// The parts at the head of the bytes, and the bytes behind them.
+// The parts at the head of the bytes, and the bytes behind them.
 #[tactic(auto, unfolding(crate::specs::Reading::read))]
 pub(crate) fn read_parts(alloc: Global, bytes: &[u8]) -> Result<(Parts, &[u8]), Stop>
     ensures { Gives (λ x. (parts_value x.0, x.1.now)) result (read_of derivation_form bytes.now) }
@@ -236,8 +236,8 @@ pub(crate) fn read_parts(alloc: Global, bytes: &[u8]) -> Result<(Parts, &[u8]), 
     Ok((parts, rest))
 }
 
-/// The place behind the parts' text, or the place in it of the first element that breaks the
-/// order of its list.
+// The place behind the parts' text, or the place in it of the first element that breaks the
+// order of its list.
 #[tactic(auto, unfolding(crate::specs::Passing::pass))]
 pub(crate) fn pass_parts(parts: &Parts) -> Result<usize, usize>
     ensures { result ≡ pass_of derivation_form 0 (parts_value parts.now) }
@@ -266,7 +266,7 @@ fn write_build(parts: &Parts, out: &mut Vec<u8>) -> Result<(), AllocError>
     Ok(())
 }
 
-/// Adds the parts' text, with these input derivations in place of their own.
+// Adds the parts' text, with these input derivations in place of their own.
 pub(crate) fn write_parts(
     parts: &Parts,
     inputs: &[Input],
@@ -284,7 +284,7 @@ pub(crate) fn write_parts(
     write_build(parts, out)
 }
 
-/// The same parts.
+// The same parts.
 pub(crate) fn copy_parts(alloc: Global, parts: &Parts) -> Result<Parts, AllocError>
     ensures { IfOk result (λ copy. parts_value copy ≡ parts_value parts.now) }
 {

@@ -15,7 +15,7 @@ use std::alloc::Global;
 /// How many bytes a derivation's text may have.
 pub const MAX_LEN: usize = 4_194_304;
 
-/// The bytes behind those that are wanted.
+// The bytes behind those that are wanted.
 pub(crate) fn fixed_of<'a>(bytes: &'a [u8], wanted: &[u8]) -> Result<&'a [u8], Stop>
     ensures { Gives (λ rest. (tt, rest.now)) result (fixed_at wanted.now bytes.now) }
 {
@@ -58,7 +58,7 @@ fn byte_of(bytes: &[u8]) -> Result<(Option<u8>, &[u8]), Stop>
     }
 }
 
-/// The string at the head of the bytes, and those behind it.
+// The string at the head of the bytes, and those behind it.
 #[tactic(auto, unfolding(crate::specs::Reading::read))]
 pub(crate) fn str_of(alloc: Global, bytes: &[u8]) -> Result<(Vec<u8>, &[u8]), Stop>
     ensures { Gives (λ x. (x.0.items, x.1.now)) result (read Str bytes.now) }

@@ -5,11 +5,12 @@ use real::DERIVATIONS;
 use std::alloc::{AllocError, Global};
 use std::test::*;
 
+mod parts;
 pub(crate) mod real;
 
 const NOTHING: &[u8; 28] = b"Derive([],[],[],\"\",\"\",[],[])";
 
-/// A draft with an output, arguments and an environment.
+// A draft with an output, arguments and an environment.
 const GREET: &[u8; 97] =
     b"Derive([(\"out\",\"\",\"\",\"\")],[],[],\"x86_64-linux\",\"/bin/sh\",[\"-c\",\"echo hello > $out\"],[(\"out\",\"\")])";
 
@@ -21,7 +22,13 @@ fn write_ok(alloc: Global, derivation: &Derivation) -> Result<Vec<u8>, Fail> {
     Ok(write(alloc, derivation).ok().ok_or("memory is ample")?)
 }
 
-/// Parts whose lists are empty.
+// The text of the derivation that the parts make.
+fn text_of(alloc: Global, parts: Parts) -> Result<Vec<u8>, Fail> {
+    let derivation = Derivation::new(parts).ok().ok_or("the parts are in order")?;
+    write_ok(alloc, &derivation)
+}
+
+// Parts whose lists are empty.
 fn no_parts(alloc: Global) -> Parts {
     Parts {
         outputs: Vec::new(alloc),
@@ -49,99 +56,114 @@ fn nothing_drv(rt: HostRuntime) -> Result<(), Fail> {
     Ok(())
 }
 
+// A derivation with something in each of its parts.
+const FULL: &[u8] =
+    b"Derive([(\"dev\",\"/d\",\"sha256\",\"00\")],[(\"/i\",[\"a\",\"b\"])],[\"/s\",\"/t\"],\"sys\",\"/sh\",[\"z\",\"y\"],[(\"k\",\"v\")])";
+
 #[test]
-fn parts_of_a_derivation(rt: HostRuntime) -> Result<(), Fail> {
-    let text =
-        b"Derive([(\"dev\",\"/d\",\"sha256\",\"00\")],[(\"/i\",[\"a\",\"b\"])],[\"/s\",\"/t\"],\"sys\",\"/sh\",[\"z\",\"y\"],[(\"k\",\"v\")])";
-    let derivation = read_ok(rt.alloc(), text)?;
+fn output_of_a_derivation(rt: HostRuntime) -> Result<(), Fail> {
+    let derivation = read_ok(rt.alloc(), FULL)?;
     let output = derivation.outputs().first().ok_or("there is an output")?;
     assert_eq!(rt; output.name.as_slice(), b"dev".as_slice());
     assert_eq!(rt; output.path.as_slice(), b"/d".as_slice());
     assert_eq!(rt; output.algo.as_slice(), b"sha256".as_slice());
     assert_eq!(rt; output.hash.as_slice(), b"00".as_slice());
-    let input = derivation.inputs().first().ok_or("there is an input")?;
-    assert_eq!(rt; input.path.as_slice(), b"/i".as_slice());
-    assert_eq!(rt; input.names.len(), 2);
-    assert_eq!(rt; derivation.sources().len(), 2);
-    assert_eq!(rt; derivation.system(), b"sys".as_slice());
-    assert_eq!(rt; derivation.builder(), b"/sh".as_slice());
-    assert_eq!(rt; derivation.args().len(), 2);
-    let entry = derivation.env().first().ok_or("there is an entry")?;
-    assert_eq!(rt; entry.key.as_slice(), b"k".as_slice());
-    assert_eq!(rt; entry.value.as_slice(), b"v".as_slice());
-    let copy = derivation.copy(rt.alloc()).ok().ok_or("memory is ample")?;
-    assert_eq!(rt; write_ok(rt.alloc(), &copy)?.as_slice(), text.as_slice());
     Ok(())
 }
 
 #[test]
+fn input_of_a_derivation(rt: HostRuntime) -> Result<(), Fail> {
+    let derivation = read_ok(rt.alloc(), FULL)?;
+    let input = derivation.inputs().first().ok_or("there is an input")?;
+    assert_eq!(rt; input.path.as_slice(), b"/i".as_slice());
+    assert_eq!(rt; input.names.len(), 2);
+    Ok(())
+}
+
+#[test]
+fn entry_of_a_derivation(rt: HostRuntime) -> Result<(), Fail> {
+    let derivation = read_ok(rt.alloc(), FULL)?;
+    let entry = derivation.env().first().ok_or("there is an entry")?;
+    assert_eq!(rt; entry.key.as_slice(), b"k".as_slice());
+    assert_eq!(rt; entry.value.as_slice(), b"v".as_slice());
+    Ok(())
+}
+
+#[test]
+fn texts_of_a_derivation(rt: HostRuntime) -> Result<(), Fail> {
+    let derivation = read_ok(rt.alloc(), FULL)?;
+    assert_eq!(rt; derivation.sources().len(), 2);
+    assert_eq!(rt; derivation.system(), b"sys".as_slice());
+    assert_eq!(rt; derivation.builder(), b"/sh".as_slice());
+    assert_eq!(rt; derivation.args().len(), 2);
+    Ok(())
+}
+
+#[test]
+fn copy_of_a_derivation(rt: HostRuntime) -> Result<(), Fail> {
+    let derivation = read_ok(rt.alloc(), FULL)?;
+    let copy = derivation.copy(rt.alloc())?;
+    assert_eq!(rt; write_ok(rt.alloc(), &copy)?.as_slice(), FULL);
+    Ok(())
+}
+
+// Where the bytes stop being a text of the language, its order rules left out.
+fn syntax_place(alloc: Global, text: &[u8]) -> Option<usize> {
+    match read(alloc, text) {
+        Err(DrvFault::Syntax(place)) => Some(place),
+        _ => None,
+    }
+}
+
+// Where an element of the text breaks the order of its list.
+fn order_place(alloc: Global, text: &[u8]) -> Option<usize> {
+    match read(alloc, text) {
+        Err(DrvFault::Order(place)) => Some(place),
+        _ => None,
+    }
+}
+
+#[test]
 fn syntax_places(rt: HostRuntime) {
-    assert!(rt; matches!(read(rt.alloc(), &GREET[..96]), Err(DrvFault::Syntax(96))));
-    assert!(rt;
-        matches!(
-            read(
-                rt.alloc(),
-                b"Derive([(\"out\",\"\",\"\",\"\")],[],[],\"x86_64-linux\",\"/bin/sh\",[\"-c\",\"echo hello > $out\"],[(\"out\",\"\")]))"
-            ),
-            Err(DrvFault::Syntax(97))
-        )
-    );
-    assert!(rt;
-        matches!(
-            read(rt.alloc(), b"Derive([],[],[],\"\\a\",\"\",[],[])"),
-            Err(DrvFault::Syntax(18))
-        )
-    );
-    assert!(rt;
-        matches!(
-            read(rt.alloc(), b"DrvWithVersion("),
-            Err(DrvFault::Syntax(1))
-        )
-    );
-    assert!(rt; matches!(read(rt.alloc(), b""), Err(DrvFault::Syntax(0))));
-    assert!(rt;
-        matches!(
-            read(rt.alloc(), b"Derive([],[],[\"/s\",],\"\",\"\",[],[])"),
-            Err(DrvFault::Syntax(19))
-        )
-    );
+    let rows: [(&[u8], usize); 10] = [
+        (&GREET[..96], 96),
+        (
+            b"Derive([(\"out\",\"\",\"\",\"\")],[],[],\"x86_64-linux\",\"/bin/sh\",[\"-c\",\"echo hello > $out\"],[(\"out\",\"\")]))",
+            97,
+        ),
+        (b"Derive([],[],[],\"\\a\",\"\",[],[])", 18),
+        (b"DrvWithVersion(", 1),
+        (b"", 0),
+        (b"Derive([],[],[\"/s\",],\"\",\"\",[],[])", 19),
+        (b"Derive([],[],[\"/t\",\"/s\"],\"\",\"\",[],[)", 35),
+        (b"Derive([],[],[],\"ab\n\",\"\",[],[])", 19),
+        (b"Derive([],[],[],\"ab\r\",\"\",[],[])", 19),
+        (b"Derive([],[],[],\"ab\t\",\"\",[],[])", 19),
+    ];
+    for (text, place) in rows {
+        assert_eq!(rt; syntax_place(rt.alloc(), text), Some(place));
+    }
 }
 
 #[test]
 fn order_places(rt: HostRuntime) {
-    assert!(rt;
-        matches!(
-            read(
-                rt.alloc(),
-                b"Derive([],[],[],\"\",\"\",[],[(\"b\",\"\"),(\"a\",\"\")])"
-            ),
-            Err(DrvFault::Order(35))
-        )
-    );
-    assert!(rt;
-        matches!(
-            read(
-                rt.alloc(),
-                b"Derive([],[],[],\"\",\"\",[],[(\"a\",\"\"),(\"a\",\"\")])"
-            ),
-            Err(DrvFault::Order(35))
-        )
-    );
-    assert!(rt;
-        matches!(
-            read(
-                rt.alloc(),
-                b"Derive([],[(\"/p\",[\"out\",\"dev\"])],[],\"\",\"\",[],[])"
-            ),
-            Err(DrvFault::Order(24))
-        )
-    );
-    assert!(rt;
-        matches!(
-            read(rt.alloc(), b"Derive([],[],[\"/t\",\"/s\"],\"\",\"\",[],[)"),
-            Err(DrvFault::Syntax(35))
-        )
-    );
+    let rows: [(&[u8], usize); 3] = [
+        (
+            b"Derive([],[],[],\"\",\"\",[],[(\"b\",\"\"),(\"a\",\"\")])",
+            35,
+        ),
+        (
+            b"Derive([],[],[],\"\",\"\",[],[(\"a\",\"\"),(\"a\",\"\")])",
+            35,
+        ),
+        (
+            b"Derive([],[(\"/p\",[\"out\",\"dev\"])],[],\"\",\"\",[],[])",
+            24,
+        ),
+    ];
+    for (text, place) in rows {
+        assert_eq!(rt; order_place(rt.alloc(), text), Some(place));
+    }
 }
 
 #[test]
@@ -152,37 +174,51 @@ fn keys_are_ordered_by_their_bytes(rt: HostRuntime) -> Result<(), Fail> {
     Ok(())
 }
 
+// A derivation whose builder has each escape but that of a return.
+const BUILDER_ESCAPES: &[u8; 37] = b"Derive([],[],[],\"\",\"\\\"\\\\\\n\\t\xff\",[],[])";
+
 #[test]
 fn builder_escapes(rt: HostRuntime) -> Result<(), Fail> {
-    let text = b"Derive([],[],[],\"\",\"\\\"\\\\\\n\\t\xff\",[],[])";
-    assert_eq!(rt; text.len(), 37);
     let mut parts = no_parts(rt.alloc());
     parts.builder.extend_from_slice(b"\x22\x5c\x0a\x09\xff")?;
-    let derivation = Derivation::new(parts).ok().ok_or("the parts are in order")?;
-    let written = write_ok(rt.alloc(), &derivation)?;
-    assert_eq!(rt; written.as_slice(), text.as_slice());
-    let again = read_ok(rt.alloc(), &written)?;
+    let written = text_of(rt.alloc(), parts)?;
+    assert_eq!(rt; written.as_slice(), BUILDER_ESCAPES.as_slice());
+    let again = read_ok(rt.alloc(), BUILDER_ESCAPES)?;
     assert_eq!(rt; again.builder(), b"\x22\x5c\x0a\x09\xff".as_slice());
     Ok(())
 }
 
+// Parts with these keys in their environment.
+fn with_keys(alloc: Global, keys: &[&[u8]]) -> Result<Parts, AllocError> {
+    let mut parts = no_parts(alloc);
+    for key in keys {
+        parts.env.push(entry(alloc, key)?)?;
+    }
+    Ok(parts)
+}
+
+// Parts with these arguments.
+fn with_args(alloc: Global, args: &[&[u8]]) -> Result<Parts, AllocError> {
+    let mut parts = no_parts(alloc);
+    for arg in args {
+        parts.args.push(Vec::from_slice(alloc, arg)?)?;
+    }
+    Ok(parts)
+}
+
 #[test]
-fn parts_out_of_order(rt: HostRuntime) -> Result<(), Fail> {
-    let mut falling = no_parts(rt.alloc());
-    falling.env.push(entry(rt.alloc(), b"b")?)?;
-    falling.env.push(entry(rt.alloc(), b"a")?)?;
+fn keys_must_rise(rt: HostRuntime) -> Result<(), Fail> {
+    let falling = with_keys(rt.alloc(), &[b"b".as_slice(), b"a"])?;
     assert!(rt; matches!(Derivation::new(falling), Err(DrvFault::NotSorted)));
-    let mut twice = no_parts(rt.alloc());
-    twice.env.push(entry(rt.alloc(), b"a")?)?;
-    twice.env.push(entry(rt.alloc(), b"a")?)?;
+    let twice = with_keys(rt.alloc(), &[b"a".as_slice(), b"a"])?;
     assert!(rt; matches!(Derivation::new(twice), Err(DrvFault::NotSorted)));
-    let mut free = no_parts(rt.alloc());
-    free.args.push(Vec::from_slice(rt.alloc(), b"b")?)?;
-    free.args.push(Vec::from_slice(rt.alloc(), b"a")?)?;
-    free.args.push(Vec::from_slice(rt.alloc(), b"a")?)?;
-    let derivation = Derivation::new(free)
-        .ok()
-        .ok_or("arguments stand in any order")?;
+    Ok(())
+}
+
+#[test]
+fn arguments_stand_in_any_order(rt: HostRuntime) -> Result<(), Fail> {
+    let parts = with_args(rt.alloc(), &[b"b".as_slice(), b"a", b"a"])?;
+    let derivation = Derivation::new(parts)?;
     assert_eq!(rt; derivation.args().len(), 3);
     Ok(())
 }
@@ -198,8 +234,8 @@ fn each_beginning_of_a_draft(rt: HostRuntime) {
     }
 }
 
-/// Whether the bytes are a derivation that is written back the same, or a fault with a place of
-/// at most 97.
+// Whether the bytes are a derivation that is written back the same, or a fault with a place of
+// at most 97.
 fn is_read_or_placed(alloc: Global, text: &[u8]) -> Result<bool, Fail> {
     match read(alloc, text) {
         Ok(derivation) => Ok(write_ok(alloc, &derivation)?.as_slice() == text),
@@ -239,29 +275,7 @@ fn escapes(rt: HostRuntime) -> Result<(), Fail> {
     Ok(())
 }
 
-#[test]
-fn raw_control_bytes(rt: HostRuntime) {
-    assert!(rt;
-        matches!(
-            read(rt.alloc(), b"Derive([],[],[],\"ab\n\",\"\",[],[])"),
-            Err(DrvFault::Syntax(19))
-        )
-    );
-    assert!(rt;
-        matches!(
-            read(rt.alloc(), b"Derive([],[],[],\"ab\r\",\"\",[],[])"),
-            Err(DrvFault::Syntax(19))
-        )
-    );
-    assert!(rt;
-        matches!(
-            read(rt.alloc(), b"Derive([],[],[],\"ab\t\",\"\",[],[])"),
-            Err(DrvFault::Syntax(19))
-        )
-    );
-}
-
-/// A derivation's text of so many bytes, with a long system.
+// A derivation's text of so many bytes, with a long system.
 fn long_text(alloc: Global, len: usize) -> Result<Vec<u8>, AllocError>
     requires { 28 ≤ len }
 {

@@ -12,7 +12,7 @@ use crate::fault::DrvFault;
 use std::alloc::{AllocError, Global};
 use std::io::{self, Write};
 
-/// Writes the byte as a string spells it.
+// Writes the byte as a string spells it.
 fn write_byte<W: Write>(out: &mut W, byte: u8) -> io::Result<()>
     ensures { OnOk result (Appends (W.contents out.old) (W.contents out.new) (spelling byte)) }
 {
@@ -41,7 +41,7 @@ pub fn write_string<W: Write>(out: &mut W, bytes: &[u8]) -> io::Result<()>
     out.write_all(b"\"")
 }
 
-/// Adds the string's text.
+// Adds the string's text.
 pub(crate) fn write_str(bytes: &[u8], out: &mut Vec<u8>) -> Result<(), AllocError>
     ensures { OnOk result (out.new.items ≡ out.old.items ++ string_text bytes.now) }
 {
@@ -49,7 +49,7 @@ pub(crate) fn write_str(bytes: &[u8], out: &mut Vec<u8>) -> Result<(), AllocErro
     write_string(out, bytes).map_err(|_| AllocError)
 }
 
-/// How many of the bytes take an escape.
+// How many of the bytes take an escape.
 fn escapes_in(bytes: &[u8]) -> usize
     ensures { result ≡ count_by (λ b. is_some (letter b)) bytes.now }
 {
@@ -59,7 +59,7 @@ fn escapes_in(bytes: &[u8]) -> usize
         .count()
 }
 
-/// The place behind the string's text where it stands at the place.
+// The place behind the string's text where it stands at the place.
 pub(crate) fn pass_str(bytes: &[u8], place: usize) -> usize
     ensures { result ≡ behind place (length (string_text bytes.now)) }
 {
