@@ -6,7 +6,7 @@ use Rattle.std.specs.List.{IsDistinct, flat_map}
 use Rattle.std.proofs.lemmas.List.{append_assoc, get_or_default}
 use Rattle.std.proofs.lemmas.List.Elements.{All-cons, All-nil, Contains-append_left}
 use Rattle.valid_table.specs.BadLines.{IsOtherVersion}
-use Rattle.valid_table.specs.Entering.{AreNew}
+use Rattle.valid_table.specs.Entering.{AreUnknown}
 use Rattle.valid_table.specs.Entries.{paths_of, registered, registered_by}
 use Rattle.valid_table.specs.LineFaults.{IsNotClosedAt, IsTwiceAt}
 use Rattle.valid_table.specs.Texts.{IsText, entry_lines, line_text, text}
@@ -15,8 +15,8 @@ use Rattle.valid_table.specs.declared.entry.Entry.{Entry}
 use Rattle.valid_table.specs.declared.entry.Registration.{Registration}
 use Rattle.valid_table.proofs.CheckedEntries.{entry_lines_are, up_to}
 use Rattle.valid_table.proofs.CheckedJournal.{AreRight, IsRightBehind, IsWrongAt, not_among, right_at, wrong_line}
-use Rattle.valid_table.proofs.JournalLists.{parts_at, paths_of-append}
-use Rattle.valid_table.proofs.PathLists.{once_apart, once_front}
+use Rattle.valid_table.proofs.JournalLists.{paths_of-append}
+use Rattle.valid_table.proofs.PathLists.{once_apart, once_front, parts_at}
 use Rattle.valid_table.proofs.Separators.{Lacks}
 use Rattle.valid_table.proofs.Versions.{by_number}
 
@@ -37,7 +37,7 @@ not_other_version dir bytes entries is other =
 -- ---- journals have no wrong line
 
 -- of paths without repetition, none is among those before it
-later_new : (known paths : List (List ℕ)) → IsDistinct (pointwise nat_eq) (known ++ paths) → AreNew known paths
+later_new : (known paths : List (List ℕ)) → IsDistinct (pointwise nat_eq) (known ++ paths) → AreUnknown known paths
 later_new known paths once k d lt there =
     let path = get_or paths k d in
     let parts = parts_at paths k path lt (get_or_default paths k d path lt) in
