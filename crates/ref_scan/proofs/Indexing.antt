@@ -28,7 +28,7 @@ mark_stays met i k lt h =
 
 slot_fits : (slots : ℕ) (window : List ℕ) → 0 < slots → slot_of slots window < slots
 slot_fits slots window some =
-    let least = and_le_r (slice_index window 28 + 32 * slice_index window 29 + 1024 * slice_index window 30 + 32768 * slice_index window 31) (slots - 1) in omega arith
+    let least = and_le_r (slice_index window 28 + 37 * slice_index window 29 + 1369 * slice_index window 30 + 50653 * slice_index window 31) (slots - 1) in omega arith
 
 -- the place of a part once this part has the place k
 module _ (old new : Places) (part : List ℕ) (k : ℕ) (after : (q : List ℕ) → place_at new q ≡ cond (same part q) (Some k) (place_at old q)) where
