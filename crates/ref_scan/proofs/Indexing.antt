@@ -1,6 +1,6 @@
 -- The index of hash parts with one path more, and a mark set by it.
-use Rattle.std.proofs.Common.{◌≡◌, ◌≢◌, ◌∙◌, ℕ, suc, ◌+◌, ◌-◌, ◌*◌, ◌<◌, ◌≤◌, Bool, true, false, cond, List, [], ◌∷◌, ◌++◌, ◌⊎◌, ◌↔◌, inl, inr, ⊎_elim, length, get_or, set, refl, sym, ap, subst, arith, length-append, Option, Some, None, nat_eq, bit_and, get_or-set_same, get_or-set_other}
-use Rattle.std.specs.Prelude.{IsTrue, IsSome, Contains, Result, Ok, Err, IsOk, OnOk, slice_index}
+use Rattle.std.proofs.Common.{◌≡◌, ◌∙◌, ℕ, ◌+◌, ◌-◌, ◌*◌, ◌<◌, Bool, true, false, cond, List, [], ◌∷◌, ◌++◌, inl, inr, ⊎_elim, length, get_or, set, refl, sym, ap, subst, arith, length-append, Some, None, nat_eq, get_or-set_same, get_or-set_other}
+use Rattle.std.specs.Prelude.{IsTrue, IsSome, Result, Ok, Err, IsOk, OnOk, slice_index}
 use Rattle.std.specs.Cmp.Lexicographic.{pointwise, bytes_decides}
 use Rattle.std.proofs.lemmas.Bool.{false≢true, cases_Bool, cases_eq}
 use Rattle.std.proofs.lemmas.List.{length-set, get_or_append_left, get_or_push}
