@@ -1,6 +1,6 @@
 -- The index of hash parts with one path more, and a mark set by it.
-use Rattle.std.proofs.Common.{◌≡◌, ◌≢◌, ◌∙◌, ℕ, suc, ◌+◌, ◌-◌, ◌*◌, ◌<◌, ◌≤◌, Bool, true, false, cond, List, [], ◌∷◌, ◌++◌, ◌⊎◌, ◌↔◌, inl, inr, ⊎_elim, length, get_or, set, refl, sym, ap, subst, arith, length-append, Option, Some, None, nat_eq, bit_and, get_or-set_same, get_or-set_other}
-use Rattle.std.specs.Prelude.{IsTrue, IsSome, Contains, Result, Ok, Err, IsOk, OnOk, slice_index}
+use Rattle.std.proofs.Common.{◌≡◌, ◌∙◌, ℕ, ◌+◌, ◌-◌, ◌*◌, ◌<◌, Bool, true, false, cond, List, [], ◌∷◌, ◌++◌, inl, inr, ⊎_elim, length, get_or, set, refl, sym, ap, subst, arith, length-append, Some, None, nat_eq, get_or-set_same, get_or-set_other}
+use Rattle.std.specs.Prelude.{IsTrue, IsSome, Result, Ok, Err, IsOk, OnOk, slice_index}
 use Rattle.std.specs.Cmp.Lexicographic.{pointwise, bytes_decides}
 use Rattle.std.proofs.lemmas.Bool.{false≢true, cases_Bool, cases_eq}
 use Rattle.std.proofs.lemmas.List.{length-set, get_or_append_left, get_or_push}
@@ -28,7 +28,7 @@ mark_stays met i k lt h =
 
 slot_fits : (slots : ℕ) (window : List ℕ) → 0 < slots → slot_of slots window < slots
 slot_fits slots window some =
-    let least = and_le_r (slice_index window 28 + 32 * slice_index window 29 + 1024 * slice_index window 30 + 32768 * slice_index window 31) (slots - 1) in omega arith
+    let least = and_le_r (slice_index window 28 + 37 * slice_index window 29 + 1369 * slice_index window 30 + 50653 * slice_index window 31) (slots - 1) in omega arith
 
 -- the place of a part once this part has the place k
 module _ (old new : Places) (part : List ℕ) (k : ℕ) (after : (q : List ℕ) → place_at new q ≡ cond (same part q) (Some k) (place_at old q)) where

@@ -1,5 +1,5 @@
 -- Some of a list, and the lists of bytes in which a part stands.
-use Rattle.std.proofs.Common.{◌≡◌, ◌∙◌, sym, ℕ, zero, suc, ◌+◌, List, [], ◌∷◌, ◌++◌, ◌⊎◌, ◌↔◌, inl, inr, ⊎_elim, length, refl, subst, arith}
+use Rattle.std.proofs.Common.{sym, ℕ, zero, suc, List, [], ◌∷◌, ◌++◌, ◌⊎◌, inl, inr, ⊎_elim, refl, subst, arith}
 use Rattle.std.specs.Prelude.{Any, Contains, IsTrue}
 use Rattle.nix_names.specs.StorePaths.{hash_part_of, is_hash_part}
 use Rattle.ref_scan.specs.Scan.{IsFoundIn, OccursIn, Within}

@@ -1,10 +1,10 @@
 -- What a scanner keeps, as it is made, fed and cut, and what it finds.
-use Rattle.std.proofs.Common.{◌≡◌, ◌∙◌, sym, ℕ, ◌<◌, ◌≤◌, Bool, true, false, List, [], ◌∷◌, ◌++◌, ◌⊎◌, ◌↔◌, inl, inr, ⊎_elim, length, take, replicate, get_or, refl, ap, subst, arith, append_assoc, Option, Some, None}
+use Rattle.std.proofs.Common.{◌≡◌, ◌∙◌, sym, ℕ, ◌<◌, ◌≤◌, Bool, false, List, [], ◌∷◌, ◌++◌, ◌⊎◌, ◌↔◌, inl, inr, ⊎_elim, length, take, replicate, get_or, refl, ap, subst, arith, append_assoc, Option, Some, None}
 use Rattle.std.specs.Prelude.{Any, Contains, IsTrue, IsSome, IfOk, Result, Ok, Err}
 use Rattle.std.proofs.lemmas.Bool.{false≢true, cases_lt}
 use Rattle.std.proofs.lemmas.List.{get_or-replicate, length-replicate, get_or_past, take_at}
 use Rattle.nix_names.specs.Rising.{IsRising}
-use Rattle.nix_names.specs.StorePaths.{hash_part_of, is_hash_part}
+use Rattle.nix_names.specs.StorePaths.{hash_part_of}
 use Rattle.ref_scan.specs.Feed.{Feed, lists_of}
 use Rattle.ref_scan.specs.Kept.{last_bytes}
 use Rattle.ref_scan.specs.Marks.{IsMet, Searched}

@@ -1,9 +1,9 @@
 -- The bytes that are kept of a list of bytes, as pieces come.
-use Rattle.std.proofs.Common.{◌≡◌, ◌∙◌, ℕ, ◌+◌, ◌-◌, ◌<◌, ◌≤◌, List, [], ◌∷◌, ◌++◌, ◌⊎◌, ◌↔◌, inl, inr, ⊎_elim, length, take, drop, refl, sym, ap, subst, arith, append_assoc, length-append, length-take, length-drop}
+use Rattle.std.proofs.Common.{◌≡◌, ◌∙◌, ℕ, ◌+◌, ◌-◌, ◌<◌, ◌≤◌, List, ◌++◌, ◌⊎◌, inl, inr, ⊎_elim, length, take, drop, sym, ap, subst, arith, append_assoc, length-append, length-take, length-drop}
 use Rattle.std.specs.Prelude.{min, IsTrue}
 use Rattle.std.proofs.Math.Nat.{min_comm}
 use Rattle.std.proofs.lemmas.Bool.{cases_lt}
-use Rattle.std.proofs.lemmas.List.{take-append-drop, take_min, drop-append-le, drop_all, take_all}
+use Rattle.std.proofs.lemmas.List.{take-append-drop, take_min, take_all}
 use Rattle.std.proofs.Math.Seq.{drop-append-add}
 use Rattle.nix_names.specs.StorePaths.{is_hash_part}
 use Rattle.ref_scan.specs.Kept.{last_bytes}

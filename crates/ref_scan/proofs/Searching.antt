@@ -1,5 +1,5 @@
 -- A search over windows, up to one of them.
-use Rattle.std.proofs.Common.{◌≡◌, ◌∙◌, ℕ, ◌+◌, ◌-◌, ◌<◌, ◌≤◌, Bool, true, false, List, ◌⊎◌, ◌↔◌, inl, inr, ⊎_elim, length, take, drop, get_or, refl, sym, ap, subst, arith, Some, length-drop}
+use Rattle.std.proofs.Common.{◌≡◌, ◌∙◌, ℕ, ◌+◌, ◌-◌, ◌<◌, Bool, false, List, ◌⊎◌, inl, inr, ⊎_elim, length, take, drop, get_or, refl, sym, ap, subst, Some}
 use Rattle.std.specs.Prelude.{IsTrue}
 use Rattle.std.proofs.lemmas.List.{drop-drop, take_rest, get_or-take}
 use Rattle.nix_names.specs.Base32.{is_digit}

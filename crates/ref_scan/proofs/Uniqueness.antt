@@ -4,8 +4,7 @@ use Rattle.std.specs.Prelude.{Contains}
 use Rattle.std.specs.declared.cmp.Ordering.TheVariants.{Less, Equal}
 use Rattle.std.proofs.lemmas.Cmp.{nat_list_cmp_total, tied_itself}
 use Rattle.nix_names.specs.Rising.{IsRising}
-use Rattle.nix_names.specs.StorePaths.{hash_part_of}
-use Rattle.ref_scan.specs.Scan.{IsFoundIn, OccursIn}
+use Rattle.ref_scan.specs.Scan.{IsFoundIn}
 use Rattle.ref_scan.proofs.Findings.{Below, rising_later}
 
 has_cases : (x : List ℕ) (xs : List (List ℕ)) (y : List ℕ) → Contains (x ∷ xs) y → (x ≡ y) ⊎ Contains xs y

@@ -1,13 +1,12 @@
 -- A hash part within some bytes, as a search over windows goes on, and as pieces join.
-use Rattle.std.proofs.Common.{◌≡◌, ◌∙◌, ℕ, suc, ◌+◌, ◌-◌, ◌<◌, ◌≤◌, true, false, List, [], ◌∷◌, ◌++◌, ◌⊎◌, inl, inr, ⊎_elim, length, take, drop, get_or, refl, sym, ap, subst, arith, append_assoc, length-append, length-take, length-drop}
+use Rattle.std.proofs.Common.{◌≡◌, ◌∙◌, ℕ, ◌+◌, ◌-◌, ◌<◌, ◌≤◌, false, List, [], ◌∷◌, ◌++◌, ◌⊎◌, inl, inr, ⊎_elim, length, take, drop, get_or, refl, sym, ap, subst, arith, append_assoc, length-append}
 use Rattle.std.specs.Prelude.{IsTrue}
 use Rattle.std.proofs.lemmas.Bool.{false≢true, cases_lt}
-use Rattle.std.proofs.lemmas.List.{take-append-drop, drop-append-le, take-append-le, drop_at, take_at, drop-drop, get_or-drop, drop_all}
+use Rattle.std.proofs.lemmas.List.{take-append-drop, drop-append-le, take-append-le, drop_at, take_at, get_or-drop}
 use Rattle.std.proofs.lemmas.List.Prefix.{front_reads}
 use Rattle.nix_names.specs.Base32.{is_digit}
 use Rattle.nix_names.specs.StorePaths.{is_hash_part}
 use Rattle.ref_scan.specs.Scan.{Within}
-use Rattle.ref_scan.specs.Kept.{last_bytes}
 use Rattle.ref_scan.proofs.HashParts.{hash_part_long, hash_part_digit}
 
 -- A part stays within bytes behind which or before which more come.

@@ -18,7 +18,7 @@ place_at places part = get (pointwise nat_eq) places part
 -- the slot of a window in a sieve of so many, by its last four bytes
 abbrev pub slot_of : ℕ → List ℕ → ℕ
 slot_of slots window =
-    bit_and (slice_index window 28 + 32 * slice_index window 29 + 1024 * slice_index window 30 + 32768 * slice_index window 31) (slots - 1)
+    bit_and (slice_index window 28 + 37 * slice_index window 29 + 1369 * slice_index window 30 + 50653 * slice_index window 31) (slots - 1)
 
 -- Each path's hash part has a place, which is that of a path with this part; the sieve lets each part through.
 pub record Indexes (paths : List (List ℕ)) (places : Places) (sieve : List Bool) : Type 0 where

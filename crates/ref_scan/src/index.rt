@@ -25,7 +25,7 @@ impl Index {
         ensures { IfOk result (λ index. Indexes paths.now index.places index.sieve.items) }
     {
         let slots = slot_count(paths.len());
-        let mut places = HashMap::new(alloc);
+        let mut places = HashMap::with_capacity(alloc, paths.len())?;
         let mut sieve = vec![in alloc; false; slots]?;
         for (place, path) in paths.iter().enumerate() {
             let part = part_of(path);
@@ -66,9 +66,9 @@ fn slot_of(slots: usize, window: &[u8; 32]) -> usize
     ensures within { result < slots }
 {
     let last = usize::from(window[28])
-        + 32 * usize::from(window[29])
-        + 1024 * usize::from(window[30])
-        + 32_768 * usize::from(window[31]);
+        + 37 * usize::from(window[29])
+        + 1369 * usize::from(window[30])
+        + 50_653 * usize::from(window[31]);
     last & (slots - 1)
 }
 

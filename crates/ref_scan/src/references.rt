@@ -14,9 +14,9 @@ use std::alloc::Global;
 /// file or within the name of one entry, at any depth, each apart. Two permitted paths with the
 /// same hash part are both found. `NoMemory`, the only fault, where memory was refused.
 ///
-/// The tree is walked once, whatever the number of paths; no bytes of a file are copied. Takes memory
-/// for the permitted paths, for a table of their hash parts and for what is found. The walk recurses
-/// as deep as the tree is, so ask `Tree::fits` of a tree of unknown depth.
+/// The tree is walked once, whatever the number of paths; no file is copied. Takes memory for the
+/// permitted paths, for a table of their hash parts and for what is found. The walk recurses as
+/// deep as the tree is, so ask `Tree::fits` of a tree of unknown depth.
 pub fn scan(
     alloc: Global,
     tree: &Tree,

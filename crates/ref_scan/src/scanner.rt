@@ -20,9 +20,9 @@ use std::marker::Model;
 /// A scan of lists of bytes, each of which may come in pieces, for the hash parts of store paths. A
 /// contract sees the permitted paths, the lists that a cut ended, and the list that goes on.
 ///
-/// It looks at each window of 32 bytes from its end and goes on behind a byte that no hash part has,
-/// so most bytes of a program are not looked at. A window of base-32 digits alone is looked up among
-/// all hash parts at once. Of the bytes it keeps at most 31 from one piece to the next.
+/// It looks at each window of 32 bytes from its end and goes on behind a byte that no hash part
+/// has, so most bytes of a program are not looked at. A window of base-32 digits alone is looked up
+/// among all hash parts at once. It keeps at most 31 bytes from one piece to the next.
 #[derive(Drop)]
 pub struct Scanner {
     permitted: Vec<StorePath>,
@@ -44,9 +44,9 @@ impl Model for Scanner {
 }
 
 impl Scanner {
-    /// A scanner for the hash parts of these paths, which was fed nothing; its first list begins. Takes
-    /// memory for the paths and for a table of their hash parts. `NoMemory`, the only fault, where it
-    /// was refused.
+    /// A scanner for the hash parts of these paths, which was fed nothing; its first list begins.
+    /// Takes memory for the paths and for a table of their hash parts. `NoMemory`, the only fault,
+    /// where it was refused.
     pub fn new(alloc: Global, permitted: &[StorePath]) -> Result<Scanner, ScanFault>
         requires { IsRising permitted.now }
         ensures { IfOk result (λ scanner. scanner ≡ record { permitted = permitted.now; ended = []; present = [] }) }
@@ -80,8 +80,8 @@ impl Scanner {
         self.fed = self.fed.cut();
     }
 
-    /// The permitted paths whose hash part occurs within one of the lists, in their order, however the
-    /// lists were cut into pieces. Two permitted paths with the same hash part are both found.
+    /// The permitted paths whose hash part occurs within one of the lists, in their order, however
+    /// the lists were cut into pieces. Two permitted paths with the same hash part are both found.
     /// `NoMemory`, the only fault, where memory was refused.
     pub fn finish(self) -> Result<Vec<StorePath>, ScanFault>
         ensures found { IfOk result (λ found. IsFoundIn (lists_of self) self.permitted found.items) }

@@ -6,8 +6,8 @@ ghost use Rattle.ref_scan.specs.Marks.{Marked, Searched};
 use crate::alphabet::last_foreign;
 use crate::index::Index;
 
-// Marks each part that stands somewhere within the bytes. Looks at each window of 32 bytes from its end, goes on behind
-// a byte outside the alphabet, and looks at no byte twice.
+// Marks each part that stands somewhere within the bytes. Looks at each window of 32 bytes from its
+// end, goes on behind a byte outside the alphabet, and looks at no byte twice.
 pub(crate) fn search(index: &Index, met: &mut [bool], bytes: &[u8])
     requires { IsIndex index.now.places index.now.sieve.items (length met.old) }
     ensures { Searched index.now.places met.old met.new bytes.now }

@@ -1,5 +1,4 @@
-use Rattle.std.proofs.Common.{◌≡◌, ◌∙◌, ◌++◌, ap, arith, take, length}
-use Rattle.std.specs.Prelude.{min}
+use Rattle.std.proofs.Common.{◌∙◌, ◌++◌, ap, arith, length}
 use Rattle.std.proofs.lemmas.List.{length-take}
 use Rattle.ref_scan.proofs.Indexing.{on_ok}
 use Rattle.ref_scan.proofs.Seams.{joined}

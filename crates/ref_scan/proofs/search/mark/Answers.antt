@@ -1,5 +1,5 @@
 use Rattle.std.proofs.Common.{sym, arith}
-use Rattle.ref_scan.proofs.Indexing.{marked_one, marked_none}
+use Rattle.ref_scan.proofs.Indexing.{marked_one}
 use Rattle.ref_scan.proofs.search.mark.Goals as goal
 
 pub bounds-met-place : goal.bounds-met-place

@@ -1,4 +1,3 @@
-use Rattle.std.proofs.Common.{rules}
 use Rattle.ref_scan.proofs.Scanning.{scanned_cut}
 use Rattle.ref_scan.proofs.scanner.Scanner.cut.Goals as goal
 

@@ -1,5 +1,4 @@
-use Rattle.std.proofs.Common.{◌≡◌, ◌∙◌, ◌++◌, take, drop, length, arith, sym, ap, subst}
-use Rattle.ref_scan.specs.Kept.{last_bytes}
+use Rattle.std.proofs.Common.{◌≡◌, ◌∙◌, ◌++◌, take, drop, length, arith, ap, subst}
 use Rattle.ref_scan.specs.Marks.{Searched}
 use Rattle.ref_scan.proofs.Scanning.{scanned_fed, written}
 use Rattle.ref_scan.proofs.scanner.Scanner.feed.Goals as goal

@@ -3,7 +3,6 @@ use Rattle.std.specs.Prelude.{Contains}
 use Rattle.std.proofs.lemmas.Bool.{false≢true}
 use Rattle.nix_names.specs.Rising.{IsRising}
 use Rattle.ref_scan.specs.Feed.{lists_of}
-use Rattle.ref_scan.specs.Marks.{IsMet}
 use Rattle.ref_scan.specs.Scanned.{Scanned}
 use Rattle.ref_scan.proofs.Findings.{found_one, found_no_more, taken_with, rising_taken}
 use Rattle.ref_scan.proofs.Scanning.{met_of}
