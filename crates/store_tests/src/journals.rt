@@ -26,10 +26,11 @@ fn output(alloc: Global, text: &[u8]) -> Result<Outputs, Fail> {
     Ok(Outputs::new(vec![in alloc; output]?))
 }
 
-// Adds a path with one reference.
+// Adds a path with its record.
 fn add(journal: &mut Journal, added: Registration) -> Result<(), TableFault> {
     let Registration { path, info } = added;
-    journal.add(path, info)
+    journal.add(path, info)?;
+    Ok(())
 }
 
 fn number(answer: Result<(), TableFault>) -> u8 {
