@@ -1,7 +1,7 @@
 -- A text's entry is refused for want of memory alone: its path is new, and it refers to nothing.
 use Rattle.std.proofs.Common.{◌≡◌, refl, sym, subst, ℕ, List, [], ◌∷◌, ◌++◌, Err, append-nil, ◌∙◌}
 use Rattle.valid_table.specs.Adding.{IsAdding, IsFirstUnclosed, IsFirstValid}
-use Rattle.valid_table.specs.Entries.{registered}
+use Rattle.valid_table.specs.Entries.{registered, registered_by}
 use Rattle.valid_table.specs.PathInfos.{PathInfo}
 use Rattle.valid_table.specs.Valid.{IsValid}
 use Rattle.valid_table.specs.declared.entry.Entry.{Entry}
@@ -30,12 +30,12 @@ pub refused_for_memory : (old new : List Entry) (path copy : List ℕ) (info : P
 refused_for_memory old new path copy info table.NoMemory fresh same none h = (refl, h)
 refused_for_memory old new path copy info (table.AlreadyValid p) fresh same none h =
     let entry : Entry = Add (record { path = copy; info = info }) in
-    let first : IsFirstValid old entry p = h.0 in
+    let first : IsFirstValid (registered old) (registered_by entry) p = h.0 in
     let is_path : p ≡ path = sym (one_in first.before first.after copy p first.parts) ∙ same in
-    absurd (fresh (subst (IsValid (registered old)) is_path first.valid))
+    absurd (fresh (subst (IsValid (registered old)) is_path first.is))
 refused_for_memory old new path copy info (table.Unclosed p) fresh same none h =
     let entry : Entry = Add (record { path = copy; info = info }) in
-    let first : IsFirstUnclosed old entry p = h.1 in
+    let first : IsFirstUnclosed (registered old) (registered_by entry) p = h.1 in
     let no_references = sym (append-nil info.references ∙ none) in
     absurd (none_in first.before first.after p (no_references ∙ first.parts))
 refused_for_memory old new path copy info fault fresh same none h = absurd h

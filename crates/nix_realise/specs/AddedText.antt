@@ -9,6 +9,7 @@ use Rattle.nix_names.specs.Names.{IsStoreDir, is_name}
 use Rattle.nix_drv.specs.OwnPath.{text_path}
 use Rattle.valid_table.specs.Entries.{registered}
 use Rattle.valid_table.specs.Reading.{IsReading}
+use Rattle.valid_table.specs.Tables.{JournalValue}
 use Rattle.valid_table.specs.Texts.{text as journal_text}
 use Rattle.valid_table.specs.Valid.{IsValid}
 use Rattle.valid_table.specs.declared.entry.Entry.{Entry}
@@ -70,9 +71,9 @@ IsBadJournal dir gave fault =
     × ((bytes : List ℕ) × (gave ≡ Ok bytes) × IsReading dir bytes (Err fault))
 
 -- What is answered as the journal, by what its file gave: one whose text that is.
-abbrev pub IsJournalOf : (dir : List ℕ) → FileBytes → Result (List Entry) Stop → Type 0
-IsJournalOf dir gave (Ok entries) =
-    (bytes : List ℕ) × (gave ≡ Ok bytes) × IsReading dir bytes (Ok entries)
+abbrev pub IsJournalOf : (dir : List ℕ) → FileBytes → Result JournalValue Stop → Type 0
+IsJournalOf dir gave (Ok journal) =
+    (bytes : List ℕ) × (gave ≡ Ok bytes) × IsReading dir bytes (Ok journal.entries)
 IsJournalOf dir gave (Err JournalUnreadable) = gave ≡ Err file.Unreadable
 IsJournalOf dir gave (Err (BadJournal fault)) = IsBadJournal dir gave fault
 IsJournalOf dir gave (Err NoMemory) = Unit {0}

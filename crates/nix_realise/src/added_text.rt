@@ -133,7 +133,7 @@ fn register_text(
     path: &StorePath,
     digest: [u8; 32],
 ) -> Result<bool, TableFault>
-    ensures { IsRegistering journal.old journal.new path.now digest result }
+    ensures { IsRegistering journal.old.entries journal.new.entries path.now digest result }
 {
     if journal.registers(path) {
         return Ok(false);
