@@ -17,6 +17,7 @@ pub mod LineLists
 pub mod LinePaths
 pub mod LineSteps
 pub mod LineTexts
+pub mod Merged
 pub mod OneList
 pub mod OutputLines
 pub mod PathBytes
@@ -31,6 +32,7 @@ pub mod Roots
 pub mod RowNumbers
 pub mod Separators
 pub mod Searched
+pub mod SortedOutputs
 pub mod Sorting
 pub mod StepLists
 pub mod TableRows
