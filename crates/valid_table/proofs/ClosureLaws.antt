@@ -15,7 +15,7 @@ use Rattle.valid_table.proofs.Rising.{rising_same}
 use Rattle.valid_table.proofs.RowNumbers.{path_count}
 
 -- what is valid stays so
-valid_behind : (first more : List Registration) (path : List ℕ) → IsValid first path → IsValid (first ++ more) path
+pub valid_behind : (first more : List Registration) (path : List ℕ) → IsValid first path → IsValid (first ++ more) path
 valid_behind first more path valid = subst (λ (paths : List (List ℕ)). Contains paths path) (sym (map-append (λ (r : Registration). r.path) first more)) (Contains-append_left (paths_of first) (paths_of more) path valid)
 
 -- references of more registrations
@@ -59,7 +59,7 @@ refers_in : (registrations : List Registration) (path next : List ℕ) → Refer
 refers_in registrations path next refers = Contains-flat_map (λ (r : Registration). r.info.references) registrations (record { path = path; info = refers.0 }) next refers.1 refers.2
 
 -- a valid path has a record
-registers_from_valid : (registrations : List Registration) (path : List ℕ) → IsValid registrations path → (info : PathInfo) × Registers registrations path info
+pub registers_from_valid : (registrations : List Registration) (path : List ℕ) → IsValid registrations path → (info : PathInfo) × Registers registrations path info
 registers_from_valid registrations path valid =
     let none : Registration = record { path = path; info = record { references = []; digest = None } } in
     let r : Registration = get_or registrations valid.0 none in
@@ -69,13 +69,14 @@ registers_from_valid registrations path valid =
     let is : r ≡ own = λ i. record { path = same i; info = r.info } in
     (r.info, (valid.0, below, get_or_default registrations valid.0 own none below ∙ is))
 
-leads_behind : (first more : List Registration) (from to : List ℕ) (steps : List (List ℕ)) → Leads first from to steps → Leads (first ++ more) from to steps
+-- what leads by first registrations does so by more of them
+pub leads_behind : (first more : List Registration) (from to : List ℕ) (steps : List (List ℕ)) → Leads first from to steps → Leads (first ++ more) from to steps
 leads_behind first more from to [] leads = (valid_behind first more from leads.0, leads.1)
 leads_behind first more from to (next ∷ steps) leads =
     ((leads.0.0, Contains-append_left first more (record { path = from; info = leads.0.0 }) leads.0.1, leads.0.2), leads_behind first more next to steps leads.1)
 
 -- from a valid path, more registrations lead nowhere else
-leads_before : (first more : List Registration) → AreReferencesValid first → IsOnce (first ++ more) → (from to : List ℕ) (steps : List (List ℕ)) → IsValid first from → Leads (first ++ more) from to steps → Leads first from to steps
+pub leads_before : (first more : List Registration) → AreReferencesValid first → IsOnce (first ++ more) → (from to : List ℕ) (steps : List (List ℕ)) → IsValid first from → Leads (first ++ more) from to steps → Leads first from to steps
 leads_before first more closed once from to [] valid leads = (valid, leads.1)
 leads_before first more closed once from to (next ∷ steps) valid leads =
     let had = registers_from_valid first from valid in
@@ -84,8 +85,9 @@ leads_before first more closed once from to (next ∷ steps) valid leads =
     let next_valid : IsValid first next = All-contains (IsValid first) (references_of first) next closed (refers_in first from next refers) in
     (refers, leads_before first more closed once next to steps next_valid leads.1)
 
-stays : (first more : List Registration) (roots all : List (List ℕ)) → AreReferencesValid first → IsOnce (first ++ more) → All (IsValid first) roots → IsClosure first roots all → IsClosure (first ++ more) roots all
-stays first more roots all closed once valid is = record {
+-- a closure stays the same where more is registered
+pub closure_stays_behind : (first more : List Registration) (roots all : List (List ℕ)) → AreReferencesValid first → IsOnce (first ++ more) → All (IsValid first) roots → IsClosure first roots all → IsClosure (first ++ more) roots all
+closure_stays_behind first more roots all closed once valid is = record {
   rising = is.rising;
   each = λ path. (
     λ has. let h = (is.each path).0 has in (h.0, h.1, (h.2.0, leads_behind first more h.0 path h.2.0 h.2.1)),
@@ -98,7 +100,7 @@ pub closure_stays : ClosureStays
 closure_stays entries more roots all closed closed_more once valid is =
     let whole : registered (entries ++ more) ≡ registered entries ++ registered more = flat_map-append registered_by entries more in
     subst (λ (registrations : List Registration). IsClosure registrations roots all) (sym whole)
-    (stays (registered entries) (registered more) roots all (closed_valid entries closed) (subst IsOnce whole once) valid is)
+    (closure_stays_behind (registered entries) (registered more) roots all (closed_valid entries closed) (subst IsOnce whole once) valid is)
 
 -- some paths have one closure
 pub closure_is_one : ClosureIsOne

@@ -18,6 +18,7 @@ pub mod LineLists
 pub mod LinePaths
 pub mod LineSteps
 pub mod LineTexts
+pub mod Merged
 pub mod OneAnswer
 pub mod OneList
 pub mod OutputLines
@@ -32,6 +33,7 @@ pub mod Roots
 pub mod RowNumbers
 pub mod Separators
 pub mod Searched
+pub mod SortedOutputs
 pub mod Sorting
 pub mod TableRows
 pub mod TakenIn

@@ -1,5 +1,6 @@
 -- Entries of a journal, and the paths that they register.
-use Rattle.std.specs.Prelude.{ℕ, List, [], ◌∷◌, flat_map, map}
+use Rattle.std.specs.Prelude.{ℕ, List, [], ◌∷◌, flat_map, map, IsPermutation}
+use Rattle.nix_names.specs.Rising.{IsRising}
 use Rattle.valid_table.specs.declared.entry.Entry.{Entry}
 use Rattle.valid_table.specs.declared.entry.Entry.TheVariants.{Add, Done}
 use Rattle.valid_table.specs.declared.entry.Registration.{Registration}
@@ -16,3 +17,8 @@ registered entries = flat_map registered_by entries
 -- their paths alone
 abbrev pub paths_of : List Registration → List (List ℕ)
 paths_of registrations = map (λ (r : Registration). r.path) registrations
+
+-- Registrations in rising order by path are the same as others, in whatever order.
+pub record IsSortedOf (some sorted : List Registration) : Type 0 where
+  pub same : IsPermutation some sorted
+  pub rising : IsRising (paths_of sorted)

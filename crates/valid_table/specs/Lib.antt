@@ -10,6 +10,7 @@ pub mod Faults
 pub mod Firsts
 pub mod LineFaults
 pub mod LineTexts
+pub mod Merging
 pub mod Outlets
 pub mod PathInfos
 pub mod Readers
@@ -18,4 +19,5 @@ pub mod ReadingLaws
 pub mod Steps
 pub mod Tables
 pub mod Texts
+pub mod Unions
 pub mod Valid

@@ -1,9 +1,10 @@
 //! Entries of a journal: paths that were added, and outputs that were built.
-ghost use Rattle.std.specs.Prelude.{◌≡◌, ◌≢◌, [], List, IfOk, IfErr, IsOk};
+ghost use Rattle.std.specs.Prelude.{◌≡◌, ◌≢◌, ◌↔◌, [], List, IfOk, IfErr, IsOk, IsTrue, MatchOption};
 ghost use Rattle.std.specs.Arc.{arc_slice_items};
 ghost use Rattle.std.specs.Option.{option_map_or};
 ghost use Rattle.nix_names.specs.Rising.{IsRising};
-ghost use Rattle.valid_table.specs.Entries.{paths_of, registered_by};
+ghost use Rattle.valid_table.specs.Entries.{IsSortedOf, paths_of, registered_by};
+ghost use Rattle.valid_table.specs.Valid.{IsOnce};
 
 use crate::fault::TableFault;
 use nix_names::{NameFault, StorePath};
@@ -132,6 +133,21 @@ impl Outputs {
         Outputs { registrations }
     }
 
+    /// The outputs with these paths and records, in whatever order they come: none where there are
+    /// none, or where a path comes twice. Sorts them in place, and takes no memory.
+    pub fn sorted(mut registrations: Vec<Registration>) -> Option<Outputs>
+        ensures { MatchOption result ((registrations.items ≢ []) × IsOnce registrations.items → ⊥) (IsSortedOf registrations.items) }
+    {
+        if registrations.is_empty() {
+            return None;
+        }
+        registrations.sort_unstable_by(|a, b| a.path.cmp(&b.path));
+        if !is_rising(registrations.as_slice()) {
+            return None;
+        }
+        Some(Outputs { registrations })
+    }
+
     /// The outputs, by path.
     pub fn as_slice(&self) -> &[Registration]
         ensures value { result.now ≡ self.now }
@@ -196,6 +212,19 @@ impl Entry {
             )),
         }
     }
+}
+
+// Whether registrations rise strictly by path.
+fn is_rising(registrations: &[Registration]) -> bool
+    ensures { IsTrue result ↔ IsRising (paths_of registrations.now) }
+{
+    for i in 1..registrations.len() {
+        let order = registrations[i - 1].path.cmp(&registrations[i].path);
+        if !order.is_lt() {
+            return false;
+        }
+    }
+    true
 }
 
 // Paths as a list that copies share, or none of no paths.

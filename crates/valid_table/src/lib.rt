@@ -9,6 +9,7 @@
 //! | `checking` | entries whose text was read, line by line |
 //! | `rows`, `table` | the rows of valid paths, and the table of them |
 //! | `closing` | how a closure is found |
+//! | `merging` | rising lists of paths, put together |
 //! | `outlet`, `list_outlet` | where registrations go, and the outlet in memory |
 //! | `fault` | why a call refused |
 //! | `laws` | laws over the definitions that contracts cite |
@@ -24,6 +25,7 @@ mod journal;
 pub mod laws;
 mod lines;
 mod list_outlet;
+mod merging;
 mod obstacle;
 mod outlet;
 mod reading;
@@ -35,6 +37,7 @@ pub use entry::{Entry, Outputs, Record, Registration};
 pub use fault::{OutletFault, TableFault};
 pub use journal::Journal;
 pub use list_outlet::ListOutlet;
+pub use merging::union;
 pub use obstacle::Obstacle;
 pub use outlet::Outlet;
 pub use table::Table;

@@ -1,0 +1,53 @@
+//! Rising lists of paths, put together.
+ghost use Rattle.std.specs.Prelude.{◌≡◌, [], IfErr, IfOk, MatchOption};
+ghost use Rattle.nix_names.specs.Rising.{IsRising};
+ghost use Rattle.valid_table.specs.Merging.{IsLeast};
+ghost use Rattle.valid_table.specs.Unions.{IsUnion};
+
+use crate::entry::copy_path;
+use crate::fault::TableFault;
+use nix_names::StorePath;
+use std::alloc::Global;
+use std::cmp::Ordering;
+
+/// The union of two strictly rising lists of paths: each path of either, strictly rising. Answers
+/// `NoMemory` where memory is refused, and no other fault. Costs one pass over both.
+pub fn union(
+    alloc: Global,
+    left: &[StorePath],
+    right: &[StorePath],
+) -> Result<Vec<StorePath>, TableFault>
+    requires left { IsRising left.now }
+    requires right { IsRising right.now }
+    ensures ok { IfOk result (λ paths. IsUnion left.now right.now paths.items) }
+    ensures err { IfErr result (λ e. e ≡ TableFault.NoMemory) }
+{
+    let mut paths = Vec::with_capacity(alloc, left.len() + right.len())?;
+    let mut more = left;
+    let mut others = right;
+    'paths: while let Some((path, behind, beside)) = least(more, others) {
+        paths.push(copy_path(alloc, path)?)?;
+        more = behind;
+        others = beside;
+    }
+    Ok(paths)
+}
+
+// The least path of two rising lists, and what is left of each behind it.
+fn least<'a>(
+    left: &'a [StorePath],
+    right: &'a [StorePath],
+) -> Option<(&'a StorePath, &'a [StorePath], &'a [StorePath])>
+    ensures { MatchOption result ((left.now ≡ []) × (right.now ≡ [])) (λ x. IsLeast left.now right.now x.0.now x.1.now x.2.now) }
+{
+    match (left, right) {
+        ([], []) => None,
+        ([path, more @ ..], []) => Some((path, more, right)),
+        ([], [path, others @ ..]) => Some((path, left, others)),
+        ([path, more @ ..], [other, others @ ..]) => match path.cmp(other) {
+            Ordering::Less => Some((path, more, right)),
+            Ordering::Equal => Some((path, more, others)),
+            Ordering::Greater => Some((other, left, others)),
+        },
+    }
+}
