@@ -2,7 +2,7 @@
 ghost use Rattle.std.specs.Prelude.{IfOk};
 ghost use Rattle.nix_names.specs.Rising.{IsRising};
 
-use crate::paths::{all_numbered, are, is_written_as, numbered, read, record};
+use crate::paths::{all_numbered, is_written_as, numbered, read, record};
 use nix_names::StorePath;
 use ref_scan::{Tree, scan};
 use std::alloc::{AllocError, Global};
@@ -95,22 +95,19 @@ fn permitted(alloc: Global) -> Result<Vec<StorePath>, Fail>
     Ok(chain_table(alloc)?.closure(alloc, &roots)?)
 }
 
+// What a file with these bytes refers to, of all paths of the journal.
+fn found_in(alloc: Global, bytes: &[u8]) -> Result<Vec<StorePath>, Fail> {
+    let tree = Tree::File(bytes.to_vec(alloc)?);
+    Ok(scan(alloc, &tree, &permitted(alloc)?)?)
+}
+
 #[test]
 fn many_permitted_paths(rt: HostRuntime) -> Result<(), Fail> {
     let alloc = rt.alloc();
-    let names =
-        b"00000000000000000000000000004999 00000000000000000000000000000000 00000000000000000000000000002500";
-    let tree = Tree::File(names.to_vec(alloc)?);
-    let found = scan(alloc, &tree, &permitted(alloc)?)?;
-    assert!(rt;
-        are(
-            &found,
-            &[
-                b"/nix/store/00000000000000000000000000000000-x",
-                b"/nix/store/00000000000000000000000000002500-x",
-                b"/nix/store/00000000000000000000000000004999-x",
-            ]
-        )
-    );
+    let text = b"00000000000000000000000000004999
+00000000000000000000000000000000
+00000000000000000000000000002500
+";
+    assert!(rt; found_in(alloc, text)? == all_numbered(alloc, &[0, 2_500, 4_999])?);
     Ok(())
 }

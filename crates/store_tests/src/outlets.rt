@@ -31,7 +31,7 @@ fn pending_until_published(rt: HostRuntime) -> Result<(), Fail> {
     assert!(rt; outlet.shown().is_empty());
     assert_eq!(rt; outlet.pending().len(), 1);
     assert_eq!(rt; told(&outlet), 0);
-    outlet.publish()?;
+    assert!(rt; outlet.publish().is_ok());
     assert!(rt; matches!(outlet.shown(), [Entry::Add(one)] if one.path.name() == b"x".as_slice()));
     assert!(rt; outlet.pending().is_empty());
     assert_eq!(rt; told(&outlet), 1);

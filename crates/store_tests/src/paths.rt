@@ -10,6 +10,15 @@ pub(crate) fn path(alloc: Global, text: &[u8]) -> Result<StorePath, Fail> {
     Ok(parse_path(alloc, &dir, text)?)
 }
 
+// The paths of the store with these texts.
+pub(crate) fn all_paths(alloc: Global, texts: &[&[u8]]) -> Result<Vec<StorePath>, Fail> {
+    let mut paths = Vec::new(alloc);
+    for text in texts {
+        paths.push(path(alloc, text)?)?;
+    }
+    Ok(paths)
+}
+
 // Path n: its hash part is the number in 32 digits, and its name `x`.
 pub(crate) fn numbered(alloc: Global, n: usize) -> Result<StorePath, Fail> {
     let text = format!(in alloc; "/nix/store/{n:032}-x")?;
@@ -44,13 +53,4 @@ pub(crate) fn read(alloc: Global, text: &[u8]) -> Result<Journal, TableFault> {
 // Whether a journal is written as this text.
 pub(crate) fn is_written_as(alloc: Global, journal: &Journal, text: &[u8]) -> Result<bool, Fail> {
     Ok(journal.write(alloc)?.as_slice() == text)
-}
-
-// Whether the paths have these texts.
-pub(crate) fn are(paths: &[StorePath], texts: &[&[u8]]) -> bool {
-    paths.len() == texts.len()
-        && paths
-            .iter()
-            .zip(texts)
-            .all(|(path, text)| path.text() == *text)
 }
