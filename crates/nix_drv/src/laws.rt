@@ -1,4 +1,4 @@
-//! What holds of the texts of every grammar, and of own paths, proved over the definitions.
+//! What holds of texts, of answers and of own paths, proved over the definitions.
 
 ghost use Rattle.nix_drv.specs.Grammar.{Grammar, IsClear};
 ghost use Rattle.nix_drv.specs.Laws.{HasOneTextEach, HasOneValueEach, HasNoTextWithin, OrderMeansRising, FrontsAreBeginnings, HasOneDerivationEach, HasNoDerivationWithin, HasOneReading, HasOneCheck};
