@@ -1,13 +1,13 @@
 -- A text's entry is refused for want of memory alone: its path is new, and it refers to nothing.
 use Rattle.std.proofs.Common.{◌≡◌, refl, sym, subst, ℕ, List, [], ◌∷◌, ◌++◌, Err, append-nil, ◌∙◌}
-use Rattle.valid_table.specs.Adding.{IsAdding, IsFirstUnclosed, IsFirstValid}
+use Rattle.valid_table.specs.Adding.{IsAdding}
 use Rattle.valid_table.specs.Entries.{registered}
 use Rattle.valid_table.specs.PathInfos.{PathInfo}
 use Rattle.valid_table.specs.Valid.{IsValid}
 use Rattle.valid_table.specs.declared.entry.Entry.{Entry}
 use Rattle.valid_table.specs.declared.entry.Entry.TheVariants.{Add}
 use Rattle.valid_table.specs.declared.fault.TableFault.{TableFault}
-use Rattle.valid_table.specs.declared.fault.TableFault.TheVariants.{NoMemory, BadLine, NotClosed, Twice, WrongVersion, NotValid, TooLong, Unclosed, AlreadyValid}
+use Rattle.valid_table.specs.declared.fault.TableFault.TheVariants.{NoMemory, Unclosed, AlreadyValid}
 
 -- nothing stands in the empty list
 none_in : (before after : List (List ℕ)) (p : List ℕ) → [] ≡ before ++ p ∷ after → ⊥
@@ -25,15 +25,10 @@ pub refused_for_memory : (old new : List Entry) (path copy : List ℕ) (info : P
     → IsAdding old new (Add (record { path = copy; info = info })) (Err fault) → (fault ≡ NoMemory) × (new ≡ old)
 refused_for_memory old new path copy info NoMemory fresh same none h = (refl, h)
 refused_for_memory old new path copy info (AlreadyValid p) fresh same none h =
-    let first : IsFirstValid old (Add (record { path = copy; info = info })) p = h.0 in
+    let first = h.0 in
     let is_path : p ≡ path = sym (one_in first.before first.after copy p first.parts) ∙ same in
-    absurd (fresh (subst (IsValid (registered old)) is_path first.valid))
+    absurd (fresh (subst (IsValid (registered old)) is_path first.is))
 refused_for_memory old new path copy info (Unclosed p) fresh same none h =
-    let first : IsFirstUnclosed old (Add (record { path = copy; info = info })) p = h.1 in
+    let first = h.1 in
     absurd (none_in first.before first.after p (sym (append-nil info.references ∙ none) ∙ first.parts))
-refused_for_memory old new path copy info (BadLine n) fresh same none h = absurd h
-refused_for_memory old new path copy info (NotClosed n) fresh same none h = absurd h
-refused_for_memory old new path copy info (Twice n) fresh same none h = absurd h
-refused_for_memory old new path copy info WrongVersion fresh same none h = absurd h
-refused_for_memory old new path copy info (NotValid p) fresh same none h = absurd h
-refused_for_memory old new path copy info TooLong fresh same none h = absurd h
+refused_for_memory old new path copy info other fresh same none h = absurd h

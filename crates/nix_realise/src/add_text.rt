@@ -91,7 +91,7 @@ fn register_text(
     path: &StorePath,
     digest: [u8; 32],
 ) -> Result<bool, TableFault>
-    ensures { IsRegistering journal.old journal.new path.now digest result }
+    ensures { IsRegistering journal.old.entries journal.new.entries path.now digest result }
 {
     if journal.registers(path) {
         return Ok(false);
@@ -99,7 +99,8 @@ fn register_text(
     let Ok(path) = path.copy(alloc) else {
         return Err(TableFault::NoMemory);
     };
-    journal.add(path, Record::new(Vec::new(alloc), Some(digest))?)?;
+    let info = Record::new(Vec::new(alloc), Some(digest))?;
+    journal.add(path, info)?;
     Ok(true)
 }
 

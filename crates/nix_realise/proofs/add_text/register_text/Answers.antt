@@ -6,7 +6,7 @@ use Rattle.nix_realise.proofs.add_text.register_text.Goals as goal
 
 pub returns-in_err-add : goal.returns-in_err-add
 returns-in_err-add c =
-    let p = err_from_is_err_and c.from_residual.result c.from_residual.ensures.1 in
+    let p = err_from_is_err_and c.from_residual-in_err-add.result c.from_residual-in_err-add.ensures.1 in
     rw (p.1, p.2)
-    (refused_for_memory _ _ c.args.path.now _ c.new-2.result _ (λ v. false≢true (sym c.if-registers.false ∙ c.registers.ensures.1 v)) c.in-Ok.ensures.same
-    (c.new-2.ensures.references ∙ c.new.ensures.items) c.in_err-add.ensures)
+    (refused_for_memory _ _ c.args.path.now _ c.in_ok-info.info _ (λ v. false≢true (sym c.if-registers.false ∙ c.registers.ensures.1 v)) c.in-Ok.ensures.same
+    (c.in_ok-info.ensures.references ∙ c.new.ensures.items) c.in_err-add.ensures.adding)
