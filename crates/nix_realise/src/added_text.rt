@@ -141,6 +141,7 @@ fn register_text(
     let Ok(path) = path.copy(alloc) else {
         return Err(TableFault::NoMemory);
     };
-    journal.add(path, Record::new(Vec::new(alloc), Some(digest))?)?;
+    let info = Record::new(Vec::new(alloc), Some(digest))?;
+    journal.add(path, info)?;
     Ok(true)
 }
