@@ -1,0 +1,9 @@
+pub mod Expected
+pub mod Faults
+pub mod Filling
+pub mod Kinds
+pub mod Loading
+pub mod Modulo
+pub mod Nodes
+pub mod Outputs
+pub mod Plans
