@@ -157,9 +157,9 @@ base_at dir text p =
     ap (drop (length dir + 1)) p.parts ∙ drop_front_more dir (p.hash ++ 45 ∷ p.name) 47 ∙ sym (parts_of dir text p).parts
 
 -- a text that is a path of a store folder may be kept as a store path
-pub stored : (dir text shown items : List ℕ) → IsStoreDir dir → IsPathOf dir text → shown ≡ dir → items ≡ text → IsStorePath items × (drop (length shown + 1) items ≡ base_of items)
-stored dir text shown items is_dir p same kept =
-    rw (same, kept) (record { dir = dir; is_dir = is_dir; is_path = p }, base_at dir text p)
+pub stored : (dir text items : List ℕ) (at : ℕ) → IsStoreDir dir → IsPathOf dir text → at ≡ length dir + 1 → items ≡ text → IsStorePath items × (drop at items ≡ base_of items)
+stored dir text items at is_dir p begins kept =
+    rw (begins, kept) (record { dir = dir; is_dir = is_dir; is_path = p }, base_at dir text p)
 
 -- one text is the path of one folder, hash part and name only
 pub parts_from_text : (dir hash name other part title : List ℕ) → is_hash_part hash ≡ true → is_name name ≡ true → is_hash_part part ≡ true → is_name title ≡ true → path_text dir hash name ≡ path_text other part title → (dir ≡ other) × (hash ≡ part) × (name ≡ title)

@@ -1,5 +1,6 @@
 use crate::*;
 use std::collections::HashMap;
+use std::mem::size_of;
 use std::test::Fail;
 
 // SHA-256 of nothing (FIPS 180-4).
@@ -119,6 +120,24 @@ fn store_folders(rt: HostRuntime) -> Result<(), Fail> {
             Some(NameFault::BadStoreDir)
         );
     }
+    Ok(())
+}
+
+// What other threads may hold too.
+fn held_by_threads<T: Send + Sync>(value: T) -> T {
+    value
+}
+
+#[test]
+fn copies_outlive_their_path(rt: HostRuntime) -> Result<(), Fail> {
+    let alloc = rt.alloc();
+    let dir = StoreDir::new(alloc, b"/nix/store")?;
+    let path = held_by_threads(parse_path(alloc, &dir, EMPTY)?);
+    let copy = held_by_threads(path.copy(alloc)?);
+    drop(path);
+    assert_eq!(rt; copy.text(), EMPTY);
+    assert_eq!(rt; copy.name(), b"empty".as_slice());
+    assert_eq!(rt; size_of::<StorePath>(), 16);
     Ok(())
 }
 

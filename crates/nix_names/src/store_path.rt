@@ -1,5 +1,5 @@
 //! Store paths: parsed, lent, copied, compared.
-ghost use Rattle.std.specs.Prelude.{◌≡◌, ◌⊎◌, ◌↔◌, IfOk, IfErr, IsTrue, nat_eq, ◌&&◌, ◌+◌, ◌≤◌, ◌++◌, ◌∷◌, [], codes, drop, length, take, MatchResult, Some, None};
+ghost use Rattle.std.specs.Prelude.{◌≡◌, ◌⊎◌, ◌↔◌, IfOk, IfErr, IsTrue, nat_eq, ◌&&◌, ◌+◌, ◌^◌, ◌<◌, ◌≤◌, ◌++◌, ◌∷◌, [], codes, drop, length, take, MatchResult, Some, None};
 ghost use Rattle.std.specs.List.{list_all, starts_with};
 ghost use Rattle.nix_names.specs.Base32.{is_digit};
 ghost use Rattle.std.specs.Cmp.{partial_equiv_from_equiv, partial_order_from_own_ties};
@@ -16,20 +16,22 @@ use crate::base32::is_digit;
 use crate::fault::NameFault;
 use crate::name::is_name;
 use crate::store_dir::StoreDir;
-use std::alloc::Global;
+use std::alloc::{AllocError, Global};
 use std::cmp::Ordering;
 use std::hash::{Hash, Hasher};
 use std::marker::Model;
+use std::sync::ArcSlice;
 
 // The length of a hash part, in bytes.
 const HASH_PART_LEN: usize = 32;
 
-/// A store path, as `/nix/store/<32 base-32 characters>-<name>`. A contract sees its text.
+/// A store path, as `/nix/store/<32 base-32 characters>-<name>`. A contract sees its text, which
+/// all copies of the path share, in any threads: a path takes 16 bytes beside it.
 #[derive(Debug, Drop)]
 pub struct StorePath {
-    text: Vec<u8>,
-    // Where the base name begins, behind the last slash.
-    base_at: usize,
+    text: ArcSlice<u8>,
+    // Where the base name begins, behind the last slash: at most 256, as a folder has at most 255 bytes.
+    base_at: u16,
 }
 
 impl Model for StorePath {
@@ -38,9 +40,10 @@ impl Model for StorePath {
 
     ghost Value = { List ℕ };
 
-    ghost view = { λ path. path.text.items };
+    ghost view = { λ path. path.text.items.value.items };
 
-    ghost invariant = { λ path. IsStorePath path.text.items × (drop path.base_at path.text.items ≡ base_of path.text.items) };
+    ghost invariant = { λ path. let text = path.text.items.value.items in
+        IsStorePath text × (drop path.base_at text ≡ base_of text) };
 }
 
 impl StorePath {
@@ -76,16 +79,17 @@ impl StorePath {
         ensures value { result.now ≡ base_of self.now }
         ensures is_path { IsStorePath self.now }
     {
-        &self.text[self.base_at..]
+        &self.text[usize::from(self.base_at)..]
     }
 
-    /// The same path once more.
-    pub fn copy(&self, alloc: Global) -> Result<StorePath, NameFault>
+    /// The same path once more, at its one text. Costs no allocation and no pass: it counts one
+    /// more owner, so `NoMemory` comes only where the count is full, at 2^63.
+    pub fn copy(&self, _alloc: Global) -> Result<StorePath, NameFault>
         ensures same { IfOk result (λ path. path ≡ self.now) }
         ensures only { IfErr result (λ e. e ≡ NameFault.NoMemory) }
     {
         Ok(StorePath {
-            text: Vec::from_slice(alloc, &self.text)?,
+            text: self.text.clone()?,
             base_at: self.base_at,
         })
     }
@@ -147,8 +151,8 @@ pub fn parse_path(alloc: Global, dir: &StoreDir, text: &[u8]) -> Result<StorePat
 {
     check_path(dir.text(), text)?;
     Ok(StorePath {
-        text: Vec::from_slice(alloc, text)?,
-        base_at: dir.text().len() + 1,
+        text: ArcSlice::from_slice(alloc, text)?,
+        base_at: base_place(dir),
     })
 }
 
@@ -164,15 +168,32 @@ pub fn join_path(
     ensures ok { IfOk result (λ path. path ≡ path_text dir.now hash.now name.now) }
     ensures only { IfErr result (λ e. e ≡ NameFault.NoMemory) }
 {
-    let dir = dir.text();
-    let base_at = dir.len() + 1;
-    let mut text = Vec::with_capacity(alloc, base_at + hash.len() + 1 + name.len())?;
+    let text = join_text(alloc, dir.text(), hash, name)?;
+    Ok(StorePath {
+        text: ArcSlice::from_vec(text)?,
+        base_at: base_place(dir),
+    })
+}
+
+// The text of the path of a folder with this hash part and name.
+fn join_text(alloc: Global, dir: &[u8], hash: &[u8], name: &[u8]) -> Result<Vec<u8>, AllocError>
+    requires { length dir.now + length hash.now + length name.now < 2 ^ 63 }
+    ensures { IfOk result (λ text. text.items ≡ path_text dir.now hash.now name.now) }
+{
+    let mut text = Vec::with_capacity(alloc, dir.len() + 1 + hash.len() + 1 + name.len())?;
     text.extend_from_slice(dir)?;
     text.extend_from_slice(b"/")?;
     text.extend_from_slice(hash)?;
     text.extend_from_slice(b"-")?;
     text.extend_from_slice(name)?;
-    Ok(StorePath { text, base_at })
+    Ok(text)
+}
+
+// Where the base name begins in each path of a folder.
+fn base_place(dir: &StoreDir) -> u16
+    ensures { result ≡ length dir.now + 1 }
+{
+    dir.text().len() as u16 + 1
 }
 
 // Err with what is wrong first with a text as a path of the folder.

@@ -1,18 +1,18 @@
-use Rattle.std.proofs.Common.{◌≤◌, length, arith, rules, append_assoc}
+use Rattle.std.proofs.Common.{◌≤◌, length, ap, ◌∙◌, arith}
 use Rattle.nix_names.specs.StorePaths.{path_text}
 use Rattle.nix_names.proofs.PathTexts.{hash_part_len, name_len, path_of_parts, stored}
 use Rattle.nix_names.proofs.store_path.join_path.Goals as goal
 
-pub overflow_add-base_at-4 : goal.overflow_add-base_at-4
-overflow_add-base_at-4 c =
+pub join_text-requires : goal.join_text-requires
+join_text-requires c =
     let hash = hash_part_len _ c.requires.is_hash in
     let name = name_len _ c.requires.named in
-    let dir : length c.text-dir.result.now ≤ 255 = rw c.text-dir.ensures.value c.text-dir.ensures.is_dir.short in
+    let dir : length c.text.result.now ≤ 255 = rw c.text.ensures.value c.text.ensures.is_dir.short in
     omega arith
 
 pub invariant_of-result : goal.invariant_of-result
 invariant_of-result c =
-    let dir = c.text-dir.ensures in
+    let dir = c.text.ensures in
     stored c.args.dir.now (path_text c.args.dir.now c.args.hash.now c.args.name.now) _ _ dir.is_dir
-    (path_of_parts _ _ _ c.requires.is_hash c.requires.named) dir.value
-    (search (rules, append_assoc))
+    (path_of_parts _ _ _ c.requires.is_hash c.requires.named) c.base_place.ensures
+    (c.in_ok-from_vec.ensures ∙ c.in_ok-text.ensures ∙ ap (λ d. path_text d c.args.hash.now c.args.name.now) dir.value)

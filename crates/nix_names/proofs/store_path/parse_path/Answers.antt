@@ -12,9 +12,9 @@ pub invariant_of-result : goal.invariant_of-result
 invariant_of-result c =
     let none = in_same_dir _ c.args.dir.now c.args.text.now c.text.ensures.value c.in_ok-check_path.ensures in
     stored c.args.dir.now c.args.text.now _ _ c.text.ensures.is_dir
-    (path_of_no_fault _ _ none) c.text-2.ensures.value c.in_ok-from_slice.ensures.items
+    (path_of_no_fault _ _ none) c.base_place.ensures c.in_ok-from_slice.ensures.ok
 
 pub returns : goal.returns
 returns c =
     let none = in_same_dir _ c.args.dir.now c.args.text.now c.text.ensures.value c.in_ok-check_path.ensures in
-    (none, (c.in_ok-from_slice.ensures.items, path_of_no_fault _ _ none))
+    (none, (c.in_ok-from_slice.ensures.ok, path_of_no_fault _ _ none))
