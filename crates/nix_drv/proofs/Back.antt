@@ -1,5 +1,5 @@
 -- A derivation is told by its value, and so by its text.
-use Rattle.std.proofs.Common.{◌≡◌, ℕ, List, [], ◌∷◌, map, Ok, Err, refl, sym, ap, subst, ◌∙◌, arith, inl, inr}
+use Rattle.std.proofs.Common.{IfOk, Result, ◌≡◌, ℕ, List, [], ◌∷◌, map, Ok, Err, refl, sym, ap, subst, ◌∙◌, arith, inl, inr}
 use Rattle.nix_drv.specs.declared.fault.DrvFault.TheVariants.{NoMemory, Syntax, Order, TooLong, TextPathMismatch, NotADrvName, NotSorted, BadReference}
 use Rattle.nix_drv.specs.Grammar.{Value}
 use Rattle.nix_drv.specs.Order.{IsViolation}
@@ -62,3 +62,8 @@ pub same_parts : (p q : Parts) → parts_value p ≡ parts_value q → drv_of p 
 same_parts p q e =
     let values : drv_value (drv_of p) ≡ drv_value (drv_of q) = sym (parts_value_is p) ∙ e ∙ parts_value_is q in
     sym (drv_back_value (drv_of p)) ∙ ap drv_back values ∙ drv_back_value (drv_of q)
+
+-- a copy of parts is the same derivation
+pub copied_parts : {E : Type 0} (r : Result Parts E) (p : Parts) → IfOk r (λ copy. parts_value copy ≡ parts_value p) → IfOk r (λ copy. drv_of copy ≡ drv_of p)
+copied_parts (Ok copy) p same = same_parts copy p same
+copied_parts (Err e) p same = tt

@@ -5,8 +5,10 @@ use Rattle.nix_drv.specs.Order.{InOrder, IsFirstViolation}
 use Rattle.nix_drv.specs.Reading.{read}
 use Rattle.nix_drv.specs.Passing.{pass}
 use Rattle.nix_drv.specs.Derivation.{Drv, derivation_form, drv_value, output_value, input_value, entry_value, IsLooseText, IsDrvText}
+use Rattle.nix_drv.specs.declared.derivation.Input.{Input as InputStruct}
+use Rattle.nix_drv.specs.declared.derivation.Output.{Output as OutputStruct}
 use Rattle.nix_drv.specs.declared.derivation.Parts.{Parts}
-use Rattle.nix_drv.specs.Parts.{output_of, input_of, entry_of, drv_of, parts_value}
+use Rattle.nix_drv.specs.Parts.{bytes_of, output_of, input_of, entry_of, drv_of, parts_build, parts_value}
 use Rattle.nix_drv.proofs.Exact.{read_whole}
 use Rattle.nix_drv.proofs.Passing.{pass_in_order, pass_out_of_order, pass_first}
 
@@ -19,6 +21,11 @@ map_twice f g (x ∷ xs) = ap (λ (ys : List _). f (g x) ∷ ys) (map_twice f g 
 
 pub parts_value_is : (p : Parts) → parts_value p ≡ drv_value (drv_of p)
 parts_value_is p = rw (map_twice output_value output_of p.outputs.items, map_twice input_value input_of p.inputs.items, map_twice entry_value entry_of p.env.items) refl
+
+-- parts with other input derivations as a value of the language
+pub with_inputs_value : (p : Parts) (inputs : List InputStruct)
+    → drv_value (record (drv_of p) { inputs = map input_of inputs }) ≡ (tt, (map (λ (o : OutputStruct). output_value (output_of o)) p.outputs.items, (tt, (map (λ (i : InputStruct). input_value (input_of i)) inputs, (tt, (map bytes_of p.sources.items, (tt, parts_build p)))))))
+with_inputs_value p inputs = sym (rw (map_twice output_value output_of p.outputs.items, map_twice input_value input_of inputs, map_twice entry_value entry_of p.env.items) refl)
 
 pub ordered : (p : Parts) (end : ℕ) → pass derivation_form 0 (parts_value p) ≡ Ok end → InOrder derivation_form (drv_value (drv_of p))
 ordered p end e = pass_in_order derivation_form (drv_value (drv_of p)) end (rw (parts_value_is p) at e)

@@ -1,5 +1,5 @@
 -- What it means that bytes are a derivation that stands at its own path, and the first thing that is wrong where they aren't.
-use Rattle.std.specs.Prelude.{◌≡◌, ◌≢◌, ◌<◌, ◌≤◌, ℕ, List, ◌∷◌, ◌++◌, length, All, Result, Ok, Err}
+use Rattle.std.specs.Prelude.{◌≡◌, ◌≢◌, ◌≤◌, ℕ, List, ◌∷◌, ◌++◌, length, All, Result, Ok, Err}
 use Rattle.nix_names.specs.StorePaths.{IsDrvPath, IsPathOf, name_of}
 use Rattle.nix_drv.specs.Derivation.{Drv, IsDrvText}
 use Rattle.nix_drv.specs.Outcome.{IsReading, max_len}

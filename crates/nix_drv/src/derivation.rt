@@ -1,9 +1,9 @@
 //! A store derivation.
 
-ghost use Rattle.std.specs.Prelude.{◌≡◌, ◌++◌, OnOk, map};
+ghost use Rattle.std.specs.Prelude.{◌≡◌, ◌++◌, IfOk, OnOk, map};
 ghost use Rattle.nix_drv.specs.Grammar.{text};
 ghost use Rattle.nix_drv.specs.Order.{InOrder};
-ghost use Rattle.nix_drv.specs.Derivation.{derivation_form, drv_value};
+ghost use Rattle.nix_drv.specs.Derivation.{IsLooseText, derivation_form, drv_value};
 ghost use Rattle.nix_drv.specs.Parts.{bytes_of, output_of, input_of, entry_of, drv_of};
 ghost use Rattle.nix_drv.specs.Ordering.{IsOrdering};
 ghost use Rattle.nix_drv.specs.Outcome.{IsCopying, IsMaking};
@@ -56,6 +56,25 @@ pub struct Parts {
     /// The builder's arguments.
     pub args: Vec<Vec<u8>>,
     pub env: Vec<EnvEntry>,
+}
+
+impl Parts {
+    /// The same parts again.
+    pub fn copy(&self, alloc: Global) -> Result<Parts, AllocError>
+        ensures { IfOk result (λ copy. drv_of copy ≡ drv_of self.now) }
+    {
+        copy_parts(alloc, self)
+    }
+
+    /// The text of the parts as they stand, in order or not, with these input derivations in place
+    /// of their own. Takes time in proportion to the text.
+    pub fn text_with_inputs(&self, alloc: Global, inputs: &[Input]) -> Result<Vec<u8>, AllocError>
+        ensures { IfOk result (λ bytes. IsLooseText (record (drv_of self.now) { inputs = map input_of inputs.now }) bytes.items) }
+    {
+        let mut text = Vec::new(alloc);
+        write_parts(self, inputs, &mut text)?;
+        Ok(text)
+    }
 }
 
 /// A derivation, seen as its lists of bytes. It keeps the order rules: outputs rise strictly by
@@ -116,7 +135,22 @@ impl Derivation {
         ensures ok { OnOk result (out.new.items ≡ out.old.items ++ text derivation_form (drv_value self.now)) }
         ensures in_order { InOrder derivation_form (drv_value self.now) }
     {
-        write_parts(&self.parts, out)
+        write_parts(&self.parts, &self.parts.inputs, out)
+    }
+
+    /// The parts, in order.
+    pub fn parts(&self) -> &Parts
+        ensures { drv_of result.now ≡ self.now }
+    {
+        &self.parts
+    }
+
+    /// The parts, in order, which `new` takes again.
+    pub fn into_parts(self) -> Parts
+        ensures parts { drv_of result ≡ self }
+        ensures in_order { InOrder derivation_form (drv_value self) }
+    {
+        self.parts
     }
 
     /// The outputs, by name.

@@ -3,11 +3,11 @@
 ghost use Rattle.std.specs.Prelude.{◌≡◌, ◌++◌, IfOk, OnOk, map};
 ghost use Rattle.std.proofs.Common.{rules};
 ghost use Rattle.nix_drv.specs.Grammar.{Str, text};
-ghost use Rattle.nix_drv.specs.Derivation.{output_form, output_value, input_form, input_value, entry_form, entry_value, build_form, derivation_form};
+ghost use Rattle.nix_drv.specs.Derivation.{drv_value, output_form, output_value, input_form, input_value, entry_form, entry_value, build_form, derivation_form};
 ghost use Rattle.nix_drv.specs.Reading.{read as read_of};
 ghost use Rattle.nix_drv.specs.Passing.{pass as pass_of};
 ghost use Rattle.nix_drv.specs.Stops.{Gives};
-ghost use Rattle.nix_drv.specs.Parts.{bytes_of, output_of, input_of, entry_of, parts_build, parts_value};
+ghost use Rattle.nix_drv.specs.Parts.{drv_of, bytes_of, output_of, input_of, entry_of, parts_build, parts_value};
 
 use crate::derivation::{EnvEntry, Input, Output, Parts};
 use crate::element::{Element, Order, copy_list, pass_list, read_list, write_list};
@@ -266,14 +266,18 @@ fn write_build(parts: &Parts, out: &mut Vec<u8>) -> Result<(), AllocError>
     Ok(())
 }
 
-/// Adds the parts' text.
-pub(crate) fn write_parts(parts: &Parts, out: &mut Vec<u8>) -> Result<(), AllocError>
-    ensures { OnOk result (out.new.items ≡ out.old.items ++ text derivation_form (parts_value parts.now)) }
+/// Adds the parts' text, with these input derivations in place of their own.
+pub(crate) fn write_parts(
+    parts: &Parts,
+    inputs: &[Input],
+    out: &mut Vec<u8>,
+) -> Result<(), AllocError>
+    ensures { OnOk result (out.new.items ≡ out.old.items ++ text derivation_form (drv_value (record (drv_of parts.now) { inputs = map input_of inputs.now }))) }
 {
     out.extend_from_slice(b"Derive(")?;
     write_list(&parts.outputs, out)?;
     out.push(b',')?;
-    write_list(&parts.inputs, out)?;
+    write_list(inputs, out)?;
     out.push(b',')?;
     write_list(&parts.sources, out)?;
     out.push(b',')?;

@@ -1,4 +1,4 @@
-use Rattle.std.proofs.Common.{rules, ◌≡◌}
+use Rattle.std.proofs.Common.{rules}
 use Rattle.nix_drv.proofs.CheckedTexts.{differs, found_at, found_here, same_as}
 use Rattle.nix_drv.proofs.check.check_text.Goals as goal
 

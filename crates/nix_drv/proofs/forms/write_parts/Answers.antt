@@ -1,12 +1,18 @@
-use Rattle.nix_drv.specs.Parts.{parts_value, parts_build}
+use Rattle.std.proofs.Common.{map}
+use Rattle.nix_drv.specs.Parts.{bytes_of, input_of, output_of, parts_build}
+use Rattle.nix_drv.specs.Derivation.{input_value, output_value}
+use Rattle.nix_drv.specs.declared.derivation.Input.{Input}
+use Rattle.nix_drv.specs.declared.derivation.Output.{Output}
+use Rattle.nix_drv.proofs.Derivations.{with_inputs_value}
 use Rattle.nix_drv.proofs.FormTexts.{parts_written, on_ok}
 use Rattle.nix_drv.proofs.forms.write_parts.Goals as goal
 
 pub returns : goal.returns
 returns c =
-    let v = parts_value c.args.parts.now in
+    let p = c.args.parts.now in
     on_ok c.write_build.result _ _
-    (λ h. parts_written c.args.out.now.items _ _ _ _ _ _ _ _ v.1.0 v.1.1.1.0 v.1.1.1.1.1.0 (parts_build c.args.parts.now)
-    c.in_ok-extend_from_slice.ensures.items (rw c.deref.ensures.value at c.in_ok-write_list.ensures) c.in_ok-push.ensures.items (rw c.deref-2.ensures.value at c.in_ok-write_list-2.ensures)
-    c.in_ok-push-2.ensures.items (rw c.deref-3.ensures.value at c.in_ok-write_list-3.ensures) c.in_ok-push-3.ensures.items h)
+    (λ h. rw (with_inputs_value p c.args.inputs.now) (parts_written c.args.out.now.items _ _ _ _ _ _ _ _
+    (map (λ (o : Output). output_value (output_of o)) p.outputs.items) (map (λ (i : Input). input_value (input_of i)) c.args.inputs.now) (map bytes_of p.sources.items) (parts_build p)
+    c.in_ok-extend_from_slice.ensures.items (rw c.deref.ensures.value at c.in_ok-write_list.ensures) c.in_ok-push.ensures.items c.in_ok-write_list-2.ensures
+    c.in_ok-push-2.ensures.items (rw c.deref-2.ensures.value at c.in_ok-write_list-3.ensures) c.in_ok-push-3.ensures.items h))
     c.write_build.ensures
