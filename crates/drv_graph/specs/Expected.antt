@@ -6,7 +6,9 @@ use Rattle.sha2.specs.Sha256.{sha256}
 use Rattle.nix_names.specs.Names.{same_bytes}
 use Rattle.nix_names.specs.StorePaths.{name_of, store_path}
 use Rattle.nix_drv.specs.Derivation.{Drv, Output}
-use Rattle.drv_graph.specs.Kinds.{Kind, Method, Addressed, Fixed, Flat, Recursive}
+use Rattle.drv_graph.specs.declared.kinds.Kind.{Kind}
+use Rattle.drv_graph.specs.declared.kinds.Kind.TheVariants.{Addressed, Fixed}
+use Rattle.drv_graph.specs.declared.kinds.Method.TheVariants.{Flat, Recursive}
 use Rattle.drv_graph.specs.Modulo.{IsModuloText}
 
 -- the name of the derivation whose text stands at this path: the name of its file without `.drv`

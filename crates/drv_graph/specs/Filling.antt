@@ -12,7 +12,7 @@ use Rattle.nix_drv.specs.Sources.{Answer}
 use Rattle.nix_drv.specs.declared.fault.DrvFault.{DrvFault}
 use Rattle.nix_drv.specs.declared.fault.DrvFault.TheVariants.{NoMemory as NoSpace, Syntax, Order, TooLong, TextPathMismatch, NotADrvName, NotSorted, BadReference}
 use Rattle.drv_graph.specs.Expected.{IsExpected}
-use Rattle.drv_graph.specs.Kinds.{Kind}
+use Rattle.drv_graph.specs.declared.kinds.Kind.{Kind}
 use Rattle.drv_graph.specs.Loading.{IsTrueAt}
 use Rattle.drv_graph.specs.Modulo.{names_of}
 use Rattle.drv_graph.specs.Nodes.{AreHashes, inputs_of}

@@ -3,21 +3,15 @@
 use Rattle.std.specs.Prelude.{◌≡◌, ◌<◌, ⊤, ℕ, List, [], ◌∷◌, ◌⊎◌, length, codes, All, Contains}
 use Rattle.hex.specs.Hex.{encode_lower}
 use Rattle.nix_drv.specs.Derivation.{Drv, Output}
-
--- how a fixed output's content is hashed: the bytes of one file, or a whole tree
-pub data Method : Type 0 where
-  Flat : Method
-  Recursive : Method
+use Rattle.drv_graph.specs.declared.kinds.Kind.{Kind}
+use Rattle.drv_graph.specs.declared.kinds.Kind.TheVariants.{Addressed, Fixed}
+use Rattle.drv_graph.specs.declared.kinds.Method.{Method}
+use Rattle.drv_graph.specs.declared.kinds.Method.TheVariants.{Flat, Recursive}
 
 -- a method as an output's text has it
 abbrev pub algo_of : Method → List ℕ
 algo_of Flat = codes "sha256"
 algo_of Recursive = codes "r:sha256"
-
--- the outputs' paths follow from the inputs; or there is one output, whose content has this digest by this method
-pub data Kind : Type 0 where
-  Addressed : Kind
-  Fixed : (method : Method) → (digest : List ℕ) → Kind
 
 -- a digest of SHA-256: 32 bytes
 abbrev pub IsDigest : List ℕ → Type 0

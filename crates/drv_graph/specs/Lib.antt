@@ -7,3 +7,4 @@ pub mod Modulo
 pub mod Nodes
 pub mod Outputs
 pub mod Plans
+pub mod UsedInputs

@@ -2,7 +2,9 @@
 use Rattle.std.specs.Prelude.{◌≡◌, Bool, false, ℕ, List, [], ◌∷◌, ◌++◌, map, codes, Contains}
 use Rattle.sha2.specs.Sha256.{sha256}
 use Rattle.nix_drv.specs.Derivation.{Drv, Output, Input}
-use Rattle.drv_graph.specs.Kinds.{Kind, Addressed, Fixed, HasKind}
+use Rattle.drv_graph.specs.Kinds.{HasKind}
+use Rattle.drv_graph.specs.declared.kinds.Kind.{Kind}
+use Rattle.drv_graph.specs.declared.kinds.Kind.TheVariants.{Addressed, Fixed}
 use Rattle.drv_graph.specs.Modulo.{IsModuloText}
 
 -- a derivation, and the path of its text

@@ -2,7 +2,8 @@
 use Rattle.std.specs.Prelude.{◌≡◌, ◌⊎◌, ◌++◌, ⊤, ℕ, List, [], ◌∷◌, map, All, Contains, IsTrue, Result, Ok, Err}
 use Rattle.nix_names.specs.Names.{is_name}
 use Rattle.nix_drv.specs.Derivation.{Drv, Output, Input, EnvEntry}
-use Rattle.drv_graph.specs.Kinds.{Kind, HasKind, AreMixed, IsUnknown}
+use Rattle.drv_graph.specs.Kinds.{HasKind, AreMixed, IsUnknown}
+use Rattle.drv_graph.specs.declared.kinds.Kind.{Kind}
 use Rattle.drv_graph.specs.Expected.{IsExpected, path_name}
 use Rattle.drv_graph.specs.Modulo.{names_of}
 use Rattle.drv_graph.specs.declared.fault.OutputFault.{OutputFault}

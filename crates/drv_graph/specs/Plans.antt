@@ -5,7 +5,7 @@ use Rattle.nix_drv.specs.Checked.{IsFoundAt}
 use Rattle.nix_drv.specs.Derivation.{Drv, Output}
 use Rattle.nix_drv.specs.Sources.{Answer}
 use Rattle.drv_graph.specs.Expected.{drv_name_of}
-use Rattle.drv_graph.specs.Kinds.{Kind}
+use Rattle.drv_graph.specs.declared.kinds.Kind.{Kind}
 use Rattle.drv_graph.specs.Nodes.{Node, AreHashes, inputs_of, paths_of}
 use Rattle.drv_graph.specs.Outputs.{IsOutputsCheck, IsThePath}
 use Rattle.drv_graph.specs.declared.fault.OutputFault.{OutputFault}
