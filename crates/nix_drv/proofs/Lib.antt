@@ -20,3 +20,5 @@ pub mod CheckedOrder
 pub mod CheckedListings
 pub mod CheckedTexts
 pub mod OwnPathLaws
+pub mod Fronts
+pub mod OneAnswer

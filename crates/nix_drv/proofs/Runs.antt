@@ -1,9 +1,12 @@
 -- Reading fixed bytes one by one, and a string by runs of plain bytes.
-use Rattle.std.proofs.Common.{◌≡◌, ◌⊎◌, inl, inr, subst, ℕ, zero, suc, ◌<◌, ◌≤◌, Bool, true, false, not, ◌||◌, eqb, List, [], ◌∷◌, ◌++◌, length, get_or, take, drop, Option, Some, None, Result, Ok, Err, refl, sym, ap, ◌∙◌, arith, drop-cons}
-use Rattle.std.specs.Prelude.{unwrap_or, slice_index}
+use Rattle.std.proofs.Common.{◌≡◌, ℕ, zero, suc, ◌<◌, ◌≤◌, Bool, true, false, eqb, List, [], ◌∷◌, ◌++◌, length, get_or, take, drop, Option, Some, None, Result, Ok, Err, refl, sym, ap, ◌∙◌, arith, drop-cons}
+use Rattle.std.specs.Prelude.{unwrap_or}
+use Rattle.std.specs.List.{position, position_or_len}
 use Rattle.std.proofs.lemmas.Bool.{ne_eqb}
-use Rattle.std.proofs.lemmas.List.{append-nil, nil_from_length, length-take, get_or-take}
-use Rattle.memchr.specs.Find.{IsFirstByte, is_byte2, is_byte3}
+use Rattle.std.proofs.lemmas.Grind.{common_steps}
+use Rattle.std.proofs.lemmas.List.{append-nil, nil_from_length}
+use Rattle.std.proofs.lemmas.List.Quantifiers.{position-Some}
+use Rattle.std.proofs.lemmas.List.Sums.{fails_before_first}
 use Rattle.nix_drv.specs.declared.fault.Stop.{Stop}
 use Rattle.nix_drv.specs.declared.fault.Stop.TheVariants.{Memory, Left}
 use Rattle.nix_drv.specs.Strings.{is_plain}
@@ -27,29 +30,8 @@ fixed_differs wanted (x ∷ rest) i lt long apart =
 
 -- ---- runs of plain bytes
 
-plain_parts : (p q r s t : Bool) → not (p || q || r || s || t) ≡ true → (p ≡ false) × (q ≡ false) × (r ≡ false) × (s ≡ false) × (t ≡ false)
-plain_parts false false false false false e = (refl, refl, refl, refl, refl)
-plain_parts true q r s t e = absurd cc
-plain_parts false true r s t e = absurd cc
-plain_parts false false true s t e = absurd cc
-plain_parts false false false true t e = absurd cc
-plain_parts false false false false true e = absurd cc
-
 pub is_plain-true : (b : ℕ) → is_plain b ≡ true → IsPlain b
-is_plain-true b e =
-    let p = plain_parts (eqb b 34) (eqb b 92) (eqb b 10) (eqb b 13) (eqb b 9) e in
-    record { no_quote = p.0; no_backslash = p.1; no_newline = p.2; no_return = p.3; no_tab = p.4 }
-
-plain_from : (p q r s t : Bool) → ((p || q) ≡ true → ⊥) → ((r || s || t) ≡ true → ⊥) → not (p || q || r || s || t) ≡ true
-plain_from false false false false false a b = refl
-plain_from true q r s t a b = absurd (a refl)
-plain_from false true r s t a b = absurd (a refl)
-plain_from false false true s t a b = absurd (b refl)
-plain_from false false false true t a b = absurd (b refl)
-plain_from false false false false true a b = absurd (b refl)
-
-pub is_plain-from : (b : ℕ) → ((eqb b 34 || eqb b 92) ≡ true → ⊥) → ((eqb b 10 || eqb b 13 || eqb b 9) ≡ true → ⊥) → is_plain b ≡ true
-is_plain-from b = plain_from (eqb b 34) (eqb b 92) (eqb b 10) (eqb b 13) (eqb b 9)
+is_plain-true = by_byte (λ b. is_plain b ≡ true → IsPlain b) (λ e. absurd cc) (λ e. absurd cc) (λ e. absurd cc) (λ e. absurd cc) (λ e. absurd cc) (λ b plain e. plain)
 
 -- a run of plain bytes is read as itself
 pub bytes_at-run : (n : ℕ) (s : List ℕ) → n ≤ length s → ((k : ℕ) → k < n → is_plain (get_or s k 0) ≡ true) → bytes_at false s ≡ before (take n s) (bytes_at false (drop n s))
@@ -107,47 +89,20 @@ byte_none items s rest total so_far e =
 
 -- ---- where a run ends
 
--- before the first byte that passes, or the end, no byte passes
-none_before : (test : ℕ → Bool) (s : List ℕ) (r : Option ℕ) → IsFirstByte test s r → (k : ℕ) → k < unwrap_or r (length s) → test (slice_index s k) ≡ true → ⊥
-none_before test s None first k lt = first k (omega arith) lt
-none_before test s (Some place) first k lt = first.0.before k (omega arith) lt
+-- the first place at which a test passes, or the end
+pub first_within : (test : ℕ → Bool) (s : List ℕ) (n : ℕ) (place : Option ℕ) → place ≡ position test s → n ≡ unwrap_or place (length s) → n ≤ length s
+first_within test s n None e is = omega arith
+first_within test s n (Some i) e is = let at = position-Some test s i 0 (sym e) in omega (arith, at.0)
 
-first_within : (test : ℕ → Bool) (s : List ℕ) (r : Option ℕ) → IsFirstByte test s r → unwrap_or r (length s) ≤ length s
-first_within test s None first = omega arith
-first_within test s (Some place) first = let within : place < length s = first.0.high in omega arith
+none_within : (test : ℕ → Bool) (s : List ℕ) → position test s ≡ None → (k : ℕ) → k < length s → test (get_or s k 0) ≡ false
+none_within test s e k lt =
+    let out : length s ≤ position_or_len test s = grind (arith, common_steps) in
+    fails_before_first test s k 0 (omega arith)
 
--- no byte before the first quote or backslash is one, and none before the first control byte in front of it
-pub plain_run : (s : List ℕ) (end stop : ℕ) (quote control : Option ℕ) → IsFirstByte (is_byte2 34 92) s quote → end ≡ unwrap_or quote (length s) → IsFirstByte (is_byte3 10 13 9) (take end s) control → stop ≡ unwrap_or control end
-    → (k : ℕ) → k < stop → is_plain (slice_index s k) ≡ true
-plain_run s end stop quote control first end-is other stop-is k lt =
-    let fits : end ≤ length s = omega (arith, first_within (is_byte2 34 92) s quote first) in
-    let len : length (take end s) ≡ end = omega (arith, length-take end s) in
-    let within : k < unwrap_or control (length (take end s)) = rw len (omega arith) in
-    let short : k < end = omega (arith, first_within (is_byte3 10 13 9) (take end s) control other) in
-    let same : slice_index (take end s) k ≡ slice_index s k = get_or-take end s k 0 short in
-    is_plain-from (slice_index s k) (none_before (is_byte2 34 92) s quote first k (omega arith))
-    (λ e. none_before (is_byte3 10 13 9) (take end s) control other k within (rw same e))
+pub none_before : (test : ℕ → Bool) (s : List ℕ) (n : ℕ) (place : Option ℕ) → place ≡ position test s → n ≡ unwrap_or place (length s) → (k : ℕ) → k < n → test (get_or s k 0) ≡ false
+none_before test s n None e is k lt = none_within test s (sym e) k (omega arith)
+none_before test s n (Some i) e is k lt = let at = position-Some test s i 0 (sym e) in at.2 k (omega arith)
 
-plain_not : (p q r s t : Bool) → ((p || q) ≡ true) ⊎ ((r || s || t) ≡ true) → not (p || q || r || s || t) ≡ false
-plain_not true q r s t e = refl
-plain_not false true r s t e = refl
-plain_not false false true s t e = refl
-plain_not false false false true t e = refl
-plain_not false false false false true e = refl
-plain_not false false false false false (inl e) = absurd cc
-plain_not false false false false false (inr e) = absurd cc
-
-is_plain-not : (b : ℕ) → ((eqb b 34 || eqb b 92) ≡ true) ⊎ ((eqb b 10 || eqb b 13 || eqb b 9) ≡ true) → is_plain b ≡ false
-is_plain-not b = plain_not (eqb b 34) (eqb b 92) (eqb b 10) (eqb b 13) (eqb b 9)
-
--- the byte behind a run takes an escape, where there is one
-pub plain_end : (s : List ℕ) (end stop : ℕ) (quote control : Option ℕ) → IsFirstByte (is_byte2 34 92) s quote → end ≡ unwrap_or quote (length s) → IsFirstByte (is_byte3 10 13 9) (take end s) control → stop ≡ unwrap_or control end
-    → stop < length s → is_plain (slice_index s stop) ≡ false
-plain_end s end stop quote (Some place) first end-is other stop-is lt =
-    let fits : end ≤ length s = omega (arith, first_within (is_byte2 34 92) s quote first) in
-    let high : place < length (take end s) = other.0.high in
-    let short : place < end = omega (arith, high, length-take end s) in
-    let same : slice_index (take end s) place ≡ slice_index s place = get_or-take end s place 0 short in
-    rw stop-is (is_plain-not (slice_index s place) (inr (subst (λ (b : ℕ). is_byte3 10 13 9 b ≡ true) same other.1)))
-plain_end s end stop (Some place) None first end-is other stop-is lt = rw (stop-is, end-is) (is_plain-not (slice_index s place) (inl first.1))
-plain_end s end stop None None first end-is other stop-is lt = absurd (omega (arith, lt, stop-is, end-is))
+pub passes_there : (test : ℕ → Bool) (s : List ℕ) (n : ℕ) (place : Option ℕ) → place ≡ position test s → n ≡ unwrap_or place (length s) → n < length s → test (get_or s n 0) ≡ true
+passes_there test s n None e is lt = absurd (omega arith)
+passes_there test s n (Some i) e is lt = let at = position-Some test s i 0 (sym e) in rw is at.1

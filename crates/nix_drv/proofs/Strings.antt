@@ -2,9 +2,9 @@
 use Rattle.std.proofs.Common.{◌≡◌, ℕ, suc, ◌≤◌, Bool, true, false, eqb, List, [], ◌∷◌, ◌++◌, length, None, Result, Ok, Err, refl, sym, ap, subst, ◌∙◌, append_assoc, arith, inl, inr, ◌⊎◌}
 use Rattle.std.specs.List.{flat_map}
 use Rattle.std.proofs.lemmas.Bool.{cases_Bool, eqb-true}
-use Rattle.nix_drv.specs.Strings.{spelling}
+use Rattle.nix_drv.specs.Strings.{spelling, unescaped}
 use Rattle.nix_drv.specs.Grammar.{Begins, IsFrontOfBytes}
-use Rattle.nix_drv.specs.Reading.{before, unescaped, bytes_at, left_of}
+use Rattle.nix_drv.specs.Reading.{before, bytes_at, left_of}
 use Rattle.nix_drv.proofs.Steps.{StopsAt, Told, Longest, left-before, before_none, before-before}
 use Rattle.std.proofs.lemmas.List.{append-nil}
 

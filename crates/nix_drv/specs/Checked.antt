@@ -29,7 +29,8 @@ pub record IsFoundAt (dir path bytes : List ℕ) (drv : Drv) (own : List ℕ) : 
 
 -- What the check of the bytes at a path of the folder answers. Each refusal comes exactly where it is the first of these that
 -- holds: no derivation's name; too long, no text of the language, or out of order, as in reading; a reference outside the
--- folder; another own path. Want of memory comes only under a derivation's name.
+-- folder; another own path. Want of memory comes only under a derivation's name,
+-- and for bytes within the limit.
 abbrev pub IsCheck : (dir path bytes : List ℕ) → Result Drv DrvFault → Type 0
 IsCheck dir path bytes (Ok drv) = IsFoundAt dir path bytes drv path
 IsCheck dir path bytes (Err NotADrvName) = IsDrvPath path → ⊥
@@ -38,5 +39,5 @@ IsCheck dir path bytes (Err (Syntax place)) = IsDrvPath path × IsReading bytes 
 IsCheck dir path bytes (Err (Order place)) = IsDrvPath path × IsReading bytes (Err (Order place))
 IsCheck dir path bytes (Err (BadReference text)) = (drv : Drv) × IsReadAt path bytes drv × IsFirstStray dir (paths_of drv) text.items
 IsCheck dir path bytes (Err (TextPathMismatch expected)) = (drv : Drv) × IsFoundAt dir path bytes drv expected × (expected ≢ path)
-IsCheck dir path bytes (Err NoMemory) = IsDrvPath path
+IsCheck dir path bytes (Err NoMemory) = IsDrvPath path × (length bytes ≤ max_len)
 IsCheck dir path bytes (Err NotSorted) = ⊥

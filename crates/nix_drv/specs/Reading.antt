@@ -1,5 +1,6 @@
 -- Reading bytes from the left by a grammar: the value and the bytes behind it, or how many bytes lie behind the longest front.
-use Rattle.std.specs.Prelude.{ℕ, zero, suc, Bool, true, false, ◌||◌, ◌==◌, if◌then◌else◌, is_some, List, [], ◌∷◌, ◌++◌, length, Option, Some, None, Result, Ok, Err}
+use Rattle.std.specs.Prelude.{ℕ, zero, suc, Bool, true, false, ◌==◌, if◌then◌else◌, is_some, List, [], ◌∷◌, ◌++◌, length, Option, Some, None, Result, Ok, Err}
+use Rattle.nix_drv.specs.Strings.{is_plain, unescaped}
 use Rattle.nix_drv.specs.Grammar.{Grammar, Value, Fixed, Str, Then, Many}
 
 -- goes on where reading was told so
@@ -14,19 +15,6 @@ fixed_at [] s = Ok (tt, s)
 fixed_at (b ∷ bytes) [] = Err 0
 fixed_at (b ∷ bytes) (c ∷ s) = if b == c then fixed_at bytes s else Err (suc (length s))
 
--- what an escape's second byte stands for
-abbrev pub unescaped : ℕ → Option ℕ
-unescaped letter =
-    if letter == 34 then Some 34 else
-    if letter == 92 then Some 92 else
-    if letter == 110 then Some 10 else
-    if letter == 114 then Some 13 else
-    if letter == 116 then Some 9 else None
-
--- a byte that no string has in its text as itself
-abbrev pub is_raw : ℕ → Bool
-is_raw byte = byte == 10 || byte == 13 || byte == 9
-
 -- values before those that are read
 abbrev pub before : {A : Type 0} → List A → Result (List A × List ℕ) ℕ → Result (List A × List ℕ) ℕ
 before front reading = reading >>= λ x. Ok (front ++ x.0, x.1)
@@ -38,7 +26,7 @@ bytes_at true (b ∷ s) = elim (unescaped b) [ Some byte ↦ before (byte ∷ []
 bytes_at false (b ∷ s) =
     if b == 34 then Ok ([], s) else
     if b == 92 then bytes_at true s else
-    if is_raw b then Err (suc (length s)) else before (b ∷ []) (bytes_at false s)
+    if is_plain b then before (b ∷ []) (bytes_at false s) else Err (suc (length s))
 
 -- one byte of a string, by its spelling, or none at the last quote
 abbrev pub escape_at : List ℕ → Result (Option ℕ × List ℕ) ℕ
@@ -50,7 +38,7 @@ byte_at [] = Err 0
 byte_at (b ∷ s) =
     if b == 34 then Ok (None, s) else
     if b == 92 then escape_at s else
-    if is_raw b then Err (suc (length s)) else Ok (Some b, s)
+    if is_plain b then Ok (Some b, s) else Err (suc (length s))
 
 -- behind an element: a comma and the others, or the end of the list
 abbrev pub next_at : {A : Type 0} → (List ℕ → Result (List A × List ℕ) ℕ) → A → List ℕ → Result (List A × List ℕ) ℕ

@@ -150,7 +150,8 @@ impl Derivation {
         ensures parts { drv_of result ≡ self }
         ensures in_order { InOrder derivation_form (drv_value self) }
     {
-        self.parts
+        let Derivation { parts } = self;
+        parts
     }
 
     /// The outputs, by name.

@@ -1,7 +1,7 @@
 //! What holds of the texts of every grammar, and of own paths, proved over the definitions.
 
 ghost use Rattle.nix_drv.specs.Grammar.{Grammar, IsClear};
-ghost use Rattle.nix_drv.specs.Laws.{HasOneTextEach, HasOneValueEach, HasNoTextWithin, OrderMeansRising};
+ghost use Rattle.nix_drv.specs.Laws.{HasOneTextEach, HasOneValueEach, HasNoTextWithin, OrderMeansRising, FrontsAreBeginnings, HasOneDerivationEach, HasNoDerivationWithin, HasOneReading, HasOneCheck};
 ghost use Rattle.nix_drv.specs.Derivation.{derivation_form};
 ghost use Rattle.nix_drv.specs.Outcome.{ReadsBack};
 ghost use Rattle.nix_drv.specs.OwnPath.{HasOneOwnPath};
@@ -13,6 +13,26 @@ pub fn texts_tell_values()
     ensures one_value { (g : Grammar) → IsClear g → HasOneValueEach g }
     ensures none_within { (g : Grammar) → IsClear g → HasNoTextWithin g }
     ensures derivations { IsClear derivation_form }
+{}
+
+/// A front of a grammar is just a beginning of some value's text: the longest front of an input is
+/// its longest beginning with which a text begins.
+pub fn fronts_are_beginnings()
+    ensures { (g : Grammar) → FrontsAreBeginnings g }
+{}
+
+/// Two derivations have no text in common, and no derivation's text begins another's, whether or
+/// not they keep the order rules.
+pub fn texts_tell_derivations()
+    ensures one_derivation { HasOneDerivationEach }
+    ensures none_within { HasNoDerivationWithin }
+{}
+
+/// Two answers that the contract of `read` allows for one input are the same, and two that the
+/// contract of `check_text` allows for bytes at a path say the same, want of memory apart.
+pub fn inputs_have_one_answer()
+    ensures reading { HasOneReading }
+    ensures check { HasOneCheck }
 {}
 
 /// A value keeps the order rules exactly where, in each of its lists that must rise, each key is

@@ -5,6 +5,7 @@
 //! | `derivation` | a derivation's parts, in order |
 //! | `reading` | bytes as a derivation |
 //! | `writing` | a derivation as bytes |
+//! | `escapes` | the bytes that strings spell by an escape |
 //! | `element` | lists of elements: reading, ordering and writing them |
 //! | `forms` | the elements of a derivation's lists |
 //! | `text_paths` | the store path of a text with references |
@@ -20,6 +21,7 @@ mod check;
 mod check_tests;
 mod derivation;
 mod element;
+mod escapes;
 mod fault;
 mod forms;
 pub mod laws;
@@ -36,7 +38,7 @@ pub use listing::{ListSource, ListedFile};
 pub use reading::{MAX_LEN, read};
 pub use source::{DrvSource, SourceFault};
 pub use text_paths::text_path;
-pub use writing::write;
+pub use writing::{write, write_string};
 
 #[cfg(test)]
 mod tests;

@@ -1,16 +1,15 @@
 //! Reading a derivation from its text.
 
-ghost use Rattle.std.specs.Prelude.{false, ◌≡◌, ◌≤◌, ℕ, ◌<◌, true, length, slice_index};
-ghost use Rattle.nix_drv.specs.Strings.{is_plain};
+ghost use Rattle.std.specs.Prelude.{◌≡◌};
 ghost use Rattle.nix_drv.specs.Grammar.{Str};
-ghost use Rattle.nix_drv.specs.Reading.{unescaped, escape_at, byte_at, fixed_at, read};
+ghost use Rattle.nix_drv.specs.Reading.{escape_at, byte_at, fixed_at, read};
 ghost use Rattle.nix_drv.specs.Stops.{Gives};
 ghost use Rattle.nix_drv.specs.Outcome.{IsReading};
 
 use crate::derivation::Derivation;
+use crate::escapes::{letter_of, plain_len, unescape};
 use crate::fault::{DrvFault, Stop};
 use crate::forms::read_parts;
-use memchr::{memchr2, memchr3};
 use std::alloc::Global;
 
 /// How many bytes a derivation's text may have.
@@ -33,19 +32,6 @@ pub(crate) fn fixed_of<'a>(bytes: &'a [u8], wanted: &[u8]) -> Result<&'a [u8], S
     Ok(rest)
 }
 
-fn unescape(letter: u8) -> Option<u8>
-    ensures { result ≡ unescaped letter }
-{
-    match letter {
-        b'"' => Some(b'"'),
-        b'\\' => Some(b'\\'),
-        b'n' => Some(b'\n'),
-        b'r' => Some(b'\r'),
-        b't' => Some(b'\t'),
-        _ => None,
-    }
-}
-
 fn escape_of(bytes: &[u8]) -> Result<(Option<u8>, &[u8]), Stop>
     ensures { Gives (λ x. (x.0, x.1.now)) result (escape_at bytes.now) }
 {
@@ -65,19 +51,11 @@ fn byte_of(bytes: &[u8]) -> Result<(Option<u8>, &[u8]), Stop>
         [] => Err(Stop::Left(0)),
         [b'"', rest @ ..] => Ok((None, rest)),
         [b'\\', rest @ ..] => escape_of(rest),
-        [b'\n' | b'\r' | b'\t', ..] => Err(Stop::Left(bytes.len())),
-        [byte, rest @ ..] => Ok((Some(*byte), rest)),
+        [byte, rest @ ..] => match letter_of(*byte) {
+            Some(_) => Err(Stop::Left(bytes.len())),
+            None => Ok((Some(*byte), rest)),
+        },
     }
-}
-
-/// How many bytes from the first on are plain: where a byte follows them, it takes an escape.
-pub(crate) fn plain_len(bytes: &[u8]) -> usize
-    ensures within { result ≤ length bytes.now }
-    ensures plain { (k : ℕ) → k < result → is_plain (slice_index bytes.now k) ≡ true }
-    ensures ends { result < length bytes.now → is_plain (slice_index bytes.now result) ≡ false }
-{
-    let end = memchr2(b'"', b'\\', bytes).unwrap_or(bytes.len());
-    memchr3(b'\n', b'\r', b'\t', &bytes[..end]).unwrap_or(end)
 }
 
 /// The string at the head of the bytes, and those behind it.

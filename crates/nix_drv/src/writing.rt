@@ -1,56 +1,52 @@
 //! Writing a derivation's text.
 
 ghost use Rattle.std.specs.Prelude.{◌≡◌, ◌++◌, OnOk, is_some, length, count_by};
+ghost use Rattle.std.specs.Io.KnownBytes.{Appends};
 ghost use Rattle.nix_drv.specs.Strings.{spelling, string_text, letter};
 ghost use Rattle.nix_drv.specs.Passing.{behind};
 ghost use Rattle.nix_drv.specs.Outcome.{IsWriting};
 
 use crate::derivation::Derivation;
+use crate::escapes::{letter_of, plain_len};
 use crate::fault::DrvFault;
-use crate::reading::plain_len;
 use std::alloc::{AllocError, Global};
+use std::io::{self, Write};
 
-/// The letter by which an escape spells the byte, where it takes one.
-fn letter_of(byte: u8) -> Option<u8>
-    ensures { result ≡ letter byte }
-{
-    match byte {
-        b'"' => Some(b'"'),
-        b'\\' => Some(b'\\'),
-        b'\n' => Some(b'n'),
-        b'\r' => Some(b'r'),
-        b'\t' => Some(b't'),
-        _ => None,
-    }
-}
-
-/// Adds the byte as a string spells it.
-fn write_byte(byte: u8, out: &mut Vec<u8>) -> Result<(), AllocError>
-    ensures { OnOk result (out.new.items ≡ out.old.items ++ spelling byte) }
+/// Writes the byte as a string spells it.
+fn write_byte<W: Write>(out: &mut W, byte: u8) -> io::Result<()>
+    ensures { OnOk result (Appends (W.contents out.old) (W.contents out.new) (spelling byte)) }
 {
     match letter_of(byte) {
-        Some(letter) => out.extend_from_slice(&[b'\\', letter]),
-        None => out.extend_from_slice(&[byte]),
+        Some(letter) => out.write_all(&[b'\\', letter]),
+        None => out.write_all(&[byte]),
     }
 }
 
-/// Adds the string's text: its plain bytes in runs, the others one by one.
-pub(crate) fn write_str(bytes: &[u8], out: &mut Vec<u8>) -> Result<(), AllocError>
-    ensures { OnOk result (out.new.items ≡ out.old.items ++ string_text bytes.now) }
+/// Writes a string as a derivation's text spells it, with its quotes. Takes time in proportion to
+/// the bytes, and refuses only where the writer does.
+pub fn write_string<W: Write>(out: &mut W, bytes: &[u8]) -> io::Result<()>
+    ensures { OnOk result (Appends (W.contents out.old) (W.contents out.new) (string_text bytes.now)) }
 {
-    out.push(b'"')?;
+    out.write_all(b"\"")?;
     let mut rest = bytes;
     'runs: loop {
         let (run, special) = rest.split_at(plain_len(rest));
-        out.extend_from_slice(run)?;
+        out.write_all(run)?;
         let [byte, behind @ ..] = special else {
             break;
         };
-        write_byte(*byte, out)?;
+        write_byte(out, *byte)?;
         rest = behind;
     }
-    out.push(b'"')?;
-    Ok(())
+    out.write_all(b"\"")
+}
+
+/// Adds the string's text.
+pub(crate) fn write_str(bytes: &[u8], out: &mut Vec<u8>) -> Result<(), AllocError>
+    ensures { OnOk result (out.new.items ≡ out.old.items ++ string_text bytes.now) }
+{
+    // A vector refuses only for want of memory.
+    write_string(out, bytes).map_err(|_| AllocError)
 }
 
 /// How many of the bytes take an escape.

@@ -1,10 +1,9 @@
 //! The words by which a line names a fault.
 ghost use Rattle.std.specs.Prelude.{◌≡◌, IsOkAnd, OnOk};
 ghost use Rattle.std.specs.Io.KnownBytes.{Appends};
-ghost use Rattle.nix_drv.specs.Strings.{spelling, string_text};
 ghost use Rattle.nix_realise.specs.FaultWords.{drv_fault_words, name_fault_words};
 
-use nix_drv::DrvFault;
+use nix_drv::{DrvFault, write_string};
 use nix_names::{NameFault, StorePath};
 use std::io::Write;
 use std::{fmt, io, str};
@@ -48,32 +47,6 @@ pub fn write_drv_fault<W: Write>(out: &mut W, fault: &DrvFault) -> io::Result<()
             write_string(out, text)?;
             out.write_all(b")")
         }
-    }
-}
-
-// Writes a string as the derivations' language spells it, with its quotes.
-fn write_string<W: Write>(out: &mut W, bytes: &[u8]) -> io::Result<()>
-    ensures { OnOk result (Appends (W.contents out.old) (W.contents out.new) (string_text bytes.now)) }
-{
-    out.write_all(b"\"")?;
-    for byte in bytes {
-        write_spelling(out, *byte)?;
-    }
-    out.write_all(b"\"")
-}
-
-// Writes a byte of a string as the derivations' language spells it.
-#[tactic(auto, unfolding(nix_drv::specs::Strings::spelling))]
-fn write_spelling<W: Write>(out: &mut W, byte: u8) -> io::Result<()>
-    ensures { OnOk result (Appends (W.contents out.old) (W.contents out.new) (spelling byte)) }
-{
-    match byte {
-        b'"' => out.write_all(b"\\\""),
-        b'\\' => out.write_all(b"\\\\"),
-        b'\n' => out.write_all(b"\\n"),
-        b'\r' => out.write_all(b"\\r"),
-        b'\t' => out.write_all(b"\\t"),
-        _ => out.write_all(&[byte]),
     }
 }
 

@@ -1,0 +1,49 @@
+//! The bytes that strings spell by an escape.
+
+ghost use Rattle.std.specs.Prelude.{false, ◌≡◌, ◌≤◌, ℕ, ◌<◌, true, is_some, length, position, slice_index};
+ghost use Rattle.nix_drv.specs.Strings.{is_plain, letter, unescaped};
+
+/// The letter of the byte's escape, where it takes one.
+pub(crate) fn letter_of(byte: u8) -> Option<u8>
+    ensures { result ≡ letter byte }
+{
+    match byte {
+        b'"' => Some(b'"'),
+        b'\\' => Some(b'\\'),
+        b'\n' => Some(b'n'),
+        b'\r' => Some(b'r'),
+        b'\t' => Some(b't'),
+        _ => None,
+    }
+}
+
+/// The byte whose escape has the letter.
+pub(crate) fn unescape(letter: u8) -> Option<u8>
+    ensures { result ≡ unescaped letter }
+{
+    match letter {
+        b'"' => Some(b'"'),
+        b'\\' => Some(b'\\'),
+        b'n' => Some(b'\n'),
+        b'r' => Some(b'\r'),
+        b't' => Some(b'\t'),
+        _ => None,
+    }
+}
+
+/// The place of the first byte that takes an escape.
+fn escape_place(bytes: &[u8]) -> Option<usize>
+    ensures { result ≡ position (λ b. is_some (letter b)) bytes.now }
+{
+    bytes.iter().position(|byte| letter_of(*byte).is_some())
+}
+
+/// How many bytes from the first on are plain: where a byte follows them, it takes an escape.
+/// Looks at no byte behind that one.
+pub(crate) fn plain_len(bytes: &[u8]) -> usize
+    ensures within { result ≤ length bytes.now }
+    ensures plain { (k : ℕ) → k < result → is_plain (slice_index bytes.now k) ≡ true }
+    ensures ends { result < length bytes.now → is_plain (slice_index bytes.now result) ≡ false }
+{
+    escape_place(bytes).unwrap_or(bytes.len())
+}
