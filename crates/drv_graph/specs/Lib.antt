@@ -1,3 +1,4 @@
+pub mod Checking
 pub mod Expected
 pub mod Faults
 pub mod Filling
@@ -8,3 +9,6 @@ pub mod Nodes
 pub mod Outputs
 pub mod Plans
 pub mod UsedInputs
+pub mod Uniting
+pub mod ExpectedPaths
+pub mod GraphLaws
