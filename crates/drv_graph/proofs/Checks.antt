@@ -1,12 +1,12 @@
 -- The parts of the check of outputs, one behind the other.
-use Rattle.std.proofs.Common.{◌≡◌, ◌+◌, ◌<◌, ◌≤◌, ℕ, zero, suc, Bool, true, false, List, [], ◌∷◌, ◌++◌, add-one, append-nil, append_assoc, get_or, length, take, drop, map, Some, inl, inr, refl, sym, ap, subst, ◌∙◌, ⊎_elim, arith}
-use Rattle.std.specs.Prelude.{All, Contains, IfOk, IfErr, Result, Ok, Err}
-use Rattle.std.specs.List.{AllZip, slice_get}
+use Rattle.std.proofs.Common.{◌≡◌, ◌+◌, ◌<◌, ℕ, zero, suc, Bool, true, false, List, [], ◌∷◌, ◌++◌, add-one, append-nil, append_assoc, get_or, length, take, drop, map, Some, inl, inr, sym, ap, subst, ◌∙◌, arith}
+use Rattle.std.specs.Prelude.{All, Contains, IfOk, Result, Ok, Err}
+use Rattle.std.specs.List.{slice_get}
 use Rattle.std.proofs.lemmas.Bool.{cases_lt}
-use Rattle.std.proofs.lemmas.List.Elements.{All-append, All-contains}
+use Rattle.std.proofs.lemmas.List.Elements.{All-append}
 use Rattle.std.proofs.lemmas.Option.{get_or_from_slice_get, same_Some, slice_get-map, slice_get_within, slice_get-get_or}
 use Rattle.nix_drv.specs.Derivation.{Drv, EnvEntry, Input, Output}
-use Rattle.drv_graph.specs.Checking.{AreExpected, EntriesFit, FitBefore, FitsIn, HasMisfit, IsEnvFault, IsEnvMismatch, IsExpecting, IsFirstPair, IsKindFault, IsMismatch, IsNameFault, IsPathFault, IsSoundCheck, IsUnknownOutput, IsUseFault, IsValueFault, PathFits}
+use Rattle.drv_graph.specs.Checking.{AreExpected, EntriesFit, FitBefore, FitsIn, HasMisfit, IsEnvFault, IsEnvMismatch, IsFirstPair, IsKindFault, IsMismatch, IsNameFault, IsPathFault, IsSoundCheck, IsUnknownOutput, IsUseFault, IsValueFault, PathFits}
 use Rattle.drv_graph.specs.Expected.{IsExpected, path_name}
 use Rattle.drv_graph.specs.ExpectedPaths.{IsMaskedDigest, output_path}
 use Rattle.drv_graph.specs.UsedInputs.{uses_of}

@@ -1,5 +1,5 @@
 -- Lists as loops build and change them.
-use Rattle.std.proofs.Common.{◌≡◌, ℕ, zero, suc, ◌+◌, ◌-◌, ◌<◌, ◌≤◌, List, [], ◌∷◌, ◌++◌, length, take, drop, map, get_or, set, Some, None, inl, inr, refl, sym, ap, subst, ◌∙◌, ⊎_elim, add-one, append-nil, arith}
+use Rattle.std.proofs.Common.{◌≡◌, ℕ, zero, suc, ◌+◌, ◌-◌, ◌<◌, ◌≤◌, List, [], ◌∷◌, ◌++◌, length, take, drop, map, get_or, set, Some, inl, inr, refl, sym, ap, subst, ◌∙◌, ⊎_elim, add-one, append-nil, arith}
 use Rattle.std.specs.Prelude.{All, Contains}
 use Rattle.std.specs.Option.{option_map}
 use Rattle.std.specs.List.{AllZip, slice_get}

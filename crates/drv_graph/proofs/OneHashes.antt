@@ -1,11 +1,10 @@
 -- The modulo hashes of some paths are one, where no two nodes have one path.
-use Rattle.std.proofs.Common.{◌≡◌, ℕ, Bool, true, false, List, [], ◌∷◌, map, nat_eq, inl, inr, refl, sym, ap, subst, ◌∙◌, arith}
-use Rattle.std.specs.Prelude.{Contains}
+use Rattle.std.proofs.Common.{◌≡◌, ℕ, false, List, [], ◌∷◌, refl, sym, ap, subst, ◌∙◌}
 use Rattle.sha2.specs.Sha256.{sha256}
-use Rattle.nix_drv.specs.Derivation.{Drv, Input, Output}
+use Rattle.nix_drv.specs.Derivation.{Drv, Output}
 use Rattle.drv_graph.specs.GraphLaws.{HaveOneHashEach, HaveOwnPaths}
 use Rattle.drv_graph.specs.Kinds.{HasKind}
-use Rattle.drv_graph.specs.Nodes.{AreHashes, IsHashBy, Node, fixed_text, inputs_of, no_hashes, one_more_hash, paths_of}
+use Rattle.drv_graph.specs.Nodes.{AreHashes, IsHashBy, Node, fixed_text, inputs_of, no_hashes, one_more_hash}
 use Rattle.drv_graph.specs.declared.kinds.Kind.{Kind}
 use Rattle.drv_graph.specs.declared.kinds.Kind.TheVariants.{Addressed, Fixed}
 use Rattle.drv_graph.proofs.KindAnswers.{one_kind}

@@ -1,26 +1,18 @@
 -- There is one modulo text, one kind, one expected path, and one list of modulo hashes.
-use Rattle.std.proofs.Common.{◌≡◌, ◌↔◌, ◌⊎◌, ◌<◌, ℕ, suc, Bool, true, false, List, [], ◌∷◌, ◌++◌, map, nat_eq, Ok, inl, inr, refl, sym, ap, subst, ◌∙◌, ⊎_elim, arith}
+use Rattle.std.proofs.Common.{◌≡◌, ◌↔◌, ◌⊎◌, ℕ, true, List, [], ◌∷◌, ◌++◌, inl, inr, refl, sym, ap, subst, ◌∙◌}
 use Rattle.std.specs.Prelude.{All, Contains, codes, if◌then◌else◌}
-use Rattle.std.specs.Cmp.Lexicographic.{bytes_decides, pointwise}
-use Rattle.std.specs.List.{IsDistinct}
-use Rattle.std.proofs.lemmas.Bool.{cases_lt, false≢true}
-use Rattle.std.proofs.lemmas.List.{get_or_past}
 use Rattle.std.proofs.lemmas.List.Elements.{All-head, All-tail}
-use Rattle.hex.specs.Hex.{IsBytes, decode_sized, encode_lower}
-use Rattle.hex.proofs.HexLemmas.{decode_sized-encode_lower}
 use Rattle.sha2.specs.Sha256.{sha256}
 use Rattle.nix_names.specs.Rising.{IsRising}
 use Rattle.nix_names.specs.StorePaths.{store_path}
 use Rattle.nix_names.proofs.RisingLists.{Contains-cons_cases, Contains-first, Contains-later, first_below, not_below_itself, rising_later, rising_same}
 use Rattle.nix_drv.specs.Derivation.{Drv, Input, Output, derivation_form, drv_value}
 use Rattle.nix_drv.specs.Grammar.{text}
-use Rattle.drv_graph.specs.Expected.{IsExpected, flat_text, path_name}
-use Rattle.drv_graph.specs.Kinds.{HasKind, IsDigest, algo_of}
-use Rattle.drv_graph.specs.Modulo.{HasOneModuloText, IsModuloText, IsNamed, IsUnited, masked, replaced, with_inputs}
+use Rattle.drv_graph.specs.Expected.{IsExpected, path_name}
+use Rattle.drv_graph.specs.Modulo.{HasOneModuloText, IsNamed, IsUnited, masked, replaced, with_inputs}
 use Rattle.drv_graph.specs.Uniting.{input_paths}
 use Rattle.drv_graph.specs.declared.kinds.Kind.{Kind}
 use Rattle.drv_graph.specs.declared.kinds.Kind.TheVariants.{Addressed, Fixed}
-use Rattle.drv_graph.specs.declared.kinds.Method.{Method}
 use Rattle.drv_graph.specs.declared.kinds.Method.TheVariants.{Flat, Recursive}
 use Rattle.drv_graph.proofs.Loops.{Contains-map}
 

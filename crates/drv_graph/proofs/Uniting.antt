@@ -1,22 +1,22 @@
 -- Inputs are united: gathered by their paths, and their names sorted.
-use Rattle.std.proofs.Common.{◌≡◌, ◌≢◌, ◌↔◌, ◌⊎◌, ◌+◌, ◌<◌, ◌≤◌, ℕ, zero, suc, Bool, true, false, List, [], ◌∷◌, ◌++◌, length, take, drop, map, get_or, nat_eq, Some, inl, inr, refl, sym, ap, subst, ◌∙◌, ⊎_elim, arith}
+use Rattle.std.proofs.Common.{◌≡◌, ◌≢◌, ◌⊎◌, ℕ, false, List, [], ◌∷◌, ◌++◌, take, get_or, nat_eq, Some, inl, inr, refl, sym, ap, subst, ◌∙◌, arith}
 use Rattle.std.specs.Prelude.{All, Contains}
 use Rattle.std.specs.Cmp.Lexicographic.{bytes_decides, pointwise, slice_cmp}
 use Rattle.std.specs.List.{AllZip, slice_get}
-use Rattle.std.specs.List.Sorted.{IsPermutation, IsSorted, IsSortedBy}
+use Rattle.std.specs.List.Sorted.{IsPermutation, IsSorted}
 use Rattle.std.specs.Ordering.{is_lt, nat_cmp}
 use Rattle.std.proofs.lemmas.Bool.{cases_Bool}
 use Rattle.std.proofs.lemmas.Cmp.{nat_list_cmp_total}
-use Rattle.std.proofs.lemmas.List.{get_or-map, length-map, map-append, same_from_push, take-map}
+use Rattle.std.proofs.lemmas.List.{map-append, take-map}
 use Rattle.std.proofs.lemmas.List.Elements.{All-cons, All-nil, Contains-append_cases, Contains-append_left, Contains-append_right, Contains-push, Contains-push_cases}
 use Rattle.std.proofs.lemmas.List.Sorted.{Contains-permutation, IsPermutation-map, IsPermutation-sym, ranks_by, sorted_far}
 use Rattle.std.proofs.lemmas.Option.{get_or_from_slice_get, slice_get_within}
 use Rattle.nix_names.specs.Rising.{IsRising}
-use Rattle.nix_names.proofs.RisingLists.{IsBelow, Contains-cons_cases, Contains-first, Contains-nothing, below_from_order, below_trans, earlier_below, rising_push}
+use Rattle.nix_names.proofs.RisingLists.{IsBelow, Contains-nothing, below_from_order, below_trans, earlier_below, rising_push}
 use Rattle.nix_drv.specs.Derivation.{Input}
 use Rattle.drv_graph.specs.Modulo.{IsNamed, IsUnited}
-use Rattle.drv_graph.specs.Uniting.{IsAdded, IsAppended, IsGathered, IsJoined, IsNameSorted, input_paths}
-use Rattle.drv_graph.proofs.Loops.{Contains-map, slice_get-Contains, slice_get-take}
+use Rattle.drv_graph.specs.Uniting.{IsAdded, IsGathered, IsNameSorted, input_paths}
+use Rattle.drv_graph.proofs.Loops.{slice_get-Contains, slice_get-take}
 use Rattle.drv_graph.proofs.OneText.{named_cases, named_first, named_later}
 
 -- ---- sorted names

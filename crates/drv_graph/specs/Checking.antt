@@ -1,5 +1,5 @@
 -- What the parts of the check of a derivation's outputs answer.
-use Rattle.std.specs.Prelude.{◌≡◌, ◌<◌, Bool, true, false, ⊤, ℕ, List, [], ◌∷◌, length, All, Contains, slice_get, Some, Result, Ok, Err, Vec}
+use Rattle.std.specs.Prelude.{◌≡◌, ◌<◌, Bool, true, false, ⊤, ℕ, List, length, All, Contains, slice_get, Some, Result, Ok, Err, Vec}
 use Rattle.std.specs.List.{AllZip}
 use Rattle.std.specs.declared.alloc.Global.{Global}
 use Rattle.nix_drv.specs.Derivation.{Drv, Output, EnvEntry}

@@ -1,6 +1,6 @@
 -- *Expected path*: the paths that a derivation's outputs must have (Nix manual, "Complete Store Path Calculation" and "Store Derivation";
 -- Dolstra's thesis, sections 5.1 and 5.4).
-use Rattle.std.specs.Prelude.{◌≡◌, ◌-◌, true, ℕ, List, [], ◌∷◌, ◌++◌, length, take, codes, if◌then◌else◌}
+use Rattle.std.specs.Prelude.{◌≡◌, ◌-◌, true, ℕ, List, ◌++◌, length, take, codes, if◌then◌else◌}
 use Rattle.hex.specs.Hex.{encode_lower}
 use Rattle.sha2.specs.Sha256.{sha256}
 use Rattle.nix_names.specs.Names.{same_bytes}

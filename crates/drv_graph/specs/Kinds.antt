@@ -1,6 +1,6 @@
 -- The kinds of a derivation's outputs (Nix manual, "Store Derivation": input-addressed and fixed content-addressed outputs;
 -- Dolstra's thesis, section 5.4). Which methods of a fixed output are taken is this product's own.
-use Rattle.std.specs.Prelude.{◌≡◌, ◌<◌, ⊤, ℕ, List, [], ◌∷◌, ◌⊎◌, length, codes, All, Contains}
+use Rattle.std.specs.Prelude.{◌≡◌, ◌<◌, ℕ, List, [], ◌∷◌, ◌⊎◌, length, codes, All, Contains}
 use Rattle.hex.specs.Hex.{encode_lower}
 use Rattle.nix_drv.specs.Derivation.{Drv, Output}
 use Rattle.drv_graph.specs.declared.kinds.Kind.{Kind}

@@ -1,5 +1,5 @@
 -- What `Plan::load` answers: the plan of the roots, or a fault that is true of the path that it names (the faults are this product's own).
-use Rattle.std.specs.Prelude.{◌≡◌, ◌≢◌, ◌⊎◌, ◌<◌, ⊤, ℕ, List, length, nat_eq, All, Contains, Result, Ok, Err}
+use Rattle.std.specs.Prelude.{◌≢◌, ◌⊎◌, ◌<◌, ⊤, ℕ, List, length, nat_eq, All, Result, Ok, Err}
 use Rattle.std.specs.Cmp.Lexicographic.{pointwise}
 use Rattle.std.specs.List.{IsDistinct}
 use Rattle.nix_drv.specs.Checked.{IsCheck}

@@ -1,7 +1,7 @@
 -- The texts behind *Modulo hash* (Nix manual, "Derivation paths: hash modulo"; Dolstra's thesis, section 5.4): a derivation's text
 -- in which each input derivation stands by its own hash, with or without the paths of the outputs.
 -- That inputs of one hash become one entry is this product's own.
-use Rattle.std.specs.Prelude.{◌≡◌, ◌↔◌, Bool, ℕ, List, [], ◌∷◌, ◌++◌, map, codes, All, Contains, if◌then◌else◌}
+use Rattle.std.specs.Prelude.{◌≡◌, ◌↔◌, Bool, ℕ, List, [], ◌∷◌, map, All, Contains, if◌then◌else◌}
 use Rattle.std.specs.List.{list_any}
 use Rattle.hex.specs.Hex.{encode_lower}
 use Rattle.nix_names.specs.Names.{same_bytes}

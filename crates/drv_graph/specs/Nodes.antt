@@ -1,5 +1,5 @@
 -- A plan's nodes, and *Modulo hash* by recursion over them (Nix manual, "Derivation paths: hash modulo"; Dolstra's thesis, section 5.4).
-use Rattle.std.specs.Prelude.{◌≡◌, Bool, false, ℕ, List, [], ◌∷◌, ◌++◌, map, codes, Contains}
+use Rattle.std.specs.Prelude.{◌≡◌, false, ℕ, List, [], ◌∷◌, ◌++◌, map, codes, Contains}
 use Rattle.sha2.specs.Sha256.{sha256}
 use Rattle.nix_drv.specs.Derivation.{Drv, Output, Input}
 use Rattle.drv_graph.specs.Kinds.{HasKind}

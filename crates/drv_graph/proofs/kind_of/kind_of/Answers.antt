@@ -1,8 +1,7 @@
 use Rattle.std.proofs.Common.{◌≡◌, ◌∙◌, length, map, inl, sym, ap, arith, rules, tests}
-use Rattle.std.proofs.lemmas.Bool.{eqb-true}
-use Rattle.std.proofs.lemmas.List.{length-map, nil_from_length}
+use Rattle.std.proofs.lemmas.List.{nil_from_length}
 use Rattle.nix_drv.specs.Parts.{output_of}
-use Rattle.drv_graph.proofs.KindAnswers.{kind_from, mixed, some_outputs}
+use Rattle.drv_graph.proofs.KindAnswers.{kind_from, mixed}
 use Rattle.drv_graph.proofs.kind_of.kind_of.Goals as goal
 
 pub returns-then-is_empty-clause-err : goal.returns-then-is_empty-clause-err

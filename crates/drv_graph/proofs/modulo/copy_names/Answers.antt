@@ -1,5 +1,4 @@
-use Rattle.std.proofs.Common.{◌∙◌, ◌++◌, ◌∷◌, [], List, ℕ, map, ap}
-use Rattle.std.proofs.lemmas.List.{map-append}
+use Rattle.std.proofs.Common.{◌∙◌}
 use Rattle.nix_drv.specs.Parts.{bytes_of}
 use Rattle.drv_graph.proofs.Loops.{mapped_more}
 use Rattle.drv_graph.proofs.modulo.copy_names.Goals as goal

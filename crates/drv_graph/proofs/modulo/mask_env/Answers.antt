@@ -1,4 +1,4 @@
-use Rattle.std.proofs.Common.{◌≡◌, ◌<◌, ◌≤◌, ◌∙◌, ℕ, List, length, get_or, refl, sym, ap, arith}
+use Rattle.std.proofs.Common.{◌∙◌, ℕ, List, get_or, sym, ap, arith}
 use Rattle.nix_drv.specs.Derivation.{EnvEntry as DrvEntry}
 use Rattle.nix_drv.specs.Parts.{entry_of}
 use Rattle.drv_graph.specs.Modulo.{masked_entry, names_of}

@@ -1,4 +1,4 @@
-use Rattle.std.proofs.Common.{◌≡◌, ◌<◌, ◌≤◌, ℕ, List, length, get_or, refl, ap, arith}
+use Rattle.std.proofs.Common.{ℕ, List, get_or, refl, ap, arith}
 use Rattle.nix_drv.specs.Derivation.{Output as DrvOutput}
 use Rattle.nix_drv.specs.Parts.{output_of}
 use Rattle.drv_graph.specs.Uniting.{masked_output}

@@ -1,4 +1,4 @@
-use Rattle.std.proofs.Common.{◌≡◌, ◌∙◌, List, map, sym, ap, subst, Bool}
+use Rattle.std.proofs.Common.{◌∙◌, List, map, sym, ap, subst, Bool}
 use Rattle.std.specs.Prelude.{IfOk, if◌then◌else◌}
 use Rattle.nix_drv.specs.Derivation.{Drv, Input, IsLooseText}
 use Rattle.nix_drv.specs.Parts.{input_of}

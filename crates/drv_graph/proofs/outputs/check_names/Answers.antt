@@ -1,4 +1,4 @@
-use Rattle.std.proofs.Common.{◌≡◌, ◌∙◌, true, ℕ, List, sym, subst, map}
+use Rattle.std.proofs.Common.{◌∙◌, ℕ, List, sym, subst, map}
 use Rattle.std.specs.Prelude.{IsTrue}
 use Rattle.std.proofs.lemmas.Bool.{false≢true}
 use Rattle.nix_names.specs.Names.{is_name}

@@ -1,4 +1,3 @@
-use Rattle.std.proofs.Common.{◌≡◌, ◌∙◌, ◌++◌, ◌∷◌, [], List, ℕ, map, ap}
 use Rattle.drv_graph.specs.UsedInputs.{hashes_of}
 use Rattle.drv_graph.specs.declared.outputs.UsedInput.{UsedInput}
 use Rattle.drv_graph.proofs.Loops.{seen_at, took_more}

@@ -1,4 +1,4 @@
-use Rattle.std.proofs.Common.{◌≡◌, ◌<◌, ℕ, List, length, map, refl, subst, arith}
+use Rattle.std.proofs.Common.{◌<◌, ℕ, List, length, map, refl, subst, arith}
 use Rattle.std.proofs.lemmas.Option.{slice_get_read}
 use Rattle.nix_drv.specs.Parts.{output_of}
 use Rattle.drv_graph.specs.Checking.{FitsIn, PathFits}
