@@ -22,3 +22,4 @@ pub mod CheckedTexts
 pub mod OwnPathLaws
 pub mod Fronts
 pub mod OneAnswer
+pub mod Places

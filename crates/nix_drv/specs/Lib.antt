@@ -15,3 +15,4 @@ pub mod Checked
 pub mod References
 pub mod Sources
 pub mod ListedFiles
+pub mod Places

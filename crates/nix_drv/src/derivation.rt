@@ -1,16 +1,21 @@
 //! A store derivation.
 
 ghost use Rattle.std.specs.Prelude.{◌≡◌, ◌++◌, IfOk, OnOk, map};
+ghost use Rattle.std.specs.Cmp.Lexicographic.{slice_cmp};
+ghost use Rattle.std.specs.Ordering.{nat_cmp};
+ghost use Rattle.nix_names.specs.Rising.{IsRising};
 ghost use Rattle.nix_drv.specs.Grammar.{text};
 ghost use Rattle.nix_drv.specs.Order.{InOrder};
 ghost use Rattle.nix_drv.specs.Derivation.{IsLooseText, derivation_form, drv_value};
 ghost use Rattle.nix_drv.specs.Parts.{bytes_of, output_of, input_of, entry_of, drv_of};
 ghost use Rattle.nix_drv.specs.Ordering.{IsOrdering};
 ghost use Rattle.nix_drv.specs.Outcome.{IsCopying, IsMaking};
+ghost use Rattle.nix_drv.specs.Places.{IsPlaceOf, env_keys, output_names};
 
 use crate::fault::DrvFault;
 use crate::forms::{copy_parts, pass_parts, write_parts};
 use std::alloc::{AllocError, Global};
+use std::cmp::Ordering;
 use std::marker::Model;
 
 /// An output of a derivation.
@@ -201,5 +206,34 @@ impl Derivation {
         ensures { map entry_of result.now ≡ self.now.env }
     {
         &self.parts.env
+    }
+
+    /// The place of the output with this name among the outputs, if there is one. Takes no memory,
+    /// and compares names some log2(n) times, n being the number of outputs.
+    pub fn output_place(&self, name: &[u8]) -> Option<usize>
+        ensures found { IsPlaceOf (output_names self.now) name.now result }
+        ensures rising { IsRising (output_names self.now) }
+    {
+        let by_name = |output: &Output| -> Ordering
+            ensures { result ≡ slice_cmp nat_cmp output.now.name.items name.entry.now }
+        { output.name.as_slice().cmp(&name) };
+        match self.parts.outputs.binary_search_by(by_name) {
+            Ok(place) => Some(place),
+            Err(_) => None,
+        }
+    }
+
+    /// The place of the entry with this key in the environment, if there is one, in the same way.
+    pub fn env_place(&self, key: &[u8]) -> Option<usize>
+        ensures found { IsPlaceOf (env_keys self.now) key.now result }
+        ensures rising { IsRising (env_keys self.now) }
+    {
+        let by_key = |entry: &EnvEntry| -> Ordering
+            ensures { result ≡ slice_cmp nat_cmp entry.now.key.items key.entry.now }
+        { entry.key.as_slice().cmp(&key) };
+        match self.parts.env.binary_search_by(by_key) {
+            Ok(place) => Some(place),
+            Err(_) => None,
+        }
     }
 }

@@ -1,0 +1,163 @@
+-- The kind of a derivation's outputs, from its outputs.
+use Rattle.std.proofs.Common.{◌≡◌, ◌≢◌, ◌<◌, ℕ, Bool, true, false, List, [], ◌∷◌, length, nat_eq, Ok, Err, inl, inr, refl, sym, ap, subst, ◌∙◌, arith}
+use Rattle.std.specs.Prelude.{All, Contains, IfOk, IfErr, Result, codes}
+use Rattle.std.specs.Cmp.Lexicographic.{pointwise}
+use Rattle.std.proofs.lemmas.Bool.{cases_lt, false≢true}
+use Rattle.std.proofs.lemmas.Bool.Decides.{Decides-eqb}
+use Rattle.std.proofs.lemmas.List.{get_or_past}
+use Rattle.std.proofs.lemmas.List.Elements.{All-contains, All-from_get_or}
+use Rattle.std.proofs.lemmas.Slice.Eq.{slice_eq-Decides}
+use Rattle.hex.specs.Hex.{IsBytes, decode_sized, encode_lower}
+use Rattle.hex.specs.declared.error.FromHexError.{FromHexError}
+use Rattle.hex.proofs.HexLemmas.{decode_of-ok, decode_sized-encode_lower, decode_sized-ok, decode_sized-twice}
+use Rattle.nix_names.proofs.RisingLists.{Contains-cons_cases, Contains-first, Contains-nothing}
+use Rattle.nix_drv.specs.Derivation.{Drv, Output}
+use Rattle.drv_graph.specs.Checking.{IsFixedKind, IsKindFault, IsNotFixed, NamesUnknown, SaysSome}
+use Rattle.drv_graph.specs.declared.fault.OutputFault.{OutputFault}
+use Rattle.drv_graph.specs.declared.fault.OutputFault.TheVariants.{NoMemory, MixedOutputs, UnknownMethod, BadName, UnknownOutput, OutputMismatch, EnvMismatch}
+use Rattle.drv_graph.specs.Kinds.{AreMixed, HasKind, IsAddressed, IsDigest, IsFixed, IsUnknown, algo_of}
+use Rattle.drv_graph.specs.declared.kinds.Kind.{Kind}
+use Rattle.drv_graph.specs.declared.kinds.Kind.TheVariants.{Addressed, Fixed}
+use Rattle.drv_graph.specs.declared.kinds.Method.{Method}
+use Rattle.drv_graph.specs.declared.kinds.Method.TheVariants.{Flat, Recursive}
+
+-- ---- digests
+
+bytes_everywhere : (xs : List ℕ) → All (λ b. b < 256) xs → IsBytes xs
+bytes_everywhere xs each i =
+    elim (cases_lt i (length xs)) [
+      | inl within ↦ each i 0 within
+      | inr past ↦ let e = get_or_past xs i 0 past in omega arith
+    ]
+
+-- the digits of a digest decode to it
+pub digits_decode : (digest : List ℕ) → IsDigest digest → decode_sized (encode_lower digest) 32 ≡ Ok digest
+digits_decode digest is = decode_sized-encode_lower digest 32 is.0 (bytes_everywhere digest is.1)
+
+-- what bytes decode to is a digest
+pub decoded : (text digest : List ℕ) → decode_sized text 32 ≡ Ok digest → IsDigest digest
+decoded text digest ok =
+    let long = decode_sized-ok text 32 digest ok in
+    let parts = decode_of-ok text digest (sym (decode_sized-twice text 32 long) ∙ ok) in
+    (omega (arith, parts.2), All-from_get_or (λ b. b < 256) digest 0 (λ i within. parts.3 i))
+
+-- bytes that don't decode are no digest's digits
+pub no_digits : (text : List ℕ) (e : FromHexError) → decode_sized text 32 ≡ Err e → (digest : List ℕ) → IsDigest digest → text ≡ encode_lower digest → ⊥
+no_digits text e err digest is same = let ok = rw (← same) at (digits_decode digest is) in cc
+
+-- nor are bytes that decode to another's
+pub other_digits : (text found : List ℕ) → decode_sized text 32 ≡ Ok found → text ≢ encode_lower found → (digest : List ℕ) → IsDigest digest → text ≡ encode_lower digest → ⊥
+other_digits text found ok other digest is same =
+    let again = rw (← same) at (digits_decode digest is) in
+    let one : found ≡ digest = cc in
+    other (same ∙ ap encode_lower (sym one))
+
+-- what a comparison of two texts said
+pub told_other : (xs ys zs : List ℕ) (r : Bool) → r ≡ pointwise nat_eq xs ys → ys ≡ zs → r ≡ false → xs ≢ zs
+told_other xs ys zs r is other unlike same =
+    false≢true (sym unlike ∙ (slice_eq-Decides Decides-eqb xs ys r is).1 (same ∙ sym other))
+
+pub told_same : (xs ys zs : List ℕ) (r : Bool) → r ≡ pointwise nat_eq xs ys → ys ≡ zs → r ≡ true → xs ≡ zs
+told_same xs ys zs r is other alike = (slice_eq-Decides Decides-eqb xs ys r is).0 alike ∙ other
+
+-- ---- kinds
+
+pub some_outputs : (outputs : List Output) (n : ℕ) → length outputs ≡ n → n ≢ 0 → outputs ≡ [] → ⊥
+some_outputs outputs n long some none = some (sym long ∙ ap length none)
+
+-- an output that says something among outputs that aren't one alone
+pub mixed : (drv : Drv) (outputs : List Output) → outputs ≡ drv.outputs → (o : Output) × Contains outputs o × (IsAddressed o → ⊥)
+    → ((o : Output) → outputs ≡ o ∷ [] → o.name ≡ codes "out" → ⊥) → AreMixed drv
+mixed drv outputs is (o, has, says) alone =
+    inr (o, subst (λ (os : List Output). Contains os o) is has, says, λ only. alone o (is ∙ only.0) only.1)
+
+not_mixed : (drv : Drv) (only : Output) → drv.outputs ≡ only ∷ [] → only.name ≡ codes "out" → AreMixed drv → ⊥
+not_mixed drv only is named (inl none) = let clash : [] ≡ only ∷ [] = sym none ∙ is in cc
+not_mixed drv only is named (inr (o, has, says, other)) =
+    elim (Contains-cons_cases only [] o (subst (λ (os : List Output). Contains os o) is has)) [
+      | inl same ↦ other (is ∙ ap (λ (p : Output). p ∷ []) same, ap (λ (p : Output). p.name) (sym same) ∙ named)
+      | inr later ↦ Contains-nothing o later
+    ]
+
+-- the only output says something
+says_alone : (only : Output) (outputs : List Output) → outputs ≡ only ∷ [] → (o : Output) × Contains outputs o × (IsAddressed o → ⊥) → IsAddressed only → ⊥
+says_alone only outputs is (o, has, says) addressed =
+    elim (Contains-cons_cases only [] o (subst (λ (os : List Output). Contains os o) is has)) [
+      | inl same ↦ says (subst IsAddressed same addressed)
+      | inr later ↦ Contains-nothing o later
+    ]
+
+pub unknown : (drv : Drv) (outputs : List Output) (only : Output) (name : List ℕ) → outputs ≡ drv.outputs → outputs ≡ only ∷ [] → only.name ≡ codes "out"
+    → (o : Output) × Contains outputs o × (IsAddressed o → ⊥) → ((method : Method) (digest : List ℕ) → IsFixed only method digest → ⊥) → name ≡ only.name
+    → (AreMixed drv → ⊥) × ((o : Output) × Contains drv.outputs o × IsUnknown o × (name ≡ o.name))
+unknown drv outputs only name here is named says none same = (
+  not_mixed drv only (sym here ∙ is) named,
+  (only, subst (λ (os : List Output). Contains os only) (sym is ∙ here) (Contains-first only []), record { says = says_alone only outputs is says; none = none }, same),
+)
+
+fixed_has_kind : (drv : Drv) (only : Output) (kind : Kind) → drv.outputs ≡ only ∷ [] → only.name ≡ codes "out" → IsFixedKind only (Ok kind) → HasKind drv kind
+fixed_has_kind drv only Addressed is named h = absurd h
+fixed_has_kind drv only (Fixed method digest) is named h = (only, (is, named), h)
+
+fixed_fault : (drv : Drv) (outputs : List Output) (only : Output) (fault : OutputFault) → outputs ≡ drv.outputs → outputs ≡ only ∷ [] → only.name ≡ codes "out"
+    → SaysSome outputs → IsFixedKind only (Err fault) → IsKindFault drv fault
+fixed_fault drv outputs only (UnknownMethod output) here is named says h = unknown drv outputs only output.items here is named says h.0 h.1
+fixed_fault drv outputs only NoMemory here is named says h = tt
+fixed_fault drv outputs only MixedOutputs here is named says h = absurd h
+fixed_fault drv outputs only BadName here is named says h = h
+fixed_fault drv outputs only (UnknownOutput input output) here is named says h = h
+fixed_fault drv outputs only (OutputMismatch output expected) here is named says h = h
+fixed_fault drv outputs only (EnvMismatch output) here is named says h = h
+
+-- what is answered of the only output is right of the derivation
+pub kind_from : (drv : Drv) (outputs : List Output) (only : Output) (answer : Result Kind OutputFault) → outputs ≡ drv.outputs → outputs ≡ only ∷ [] → only.name ≡ codes "out"
+    → SaysSome outputs → IsFixedKind only answer → IfOk answer (HasKind drv) × IfErr answer (IsKindFault drv)
+kind_from drv outputs only (Ok kind) here is named says h = (fixed_has_kind drv only kind (sym here ∙ is) named h, tt)
+kind_from drv outputs only (Err fault) here is named says h = (tt, fixed_fault drv outputs only fault here is named says h)
+
+-- an answer that names an output with no known method
+pub names_unknown : (o : Output) (fault : OutputFault) → IsNotFixed o → NamesUnknown o fault → IsFixedKind o (Err fault)
+names_unknown o (UnknownMethod output) none h = (none, h)
+names_unknown o NoMemory none h = absurd h
+names_unknown o MixedOutputs none h = h
+names_unknown o BadName none h = h
+names_unknown o (UnknownOutput input output) none h = h
+names_unknown o (OutputMismatch output expected) none h = h
+names_unknown o (EnvMismatch output) none h = h
+
+-- ---- one kind
+
+methods_differ : codes "sha256" ≡ codes "r:sha256" → ⊥
+methods_differ e = cc
+
+one_method : (a b : Method) → algo_of a ≡ algo_of b → a ≡ b
+one_method Flat Flat e = refl
+one_method Flat Recursive e = absurd (methods_differ e)
+one_method Recursive Flat e = absurd (methods_differ (sym e))
+one_method Recursive Recursive e = refl
+
+some_method : (m : Method) → algo_of m ≡ [] → ⊥
+some_method Flat e = cc
+some_method Recursive e = cc
+
+one_digest : (a b : List ℕ) → IsDigest a → IsDigest b → encode_lower a ≡ encode_lower b → a ≡ b
+one_digest a b is_a is_b same =
+    let first = digits_decode a is_a in
+    let second = rw (← same) at (digits_decode b is_b) in
+    cc
+
+not_both : (drv : Drv) (method : Method) (digest : List ℕ) → All IsAddressed drv.outputs → HasKind drv (Fixed method digest) → ⊥
+not_both drv method digest each (output, only, fixed) =
+    let addressed = All-contains IsAddressed drv.outputs output each (subst (λ (os : List Output). Contains os output) (sym only.0) (Contains-first output [])) in
+    some_method method (sym fixed.0 ∙ addressed.0)
+
+pub one_kind : (drv : Drv) (a b : Kind) → HasKind drv a → HasKind drv b → a ≡ b
+one_kind drv Addressed Addressed is_a is_b = refl
+one_kind drv Addressed (Fixed method digest) is_a is_b = absurd (not_both drv method digest is_a.1 is_b)
+one_kind drv (Fixed method digest) Addressed is_a is_b = absurd (not_both drv method digest is_b.1 is_a)
+one_kind drv (Fixed m d) (Fixed m' d') (o, only, fixed) (o', only', fixed') =
+    let lists : o ∷ [] ≡ o' ∷ [] = sym only.0 ∙ only'.0 in
+    let same : o ≡ o' = cc in
+    let method : m ≡ m' = one_method m m' (sym fixed.0 ∙ ap (λ (p : Output). p.algo) same ∙ fixed'.0) in
+    let digest : d ≡ d' = one_digest d d' fixed.2 fixed'.2 (sym fixed.1 ∙ ap (λ (p : Output). p.hash) same ∙ fixed'.1) in
+    ap (λ (k : Method). Fixed k d) method ∙ ap (λ (e : List ℕ). Fixed m' e) digest

@@ -1,0 +1,6 @@
+use Rattle.std.proofs.Common.{◌≡◌, map, take}
+use Rattle.nix_drv.specs.Parts.{bytes_of}
+use Rattle.drv_graph.proofs.modulo.copy_names.Given as goal
+
+abbrev pub invariant-loop-name : goal.invariant-loop-name
+invariant-loop-name l = map bytes_of l.copy.items ≡ map bytes_of (take l.name-index l.names)

@@ -1,0 +1,28 @@
+use Rattle.std.proofs.Common.{◌∙◌, ℕ, List, get_or, sym, ap, arith}
+use Rattle.nix_drv.specs.Derivation.{EnvEntry as DrvEntry}
+use Rattle.nix_drv.specs.Parts.{entry_of}
+use Rattle.drv_graph.specs.Modulo.{masked_entry, names_of}
+use Rattle.drv_graph.proofs.Loops.{written_all, written_more}
+use Rattle.drv_graph.proofs.Masking.{masked_found, masked_missing}
+use Rattle.drv_graph.proofs.modulo.mask_env.Goals as goal
+use Rattle.drv_graph.proofs.modulo.mask_env.Goals.{then-is_some, else-is_some}
+
+pub loop-entry-preserved : goal.loop-entry-preserved
+loop-entry-preserved c =
+    let was = get_or c.loop-entry.env c.loop-entry.entry-index c.entry-item.result in
+    let names = names_of c.args.drv.now.outputs in
+    let with_value : List ℕ → DrvEntry = λ value. record { key = was.key.items; value = value } in
+    elim c.if-is_some.branch [
+      | then-is_some w ↦
+          written_more entry_of (masked_entry names) c.args.env.now c.loop-entry.env c.if-is_some.env c.loop-entry.entry-index _ c.entry-item.result
+          (omega arith) c.loop-entry.auto.env c.loop-entry.invariant w.env-is
+          (ap with_value w.clear.ensures.items
+          ∙ masked_found names (entry_of was) c.deref.result.now c.output_place.result c.output_place.ensures.found c.deref.ensures.value (sym c.is_some.ensures ∙ w.if-is_some.true))
+      | else-is_some w ↦
+          written_more entry_of (masked_entry names) c.args.env.now c.loop-entry.env c.if-is_some.env c.loop-entry.entry-index was c.entry-item.result
+          (omega arith) c.loop-entry.auto.env c.loop-entry.invariant w.env-is
+          (masked_missing names (entry_of was) c.deref.result.now c.output_place.result c.output_place.ensures.found c.deref.ensures.value (sym c.is_some.ensures ∙ w.if-is_some.false))
+    ]
+
+pub returns : goal.returns
+returns c = written_all entry_of (masked_entry (names_of c.args.drv.now.outputs)) c.args.env.now c.loop-entry.env c.loop-entry.entry-index (omega arith) c.loop-entry.invariant

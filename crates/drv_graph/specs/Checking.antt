@@ -1,0 +1,189 @@
+-- What the parts of the check of a derivation's outputs answer.
+use Rattle.std.specs.Prelude.{◌≡◌, ◌<◌, Bool, true, false, ⊤, ℕ, List, length, All, Contains, slice_get, Some, Result, Ok, Err, Vec}
+use Rattle.std.specs.List.{AllZip}
+use Rattle.std.specs.declared.alloc.Global.{Global}
+use Rattle.nix_drv.specs.Derivation.{Drv, Output, EnvEntry}
+use Rattle.drv_graph.specs.Expected.{IsExpected}
+use Rattle.drv_graph.specs.Kinds.{HasKind, AreMixed, IsAddressed, IsFixed, IsUnknown}
+use Rattle.drv_graph.specs.Outputs.{AreSound, IsFirst, IsKnownUse, IsOutputsCheck, IsThePath, IsThePathOrEmpty, IsWellNamed, Use, uses}
+use Rattle.drv_graph.specs.declared.kinds.Kind.{Kind}
+use Rattle.drv_graph.specs.declared.kinds.Kind.TheVariants.{Addressed, Fixed}
+use Rattle.drv_graph.specs.declared.kinds.Method.{Method}
+use Rattle.drv_graph.specs.declared.fault.OutputFault.{OutputFault}
+use Rattle.drv_graph.specs.declared.fault.OutputFault.TheVariants.{NoMemory, MixedOutputs, UnknownMethod, BadName, UnknownOutput, OutputMismatch, EnvMismatch}
+
+-- some output says something of its content
+abbrev pub SaysSome : List Output → Type 0
+SaysSome outputs = (o : Output) × Contains outputs o × (IsAddressed o → ⊥)
+
+-- an output's content is fixed by no known method
+abbrev pub IsNotFixed : Output → Type 0
+IsNotFixed output = (method : Method) (digest : List ℕ) → IsFixed output method digest → ⊥
+
+-- the fault names this output as one with no known method
+abbrev pub NamesUnknown : Output → OutputFault → Type 0
+NamesUnknown o (UnknownMethod output) = output.items ≡ o.name
+NamesUnknown o MixedOutputs = ⊥
+NamesUnknown o NoMemory = ⊥
+NamesUnknown o BadName = ⊥
+NamesUnknown o (UnknownOutput input output) = ⊥
+NamesUnknown o (OutputMismatch output expected) = ⊥
+NamesUnknown o (EnvMismatch output) = ⊥
+
+-- the kind of a fixed output, or the fault that it has no known method
+abbrev pub IsFixedKind : Output → Result Kind OutputFault → Type 0
+IsFixedKind o (Ok Addressed) = ⊥
+IsFixedKind o (Ok (Fixed method digest)) = IsFixed o method digest
+IsFixedKind o (Err (UnknownMethod output)) = IsNotFixed o × (output.items ≡ o.name)
+IsFixedKind o (Err NoMemory) = ⊤
+IsFixedKind o (Err MixedOutputs) = ⊥
+IsFixedKind o (Err BadName) = ⊥
+IsFixedKind o (Err (UnknownOutput input output)) = ⊥
+IsFixedKind o (Err (OutputMismatch output expected)) = ⊥
+IsFixedKind o (Err (EnvMismatch output)) = ⊥
+
+-- what is wrong with the kind of a derivation's outputs
+abbrev pub IsKindFault : Drv → OutputFault → Type 0
+IsKindFault drv MixedOutputs = AreMixed drv
+IsKindFault drv (UnknownMethod output) = (AreMixed drv → ⊥) × ((o : Output) × Contains drv.outputs o × IsUnknown o × (output.items ≡ o.name))
+IsKindFault drv NoMemory = ⊤
+IsKindFault drv BadName = ⊥
+IsKindFault drv (UnknownOutput input output) = ⊥
+IsKindFault drv (OutputMismatch output expected) = ⊥
+IsKindFault drv (EnvMismatch output) = ⊥
+
+-- what is wrong with the names of some outputs
+abbrev pub IsNameFault : (name : List ℕ) → List Output → OutputFault → Type 0
+IsNameFault name outputs BadName = (o : Output) × Contains outputs o × (IsWellNamed name o → ⊥)
+IsNameFault name outputs NoMemory = ⊤
+IsNameFault name outputs MixedOutputs = ⊥
+IsNameFault name outputs (UnknownMethod output) = ⊥
+IsNameFault name outputs (UnknownOutput input output) = ⊥
+IsNameFault name outputs (OutputMismatch output expected) = ⊥
+IsNameFault name outputs (EnvMismatch output) = ⊥
+
+-- what is wrong with some uses of outputs
+abbrev pub IsUseFault : List Use → OutputFault → Type 0
+IsUseFault used (UnknownOutput input output) =
+    (u : Use) × IsFirst (λ other. IsKnownUse other → ⊥) used u × (input ≡ u.input) × (output.items ≡ u.output)
+IsUseFault used NoMemory = ⊤
+IsUseFault used MixedOutputs = ⊥
+IsUseFault used (UnknownMethod output) = ⊥
+IsUseFault used BadName = ⊥
+IsUseFault used (OutputMismatch output expected) = ⊥
+IsUseFault used (EnvMismatch output) = ⊥
+
+-- what a derivation's kind, its outputs' names and its uses are, or what is wrong with them first
+abbrev pub IsSoundCheck : (name : List ℕ) → Drv → (used : List Drv) → Result Kind OutputFault → Type 0
+IsSoundCheck name drv used (Ok kind) = AreSound name drv used kind
+IsSoundCheck name drv used (Err MixedOutputs) = AreMixed drv
+IsSoundCheck name drv used (Err (UnknownMethod output)) = IsKindFault drv (UnknownMethod output)
+IsSoundCheck name drv used (Err BadName) = (kind : Kind) × HasKind drv kind × IsNameFault name drv.outputs BadName
+IsSoundCheck name drv used (Err (UnknownOutput input output)) =
+    (kind : Kind) × HasKind drv kind × All (IsWellNamed name) drv.outputs × IsUseFault (uses drv.inputs used) (UnknownOutput input output)
+IsSoundCheck name drv used (Err NoMemory) = ⊤
+IsSoundCheck name drv used (Err (OutputMismatch output expected)) = ⊥
+IsSoundCheck name drv used (Err (EnvMismatch output)) = ⊥
+
+-- how a value stands to the expected path: in a draft it may be empty
+abbrev pub FitsIn : (in_draft : Bool) → (value path : List ℕ) → Type 0
+FitsIn false value path = IsThePath value path
+FitsIn true value path = IsThePathOrEmpty value path
+
+-- some outputs fit the paths beside them, up to a place
+abbrev pub FitBefore : (Fits : Output → List ℕ → Type 0) → List Output → (paths : List (List ℕ)) → (place : ℕ) → Type 0
+FitBefore Fits outputs paths place =
+    (k : ℕ) (o : Output) (path : List ℕ) → k < place → slice_get outputs k ≡ Some o → slice_get paths k ≡ Some path → Fits o path
+
+-- An output and the path beside it are the first of which something is wrong, where those before them fit.
+pub record IsFirstPair (Fits Wrong : Output → List ℕ → Type 0) (outputs : List Output) (paths : List (List ℕ)) (o : Output) (path : List ℕ) : Type 0 where
+  pub place : ℕ
+  pub is_output : slice_get outputs place ≡ Some o
+  pub is_path : slice_get paths place ≡ Some path
+  pub wrong : Wrong o path
+  pub before : FitBefore Fits outputs paths place
+
+-- an output's path fits the one beside it
+abbrev pub PathFits : (in_draft : Bool) → Output → (path : List ℕ) → Type 0
+PathFits in_draft output path = FitsIn in_draft output.path path
+
+-- an entry of the environment under a name doesn't fit a path
+abbrev pub HasMisfit : (in_draft : Bool) → List EnvEntry → (name path : List ℕ) → Type 0
+HasMisfit in_draft env name path = (entry : EnvEntry) × Contains env entry × (entry.key ≡ name) × (FitsIn in_draft entry.value path → ⊥)
+
+-- there is none under an output's name
+abbrev pub EntriesFit : (in_draft : Bool) → List EnvEntry → Output → (path : List ℕ) → Type 0
+EntriesFit in_draft env output path = HasMisfit in_draft env output.name path → ⊥
+
+-- what is wrong with the paths of some outputs
+abbrev pub IsPathFault : (in_draft : Bool) → List Output → (paths : List (List ℕ)) → OutputFault → Type 0
+IsPathFault in_draft outputs paths (OutputMismatch output expected) =
+    (o : Output) × IsFirstPair (PathFits in_draft) (λ p path. PathFits in_draft p path → ⊥) outputs paths o expected × (output.items ≡ o.name)
+IsPathFault in_draft outputs paths NoMemory = ⊤
+IsPathFault in_draft outputs paths MixedOutputs = ⊥
+IsPathFault in_draft outputs paths (UnknownMethod output) = ⊥
+IsPathFault in_draft outputs paths BadName = ⊥
+IsPathFault in_draft outputs paths (UnknownOutput input output) = ⊥
+IsPathFault in_draft outputs paths (EnvMismatch output) = ⊥
+
+-- what is wrong with the entries of the environment under the names of some outputs
+abbrev pub IsEnvFault : (in_draft : Bool) → List EnvEntry → List Output → (paths : List (List ℕ)) → OutputFault → Type 0
+IsEnvFault in_draft env outputs paths (EnvMismatch output) =
+    (o : Output) × (path : List ℕ) × IsFirstPair (EntriesFit in_draft env) (λ p beside. HasMisfit in_draft env p.name beside) outputs paths o path × (output.items ≡ o.name)
+IsEnvFault in_draft env outputs paths NoMemory = ⊤
+IsEnvFault in_draft env outputs paths MixedOutputs = ⊥
+IsEnvFault in_draft env outputs paths (UnknownMethod output) = ⊥
+IsEnvFault in_draft env outputs paths BadName = ⊥
+IsEnvFault in_draft env outputs paths (UnknownOutput input output) = ⊥
+IsEnvFault in_draft env outputs paths (OutputMismatch output expected) = ⊥
+
+-- what is wrong first with the values in a derivation's text that must be paths
+abbrev pub IsValueFault : (in_draft : Bool) → Drv → (paths : List (List ℕ)) → OutputFault → Type 0
+IsValueFault in_draft drv paths (OutputMismatch output expected) = IsPathFault in_draft drv.outputs paths (OutputMismatch output expected)
+IsValueFault in_draft drv paths (EnvMismatch output) =
+    FitBefore (PathFits in_draft) drv.outputs paths (length drv.outputs) × IsEnvFault in_draft drv.env drv.outputs paths (EnvMismatch output)
+IsValueFault in_draft drv paths NoMemory = ⊤
+IsValueFault in_draft drv paths MixedOutputs = ⊥
+IsValueFault in_draft drv paths (UnknownMethod output) = ⊥
+IsValueFault in_draft drv paths BadName = ⊥
+IsValueFault in_draft drv paths (UnknownOutput input output) = ⊥
+
+-- the fault is that an input has no output with this name
+abbrev pub IsUnknownOutput : (path name : List ℕ) → OutputFault → Type 0
+IsUnknownOutput path name (UnknownOutput input output) = (input ≡ path) × (output.items ≡ name)
+IsUnknownOutput path name NoMemory = ⊥
+IsUnknownOutput path name MixedOutputs = ⊥
+IsUnknownOutput path name (UnknownMethod output) = ⊥
+IsUnknownOutput path name BadName = ⊥
+IsUnknownOutput path name (OutputMismatch output expected) = ⊥
+IsUnknownOutput path name (EnvMismatch output) = ⊥
+
+-- the fault is that the output with this name has another path than this one
+abbrev pub IsMismatch : (name path : List ℕ) → OutputFault → Type 0
+IsMismatch name path (OutputMismatch output expected) = (output.items ≡ name) × (expected ≡ path)
+IsMismatch name path NoMemory = ⊥
+IsMismatch name path MixedOutputs = ⊥
+IsMismatch name path (UnknownMethod output) = ⊥
+IsMismatch name path BadName = ⊥
+IsMismatch name path (UnknownOutput input output) = ⊥
+IsMismatch name path (EnvMismatch output) = ⊥
+
+-- the fault is that the entry under this output's name has another value than its path
+abbrev pub IsEnvMismatch : (name : List ℕ) → OutputFault → Type 0
+IsEnvMismatch name (EnvMismatch output) = output.items ≡ name
+IsEnvMismatch name NoMemory = ⊥
+IsEnvMismatch name MixedOutputs = ⊥
+IsEnvMismatch name (UnknownMethod output) = ⊥
+IsEnvMismatch name BadName = ⊥
+IsEnvMismatch name (UnknownOutput input output) = ⊥
+IsEnvMismatch name (OutputMismatch output expected) = ⊥
+
+-- the paths are those that are expected of a derivation's outputs
+abbrev pub AreExpected : (dir name : List ℕ) → Kind → Drv → (hashes : List (List ℕ)) → (paths : List (List ℕ)) → Type 0
+AreExpected dir name kind drv hashes paths = AllZip (IsExpected dir name kind drv hashes) drv.outputs paths
+
+-- the kind and the expected paths of a derivation's outputs, or what the check of them answers
+abbrev pub IsExpecting : (in_draft : Bool) → (dir name : List ℕ) → Drv → (used : List Drv) → (hashes : List (List ℕ)) → Result (Kind × Vec (List ℕ) Global) OutputFault → Type 0
+IsExpecting in_draft dir name drv used hashes (Ok found) =
+    IsOutputsCheck (FitsIn in_draft) dir name drv used hashes (Ok found.0) × AreExpected dir name found.0 drv hashes found.1.items
+IsExpecting in_draft dir name drv used hashes (Err fault) = IsOutputsCheck (FitsIn in_draft) dir name drv used hashes (Err fault)

@@ -1,0 +1,20 @@
+-- What holds of modulo hashes and expected paths: there is one of each.
+use Rattle.std.specs.Prelude.{◌≡◌, ℕ, List, Contains}
+use Rattle.nix_drv.specs.Derivation.{Drv, Output}
+use Rattle.drv_graph.specs.Expected.{IsExpected}
+use Rattle.drv_graph.specs.Nodes.{AreHashes, Node}
+use Rattle.drv_graph.specs.declared.kinds.Kind.{Kind}
+
+-- no two nodes have one path
+abbrev pub HaveOwnPaths : List Node → Type 0
+HaveOwnPaths nodes = (a b : Node) → Contains nodes a → Contains nodes b → a.path ≡ b.path → a ≡ b
+
+-- the nodes at some paths have one list of modulo hashes, where no two nodes have one path
+abbrev pub HaveOneHashEach : Type 0
+HaveOneHashEach = (nodes : List Node) (paths hashes others : List (List ℕ)) → HaveOwnPaths nodes → AreHashes nodes paths hashes → AreHashes nodes paths others → hashes ≡ others
+
+-- an output has one expected path
+abbrev pub HasOneExpectedPath : Type 0
+HasOneExpectedPath =
+    (dir name : List ℕ) (kind : Kind) (drv : Drv) (hashes : List (List ℕ)) (output : Output) (path other : List ℕ)
+    → IsExpected dir name kind drv hashes output path → IsExpected dir name kind drv hashes output other → path ≡ other

@@ -1,0 +1,46 @@
+-- The kinds of a derivation's outputs (Nix manual, "Store Derivation": input-addressed and fixed content-addressed outputs;
+-- Dolstra's thesis, section 5.4). Which methods of a fixed output are taken is this product's own.
+use Rattle.std.specs.Prelude.{◌≡◌, ◌<◌, ℕ, List, [], ◌∷◌, ◌⊎◌, length, codes, All, Contains}
+use Rattle.hex.specs.Hex.{encode_lower}
+use Rattle.nix_drv.specs.Derivation.{Drv, Output}
+use Rattle.drv_graph.specs.declared.kinds.Kind.{Kind}
+use Rattle.drv_graph.specs.declared.kinds.Kind.TheVariants.{Addressed, Fixed}
+use Rattle.drv_graph.specs.declared.kinds.Method.{Method}
+use Rattle.drv_graph.specs.declared.kinds.Method.TheVariants.{Flat, Recursive}
+
+-- a method as an output's text has it
+abbrev pub algo_of : Method → List ℕ
+algo_of Flat = codes "sha256"
+algo_of Recursive = codes "r:sha256"
+
+-- a digest of SHA-256: 32 bytes
+abbrev pub IsDigest : List ℕ → Type 0
+IsDigest digest = (length digest ≡ 32) × All (λ byte. byte < 256) digest
+
+-- the output says nothing of its content
+abbrev pub IsAddressed : Output → Type 0
+IsAddressed output = (output.algo ≡ []) × (output.hash ≡ [])
+
+-- the output's content has this digest, in lower-case hex digits, by this method
+abbrev pub IsFixed : Output → Method → List ℕ → Type 0
+IsFixed output method digest = (output.algo ≡ algo_of method) × (output.hash ≡ encode_lower digest) × IsDigest digest
+
+-- the output is the derivation's only one, and named `out`
+abbrev pub IsOnlyOut : Drv → Output → Type 0
+IsOnlyOut drv output = (drv.outputs ≡ output ∷ []) × (output.name ≡ codes "out")
+
+-- a derivation's outputs are of one kind
+abbrev pub HasKind : Drv → Kind → Type 0
+HasKind drv Addressed = (drv.outputs ≡ [] → ⊥) × All IsAddressed drv.outputs
+HasKind drv (Fixed method digest) = (output : Output) × IsOnlyOut drv output × IsFixed output method digest
+
+-- a derivation's outputs are mixed: there is none, or one says something of its content and isn't the only one, named `out`
+abbrev pub AreMixed : Drv → Type 0
+AreMixed drv =
+    (drv.outputs ≡ [])
+    ⊎ ((output : Output) × Contains drv.outputs output × (IsAddressed output → ⊥) × (IsOnlyOut drv output → ⊥))
+
+-- the output says something of its content, by a method or with a hash that isn't known
+pub record IsUnknown (output : Output) : Type 0 where
+  pub says : IsAddressed output → ⊥
+  pub none : (method : Method) (digest : List ℕ) → IsFixed output method digest → ⊥

@@ -1,0 +1,14 @@
+pub mod Checking
+pub mod Expected
+pub mod Faults
+pub mod Filling
+pub mod Kinds
+pub mod Loading
+pub mod Modulo
+pub mod Nodes
+pub mod Outputs
+pub mod Plans
+pub mod UsedInputs
+pub mod Uniting
+pub mod ExpectedPaths
+pub mod GraphLaws

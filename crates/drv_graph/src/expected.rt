@@ -1,0 +1,146 @@
+//! The paths that a derivation's outputs must have.
+ghost use Rattle.std.specs.Prelude.{◌≡◌, ◌++◌, length, map, codes, IfOk};
+ghost use Rattle.sha2.specs.Sha256.{sha256};
+ghost use Rattle.nix_names.specs.StorePaths.{store_path};
+ghost use Rattle.nix_drv.specs.Parts.{output_of};
+ghost use Rattle.drv_graph.specs.Checking.{AreExpected};
+ghost use Rattle.drv_graph.specs.Expected.{flat_text, path_name};
+ghost use Rattle.drv_graph.specs.Kinds.{HasKind};
+ghost use Rattle.drv_graph.specs.ExpectedPaths.{IsFixedPath, IsMaskedDigest, output_path};
+
+use crate::kind_of::digits_of;
+use crate::kinds::{Kind, Method};
+use crate::modulo::text_by_hashes;
+use nix_drv::{Derivation, Output};
+use nix_names::{StoreDir, StorePath, make_path};
+use sha2::{Digest, Sha256};
+use std::alloc::{AllocError, Global};
+
+// The expected paths of the outputs of a derivation with this name and kind, by the hashes of its
+// inputs. The names of the outputs and of their paths are names, as has been tested.
+pub(crate) fn expected_paths(
+    alloc: Global,
+    dir: &StoreDir,
+    name: &[u8],
+    drv: &Derivation,
+    kind: Kind,
+    hashes: &[[u8; 32]],
+) -> Result<Vec<StorePath>, AllocError>
+    requires kind { HasKind drv.now kind }
+    requires hashes { length hashes.now ≡ length drv.now.inputs }
+    ensures { IfOk result (λ paths. AreExpected dir.now name.now kind drv.now hashes.now paths.items) }
+{
+    match kind {
+        Kind::Addressed => {
+            let inner = masked_digest(alloc, drv, hashes)?;
+            output_paths(alloc, dir, name, drv.outputs(), &inner)
+        }
+        Kind::Fixed(method, digest) => {
+            let path = fixed_path(alloc, dir, name, method, &digest)?;
+            Ok(vec![in alloc; path]?)
+        }
+    }
+}
+
+// The SHA-256 of a derivation's masked modulo text.
+fn masked_digest(
+    alloc: Global,
+    drv: &Derivation,
+    hashes: &[[u8; 32]],
+) -> Result<[u8; 32], AllocError>
+    requires { length hashes.now ≡ length drv.now.inputs }
+    ensures { IfOk result (IsMaskedDigest drv.now hashes.now) }
+{
+    let text = text_by_hashes(alloc, drv, hashes, true)?;
+    Ok(Sha256::digest(&text))
+}
+
+// The paths of input-addressed outputs with this inner digest.
+fn output_paths(
+    alloc: Global,
+    dir: &StoreDir,
+    name: &[u8],
+    outputs: &[Output],
+    inner: &[u8; 32],
+) -> Result<Vec<StorePath>, AllocError>
+    ensures { IfOk result (λ paths. paths.items ≡ map (output_path dir.now name.now inner.now) (map output_of outputs.now)) }
+{
+    let mut paths = Vec::with_capacity(alloc, outputs.len())?;
+    for output in outputs {
+        paths.push(addressed_path(alloc, dir, name, &output.name, inner)?)?;
+    }
+    Ok(paths)
+}
+
+// The path of the input-addressed output with this name and inner digest.
+fn addressed_path(
+    alloc: Global,
+    dir: &StoreDir,
+    name: &[u8],
+    output: &[u8],
+    inner: &[u8; 32],
+) -> Result<StorePath, AllocError>
+    ensures { IfOk result (λ path. path ≡ store_path (codes "output:" ++ output.now) inner.now dir.now (path_name name.now output.now)) }
+{
+    let mut kind = Vec::from_slice(alloc, b"output:")?;
+    kind.extend_from_slice(output)?;
+    let name = path_name(alloc, name, output)?;
+    path_in(alloc, dir, &kind, inner, &name)
+}
+
+// The path of a fixed output with this method and digest.
+fn fixed_path(
+    alloc: Global,
+    dir: &StoreDir,
+    name: &[u8],
+    method: Method,
+    digest: &[u8; 32],
+) -> Result<StorePath, AllocError>
+    ensures { IfOk result (λ path. IsFixedPath dir.now name.now method digest.now path) }
+{
+    match method {
+        Method::Flat => path_in(alloc, dir, b"output:out", &flat_digest(digest), name),
+        Method::Recursive => path_in(alloc, dir, b"source", digest, name),
+    }
+}
+
+// The SHA-256 of what the path of a flat fixed output is made of.
+fn flat_digest(digest: &[u8; 32]) -> [u8; 32]
+    ensures { result ≡ sha256 (flat_text digest.now) }
+{
+    let digits = digits_of(digest);
+    let mut hasher = Sha256::new();
+    hasher.update(b"fixed:out:sha256:");
+    hasher.update(&digits);
+    hasher.update(b":");
+    hasher.finalize()
+}
+
+// The path of a type, an inner digest and a name. The name has been tested, so only memory can be
+// refused.
+fn path_in(
+    alloc: Global,
+    dir: &StoreDir,
+    kind: &[u8],
+    inner: &[u8; 32],
+    name: &[u8],
+) -> Result<StorePath, AllocError>
+    ensures { IfOk result (λ path. path ≡ store_path kind.now inner.now dir.now name.now) }
+{
+    match make_path(alloc, kind, inner, dir, name) {
+        Ok(path) => Ok(path),
+        Err(_) => Err(AllocError),
+    }
+}
+
+// The name of the path of an output of a derivation with this name.
+pub(crate) fn path_name(alloc: Global, name: &[u8], output: &[u8]) -> Result<Vec<u8>, AllocError>
+    ensures { IfOk result (λ text. text.items ≡ path_name name.now output.now) }
+{
+    let mut text = Vec::from_slice(alloc, name)?;
+    if output != b"out".as_slice() {
+        text.extend_from_slice(b"-")?;
+        text.extend_from_slice(output)?;
+    }
+    Ok(text)
+}

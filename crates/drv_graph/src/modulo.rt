@@ -1,0 +1,182 @@
+//! The texts behind modulo hashes: a derivation's text in which each input derivation stands by its
+//! own hash, with or without the paths of the outputs.
+ghost use Rattle.std.specs.Prelude.{◌≡◌, ◌++◌, ◌∷◌, [], length, map, IfOk, IfErr, OnOk};
+ghost use Rattle.std.specs.Cmp.Lexicographic.{slice_cmp};
+ghost use Rattle.std.specs.List.{AllZip};
+ghost use Rattle.std.specs.List.Sorted.{IsSorted};
+ghost use Rattle.std.specs.Ordering.{nat_cmp};
+ghost use Rattle.hex.specs.Hex.{encode_lower};
+ghost use Rattle.nix_drv.specs.Derivation.{IsLooseText};
+ghost use Rattle.nix_drv.specs.Parts.{bytes_of, drv_of, entry_of, input_of, output_of, path_of};
+ghost use Rattle.drv_graph.specs.Modulo.{IsModuloText, IsUnited, masked, masked_entry, names_of, replaced, with_inputs};
+ghost use Rattle.drv_graph.specs.Uniting.{IsAdded, IsGathered, IsNameSorted, masked_output};
+
+use crate::fault::GraphFault;
+use crate::kind_of::digits_of;
+use nix_drv::{Derivation, EnvEntry, Input, Output, Parts};
+use std::alloc::{AllocError, Global};
+
+/// The derivation's modulo text, by the hashes of its input derivations in the text's order: the text
+/// in which each of them stands by its hash in hex digits. Inputs of one hash are one entry with
+/// the names of all. Where it is masked, the paths of the outputs are left out, at the outputs
+/// and in the environment. Answers `GraphFault::NoMemory` where memory is refused, and no other
+/// fault. Costs one copy of the derivation, and one sort of its inputs and of their names
+/// (Nix manual, "Derivation paths: hash modulo").
+pub fn modulo_text(
+    alloc: Global,
+    drv: &Derivation,
+    hashes: &[[u8; 32]],
+    mask: bool,
+) -> Result<Vec<u8>, GraphFault>
+    requires { length hashes.now ≡ length drv.now.inputs }
+    ensures ok { IfOk result (λ text. IsModuloText drv.now hashes.now mask text.items) }
+    ensures err { IfErr result (λ fault. fault ≡ GraphFault.NoMemory) }
+{
+    Ok(text_by_hashes(alloc, drv, hashes, mask)?)
+}
+
+// The same text; only memory can be refused.
+pub(crate) fn text_by_hashes(
+    alloc: Global,
+    drv: &Derivation,
+    hashes: &[[u8; 32]],
+    mask: bool,
+) -> Result<Vec<u8>, AllocError>
+    requires { length hashes.now ≡ length drv.now.inputs }
+    ensures { IfOk result (λ text. IsModuloText drv.now hashes.now mask text.items) }
+{
+    let replaced = replaced(alloc, drv.inputs(), hashes)?;
+    let united = united(alloc, replaced)?;
+    let inputs = united.as_slice();
+    if mask {
+        masked_text(alloc, drv, inputs)
+    } else {
+        drv.parts().text_with_inputs(alloc, inputs)
+    }
+}
+
+// The text of a derivation without the paths of its outputs, and with these inputs.
+fn masked_text(alloc: Global, drv: &Derivation, inputs: &[Input]) -> Result<Vec<u8>, AllocError>
+    ensures { IfOk result (λ text. IsLooseText (with_inputs (masked drv.now) (map input_of inputs.now)) text.items) }
+{
+    masked(alloc, drv)?.text_with_inputs(alloc, inputs)
+}
+
+// Input derivations with their hashes, in hex digits, in the place of their paths.
+fn replaced(alloc: Global, inputs: &[Input], hashes: &[[u8; 32]]) -> Result<Vec<Input>, AllocError>
+    requires { length hashes.now ≡ length inputs.now }
+    ensures { IfOk result (λ placed. map input_of placed.items ≡ replaced (map input_of inputs.now) hashes.now) }
+{
+    let mut placed = Vec::with_capacity(alloc, inputs.len())?;
+    for (place, input) in inputs.iter().enumerate() {
+        let hash = hashes[place];
+        placed.push(with_hash(alloc, input, &hash)?)?;
+    }
+    Ok(placed)
+}
+
+// An input derivation with a hash, in hex digits, in the place of its path.
+fn with_hash(alloc: Global, input: &Input, hash: &[u8; 32]) -> Result<Input, AllocError>
+    ensures path { IfOk result (λ placed. placed.path.items ≡ encode_lower hash.now) }
+    ensures names { IfOk result (λ placed. map bytes_of placed.names.items ≡ map bytes_of input.now.names.items) }
+{
+    let path = Vec::from_slice(alloc, &digits_of(hash))?;
+    let names = copy_names(alloc, &input.names)?;
+    Ok(Input { path, names })
+}
+
+// The same names again.
+fn copy_names(alloc: Global, names: &[Vec<u8>]) -> Result<Vec<Vec<u8>>, AllocError>
+    ensures { IfOk result (λ copy. map bytes_of copy.items ≡ map bytes_of names.now) }
+{
+    let mut copy = Vec::with_capacity(alloc, names.len())?;
+    for name in names {
+        copy.push(Vec::from_slice(alloc, name)?)?;
+    }
+    Ok(copy)
+}
+
+// Inputs in rising order of their paths, those of one path as one, with their names in rising order,
+// each once.
+fn united(alloc: Global, mut inputs: Vec<Input>) -> Result<Vec<Input>, AllocError>
+    ensures { IfOk result (λ united. IsUnited (map input_of inputs.items) (map input_of united.items)) }
+{
+    inputs.sort_unstable_by(|a, b| a.path.cmp(&b.path));
+    let mut gathered = gather(alloc, inputs)?;
+    sort_names(&mut gathered);
+    Ok(gathered)
+}
+
+// Inputs that are sorted by path, those of one path as one, with the names of all.
+fn gather(alloc: Global, inputs: Vec<Input>) -> Result<Vec<Input>, AllocError>
+    requires { IsSorted (slice_cmp nat_cmp) (map path_of inputs.items) }
+    ensures { IfOk result (λ gathered. IsGathered (map input_of inputs.items) (map input_of gathered.items)) }
+{
+    let mut gathered = Vec::with_capacity(alloc, inputs.len())?;
+    for input in inputs {
+        add_input(&mut gathered, input)?;
+    }
+    Ok(gathered)
+}
+
+// Adds an input behind others; its names go to the last of them where that has its path.
+fn add_input(gathered: &mut Vec<Input>, mut input: Input) -> Result<(), AllocError>
+    ensures { OnOk result (IsAdded (map input_of gathered.old.items) (input_of input) (map input_of gathered.new.items)) }
+{
+    let Some(last) = gathered.last_mut() else {
+        gathered.push(input)?;
+        return Ok(());
+    };
+    if last.path == input.path {
+        return last.names.append(&mut input.names);
+    }
+    push_input(gathered, input)
+}
+
+// Adds an input behind others.
+fn push_input(gathered: &mut Vec<Input>, input: Input) -> Result<(), AllocError>
+    ensures { OnOk result (gathered.new.items ≡ gathered.old.items ++ input ∷ []) }
+{
+    gathered.push(input)?;
+    Ok(())
+}
+
+// Sorts the names of each input, and leaves each name once.
+fn sort_names(inputs: &mut [Input])
+    ensures { AllZip IsNameSorted (map input_of inputs.old) (map input_of inputs.new) }
+{
+    for input in inputs.iter_mut() {
+        input.names.sort_unstable();
+        input.names.dedup();
+    }
+}
+
+// A derivation's parts without the paths of its outputs.
+fn masked(alloc: Global, drv: &Derivation) -> Result<Parts, AllocError>
+    ensures { IfOk result (λ parts. drv_of parts ≡ masked drv.now) }
+{
+    let mut parts = drv.parts().copy(alloc)?;
+    mask_outputs(&mut parts.outputs);
+    mask_env(drv, &mut parts.env);
+    Ok(parts)
+}
+
+// Takes the paths of outputs out.
+fn mask_outputs(outputs: &mut [Output])
+    ensures { map output_of outputs.new ≡ map masked_output (map output_of outputs.old) }
+{
+    for output in outputs.iter_mut() {
+        output.path.clear();
+    }
+}
+
+// Takes the values out that stand under names of a derivation's outputs.
+fn mask_env(drv: &Derivation, env: &mut [EnvEntry])
+    ensures { map entry_of env.new ≡ map (masked_entry (names_of drv.now.outputs)) (map entry_of env.old) }
+{
+    for entry in env.iter_mut() {
+        if drv.output_place(&entry.key).is_some() {
+            entry.value.clear();
+        }
+    }
+}

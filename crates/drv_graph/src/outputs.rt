@@ -1,0 +1,201 @@
+//! What is wrong first with a derivation's outputs, and the hash by which it stands in its users' texts.
+ghost use Rattle.std.specs.Prelude.{◌≡◌, ◌↔◌, map, All, IsTrue, IfOk, IfErr, OnOk};
+ghost use Rattle.sha2.specs.Sha256.{sha256};
+ghost use Rattle.nix_names.specs.Names.{is_name};
+ghost use Rattle.nix_drv.specs.Parts.{bytes_of, input_of, output_of, path_of};
+ghost use Rattle.drv_graph.specs.Checking.{IsExpecting, IsNameFault, IsSoundCheck, IsUnknownOutput, IsUseFault};
+ghost use Rattle.drv_graph.specs.Expected.{path_name};
+ghost use Rattle.drv_graph.specs.Kinds.{HasKind};
+ghost use Rattle.drv_graph.specs.Nodes.{IsHashBy, fixed_text, inputs_of};
+ghost use Rattle.drv_graph.specs.Outputs.{IsKnownUse, IsOutputsCheck, IsThePath, IsWellNamed, uses};
+ghost use Rattle.drv_graph.specs.UsedInputs.{drvs_of, hashes_of, paths_of, uses_of};
+
+use crate::expected::{expected_paths, path_name};
+use crate::fault::OutputFault;
+use crate::kind_of::kind_of;
+use crate::kinds::Kind;
+use crate::modulo::text_by_hashes;
+use crate::values::check_values;
+use nix_drv::{Derivation, Input, Output};
+use nix_names::{StoreDir, StorePath, is_name};
+use sha2::{Digest, Sha256};
+use std::alloc::{AllocError, Global};
+
+// An input of a derivation: the path of its text, itself, and its modulo hash.
+pub(crate) struct UsedInput<'a> {
+    pub(crate) path: &'a StorePath,
+    pub(crate) drv: &'a Derivation,
+    pub(crate) hash: [u8; 32],
+}
+
+// The kind of a derivation's outputs, or what is wrong with them first. Beside the derivation, which
+// has this name, stand its inputs in their text's order.
+pub(crate) fn check_outputs(
+    alloc: Global,
+    dir: &StoreDir,
+    name: &[u8],
+    drv: &Derivation,
+    used: &[UsedInput],
+) -> Result<Kind, OutputFault>
+    requires { paths_of used.now ≡ inputs_of drv.now }
+    ensures { IsOutputsCheck IsThePath dir.now name.now drv.now (drvs_of used.now) (hashes_of used.now) result }
+{
+    let (kind, _) = expected_outputs(alloc, dir, name, drv, used, false)?;
+    Ok(kind)
+}
+
+// The kind and the expected paths of a derivation's outputs, or what is wrong with them first. In a
+// draft a value may be empty that would be a path.
+pub(crate) fn expected_outputs(
+    alloc: Global,
+    dir: &StoreDir,
+    name: &[u8],
+    drv: &Derivation,
+    used: &[UsedInput],
+    in_draft: bool,
+) -> Result<(Kind, Vec<StorePath>), OutputFault>
+    requires { paths_of used.now ≡ inputs_of drv.now }
+    ensures { IsExpecting in_draft dir.now name.now drv.now (drvs_of used.now) (hashes_of used.now) result }
+{
+    let kind = check_sound(alloc, name, drv, used)?;
+    let hashes = hashes(alloc, used)?;
+    let paths = expected_paths(alloc, dir, name, drv, kind, &hashes)?;
+    check_values(alloc, drv, paths.as_slice(), in_draft)?;
+    Ok((kind, paths))
+}
+
+// The modulo hashes of inputs.
+fn hashes(alloc: Global, used: &[UsedInput]) -> Result<Vec<[u8; 32]>, AllocError>
+    ensures { IfOk result (λ hashes. hashes.items ≡ hashes_of used.now) }
+{
+    let mut hashes = Vec::with_capacity(alloc, used.len())?;
+    for input in used {
+        let hash = input.hash;
+        hashes.push(hash)?;
+    }
+    Ok(hashes)
+}
+
+// The kind of a derivation's outputs, or what is wrong first with it, their names and what is used
+// of the inputs.
+fn check_sound(
+    alloc: Global,
+    name: &[u8],
+    drv: &Derivation,
+    used: &[UsedInput],
+) -> Result<Kind, OutputFault>
+    requires { paths_of used.now ≡ inputs_of drv.now }
+    ensures { IsSoundCheck name.now drv.now (drvs_of used.now) result }
+{
+    let kind = kind_of(alloc, drv)?;
+    check_names(alloc, name, drv.outputs())?;
+    check_uses(alloc, drv.inputs(), used)?;
+    Ok(kind)
+}
+
+// Tests that outputs' names, and those of their paths, are names.
+fn check_names(alloc: Global, name: &[u8], outputs: &[Output]) -> Result<(), OutputFault>
+    ensures ok { OnOk result (All (IsWellNamed name.now) (map output_of outputs.now)) }
+    ensures err { IfErr result (IsNameFault name.now (map output_of outputs.now)) }
+{
+    for output in outputs {
+        let named = is_well_named(alloc, name, &output.name)?;
+        if !named {
+            return Err(OutputFault::BadName);
+        }
+    }
+    Ok(())
+}
+
+// Whether an output's name, and that of its path, are names.
+fn is_well_named(alloc: Global, name: &[u8], output: &[u8]) -> Result<bool, AllocError>
+    ensures { IfOk result (λ named. IsTrue named ↔ (IsTrue (is_name output.now) × IsTrue (is_name (path_name name.now output.now)))) }
+{
+    let path = path_name(alloc, name, output)?;
+    Ok(is_name(output) && is_name(&path))
+}
+
+// Tests that each output that is used of the inputs is there.
+fn check_uses(alloc: Global, inputs: &[Input], used: &[UsedInput]) -> Result<(), OutputFault>
+    requires { paths_of used.now ≡ map path_of inputs.now }
+    ensures ok { OnOk result (All IsKnownUse (uses (map input_of inputs.now) (drvs_of used.now))) }
+    ensures err { IfErr result (IsUseFault (uses (map input_of inputs.now) (drvs_of used.now))) }
+{
+    for (place, input) in inputs.iter().enumerate() {
+        let by = &used[place];
+        check_used(alloc, by, &input.names)?;
+    }
+    Ok(())
+}
+
+// Tests that an input has the outputs with these names.
+fn check_used(alloc: Global, used: &UsedInput, names: &[Vec<u8>]) -> Result<(), OutputFault>
+    ensures ok { OnOk result (All IsKnownUse (uses_of used.now.path.now used.now.drv.now (map bytes_of names.now))) }
+    ensures err { IfErr result (IsUseFault (uses_of used.now.path.now used.now.drv.now (map bytes_of names.now))) }
+{
+    for name in names {
+        let name = name.as_slice();
+        let Some(_) = used.drv.output_place(name) else {
+            return Err(unknown_output(alloc, used.path, name)?);
+        };
+    }
+    Ok(())
+}
+
+// The fault that an input has no output with this name.
+fn unknown_output(alloc: Global, path: &StorePath, name: &[u8]) -> Result<OutputFault, AllocError>
+    ensures { IfOk result (IsUnknownOutput path.now name.now) }
+{
+    let name = Vec::from_slice(alloc, name)?;
+    Ok(OutputFault::UnknownOutput(copy_path(alloc, path)?, name))
+}
+
+// The same path again.
+pub(crate) fn copy_path(alloc: Global, path: &StorePath) -> Result<StorePath, AllocError>
+    ensures { IfOk result (λ copy. copy ≡ path.now) }
+{
+    match path.copy(alloc) {
+        Ok(copy) => Ok(copy),
+        Err(_) => Err(AllocError),
+    }
+}
+
+// The modulo hash of a derivation of this kind.
+pub(crate) fn modulo_hash(
+    alloc: Global,
+    drv: &Derivation,
+    kind: Kind,
+    used: &[UsedInput],
+) -> Result<[u8; 32], AllocError>
+    requires kind { HasKind drv.now kind }
+    requires paths { paths_of used.now ≡ inputs_of drv.now }
+    ensures { IfOk result (IsHashBy kind drv.now (hashes_of used.now)) }
+{
+    match kind {
+        Kind::Addressed => {
+            let hashes = hashes(alloc, used)?;
+            let text = text_by_hashes(alloc, drv, &hashes, false)?;
+            Ok(Sha256::digest(&text))
+        }
+        Kind::Fixed(..) => {
+            let [output] = drv.outputs() else {
+                unreachable!()
+            };
+            Ok(fixed_digest(output))
+        }
+    }
+}
+
+// The SHA-256 of what stands for a fixed output.
+fn fixed_digest(output: &Output) -> [u8; 32]
+    ensures { result ≡ sha256 (fixed_text (output_of output.now)) }
+{
+    let mut hasher = Sha256::new();
+    hasher.update(b"fixed:out:");
+    hasher.update(&output.algo);
+    hasher.update(b":");
+    hasher.update(&output.hash);
+    hasher.update(b":");
+    hasher.update(&output.path);
+    hasher.finalize()
+}

@@ -1,0 +1,112 @@
+-- What a binary search finds among keys that rise; those of a derivation do.
+use Rattle.std.proofs.Common.{◌≡◌, ℕ, ◌+◌, ◌<◌, ◌≤◌, Bool, true, false, List, [], ◌∷◌, length, map, get_or, nat_eq, Option, Some, None, Result, Ok, Err, refl, sym, ap, subst, ◌∙◌, ⊎_elim, inl, inr, arith}
+use Rattle.std.specs.Prelude.{Contains}
+use Rattle.std.specs.Cmp.Lexicographic.{bytes_decides, slice_cmp, texts_ties}
+use Rattle.std.specs.Fn.{AlwaysReturns, Called, ReturnsEach}
+use Rattle.std.specs.List.{HoldsAt, slice_get}
+use Rattle.std.specs.List.Sorted.{IsNonDecreasingBy, IsPartitionPoint, IsSortedBy}
+use Rattle.std.specs.Ordering.{is_eq, is_lt, nat_cmp, ordering_index, ordering_reverse}
+use Rattle.std.specs.declared.cmp.Ordering.TheVariants.{Less, Equal, Greater}
+use Rattle.std.proofs.lemmas.Bool.{cases_lt}
+use Rattle.std.proofs.lemmas.Cmp.{nat_list_cmp_total, tied_itself}
+use Rattle.std.proofs.lemmas.List.{get_or-map, length-map}
+use Rattle.std.proofs.lemmas.List.Sorted.{searchable_from_sorted}
+use Rattle.std.proofs.lemmas.Map.Keys.{Less-from_sorted}
+use Rattle.std.proofs.lemmas.Option.{slice_get-get_or}
+use Rattle.std.proofs.lemmas.Simd.{map-map}
+use denote.Param.Members.{Mut}
+use Rattle.nix_names.specs.Rising.{IsRising}
+use Rattle.nix_names.proofs.RisingLists.{sorted_from_rising}
+use Rattle.nix_drv.specs.Derivation.{Drv, EnvEntry, Output, derivation_form, drv_value, entry_form, entry_value, output_form, output_value}
+use Rattle.nix_drv.specs.Order.{InOrder, KeysRise, key}
+use Rattle.nix_drv.specs.Parts.{drv_of, entry_of, output_of}
+use Rattle.nix_drv.specs.Places.{IsPlaceOf, env_keys, output_names}
+use Rattle.nix_drv.specs.declared.derivation.EnvEntry.{EnvEntry as EnvEntryStruct}
+use Rattle.nix_drv.specs.declared.derivation.Output.{Output as OutputStruct}
+use Rattle.nix_drv.specs.declared.derivation.Parts.{Parts}
+use Rattle.nix_drv.proofs.Rising.{order_means_rising}
+
+-- ---- a binary search
+
+-- a closure that stays as it is answers at each call what it answers at the first
+pub always_answers : {F X R : Type 0} (g : Mut F X R) (P : X → R → Type 0) (f : F)
+    → ((a : X) (r : R) (f' : F) → Called g f a r f' → P a r × (f' ≡ f)) → AlwaysReturns g P f
+always_answers {F} {X} {R} g P f answers = record { at = each }
+  where
+    each : (xs : List X) → ReturnsEach g P f xs
+    each [] = tt
+    each (a ∷ xs) = λ r f' called. let h = answers a r f' called in (h.0, subst (λ (q : F). ReturnsEach g P q xs) (sym h.1) (each xs))
+
+tied : (x y : List ℕ) → slice_cmp nat_cmp x y ≡ Equal → x ≡ y
+tied x y e = (bytes_decides x y).0 (texts_ties x y ∙ ap is_eq e)
+
+element : {X : Type 0} (xs : List X) (i : ℕ) → i < length xs → X
+element [] i below = absurd (omega arith)
+element (x ∷ xs) i below = x
+
+-- an element that ties has the key
+pub place_found : {X : Type 0} (key_of : X → List ℕ) (xs : List X) (wanted : List ℕ) (i : ℕ) → i < length xs
+    → HoldsAt (λ y. slice_cmp nat_cmp (key_of y) wanted ≡ Equal) xs i → IsPlaceOf (map key_of xs) wanted (Some i)
+place_found key_of xs wanted i below ties =
+    let d = element xs i below in
+    let within : i < length (map key_of xs) = omega (arith, length-map xs key_of) in
+    slice_get-get_or (map key_of xs) i [] within
+    ∙ ap (λ (k : List ℕ). Some k) (get_or-map key_of xs i d [] below ∙ tied (key_of (get_or xs i d)) wanted (ties d))
+
+-- keys that rise are in order
+sorted_keys : {X : Type 0} (key_of : X → List ℕ) (xs : List X) → IsRising (map key_of xs) → IsSortedBy (λ a b. is_lt (slice_cmp nat_cmp (key_of a) (key_of b))) xs
+sorted_keys key_of xs rises k d low next =
+    let within : k + 1 < length (map key_of xs) = omega (arith, length-map xs key_of) in
+    let less : slice_cmp nat_cmp (get_or (map key_of xs) k []) (get_or (map key_of xs) (k + 1) []) ≡ Less =
+    Less-from_sorted (slice_cmp nat_cmp) (map key_of xs) k (k + 1) [] (sorted_from_rising (map key_of xs) rises) (omega arith) within in
+    let here : get_or (map key_of xs) k [] ≡ key_of (get_or xs k d) = get_or-map key_of xs k d [] (omega arith) in
+    let there : get_or (map key_of xs) (k + 1) [] ≡ key_of (get_or xs (k + 1) d) = get_or-map key_of xs (k + 1) d [] next in
+    let less_here : slice_cmp nat_cmp (key_of (get_or xs k d)) (key_of (get_or xs (k + 1) d)) ≡ Less = rw (here, there) at less in
+    ap is_lt (nat_list_cmp_total.antisymm (key_of (get_or xs (k + 1) d)) (key_of (get_or xs k d)) ∙ ap ordering_reverse less_here)
+
+-- where all keys before a place are less, and all others greater, none is the wanted one
+pub place_none : {X : Type 0} (key_of : X → List ℕ) (xs : List X) (wanted : List ℕ) (i : ℕ) → IsRising (map key_of xs)
+    → (IsNonDecreasingBy (λ y. ordering_index (slice_cmp nat_cmp (key_of y) wanted)) xs
+    → IsPartitionPoint (λ y. slice_cmp nat_cmp (key_of y) wanted ≡ Less) (λ y. slice_cmp nat_cmp (key_of y) wanted ≡ Greater) xs i)
+    → IsPlaceOf (map key_of xs) wanted None
+place_none key_of xs wanted i rises parts (j, below, is) =
+    let within : j < length xs = omega (arith, length-map xs key_of) in
+    let d = element xs j within in
+    let point = parts (searchable_from_sorted nat_list_cmp_total key_of xs wanted (sorted_keys key_of xs rises)) in
+    let same : key_of (get_or xs j d) ≡ wanted = sym (get_or-map key_of xs j d wanted within) ∙ is in
+    let ties : slice_cmp nat_cmp (key_of (get_or xs j d)) wanted ≡ Equal = ap (λ (k : List ℕ). slice_cmp nat_cmp k wanted) same ∙ tied_itself nat_list_cmp_total wanted in
+    elim (cases_lt j i) [
+      | inl before ↦ let less = point.0 j d (omega arith) before in let clash : Less ≡ Equal = sym less ∙ ties in cc
+      | inr behind ↦ let more = point.1 j d behind within in let clash : Greater ≡ Equal = sym more ∙ ties in cc
+    ]
+
+-- ---- a derivation's keys
+
+pub outputs_rise : (drv : Drv) → InOrder derivation_form (drv_value drv) → IsRising (output_names drv)
+unfolding KeysRise
+outputs_rise drv ordered =
+    let same : map (key output_form) (map output_value drv.outputs) ≡ output_names drv = map-map (key output_form) output_value drv.outputs in
+    subst IsRising same ((order_means_rising derivation_form (drv_value drv)).0 ordered).1.0.0
+
+pub env_rises : (drv : Drv) → InOrder derivation_form (drv_value drv) → IsRising (env_keys drv)
+unfolding KeysRise
+env_rises drv ordered =
+    let same : map (key entry_form) (map entry_value drv.env) ≡ env_keys drv = map-map (key entry_form) entry_value drv.env in
+    subst IsRising same ((order_means_rising derivation_form (drv_value drv)).0 ordered).1.1.1.1.1.1.1.1.1.1.1.1.1.0.0
+
+-- the keys of the parts are those of the derivation
+pub output_keys : (parts : Parts) (drv : Drv) (outputs : List OutputStruct) → drv_of parts ≡ drv → outputs ≡ parts.outputs.items
+    → map (λ (o : OutputStruct). o.name.items) outputs ≡ output_names drv
+output_keys parts drv outputs view same =
+    ap (map (λ (o : OutputStruct). o.name.items)) same ∙ sym (map-map (λ (o : Output). o.name) output_of parts.outputs.items) ∙ ap output_names view
+
+pub entry_keys : (parts : Parts) (drv : Drv) (entries : List EnvEntryStruct) → drv_of parts ≡ drv → entries ≡ parts.env.items
+    → map (λ (e : EnvEntryStruct). e.key.items) entries ≡ env_keys drv
+entry_keys parts drv entries view same =
+    ap (map (λ (e : EnvEntryStruct). e.key.items)) same ∙ sym (map-map (λ (e : EnvEntry). e.key) entry_of parts.env.items) ∙ ap env_keys view
+
+pub outputs_rise_here : (parts : Parts) (drv : Drv) → drv_of parts ≡ drv → InOrder derivation_form (drv_value (drv_of parts)) → IsRising (output_names drv)
+outputs_rise_here parts drv view ordered = subst (λ (d : Drv). IsRising (output_names d)) view (outputs_rise (drv_of parts) ordered)
+
+pub env_rises_here : (parts : Parts) (drv : Drv) → drv_of parts ≡ drv → InOrder derivation_form (drv_value (drv_of parts)) → IsRising (env_keys drv)
+env_rises_here parts drv view ordered = subst (λ (d : Drv). IsRising (env_keys d)) view (env_rises (drv_of parts) ordered)
