@@ -1,0 +1,16 @@
+pub mod PathLists
+pub mod PlanOrder
+pub mod Numbers
+pub mod UsedNodes
+pub mod Marks
+pub mod Owners
+pub mod Leaving
+pub mod Reading
+pub mod Walking
+pub mod WalkEnds
+pub mod WalkSteps
+pub mod Roots
+pub mod SameSources
+pub mod Loaded
+pub mod Kept
+pub mod Going

@@ -6,5 +6,8 @@ pub mod Loading
 pub mod Modulo
 pub mod Nodes
 pub mod Outputs
+pub mod PlanNodes
 pub mod Plans
+pub mod SoundGraphs
 pub mod UsedInputs
+pub mod Walks

@@ -77,7 +77,7 @@ IsOutputsCheck Fits dir name drv used hashes (Err (UnknownOutput input output)) 
 IsOutputsCheck Fits dir name drv used hashes (Err (OutputMismatch output expected)) =
     (kind : Kind) × AreSound name drv used kind
     × ((o : Output) × IsFirst (λ (p : Output). (path : List ℕ) × IsExpected dir name kind drv hashes p path × (Fits p.path path → ⊥)) drv.outputs o
-       × IsExpected dir name kind drv hashes o expected × (output.items ≡ o.name))
+    × IsExpected dir name kind drv hashes o expected × (output.items ≡ o.name))
 IsOutputsCheck Fits dir name drv used hashes (Err (EnvMismatch output)) =
     (kind : Kind) × AreSound name drv used kind × PathsFit Fits (IsExpected dir name kind drv hashes) drv
     × ((o : Output) × IsFirst (HasOtherEntry Fits (IsExpected dir name kind drv hashes) drv) drv.outputs o × (output.items ≡ o.name))

@@ -10,7 +10,6 @@ use Rattle.drv_graph.specs.Nodes.{Node, AreHashes, inputs_of, paths_of}
 use Rattle.drv_graph.specs.Outputs.{IsOutputsCheck, IsThePath}
 use Rattle.drv_graph.specs.declared.fault.OutputFault.{OutputFault}
 
-
 -- What a plan is seen as: its nodes in plan order, and the numbers of its roots; a node's number is its place, counted from 0.
 pub record Graph : Type 0 where
   pub nodes : List Node

@@ -13,6 +13,7 @@ use nix_names::{StoreDir, StorePath};
 use std::alloc::{AllocError, Global};
 
 // An input of a derivation: the path of its text, itself, and its modulo hash.
+#[derive(Drop)]
 pub(crate) struct UsedInput<'a> {
     pub(crate) path: &'a StorePath,
     pub(crate) drv: &'a Derivation,
