@@ -54,6 +54,7 @@ impl Plan {
     ) -> Result<Plan, GraphFault>
         ensures keeps { GivesSame (S.gives source.old) (S.gives source.new) }
         ensures counts { S.failures source.old ≤ S.failures source.new }
+        ensures loading { IsLoading dir.now (S.gives source.old) roots.now result }
     {
         let Reached { found, roots } = walk_all(alloc, source, dir, roots)?;
         let roots = Vec::from_slice(alloc, roots.as_slice())?;
