@@ -7,8 +7,11 @@ pub mod Loading
 pub mod Modulo
 pub mod Nodes
 pub mod Outputs
+pub mod PlanNodes
 pub mod Plans
+pub mod SoundGraphs
 pub mod UsedInputs
 pub mod Uniting
 pub mod ExpectedPaths
 pub mod GraphLaws
+pub mod Walks

@@ -2,25 +2,37 @@
 //!
 //! | Module | What is in it |
 //! |---|---|
-//! | `kinds` | the kinds of a derivation's outputs |
-//! | `kind_of` | the kind of a derivation's outputs, as its text has them |
+//! | `plan` | plans: loaded, and what they tell of each derivation |
+//! | `load` | how all that some roots reach is found |
+//! | `walk` | how derivations are walked, depth first |
+//! | `found` | what a walk found so far, and how it leaves a derivation |
+//! | `node` | a derivation of a plan, and what is kept beside it |
+//! | `kinds`, `kind_of` | the kinds of outputs, and a derivation's kind |
 //! | `modulo` | the texts behind modulo hashes |
 //! | `expected` | the paths that outputs must have |
 //! | `values` | whether the paths in a text are those |
 //! | `outputs` | what is wrong with a derivation's outputs |
+//! | `paths` | store paths copied, parsed and blamed |
 //! | `laws` | laws over the definitions that contracts cite |
-//! | `fault` | why derivations make no plan, or a draft can't be filled |
+//! | `fault` | why derivations make no plan |
 #![tactic(auto)]
 
 mod expected;
 mod fault;
+mod found;
 mod kind_of;
 mod kinds;
 pub mod laws;
+mod load;
 mod modulo;
+mod node;
 mod outputs;
+mod paths;
+mod plan;
 mod values;
+mod walk;
 
 pub use fault::{GraphFault, NodeFault, OutputFault};
 pub use kinds::{Kind, Method};
 pub use modulo::modulo_text;
+pub use plan::Plan;

@@ -22,6 +22,7 @@ use sha2::{Digest, Sha256};
 use std::alloc::{AllocError, Global};
 
 // An input of a derivation: the path of its text, itself, and its modulo hash.
+#[derive(Drop)]
 pub(crate) struct UsedInput<'a> {
     pub(crate) path: &'a StorePath,
     pub(crate) drv: &'a Derivation,

@@ -1,0 +1,118 @@
+-- All that some roots reach: what was left behind the first roots, and the plan behind all of them.
+use Rattle.std.proofs.Common.{◌≡◌, ◌∙◌, ℕ, ◌+◌, ◌<◌, ◌≤◌, List, [], ◌∷◌, ◌++◌, length, take, get_or, refl, sym, ap, subst, nat_eq, arith, Option, Some, None, Ok, Err, Result}
+use Rattle.std.specs.Prelude.{All, Contains, slice_get}
+use Rattle.std.specs.Cmp.Lexicographic.{pointwise}
+use Rattle.std.specs.List.{IsDistinct}
+use Rattle.std.specs.Map.{lookup}
+use Rattle.std.proofs.lemmas.List.{take_all}
+use Rattle.std.proofs.lemmas.List.Elements.{All-contains_itself, All-nil}
+use Rattle.indexmap.specs.IndexMap.{IndexMap, get}
+use Rattle.indexmap.specs.IndexSet.{insert_key}
+use Rattle.nix_drv.specs.Sources.{Answer, GivesSame}
+use Rattle.drv_graph.specs.Loading.{IsLoading}
+use Rattle.drv_graph.specs.Nodes.{Node, paths_of}
+use Rattle.drv_graph.specs.Plans.{AreLawful, AreLeft, AreNumbers, Graph, IsPlan, IsReached, MayStand, MayUse, each_once}
+use Rattle.drv_graph.specs.Plans.AreLeft.{none_left}
+use Rattle.drv_graph.specs.PlanNodes.{AreKept, IsKept, nodes_of}
+use Rattle.drv_graph.specs.SoundGraphs.{IsSound}
+use Rattle.drv_graph.specs.Walks.{AreMarks, AreOwners, IsEmptyFound, IsFound, IsReachedAll, IsVisited, IsWalked, marked, outputs_of, owned}
+use Rattle.drv_graph.specs.declared.found.Found.{Found}
+use Rattle.drv_graph.proofs.Marks.{marks_none}
+use Rattle.drv_graph.proofs.Numbers.{numbers_grow, numbers_within}
+use Rattle.drv_graph.proofs.Owners.{owners_none}
+use Rattle.drv_graph.proofs.PathLists.{contains_none, take_at}
+use Rattle.drv_graph.proofs.PlanOrder.{left_append, plan_reached, plan_whole}
+use Rattle.drv_graph.proofs.Roots.{roots_more}
+use Rattle.drv_graph.proofs.SameSources.{walked_by}
+use Rattle.drv_graph.proofs.WalkEnds.{all_front}
+
+-- What the first roots reach was left, in plan order, and these are their numbers.
+pub record IsReachedSome (dir : List ℕ) (gives : List ℕ → Answer → Type 0) (roots done : List (List ℕ)) (found : Found) (numbers : List ℕ) : Type 0 where
+  pub walked : IsWalked dir gives roots found []
+  pub in_order : (nodes : List Node) → All (Contains nodes) (nodes_of found.nodes.items) → AreLeft nodes [] done (paths_of (nodes_of found.nodes.items))
+  pub are_numbers : AreNumbers (nodes_of found.nodes.items) numbers (each_once done)
+  pub once : IsDistinct nat_eq numbers
+
+no_nodes : (dir : List ℕ) → AreLawful dir []
+no_nodes dir [] after node parts = absurd cc
+no_nodes dir (x ∷ xs) after node parts = absurd cc
+
+empty_get : {X S : Type 0} (m : IndexMap (List ℕ) X S) → m.entries ≡ [] → (path : List ℕ) → get (pointwise nat_eq) m path ≡ None
+empty_get m none path = ap (λ es. lookup (pointwise nat_eq path) es) none
+
+distinct_none : IsDistinct (pointwise nat_eq) []
+unfolding IsDistinct
+distinct_none = tt
+
+-- nothing was left yet
+pub loading_begins : (dir : List ℕ) (gives : List ℕ → Answer → Type 0) (roots : List (List ℕ)) (found : Found) (numbers : List ℕ) → IsEmptyFound found → numbers ≡ [] → IsDistinct nat_eq numbers → IsReachedSome dir gives roots [] found numbers
+loading_begins dir gives roots found numbers empty none once = record {
+  walked = record {
+    right = record {
+      kept = subst AreKept (sym empty.0) (All-nil (IsKept []));
+      distinct = subst (λ l. IsDistinct (pointwise nat_eq) (paths_of (nodes_of l))) (sym empty.0) distinct_none;
+      lawful = subst (λ l. AreLawful dir (nodes_of l)) (sym empty.0) (no_nodes dir);
+      owners = subst (λ l. AreOwners (owned found.owners) (outputs_of l) []) (sym empty.0) (owners_none (owned found.owners) (empty_get found.owners empty.2));
+    };
+    given = subst (λ l. All (λ (n : Node). MayStand dir gives n.path n.drv) (nodes_of l)) (sym empty.0) (All-nil (λ (n : Node). MayStand dir gives n.path n.drv));
+    reached = subst (λ l. All (IsReached (MayUse dir gives) roots) (paths_of (nodes_of l))) (sym empty.0) (All-nil (IsReached (MayUse dir gives) roots));
+    marks = subst (λ l. AreMarks (marked found.marks) (paths_of (nodes_of l)) []) (sym empty.0) (marks_none (marked found.marks) (empty_get found.marks empty.1));
+  };
+  in_order = λ nodes has. subst (λ l. AreLeft nodes [] [] (paths_of (nodes_of l))) (sym empty.0) (none_left []);
+  are_numbers = subst (λ ns. AreNumbers (nodes_of found.nodes.items) ns []) (sym none) refl;
+  once = once;
+}
+
+-- one more root
+pub loading_more :
+    (dir : List ℕ) (G H : List ℕ → Answer → Type 0) (roots done : List (List ℕ)) (found after : Found) (numbers next : List ℕ) (root : List ℕ) (number : ℕ) →
+    GivesSame G H →
+    IsReachedSome dir G roots done found numbers →
+    IsVisited dir H roots root found after number →
+    next ≡ insert_key nat_eq numbers number →
+    IsDistinct nat_eq next →
+    IsReachedSome dir G roots (done ++ root ∷ []) after next
+loading_more dir G H roots done found after numbers next root number same some visited inserted once = record {
+  walked = walked_by dir G H same roots after [] visited.walked;
+  in_order = λ nodes has.
+      left_append (root ∷ []) (paths_of (nodes_of after.nodes.items))
+      (some.in_order nodes (all_front (Contains nodes) (nodes_of found.nodes.items) visited.in_order.more (subst (All (Contains nodes)) visited.in_order.grown has)))
+      (visited.in_order.in_order nodes has);
+  are_numbers = subst (λ ns. AreNumbers (nodes_of after.nodes.items) ns (each_once (done ++ root ∷ []))) (sym inserted)
+      (roots_more (nodes_of after.nodes.items) numbers done root number visited.walked.right.distinct
+      (subst (λ l. AreNumbers l numbers (each_once done)) (sym visited.in_order.grown) (numbers_grow (nodes_of found.nodes.items) visited.in_order.more numbers (each_once done) some.are_numbers))
+      visited.is_number);
+  once = once;
+}
+
+-- behind all roots
+pub loading_ends : (dir : List ℕ) (gives : List ℕ → Answer → Type 0) (roots : List (List ℕ)) (place : ℕ) (found : Found) (numbers : List ℕ) → length roots ≤ place → IsReachedSome dir gives roots (take place roots) found numbers → IsReachedAll dir gives roots found numbers
+loading_ends dir gives roots place found numbers all some =
+    let whole : IsReachedSome dir gives roots roots found numbers = subst (λ l. IsReachedSome dir gives roots l found numbers) (take_all place roots all) some in
+    record { walked = whole.walked; in_order = whole.in_order; are_numbers = whole.are_numbers; once = whole.once }
+
+-- what was found is the plan
+pub plan_found : (dir : List ℕ) (gives : List ℕ → Answer → Type 0) (roots : List (List ℕ)) (found : Found) (numbers : List ℕ) → IsReachedAll dir gives roots found numbers → IsPlan dir gives roots (record { nodes = nodes_of found.nodes.items; roots = numbers })
+plan_found dir gives roots found numbers all =
+    let order = all.in_order (nodes_of found.nodes.items) (All-contains_itself (nodes_of found.nodes.items)) in
+    record {
+      given = all.walked.given;
+      in_order = order;
+      reached = plan_reached (nodes_of found.nodes.items) roots order;
+      whole = plan_whole (nodes_of found.nodes.items) roots all.walked.right.distinct order;
+      lawful = all.walked.right.lawful;
+      is_roots = all.are_numbers;
+    }
+
+-- and is right without its source
+pub sound_found : (dir : List ℕ) (gives : List ℕ → Answer → Type 0) (roots : List (List ℕ)) (found : Found) (numbers : List ℕ) → IsReachedAll dir gives roots found numbers → AreKept found.nodes.items × IsSound (record { nodes = nodes_of found.nodes.items; roots = numbers })
+sound_found dir gives roots found numbers all = (
+  all.walked.right.kept,
+  record {
+    dir = dir;
+    lawful = all.walked.right.lawful;
+    distinct = all.walked.right.distinct;
+    roots_within = numbers_within (nodes_of found.nodes.items) numbers (each_once roots) all.are_numbers;
+    roots_once = all.once;
+  },
+)

@@ -1,0 +1,49 @@
+-- What is kept beside a derivation of a plan.
+use Rattle.std.specs.Prelude.{◌≡◌, ℕ, List, map, All}
+use Rattle.nix_drv.specs.Derivation.{Drv, Output}
+use Rattle.nix_drv.specs.declared.derivation.Output.{Output as OutputStruct}
+use Rattle.drv_graph.specs.Kinds.{HasKind}
+use Rattle.drv_graph.specs.Nodes.{Node, AreHashes, IsHashBy, inputs_of}
+use Rattle.drv_graph.specs.Plans.{AreNumbers}
+use Rattle.drv_graph.specs.declared.kinds.Kind.{Kind}
+use Rattle.drv_graph.specs.declared.node.PlanNode.{PlanNode}
+
+-- a derivation of a plan, as the plan's definition has it
+abbrev pub node_of : PlanNode → Node
+node_of kept = record { path = kept.path; drv = kept.drv }
+
+abbrev pub nodes_of : List PlanNode → List Node
+nodes_of kept = map node_of kept
+
+-- the paths of a derivation's outputs, in its text's order
+abbrev pub output_paths_of : Drv → List (List ℕ)
+output_paths_of drv = map (λ (o : Output). o.path) drv.outputs
+
+-- A hash is the modulo hash of a derivation of this kind, whose inputs are among some nodes.
+pub record HasHash (nodes : List Node) (drv : Drv) (kind : Kind) (hash : List ℕ) : Type 0 where
+  pub of_inputs : List (List ℕ)
+  pub are_hashes : AreHashes nodes (inputs_of drv) of_inputs
+  pub is_hash : IsHashBy kind drv of_inputs hash
+
+-- What is kept beside a derivation is right.
+pub record IsKept (nodes : List Node) (kept : PlanNode) : Type 0 where
+  pub numbers : AreNumbers nodes kept.inputs.items (inputs_of kept.drv)
+  pub has_kind : HasKind kept.drv kept.kind
+  pub has_hash : HasHash nodes kept.drv kept.kind kept.hash
+  pub outputs : kept.outputs.items ≡ output_paths_of kept.drv
+
+-- each derivation of a plan has what is kept beside it right
+abbrev pub AreKept : List PlanNode → Type 0
+AreKept kept = All (IsKept (nodes_of kept)) kept
+
+-- the path of an output, as its text has it
+abbrev pub text_path_of : OutputStruct → List ℕ
+text_path_of output = output.path.items
+
+-- the derivations of nodes
+abbrev pub drvs_of : List Node → List Drv
+drvs_of nodes = map (λ (n : Node). n.drv) nodes
+
+-- a hash is the modulo hash of a derivation, by its kind
+abbrev pub HasKnownHash : List Node → Drv → (hash : List ℕ) → Type 0
+HasKnownHash nodes drv hash = (kind : Kind) × HasKind drv kind × HasHash nodes drv kind hash

@@ -1,0 +1,15 @@
+-- What is right of every plan, whatever its source and its roots.
+use Rattle.std.specs.Prelude.{◌<◌, ℕ, List, All, length, nat_eq}
+use Rattle.std.specs.List.{IsDistinct}
+use Rattle.drv_graph.specs.Nodes.{paths_of}
+use Rattle.drv_graph.specs.Plans.{Graph, AreLawful}
+use Rattle.drv_graph.specs.Loading.{AreDistinct}
+
+-- No two derivations have one path; each is lawful, in some folder, behind those before it, so its inputs have smaller numbers; the
+-- roots are numbers of derivations, none twice.
+pub record IsSound (graph : Graph) : Type 0 where
+  pub dir : List ℕ
+  pub lawful : AreLawful dir graph.nodes
+  pub distinct : AreDistinct (paths_of graph.nodes)
+  pub roots_within : All (λ root. root < length graph.nodes) graph.roots
+  pub roots_once : IsDistinct nat_eq graph.roots

@@ -1,0 +1,200 @@
+//! What a walk over derivations found so far, and how it leaves one of them.
+ghost use Rattle.std.specs.Prelude.{◌≡◌, ◌++◌, ◌∷◌, [], ◌<◌, All, Contains, IfErr, IfOk, OnOk, None, Some, length};
+ghost use Rattle.std.specs.List.{AllZip};
+ghost use Rattle.indexmap.specs.IndexMap.{keys};
+ghost use Rattle.drv_graph.specs.Expected.{drv_name_of};
+ghost use Rattle.drv_graph.specs.Nodes.{inputs_of, paths_of};
+ghost use Rattle.drv_graph.specs.Plans.{AreNumbers};
+ghost use Rattle.drv_graph.specs.PlanNodes.{AreKept, nodes_of};
+ghost use Rattle.drv_graph.specs.Walks.{AreOwners, HasAllNumbers, IsChecking, IsFound, IsLeaving, IsOutputFaultAt, IsOwning, IsSharedAt, IsUsed, IsVisit, SetsEntry, kept_visit, marked, outputs_of, owned};
+
+use crate::fault::{GraphFault, NodeFault, OutputFault};
+use crate::kinds::Kind;
+use crate::node::PlanNode;
+use crate::outputs::{UsedInput, check_outputs, modulo_hash};
+use crate::paths::{copy_path, fault_at, output_paths};
+use indexmap::IndexMap;
+use nix_drv::Derivation;
+use nix_names::{StoreDir, StorePath};
+use std::alloc::Global;
+
+// The length of `.drv`, in which the name of a derivation's file ends.
+const SUFFIX_LEN: usize = 4;
+
+// What a walk found so far.
+#[derive(Debug, Drop)]
+pub(crate) struct Found {
+    // The derivations that were left, inputs before users.
+    pub(crate) nodes: Vec<PlanNode>,
+    // Each path that was met: the number of its derivation, or none while that is open.
+    pub(crate) marks: IndexMap<StorePath, Option<usize>>,
+    // The number of the derivation that has an output at a path.
+    pub(crate) owners: IndexMap<StorePath, usize>,
+}
+
+// A derivation that is open: some of its inputs may still have to be walked.
+#[derive(Debug, Drop)]
+pub(crate) struct Visit {
+    // The path of its text.
+    pub(crate) path: StorePath,
+    pub(crate) drv: Derivation,
+    // The paths of its inputs, in its text's order.
+    pub(crate) inputs: Vec<StorePath>,
+    // The numbers of the first of them, which were left.
+    pub(crate) numbers: Vec<usize>,
+}
+
+// Leaves an open derivation whose inputs were all left: checks its outputs, and gives it the next
+// number.
+pub(crate) fn leave(
+    alloc: Global,
+    dir: &StoreDir,
+    found: &mut Found,
+    visit: Visit,
+) -> Result<(), GraphFault>
+    requires found { IsFound dir.now found.old }
+    requires visit { IsVisit (nodes_of found.old.nodes.items) visit }
+    requires walked { HasAllNumbers visit }
+    requires pending { marked found.old.marks visit.path ≡ Some None }
+    requires is_new { Contains (paths_of (nodes_of found.old.nodes.items)) visit.path → ⊥ }
+    ensures { IsLeaving dir.now found.old found.new visit result }
+{
+    let (kind, hash) = check_visit(alloc, dir, &found.nodes, &visit)?;
+    let outputs = output_paths(alloc, dir, visit.drv.outputs())?;
+    own(
+        alloc,
+        &found.nodes,
+        &mut found.owners,
+        &visit.path,
+        &outputs,
+    )?;
+    keep(alloc, found, visit, kind, hash, outputs)
+}
+
+// The kind of the outputs and the modulo hash of an open derivation whose inputs were all left.
+fn check_visit(
+    alloc: Global,
+    dir: &StoreDir,
+    kept: &[PlanNode],
+    visit: &Visit,
+) -> Result<(Kind, [u8; 32]), GraphFault>
+    requires kept { AreKept kept.now }
+    requires numbers { AreNumbers (nodes_of kept.now) visit.now.numbers.items (inputs_of visit.now.drv) }
+    ensures { IsChecking dir.now kept.now visit.now result }
+{
+    let used = used_inputs(alloc, kept, &visit.numbers)?;
+    let name = drv_name(&visit.path);
+    match check_outputs(alloc, dir, name, &visit.drv, &used) {
+        Ok(kind) => {
+            let hash = modulo_hash(alloc, &visit.drv, kind, &used)?;
+            Ok((kind, hash))
+        }
+        Err(fault) => Err(output_fault_at(alloc, &visit.path, fault)),
+    }
+}
+
+// What is wrong with the outputs of the derivation at a path.
+fn output_fault_at(alloc: Global, path: &StorePath, fault: OutputFault) -> GraphFault
+    ensures { IsOutputFaultAt path.now fault result }
+{
+    match fault {
+        OutputFault::NoMemory => GraphFault::NoMemory,
+        fault => fault_at(alloc, path, NodeFault::Outputs(fault)),
+    }
+}
+
+// The derivations with these numbers, as inputs of another one.
+fn used_inputs<'a>(
+    alloc: Global,
+    kept: &'a [PlanNode],
+    numbers: &[usize],
+) -> Result<Vec<UsedInput<'a>>, GraphFault>
+    requires { All (λ number. number < length kept.now) numbers.now }
+    ensures ok { IfOk result (λ used. AllZip (IsUsed kept.now) numbers.now used.items) }
+    ensures err { IfErr result (λ fault. fault ≡ GraphFault.NoMemory) }
+{
+    let mut used = Vec::with_capacity(alloc, numbers.len())?;
+    for number in numbers {
+        let node = &kept[*number];
+        used.push(UsedInput {
+            path: &node.path,
+            drv: &node.drv,
+            hash: node.hash,
+        })?;
+    }
+    Ok(used)
+}
+
+// The name of the derivation whose text stands at a path.
+fn drv_name(path: &StorePath) -> &[u8]
+    ensures { result.now ≡ drv_name_of path.now }
+{
+    let name = path.name();
+    &name[..name.len().saturating_sub(SUFFIX_LEN)]
+}
+
+// Enters the outputs of the next derivation, whose text stands at the path, among their owners.
+fn own(
+    alloc: Global,
+    kept: &[PlanNode],
+    owners: &mut IndexMap<StorePath, usize>,
+    path: &StorePath,
+    outputs: &[StorePath],
+) -> Result<(), GraphFault>
+    requires { AreOwners (owned owners.old) (outputs_of kept.now) [] }
+    ensures { IsOwning kept.now path.now outputs.now (owned owners.new) result }
+{
+    for output in outputs {
+        let owner = copy_path(alloc, output)?;
+        let earlier = owners.insert(owner, kept.len())?.unwrap_or(kept.len());
+        if earlier < kept.len() {
+            return Err(shared_output(alloc, path, &kept[earlier].path));
+        }
+    }
+    Ok(())
+}
+
+// The derivation at a path shares an output with the one at the earlier path.
+fn shared_output(alloc: Global, path: &StorePath, earlier: &StorePath) -> GraphFault
+    ensures { IsSharedAt path.now earlier.now result }
+{
+    match earlier.copy(alloc) {
+        Ok(earlier) => fault_at(alloc, path, NodeFault::SharedOutput(earlier)),
+        Err(_) => GraphFault::NoMemory,
+    }
+}
+
+// Keeps a derivation under the next number.
+fn keep(
+    alloc: Global,
+    found: &mut Found,
+    visit: Visit,
+    kind: Kind,
+    hash: [u8; 32],
+    outputs: Vec<StorePath>,
+) -> Result<(), GraphFault>
+    requires { marked found.old.marks visit.path ≡ Some None }
+    ensures nodes { OnOk result (found.new.nodes.items ≡ found.old.nodes.items ++ kept_visit visit kind hash outputs ∷ []) }
+    ensures owners { OnOk result (found.new.owners ≡ found.old.owners) }
+    ensures marks { OnOk result (SetsEntry (marked found.old.marks) (marked found.new.marks) visit.path (Some (length found.old.nodes.items))) }
+    ensures count { OnOk result (length (keys found.new.marks) ≡ length (keys found.old.marks)) }
+    ensures err { IfErr result (λ fault. fault ≡ GraphFault.NoMemory) }
+{
+    let path = copy_path(alloc, &visit.path)?;
+    found.marks.insert(path, Some(found.nodes.len()))?;
+    let Visit {
+        path,
+        drv,
+        inputs: _,
+        numbers,
+    } = visit;
+    found.nodes.push(PlanNode {
+        path,
+        drv,
+        kind,
+        hash,
+        inputs: numbers,
+        outputs,
+    })?;
+    Ok(())
+}

@@ -1,0 +1,133 @@
+//! Plans of derivations.
+ghost use Rattle.std.specs.Prelude.{◌≡◌, ◌<◌, ◌≤◌, All, IfErr, IfOk, IfSome, Some, length, slice_get};
+ghost use Rattle.nix_drv.specs.Sources.{GivesSame};
+ghost use Rattle.drv_graph.specs.Kinds.{HasKind};
+ghost use Rattle.drv_graph.specs.Loading.{IsLoading};
+ghost use Rattle.drv_graph.specs.Nodes.{inputs_of, paths_of};
+ghost use Rattle.drv_graph.specs.Plans.{AreNumbers};
+ghost use Rattle.drv_graph.specs.PlanNodes.{HasKnownHash, drvs_of, output_paths_of};
+ghost use Rattle.drv_graph.specs.SoundGraphs.{IsSound};
+
+use crate::fault::GraphFault;
+use crate::found::Found;
+use crate::kinds::Kind;
+use crate::load::{Reached, walk_all};
+use crate::node::PlanNode;
+use nix_drv::{Derivation, DrvSource};
+use nix_names::{StoreDir, StorePath};
+use std::alloc::Global;
+use std::marker::Model;
+
+/// The derivations that some roots reach, each behind its inputs; a derivation's number is its
+/// place, counted from 0. A contract sees the derivations with their paths, and the roots' numbers.
+#[derive(Debug, Drop)]
+pub struct Plan {
+    nodes: Vec<PlanNode>,
+    roots: Vec<usize>,
+}
+
+impl Model for Plan {
+    ghost use Rattle.drv_graph.specs.Plans.{Graph};
+
+    ghost Value = { Graph };
+
+    ghost use Rattle.drv_graph.specs.PlanNodes.{AreKept, nodes_of};
+    ghost use Rattle.drv_graph.specs.SoundGraphs.{IsSound};
+
+    ghost view = { λ plan. record { nodes = nodes_of plan.nodes.items; roots = plan.roots.items } };
+
+    ghost invariant = { λ plan. AreKept plan.nodes.items × IsSound (record { nodes = nodes_of plan.nodes.items; roots = plan.roots.items }) };
+}
+
+impl Plan {
+    /// The plan of the roots: what they reach by the source's answers, in the folder. A root that is
+    /// repeated counts once. A fault has the path at which it was found. At each derivation that is
+    /// met, in this order: `Unreadable`, `TooMany`, the faults of `check_text`, `Cycle`; behind its
+    /// inputs the faults of its outputs, `SharedOutput` last. Each path is fetched once, and each
+    /// derivation read, checked and digested once; the rest is linear in the pairs of a user and an
+    /// input, by look-ups by hash. Does not recurse.
+    pub fn load<S: DrvSource>(
+        alloc: Global,
+        source: &mut S,
+        dir: &StoreDir,
+        roots: &[StorePath],
+    ) -> Result<Plan, GraphFault>
+        ensures keeps { GivesSame (S.gives source.old) (S.gives source.new) }
+        ensures counts { S.failures source.old ≤ S.failures source.new }
+        ensures loading { IsLoading dir.now (S.gives source.old) roots.now result }
+    {
+        let Reached { found, roots } = walk_all(alloc, source, dir, roots)?;
+        let roots = Vec::from_slice(alloc, roots.as_slice())?;
+        let Found {
+            nodes,
+            marks: _,
+            owners: _,
+        } = found;
+        Ok(Plan { nodes, roots })
+    }
+
+    /// How many derivations there are.
+    pub fn len(&self) -> usize
+        ensures value { result ≡ length self.now.nodes }
+        ensures sound { IsSound self.now }
+    {
+        self.nodes.len()
+    }
+
+    /// The derivation with this number.
+    pub fn drv(&self, number: usize) -> &Derivation
+        requires { number < length self.now.nodes }
+        ensures { slice_get (drvs_of self.now.nodes) number ≡ Some result.now }
+    {
+        &self.nodes[number].drv
+    }
+
+    /// The path of the text of the derivation with this number.
+    pub fn path(&self, number: usize) -> &StorePath
+        requires { number < length self.now.nodes }
+        ensures { slice_get (paths_of self.now.nodes) number ≡ Some result.now }
+    {
+        &self.nodes[number].path
+    }
+
+    /// The numbers of the inputs of the derivation with this number, in its text's order: each is
+    /// smaller.
+    pub fn inputs(&self, number: usize) -> &[usize]
+        requires { number < length self.now.nodes }
+        ensures numbers { IfSome (slice_get self.now.nodes number) (λ node. AreNumbers self.now.nodes result.now (inputs_of node.drv)) }
+        ensures smaller { All (λ input. input < number) result.now }
+    {
+        &self.nodes[number].inputs
+    }
+
+    /// The kind of the outputs of the derivation with this number.
+    pub fn kind(&self, number: usize) -> Kind
+        requires { number < length self.now.nodes }
+        ensures { IfSome (slice_get self.now.nodes number) (λ node. HasKind node.drv result) }
+    {
+        self.nodes[number].kind
+    }
+
+    /// The paths of the outputs of the derivation with this number, in its text's order.
+    pub fn output_paths(&self, number: usize) -> &[StorePath]
+        requires { number < length self.now.nodes }
+        ensures { IfSome (slice_get self.now.nodes number) (λ node. result.now ≡ output_paths_of node.drv) }
+    {
+        &self.nodes[number].outputs
+    }
+
+    // The hash by which the derivation with this number stands in its users' texts.
+    pub(crate) fn modulo_hash(&self, number: usize) -> [u8; 32]
+        requires { number < length self.now.nodes }
+        ensures { IfSome (slice_get self.now.nodes number) (λ node. HasKnownHash self.now.nodes node.drv result) }
+    {
+        self.nodes[number].hash
+    }
+
+    /// The numbers of the roots, in their order, each once.
+    pub fn roots(&self) -> &[usize]
+        ensures { result.now ≡ self.now.roots }
+    {
+        &self.roots
+    }
+}
