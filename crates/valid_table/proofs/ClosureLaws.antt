@@ -1,5 +1,5 @@
 -- Closures stay the same when a closed list of entries goes on, and are told by their paths.
-use Rattle.std.proofs.Common.{◌≡◌, ◌⊎◌, ◌<◌, ℕ, List, [], ◌∷◌, ◌++◌, None, get_or, length, sym, subst, ◌∙◌, All, Contains, ⊎_elim, arith}
+use Rattle.std.proofs.Common.{◌≡◌, ◌<◌, ℕ, List, [], ◌∷◌, ◌++◌, None, get_or, length, sym, subst, ◌∙◌, All, Contains, ⊎_elim, arith}
 use Rattle.std.specs.Prelude.{flat_map}
 use Rattle.std.proofs.lemmas.Grind.{flat_map-append}
 use Rattle.std.proofs.lemmas.List.{get_or-map, get_or_default}

@@ -11,7 +11,6 @@ use Rattle.valid_table.specs.Entries.{paths_of}
 use Rattle.valid_table.specs.Valid.{AreReferencesValid, IsOnce, IsValid, references_of}
 use Rattle.valid_table.specs.declared.entry.Registration.{Registration}
 use Rattle.valid_table.specs.declared.fault.TableFault.{TableFault}
-use Rattle.valid_table.specs.declared.fault.TableFault.TheVariants.{Unclosed, AlreadyValid}
 use Rattle.valid_table.specs.declared.obstacle.Obstacle.{Obstacle}
 use Rattle.valid_table.specs.declared.obstacle.Obstacle.TheVariants as obstacle
 use Rattle.valid_table.proofs.JournalLists.{paths_of-append, references_of-append, valid_more}
