@@ -1,7 +1,5 @@
 -- Bytes that were read, whose references were parsed, are found at their own path.
-use Rattle.std.proofs.Common.{◌≡◌, ◌≢◌, ℕ, ◌≤◌, true, false, List, length, ap, subst, ◌∙◌, All, nat_eq}
-use Rattle.std.specs.Cmp.Lexicographic.{pointwise}
-use Rattle.std.proofs.lemmas.Slice.Eq.{bytes_eq-Decides}
+use Rattle.std.proofs.Common.{◌≡◌, ℕ, ◌≤◌, true, List, length, ap, subst, ◌∙◌, All}
 use Rattle.nix_names.specs.Names.{is_drv_name}
 use Rattle.nix_names.specs.StorePaths.{IsPathOf, name_of}
 use Rattle.nix_drv.specs.Checked.{IsFoundAt}
@@ -22,14 +20,6 @@ found_at dir path bytes name drv refs lent own named is_drv within is_text good 
     is_path = is_own ∙ ap (λ (n : List ℕ). text_path dir n bytes lent) named ∙ ap (λ (r : List (List ℕ)). text_path dir (name_of path) bytes r) same;
   };
 }
-
--- texts that compare as different are different
-pub differs : (own path : List ℕ) → pointwise nat_eq own path ≡ false → own ≢ path
-differs own path different same = let e : pointwise nat_eq own path ≡ true = (bytes_eq-Decides own path).1 same in cc
-
--- texts that compare as the same are the same
-pub same_as : (own path : List ℕ) → pointwise nat_eq own path ≡ true → own ≡ path
-same_as own path same = (bytes_eq-Decides own path).0 same
 
 -- what is found at its own path stands there
 pub found_here : (dir path bytes : List ℕ) (drv : Drv) (own : List ℕ) → own ≡ path → IsFoundAt dir path bytes drv own → IsFoundAt dir path bytes drv path

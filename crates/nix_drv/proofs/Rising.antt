@@ -1,11 +1,9 @@
 -- A value keeps the order rules where the keys of its lists rise.
-use Rattle.std.proofs.Common.{◌≡◌, ◌↔◌, ℕ, ◌+◌, Bool, true, false, List, [], ◌∷◌, length, Option, Some, None, map, refl, sym, ap, ◌∙◌, inl, inr}
+use Rattle.std.proofs.Common.{◌≡◌, ◌↔◌, ℕ, ◌+◌, Bool, true, false, List, [], ◌∷◌, length, Option, Some, None, map, refl, sym, ap, ◌∙◌, inl, inr, ⊎_elim}
 use Rattle.std.specs.Prelude.{not}
-use Rattle.std.specs.Cmp.Lexicographic.{slice_cmp}
-use Rattle.std.specs.Ordering.{nat_cmp, is_lt}
-use Rattle.std.specs.declared.cmp.Ordering.{Ordering}
-use Rattle.std.specs.declared.cmp.Ordering.TheVariants.{Less, Equal, Greater}
+use Rattle.std.specs.Ordering.{is_lt}
 use Rattle.std.proofs.lemmas.Bool.{cases_Bool}
+use Rattle.nix_names.proofs.RisingLists.{below_from_lt}
 use Rattle.nix_drv.specs.Grammar.{ListOrder, Rising, Free, Grammar, Fixed, Str, Then, Many, Value, text}
 use Rattle.nix_drv.specs.Order.{key, is_less, breaks, IsViolationAmong, IsViolation, InOrder, MayStand, Each, KeysRise}
 
@@ -14,21 +12,13 @@ abbrev behind : Option (List ℕ) → List (List ℕ) → List (List ℕ)
 behind None ks = ks
 behind (Some before) ks = before ∷ ks
 
-lt_is_less : (o : Ordering) → is_lt o ≡ true → o ≡ Less
-lt_is_less Less e = refl
-lt_is_less Equal e = let t : false ≡ true = e in absurd cc
-lt_is_less Greater e = let t : false ≡ true = e in absurd cc
-
-less_of : (a b : List ℕ) → (not (is_less a b) ≡ true → ⊥) → slice_cmp nat_cmp a b ≡ Less
-less_of a b none = lt_is_less (slice_cmp nat_cmp a b) (elim (cases_Bool (is_less a b)) [ inl e ↦ e | inr e ↦ absurd (none (ap not e)) ])
-
 not_both : (b : Bool) → b ≡ true → not b ≡ true → ⊥
 not_both b is isnt = let t : false ≡ true = sym (ap not is) ∙ isnt in absurd cc
 
 stands_more : (order : ListOrder) (before : Option (List ℕ)) (k : List ℕ) (ks : List (List ℕ)) → (breaks order before k ≡ true → ⊥) → MayStand order (k ∷ ks) → MayStand order (behind before (k ∷ ks))
 stands_more Free before k ks none h = tt
 stands_more Rising None k ks none h = h
-stands_more Rising (Some a) k ks none h = (less_of a k none, h)
+stands_more Rising (Some a) k ks none h = (below_from_lt a k (⊎_elim (λ e. e) (λ e. absurd (none (ap not e))) (cases_Bool (is_less a k))), h)
 
 breaks_none : (order : ListOrder) (before : Option (List ℕ)) (k : List ℕ) (ks : List (List ℕ)) → MayStand order (behind before (k ∷ ks)) → breaks order before k ≡ true → ⊥
 breaks_none Free before k ks h e = let t : false ≡ true = e in absurd cc

@@ -1,9 +1,9 @@
 -- The lines of an entry, checked by what it registers.
 use Rattle.std.proofs.Common.{◌≡◌, ◌∙◌, ℕ, zero, suc, ◌+◌, ◌<◌, List, [], ◌∷◌, ◌++◌, length, map, flat_map, take, drop, get_or, refl, sym, ap, subst, arith, length-append}
-use Rattle.std.specs.Prelude.{◌↔◌, All, Contains, Err, Ok, Option, Result, Some, slice_get}
+use Rattle.std.specs.Prelude.{All, Contains, Err, Ok, Option, Result, Some, slice_get}
 use Rattle.std.proofs.lemmas.List.{append-nil, append_assoc, drop_at, length-map, map-append, take-map, take-take, take_at}
 use Rattle.std.proofs.lemmas.List.Concat.{flat_map-append}
-use Rattle.std.proofs.lemmas.List.Elements.{All-append, All-cons, All-drop, All-head, All-map, All-nil, All-tail, All-take, All-weaker}
+use Rattle.std.proofs.lemmas.List.Elements.{All-append, All-cons, All-drop, All-head, All-map, All-nil, All-tail, All-take}
 use Rattle.std.proofs.lemmas.Option.{MatchOption-at_some, slice_get-get_or}
 use Rattle.valid_table.specs.Checking.{IsEntryCheck, IsLineCheck, IsRight, RegistersKnown, header}
 use Rattle.valid_table.specs.Entering.{AreUnknown, IsNewFront}
@@ -16,9 +16,10 @@ use Rattle.valid_table.specs.declared.entry.Registration.{Registration}
 use Rattle.valid_table.specs.declared.fault.TableFault.{TableFault}
 use Rattle.valid_table.specs.declared.fault.TableFault.TheVariants.{NoMemory, NotClosed, Twice}
 use Rattle.valid_table.proofs.CheckedLines.{line_count}
-use Rattle.valid_table.proofs.EnteredPaths.{all_new, length-paths_of, path_at}
+use Rattle.valid_table.proofs.EnteredPaths.{all_new, path_at}
 use Rattle.valid_table.proofs.JournalLists.{paths_of-append}
 use Rattle.valid_table.proofs.PathLists.{parts_at}
+use Rattle.valid_table.proofs.RowNumbers.{path_count}
 
 -- which line begins a registration of an entry
 abbrev pub starts : Entry → List ℕ → Option (List ℕ) → Line
@@ -141,7 +142,7 @@ twice_checked known all entry new first n front (lt, closed, number) =
     let before = take new rs in
     let after = drop (new + 1) rs in
     let at : slice_get (paths_of rs) new ≡ Some r.path =
-    slice_get-get_or (paths_of rs) new r.path (omega (arith, length-paths_of rs)) ∙ ap Some (path_at rs new r r.path lt is) in
+    slice_get-get_or (paths_of rs) new r.path (omega (arith, path_count rs)) ∙ ap Some (path_at rs new r r.path lt is) in
     let new_before : AreUnknown known (paths_of before) = subst (AreUnknown known) (take-map (λ (x : Registration). x.path) new rs) front.new in (
       starts entry r.path r.info.digest,
       length (header entry) + line_count before,
@@ -169,7 +170,7 @@ open_checked known all entry new first n front (before, r, after, place, parts, 
     let earlier = map Reference unknown.before in
     let later = map Reference unknown.after in
     let paths = ap paths_of parts ∙ paths_of-append before (r ∷ after) in
-    let all_front = new_front known (paths_of before) (paths_of after) r.path new (subst (λ l. AreUnknown known (take new l)) paths front.new) (omega (arith, length-paths_of before)) in
+    let all_front = new_front known (paths_of before) (paths_of after) r.path new (subst (λ l. AreUnknown known (take new l)) paths front.new) (omega (arith, path_count before)) in
     let New : List ℕ → Type 0 = λ p. Contains known p → ⊥ in
     let new_before = All-left New (paths_of before) (r.path ∷ []) all_front in
     let new_here = All-head New r.path [] (All-right New (paths_of before) (r.path ∷ []) all_front) in

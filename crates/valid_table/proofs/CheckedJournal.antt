@@ -16,7 +16,6 @@ use Rattle.valid_table.specs.declared.fault.TableFault.{TableFault}
 use Rattle.valid_table.specs.declared.fault.TableFault.TheVariants.{NoMemory, NotClosed, Twice}
 use Rattle.valid_table.proofs.AddedEntries.{registered_push}
 use Rattle.valid_table.proofs.CheckedEntries.{All-left, All-right, entry_lines_are, lines_by, starts}
-use Rattle.valid_table.proofs.JournalLists.{paths_of-append}
 use Rattle.valid_table.proofs.PathLists.{parts_at}
 
 -- a line of an entry behind earlier registrations is right

@@ -1,49 +1,18 @@
 -- Closures stay the same when a closed list of entries goes on, and are told by their paths.
-use Rattle.std.proofs.Common.{◌≡◌, ◌⊎◌, ◌<◌, ℕ, zero, suc, List, [], ◌∷◌, ◌++◌, None, get_or, length, sym, subst, ◌∙◌, append_assoc, All, Contains, inl, inr, ⊎_elim, arith}
+use Rattle.std.proofs.Common.{◌≡◌, ◌<◌, ℕ, List, [], ◌∷◌, ◌++◌, None, get_or, length, sym, subst, ◌∙◌, All, Contains, ⊎_elim, arith}
 use Rattle.std.specs.Prelude.{flat_map}
 use Rattle.std.proofs.lemmas.Grind.{flat_map-append}
-use Rattle.std.proofs.lemmas.List.{get_or-map, get_or_default, map-append}
-use Rattle.std.proofs.lemmas.List.Elements.{All-append, All-contains, All-nil, All-weaker, Contains-append_left, Contains-append_right}
+use Rattle.std.proofs.lemmas.List.{get_or-map, get_or_default}
+use Rattle.std.proofs.lemmas.List.Elements.{All-contains, Contains-append_left, Contains-append_right}
+use Rattle.nix_names.proofs.RisingLists.{Contains-cons_cases, rising_same}
 use Rattle.valid_table.specs.Closure.{ClosureIsOne, ClosureStays, IsClosure, Leads}
-use Rattle.valid_table.specs.Entries.{paths_of, registered, registered_by}
+use Rattle.valid_table.specs.Entries.{registered, registered_by}
 use Rattle.valid_table.specs.PathInfos.{PathInfo}
-use Rattle.valid_table.specs.Valid.{AreReferencesValid, IsClosed, IsClosedBehind, IsOnce, IsValid, RefersTo, Registers, references_of}
-use Rattle.valid_table.specs.declared.entry.Entry.{Entry}
+use Rattle.valid_table.specs.Valid.{AreReferencesValid, IsOnce, IsValid, RefersTo, Registers, references_of}
 use Rattle.valid_table.specs.declared.entry.Registration.{Registration}
 use Rattle.valid_table.proofs.Following.{one_info}
-use Rattle.valid_table.proofs.Rising.{rising_same}
+use Rattle.valid_table.proofs.JournalLists.{closed_references_valid, still_valid}
 use Rattle.valid_table.proofs.RowNumbers.{path_count}
-
--- what is valid stays so
-pub valid_behind : (first more : List Registration) (path : List ℕ) → IsValid first path → IsValid (first ++ more) path
-valid_behind first more path valid = subst (λ (paths : List (List ℕ)). Contains paths path) (sym (map-append (λ (r : Registration). r.path) first more)) (Contains-append_left (paths_of first) (paths_of more) path valid)
-
--- references of more registrations
-references_append : (first more : List Registration) → references_of (first ++ more) ≡ references_of first ++ references_of more
-references_append first more = flat_map-append (λ (r : Registration). r.info.references) first more
-
--- behind what was registered before, the references of closed entries are valid
-closed_behind : (earlier : List Registration) (entries : List Entry) → IsClosedBehind earlier entries → All (IsValid (earlier ++ registered entries)) (references_of (registered entries))
-closed_behind earlier [] closed = All-nil (IsValid (earlier ++ []))
-closed_behind earlier (entry ∷ entries) closed =
-    let now = earlier ++ registered_by entry in
-    let all = registered_by entry ++ registered entries in
-    let whole : now ++ registered entries ≡ earlier ++ all = append_assoc earlier (registered_by entry) (registered entries) in
-    let first : All (IsValid (now ++ registered entries)) (references_of (registered_by entry)) =
-    All-weaker (IsValid now) (IsValid (now ++ registered entries)) (valid_behind now (registered entries)) (references_of (registered_by entry)) closed.0 in
-    let rest : All (IsValid (now ++ registered entries)) (references_of (registered entries)) = closed_behind now entries closed.1 in
-    subst (λ (registrations : List Registration). All (IsValid registrations) (references_of all)) whole
-    (subst (All (IsValid (now ++ registered entries))) (sym (references_append (registered_by entry) (registered entries)))
-    (All-append (IsValid (now ++ registered entries)) (references_of (registered_by entry)) (references_of (registered entries)) first rest))
-
--- each reference of what closed entries register is valid
-pub closed_valid : (entries : List Entry) → IsClosed entries → AreReferencesValid (registered entries)
-closed_valid entries closed = closed_behind [] entries closed
-
--- an element is the first one or a later one
-has_cases : {A : Type 0} (x : A) (xs : List A) (y : A) → Contains (x ∷ xs) y → (x ≡ y) ⊎ Contains xs y
-has_cases x xs y (zero, lt, is) = inl is
-has_cases x xs y (suc k, lt, is) = inr (k, omega arith, is)
 
 -- what an element's list has is among all
 Contains-flat_map : {A B : Type 0} (f : A → List B) (xs : List A) (x : A) (y : B) → Contains xs x → Contains (f x) y → Contains (flat_map f xs) y
@@ -52,7 +21,7 @@ Contains-flat_map f (z ∷ zs) x y has one =
     ⊎_elim
     (λ same. Contains-append_left (f z) (flat_map f zs) y (subst (λ w. Contains (f w) y) (sym same) one))
     (λ later. Contains-append_right (f z) (flat_map f zs) y (Contains-flat_map f zs x y later one))
-    (has_cases z zs x has)
+    (Contains-cons_cases z zs x has)
 
 -- a reference of what is registered is one of the references
 refers_in : (registrations : List Registration) (path next : List ℕ) → RefersTo registrations path next → Contains (references_of registrations) next
@@ -71,7 +40,7 @@ registers_from_valid registrations path valid =
 
 -- what leads by first registrations does so by more of them
 pub leads_behind : (first more : List Registration) (from to : List ℕ) (steps : List (List ℕ)) → Leads first from to steps → Leads (first ++ more) from to steps
-leads_behind first more from to [] leads = (valid_behind first more from leads.0, leads.1)
+leads_behind first more from to [] leads = (still_valid first more from leads.0, leads.1)
 leads_behind first more from to (next ∷ steps) leads =
     ((leads.0.0, Contains-append_left first more (record { path = from; info = leads.0.0 }) leads.0.1, leads.0.2), leads_behind first more next to steps leads.1)
 
@@ -100,7 +69,7 @@ pub closure_stays : ClosureStays
 closure_stays entries more roots all closed closed_more once valid is =
     let whole : registered (entries ++ more) ≡ registered entries ++ registered more = flat_map-append registered_by entries more in
     subst (λ (registrations : List Registration). IsClosure registrations roots all) (sym whole)
-    (closure_stays_behind (registered entries) (registered more) roots all (closed_valid entries closed) (subst IsOnce whole once) valid is)
+    (closure_stays_behind (registered entries) (registered more) roots all (closed_references_valid entries closed) (subst IsOnce whole once) valid is)
 
 -- some paths have one closure
 pub closure_is_one : ClosureIsOne

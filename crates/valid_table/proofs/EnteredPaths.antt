@@ -1,7 +1,7 @@
 -- Registrations whose paths and references are looked up among known ones.
 use Rattle.std.proofs.Common.{◌≡◌, ◌∙◌, ℕ, ◌+◌, ◌<◌, ◌≤◌, List, ◌∷◌, ◌++◌, length, take, drop, get_or, sym, ap, subst, arith}
 use Rattle.std.specs.Prelude.{All, Contains, IfSome, Some, slice_get}
-use Rattle.std.proofs.lemmas.List.{append_assoc, get_or-map, get_or_at, length-map, length-take-le, take_all}
+use Rattle.std.proofs.lemmas.List.{append_assoc, get_or-map, get_or_at, length-take-le, take_all}
 use Rattle.std.proofs.lemmas.List.Elements.{All-append, All-more}
 use Rattle.std.proofs.lemmas.Option.{MatchOption-at_some, slice_get-get_or, slice_get_past}
 use Rattle.valid_table.specs.Entering.{AreUnknown, IsFirstUnknownAt, IsNewFront, IsUnknown}
@@ -11,10 +11,7 @@ use Rattle.valid_table.specs.Valid.{references_of}
 use Rattle.valid_table.specs.declared.entry.Registration.{Registration}
 use Rattle.valid_table.proofs.JournalLists.{references_of_at, references_of_more}
 use Rattle.valid_table.proofs.PathLists.{parts_at}
-
--- as many paths as registrations
-pub length-paths_of : (rs : List Registration) → length (paths_of rs) ≡ length rs
-length-paths_of rs = length-map rs (λ (r : Registration). r.path)
+use Rattle.valid_table.proofs.RowNumbers.{path_count}
 
 -- the path of the registration at a place
 pub path_at : (rs : List Registration) (i : ℕ) (r : Registration) (d : List ℕ) → i < length rs → r ≡ get_or rs i r → get_or (paths_of rs) i d ≡ r.path
@@ -24,7 +21,7 @@ path_at rs i r d lt is = get_or-map (λ (x : Registration). x.path) rs i r d lt 
 pub front_all : (known : List (List ℕ)) (rs : List Registration) (n : ℕ) → length rs ≤ n → AreUnknown known (take n (paths_of rs)) → IsNewFront known (paths_of rs) (length rs)
 front_all known rs n all new =
     let paths = paths_of rs in
-    let long = length-paths_of rs in
+    let long = path_count rs in
     let same : take n paths ≡ take (length rs) paths = take_all n paths (omega arith) ∙ sym (take_all (length rs) paths (omega arith)) in
     record {
       within = omega arith;
@@ -42,7 +39,7 @@ pub front_here :
     IsNewFront known (paths_of rs) i
 front_here known rs i r new lt is there =
     let paths = paths_of rs in
-    let within : i < length paths = omega (arith, length-paths_of rs) in
+    let within : i < length paths = omega (arith, path_count rs) in
     record {
       within = omega arith;
       new = new;
@@ -59,7 +56,7 @@ pub new_more :
     IsUnknown known r.path →
     AreUnknown known (take (i + 1) (paths_of rs))
 new_more known rs i r new lt is unknown =
-    All-more (IsUnknown known) (paths_of rs) i r.path (omega (arith, length-paths_of rs)) new
+    All-more (IsUnknown known) (paths_of rs) i r.path (omega (arith, path_count rs)) new
     (subst (IsUnknown known) (sym (path_at rs i r r.path lt is)) unknown)
 
 -- the first of some paths that isn't known
@@ -142,7 +139,7 @@ known_behind known rs count r front lt is =
     let paths = paths_of rs in
     let path = r.path in
     let at : get_or paths count path ≡ path = path_at rs count r path lt is in
-    let within : count < length paths = omega (arith, length-paths_of rs) in
+    let within : count < length paths = omega (arith, path_count rs) in
     let some : slice_get paths count ≡ Some path = slice_get-get_or paths count path within ∙ ap Some at in
     record {
       before = take count paths;
@@ -154,4 +151,4 @@ known_behind known rs count r front lt is =
 
 -- where none is behind the new ones, all are new
 pub all_new : (known : List (List ℕ)) (rs : List Registration) (count : ℕ) → IsNewFront known (paths_of rs) count → length rs ≤ count → AreUnknown known (paths_of rs)
-all_new known rs count front long = subst (AreUnknown known) (take_all count (paths_of rs) (omega (arith, length-paths_of rs))) front.new
+all_new known rs count front long = subst (AreUnknown known) (take_all count (paths_of rs) (omega (arith, path_count rs))) front.new

@@ -1,5 +1,5 @@
 -- Two rising lists, merged.
-use Rattle.std.proofs.Common.{◌≡◌, ◌∙◌, ◌⊎◌, ◌↔◌, ◌+◌, ◌-◌, ◌<◌, ℕ, List, [], ◌∷◌, ◌++◌, length, take, drop, get_or, refl, sym, ap, subst, inl, inr, ⊎_elim, append-nil, append_assoc, arith}
+use Rattle.std.proofs.Common.{◌≡◌, ◌∙◌, ◌⊎◌, ◌↔◌, ◌-◌, ◌<◌, ℕ, List, [], ◌∷◌, ◌++◌, length, take, drop, get_or, refl, sym, ap, subst, inl, inr, ⊎_elim, append-nil, append_assoc, arith}
 use Rattle.std.specs.Prelude.{Contains}
 use Rattle.std.specs.Cmp.Lexicographic.{slice_cmp, texts_ties}
 use Rattle.std.specs.Ordering.{is_eq, nat_cmp, ordering_reverse}
@@ -8,13 +8,9 @@ use Rattle.std.proofs.lemmas.Cmp.{nat_list_cmp_total}
 use Rattle.std.proofs.lemmas.List.{take_all}
 use Rattle.std.proofs.lemmas.List.Elements.{Contains-append_cases, Contains-append_left, Contains-append_right}
 use Rattle.nix_names.specs.Rising.{IsRising}
+use Rattle.nix_names.proofs.RisingLists.{Contains-later, equal_from_eq, rising_back}
 use Rattle.valid_table.specs.Merging.{IsLeast}
 use Rattle.valid_table.specs.Unions.{IsInEither, IsUnion}
-use Rattle.valid_table.proofs.PathLists.{same_bytes}
-
--- a path is in a list with one more at its head
-in_more : (x : List ℕ) (xs : List (List ℕ)) (p : List ℕ) → Contains xs p → Contains (x ∷ xs) p
-in_more x xs p there = Contains-append_right (x ∷ []) xs p there
 
 -- a path at the head is in the list
 at_head : (x : List ℕ) (xs ys : List (List ℕ)) (p : List ℕ) → Contains (x ∷ []) p → Contains (x ∷ ys) p
@@ -34,7 +30,7 @@ least_left path more right rises = record {
   left_rises = λ r. r;
   right_rises = rises;
   each = λ p. (
-    ⊎_elim inl (λ there. inr (in_more path right p there)),
+    ⊎_elim inl (λ there. inr (Contains-later path right p there)),
     ⊎_elim inl (λ there. ⊎_elim (λ head. inl (at_head path more more p head)) inr (head_cases path right p there)),
   );
   shorter = omega arith;
@@ -50,7 +46,7 @@ least_right path left others rises = record {
   left_rises = rises;
   right_rises = λ r. r;
   each = λ p. (
-    ⊎_elim (λ there. inl (in_more path left p there)) inr,
+    ⊎_elim (λ there. inl (Contains-later path left p there)) inr,
     ⊎_elim (λ there. ⊎_elim (λ head. inr (at_head path others others p head)) inl (head_cases path left p there)) inr,
   );
   shorter = omega arith;
@@ -93,7 +89,7 @@ pub least_equal :
     slice_cmp nat_cmp path other ≡ Equal →
     IsLeast left right path more others
 least_equal left right path other more others first second equal =
-    let same : path ≡ other = same_bytes path other (texts_ties path other ∙ ap is_eq equal) in
+    let same : path ≡ other = equal_from_eq path other (texts_ties path other ∙ ap is_eq equal) in
     subst (λ l. IsLeast l right path more others) (sym first)
     (subst (λ r. IsLeast (path ∷ more) r path more others) (sym second) (least_both path other more others same))
 
@@ -108,13 +104,6 @@ rising_join : (done : List (List ℕ)) (path : List ℕ) (xs ys : List (List ℕ
 rising_join [] path xs ys rises behind = behind
 rising_join (x ∷ []) path xs ys rises behind = (rises.0, behind)
 rising_join (x ∷ y ∷ done) path xs ys rises behind = (rises.0, rising_join (y ∷ done) path xs ys rises.1 behind)
-
--- the end of a rising list rises
-rising_end : (done xs : List (List ℕ)) → IsRising (done ++ xs) → IsRising xs
-rising_end [] xs rises = rises
-rising_end (x ∷ []) [] rises = tt
-rising_end (x ∷ []) (y ∷ ys) rises = rises.1
-rising_end (x ∷ y ∷ done) xs rises = rising_end (y ∷ done) xs rises.1
 
 -- What is merged so far, with what is left: each rises, and they have the paths of both lists.
 pub record IsMerged (left right done more others : List (List ℕ)) : Type 0 where
@@ -156,8 +145,8 @@ merged_more left right done more others path behind beside pushed merged least i
     let Either : List (List ℕ) → List (List ℕ) → List ℕ → Type 0 = λ us vs p. IsInEither left right p ↔ IsInEither us vs p in
     subst Is (sym is)
     (record {
-      left_rises = subst IsRising (sym (joined behind)) (from behind (least.left_rises (rising_end done more merged.left_rises)));
-      right_rises = subst IsRising (sym (joined beside)) (from beside (least.right_rises (rising_end done others merged.right_rises)));
+      left_rises = subst IsRising (sym (joined behind)) (from behind (least.left_rises (rising_back done more merged.left_rises)));
+      right_rises = subst IsRising (sym (joined beside)) (from beside (least.right_rises (rising_back done others merged.right_rises)));
       each = λ p. subst (λ us. Either us ((done ++ path ∷ []) ++ beside) p) (sym (joined behind))
           (subst (λ vs. Either (Path behind) vs p) (sym (joined beside)) (
             λ there. behind_either done more others (path ∷ behind) (path ∷ beside) p (least.each p).0 ((merged.each p).0 there),

@@ -1,5 +1,5 @@
 -- The rows of a table, by their numbers, and the paths at them.
-use Rattle.std.proofs.Common.{◌≡◌, ℕ, ◌<◌, true, List, [], length, get_or, nat_eq, Option, Some, None, is_some, sym, ap, subst, ◌∙◌, arith, Contains, MatchOption}
+use Rattle.std.proofs.Common.{◌≡◌, ℕ, ◌<◌, List, [], length, get_or, nat_eq, Option, Some, None, is_some, sym, ap, subst, ◌∙◌, arith, Contains, MatchOption}
 use Rattle.std.specs.Cmp.Lexicographic.{pointwise, nat_list_eq_equiv}
 use Rattle.std.specs.List.{IsDistinct}
 use Rattle.std.specs.Map.{keys_of}
@@ -8,8 +8,8 @@ use Rattle.std.proofs.lemmas.List.{get_or_default, length-map}
 use Rattle.std.proofs.lemmas.List.Quantifiers.{position-Some}
 use Rattle.std.proofs.lemmas.Map.Views.{hash_map_contains_key_iff}
 use Rattle.std.proofs.lemmas.Simd.{map-map}
-use Rattle.std.proofs.lemmas.Slice.Eq.{bytes_eq-Decides}
 use Rattle.indexmap.specs.IndexMap.{IndexMap, get_by, index_of_by, keys}
+use Rattle.nix_names.proofs.RisingLists.{equal_from_eq}
 use Rattle.valid_table.specs.Closing.{IsRowOf}
 use Rattle.valid_table.specs.Entries.{paths_of}
 use Rattle.valid_table.specs.PathInfos.{PathInfo}
@@ -29,19 +29,15 @@ path_count registrations = length-map registrations (λ (r : Registration). r.pa
 pub row_count : (rows : List (List ℕ × PathInfo)) → length (registrations_of rows) ≡ length rows
 row_count rows = length-map rows (λ (row : List ℕ × PathInfo). let r : Registration = record { path = row.0; info = row.1 } in r)
 
--- texts that compare as equal are equal
-pub same_text : (x y : List ℕ) → pointwise nat_eq x y ≡ true → x ≡ y
-same_text x y e = (bytes_eq-Decides x y).0 e
-
 -- what a look-up by index answers is the row of the path, or that it is not valid
 pub row_found : {S : Type 0} (m : IndexMap (List ℕ) PathInfo S) (path : List ℕ) (row : Option ℕ) → row ≡ index_of_by (pointwise nat_eq path) m → is_some row ≡ is_some (get_by (pointwise nat_eq path) m) → MatchOption row (IsValid (registrations_of m.entries) path → ⊥) (IsRowOf (registrations_of m.entries) path)
 row_found m path None is found =
     λ valid.
     let has : Contains (keys m) path = subst (λ (ks : List (List ℕ)). Contains ks path) (paths_are_keys m.entries) valid in
-    false≢true (found ∙ (hash_map_contains_key_iff nat_list_eq_equiv same_text m path).1 has)
+    false≢true (found ∙ (hash_map_contains_key_iff nat_list_eq_equiv equal_from_eq m path).1 has)
 row_found m path (Some row) is found =
     let at = position-Some (pointwise nat_eq path) (keys m) row [] (sym is) in
-    let here : path ≡ get_or (keys m) row [] = same_text path (get_or (keys m) row []) at.1 in (
+    let here : path ≡ get_or (keys m) row [] = equal_from_eq path (get_or (keys m) row []) at.1 in (
       omega (arith, at.0, path_count (registrations_of m.entries), ap length (paths_are_keys m.entries)),
       ap (λ (ks : List (List ℕ)). get_or ks row []) (paths_are_keys m.entries) ∙ sym here,
     )

@@ -1,20 +1,19 @@
 -- What a binary search among registrations by path finds.
-use Rattle.std.proofs.Common.{◌≡◌, ◌∙◌, ◌↔◌, ℕ, zero, suc, ◌+◌, ◌<◌, ◌≤◌, true, false, List, [], ◌∷◌, length, get_or, nat_eq, Result, Ok, Err, None, is_ok, IsTrue, refl, sym, ap, subst, arith, ⊎_elim}
-use Rattle.std.specs.Cmp.Lexicographic.{pointwise, slice_cmp, texts_ties}
-use Rattle.std.specs.List.Sorted.{IsBinarySearchResult, IsSearchInRange, IsSortedBy}
+use Rattle.std.proofs.Common.{◌≡◌, ◌∙◌, ◌↔◌, ℕ, zero, suc, ◌+◌, ◌<◌, false, List, [], ◌∷◌, length, get_or, Result, Ok, Err, None, is_ok, IsTrue, refl, sym, ap, subst, arith, ⊎_elim}
+use Rattle.std.specs.Cmp.Lexicographic.{slice_cmp, texts_ties}
+use Rattle.std.specs.List.Sorted.{IsBinarySearchResult, IsSearchInRange}
 use Rattle.std.specs.Ordering.{is_eq, is_lt, nat_cmp, ordering_reverse}
 use Rattle.std.specs.declared.cmp.Ordering.{Ordering}
 use Rattle.std.specs.declared.cmp.Ordering.TheVariants.{Less, Equal, Greater}
 use Rattle.std.proofs.lemmas.Bool.{cases_lt, false≢true}
 use Rattle.std.proofs.lemmas.Cmp.{nat_list_cmp_total, tied_itself}
-use Rattle.std.proofs.lemmas.List.{get_or-map, get_or_default, length-map}
+use Rattle.std.proofs.lemmas.List.{get_or-map, length-map}
 use Rattle.std.proofs.lemmas.List.Sorted.{searchable_from_sorted}
 use Rattle.nix_names.specs.Rising.{IsRising}
+use Rattle.nix_names.proofs.RisingLists.{equal_from_eq}
 use Rattle.valid_table.specs.Entries.{paths_of}
-use Rattle.valid_table.specs.PathInfos.{PathInfo}
 use Rattle.valid_table.specs.Valid.{IsValid}
 use Rattle.valid_table.specs.declared.entry.Registration.{Registration}
-use Rattle.valid_table.proofs.PathLists.{same_bytes}
 
 -- how a registration's path compares with a path
 abbrev pub compared : List ℕ → Registration → Ordering
@@ -45,7 +44,7 @@ pub search_tells :
 search_tells rs path (Ok i) rises within here = (
   λ _.
       let none : Registration = record { path = path; info = record { references = []; digest = None } } in
-      let same : (get_or rs i none).path ≡ path = same_bytes _ path (texts_ties (get_or rs i none).path path ∙ ap is_eq (here none)) in
+      let same : (get_or rs i none).path ≡ path = equal_from_eq _ path (texts_ties (get_or rs i none).path path ∙ ap is_eq (here none)) in
       (i, omega (arith, length-map rs (λ (r : Registration). r.path)), path_at rs i none path within ∙ same),
   λ _. refl,
 )

@@ -1,36 +1,24 @@
 -- The paths of rows, sorted: they rise strictly, since no path has two rows.
-use Rattle.std.proofs.Common.{◌≡◌, ℕ, ◌+◌, ◌<◌, Bool, true, false, List, [], ◌∷◌, ◌++◌, length, take, map, get_or, nat_eq, Some, refl, sym, ap, subst, ◌∙◌, arith}
-use Rattle.std.specs.Cmp.Lexicographic.{pointwise, slice_cmp, nat_list_eq_equiv, texts_ties}
+use Rattle.std.proofs.Common.{◌≡◌, ℕ, ◌+◌, ◌<◌, false, List, [], ◌∷◌, ◌++◌, length, take, map, get_or, nat_eq, Some, sym, ap, subst, ◌∙◌, arith}
+use Rattle.std.specs.Cmp.Lexicographic.{pointwise, slice_cmp, nat_list_eq_equiv}
 use Rattle.std.specs.List.{IsDistinct, slice_get}
-use Rattle.std.specs.List.Sorted.{IsPermutation, IsSorted, IsStrictlySortedBy}
-use Rattle.std.specs.Ordering.{nat_cmp, is_eq, is_lt, ordering_reverse}
-use Rattle.std.specs.declared.cmp.Ordering.{Ordering}
-use Rattle.std.specs.declared.cmp.Ordering.TheVariants.{Less, Equal, Greater}
-use Rattle.std.proofs.lemmas.Bool.{false≢true}
-use Rattle.std.proofs.lemmas.Cmp.{nat_eq_equiv, nat_list_cmp_total}
+use Rattle.std.specs.List.Sorted.{IsPermutation, IsSorted}
+use Rattle.std.specs.Ordering.{nat_cmp}
+use Rattle.std.proofs.lemmas.Bool.{false_from_ne_true, false≢true}
+use Rattle.std.proofs.lemmas.Cmp.{nat_eq_equiv}
 use Rattle.std.proofs.lemmas.List.{get_or-map, length-map, map-append, take_more}
 use Rattle.std.proofs.lemmas.List.Elements.{All-get_or}
 use Rattle.std.proofs.lemmas.List.Sorted.{Contains-permutation, IsPermutation-sym}
-use Rattle.std.proofs.lemmas.Map.Keys.{apart_from_distinct, IsDistinct-from_apart, IsDistinct-IsPermutation, sorted_from_all_adjacent}
+use Rattle.std.proofs.lemmas.Map.Keys.{apart_from_distinct, IsDistinct-from_apart, IsDistinct-IsPermutation}
 use Rattle.std.proofs.lemmas.Option.{get_or_from_slice_get}
 use Rattle.nix_names.specs.Rising.{IsRising}
+use Rattle.nix_names.proofs.RisingLists.{equal_from_eq, rising_sorted}
 use Rattle.valid_table.specs.Closing.{AreRows, HaveSame, path_at, paths_at}
 use Rattle.valid_table.specs.Entries.{paths_of}
 use Rattle.valid_table.specs.Valid.{IsOnce}
 use Rattle.valid_table.specs.declared.entry.Registration.{Registration}
 use Rattle.valid_table.proofs.Reaching.{same_place}
-use Rattle.valid_table.proofs.RowNumbers.{path_count, same_text}
-
--- texts that are each below all later ones rise
-pub rising_from_sorted : (texts : List (List ℕ)) → IsStrictlySortedBy (slice_cmp nat_cmp) texts → IsRising texts
-unfolding IsStrictlySortedBy
-rising_from_sorted [] sorted = tt
-rising_from_sorted (x ∷ []) sorted = tt
-rising_from_sorted (x ∷ y ∷ texts) sorted = (sorted.0.0, rising_from_sorted (y ∷ texts) sorted.1)
-
-different : (b : Bool) → (b ≡ true → ⊥) → b ≡ false
-different true not = absurd (not refl)
-different false not = refl
+use Rattle.valid_table.proofs.RowNumbers.{path_count}
 
 -- the paths of distinct rows are distinct
 paths_distinct : (registrations : List Registration) → IsOnce registrations → (rows : List ℕ) → AreRows registrations rows → IsDistinct (pointwise nat_eq) (paths_at registrations rows)
@@ -49,24 +37,9 @@ paths_distinct registrations once rows are = IsDistinct-from_apart (pointwise na
     apart i j d before below =
         let in_j : j < length rows = omega (arith, below, length-map rows (path_at registrations)) in
         let in_i : i < length rows = omega arith in
-        different _ (λ same.
-        let one : get_or rows i 0 ≡ get_or rows j 0 = same_place (paths_of registrations) once _ _ (within i in_i) (within j in_j) (sym (row_at i d in_i) ∙ same_text _ _ same ∙ row_at j d in_j) in
+        false_from_ne_true _ (λ same.
+        let one : get_or rows i 0 ≡ get_or rows j 0 = same_place (paths_of registrations) once _ _ (within i in_i) (within j in_j) (sym (row_at i d in_i) ∙ equal_from_eq _ _ same ∙ row_at j d in_j) in
         false≢true (sym (apart_from_distinct nat_eq rows i j 0 are.distinct before in_j) ∙ ap (λ r. nat_eq r (get_or rows j 0)) one ∙ nat_eq_equiv.refl (get_or rows j 0)))
-
--- of two texts in order that differ the first is less
-less_of : (x y : List ℕ) → is_lt (slice_cmp nat_cmp y x) ≡ false → pointwise nat_eq x y ≡ false → slice_cmp nat_cmp x y ≡ Less
-less_of x y ordered differ = by (slice_cmp nat_cmp x y) refl
-  where
-    by : (o : Ordering) → slice_cmp nat_cmp x y ≡ o → o ≡ Less
-    by Less e = refl
-    by Equal e = absurd (false≢true (sym differ ∙ texts_ties x y ∙ ap (λ o. is_eq o) e))
-    by Greater e = absurd (false≢true (sym ordered ∙ ap is_lt (nat_list_cmp_total.antisymm y x ∙ ap ordering_reverse e)))
-
--- distinct texts in order rise
-pub rising_sorted : (texts : List (List ℕ)) → IsSorted (slice_cmp nat_cmp) texts → IsDistinct (pointwise nat_eq) texts → IsRising texts
-rising_sorted texts sorted distinct =
-    rising_from_sorted texts (sorted_from_all_adjacent nat_list_cmp_total texts []
-    (λ k below. less_of (get_or texts k []) (get_or texts (k + 1) []) (sorted k [] (omega arith) below) (apart_from_distinct (pointwise nat_eq) texts k (k + 1) [] distinct (omega arith) below)))
 
 -- the sorted paths of rows rise
 pub sorted_rising : (registrations : List Registration) → IsOnce registrations → (rows : List ℕ) → AreRows registrations rows → (paths sorted : List (List ℕ)) → paths ≡ paths_at registrations rows → IsPermutation paths sorted → IsSorted (slice_cmp nat_cmp) sorted → IsRising sorted

@@ -10,18 +10,15 @@ use Rattle.std.proofs.lemmas.List.{append_assoc, map_push, take_more}
 use Rattle.std.proofs.lemmas.Map.Views.{Contains-from_lookup, Contains-keys_from_lookup, IsSome-lookup_from_Contains, hash_map_contains_key_iff}
 use Rattle.indexmap.proofs.CallerLemmas.{insert_entry-new}
 use Rattle.indexmap.specs.IndexMap.{IndexMap, get_by, insert_entry}
+use Rattle.nix_names.proofs.RisingLists.{equal_from_eq}
 use Rattle.valid_table.specs.Entries.{paths_of}
 use Rattle.valid_table.specs.PathInfos.{PathInfo}
 use Rattle.valid_table.specs.Tables.{registrations_of}
 use Rattle.valid_table.specs.Valid.{IsNotValid, IsOnce, IsValid, Registers}
 use Rattle.valid_table.specs.declared.entry.Registration.{Registration}
 use Rattle.valid_table.proofs.JournalLists.{paths_of-append}
-use Rattle.valid_table.proofs.PathLists.{once_apart, same_bytes, parts_at}
-
--- the paths of the rows are their keys
-pub paths_of_rows : (rows : List (List ℕ × PathInfo)) → paths_of (registrations_of rows) ≡ keys_of rows
-paths_of_rows [] = refl
-paths_of_rows (row ∷ rows) = ap (λ paths. row.0 ∷ paths) (paths_of_rows rows)
+use Rattle.valid_table.proofs.PathLists.{once_apart, parts_at}
+use Rattle.valid_table.proofs.RowNumbers.{paths_are_keys}
 
 -- a row is among the registrations
 registers_row : (rows : List (List ℕ × PathInfo)) (path : List ℕ) (info : PathInfo) → Contains rows (path, info) → Registers (registrations_of rows) path info
@@ -36,9 +33,9 @@ pub found_row :
     option_copied found ≡ lookup (pointwise nat_eq path) rows →
     MatchOption found (IsValid (registrations_of rows) path → ⊥) (λ info. Registers (registrations_of rows) path info.now)
 found_row rows path None is = λ valid.
-    let there = IsSome-lookup_from_Contains nat_list_eq_equiv path rows (subst (λ keys. Contains keys path) (paths_of_rows rows) valid) in
+    let there = IsSome-lookup_from_Contains nat_list_eq_equiv path rows (subst (λ keys. Contains keys path) (paths_are_keys rows) valid) in
     true≢false (sym there ∙ ap is_some (sym is))
-found_row rows path (Some info) is = registers_row rows path info.now (Contains-from_lookup same_bytes path info.now rows (sym is))
+found_row rows path (Some info) is = registers_row rows path info.now (Contains-from_lookup equal_from_eq path info.now rows (sym is))
 
 -- a path that isn't among the keys is not found
 not_found : (rows : List (List ℕ × PathInfo)) (path : List ℕ) → (Contains (keys_of rows) path → ⊥) → lookup (pointwise nat_eq path) rows ≡ None
@@ -46,7 +43,7 @@ not_found rows path apart = go (lookup (pointwise nat_eq path) rows) refl
   where
     go : (found : Option PathInfo) → lookup (pointwise nat_eq path) rows ≡ found → lookup (pointwise nat_eq path) rows ≡ None
     go None is = is
-    go (Some info) is = absurd (apart (Contains-keys_from_lookup same_bytes path rows (ap is_some is)))
+    go (Some info) is = absurd (apart (Contains-keys_from_lookup equal_from_eq path rows (ap is_some is)))
 
 -- one more row
 pub row_added :
@@ -60,7 +57,7 @@ pub row_added :
 row_added rows before rs i r new once is_so lt is added =
     let front = before ++ take i rs in
     let parts = ap paths_of (ap (λ l. before ++ l) (parts_at rs i r lt is) ∙ sym (append_assoc before (take i rs) (r ∷ drop (i + 1) rs))) ∙ paths_of-append front (r ∷ drop (i + 1) rs) in
-    let keys : keys_of rows.entries ≡ paths_of front = sym (paths_of_rows rows.entries) ∙ ap paths_of is_so in
+    let keys : keys_of rows.entries ≡ paths_of front = sym (paths_are_keys rows.entries) ∙ ap paths_of is_so in
     let apart = once_apart (paths_of front) (paths_of (drop (i + 1) rs)) r.path (rw parts at once) in
     let none = not_found rows.entries r.path (λ there. apart (subst (λ ks. Contains ks r.path) keys there)) in
     ap registrations_of (added ∙ insert_entry-new (pointwise nat_eq) rows r.path r.info none)
@@ -75,8 +72,8 @@ pub has_row_says :
     found ≡ is_some (get_by (pointwise nat_eq path) rows) →
     IsTrue found ↔ IsValid (registrations_of rows.entries) path
 has_row_says rows path found is =
-    let keys = paths_of_rows rows.entries in
-    let says = hash_map_contains_key_iff nat_list_eq_equiv same_bytes rows path in (
+    let keys = paths_are_keys rows.entries in
+    let says = hash_map_contains_key_iff nat_list_eq_equiv equal_from_eq rows path in (
       λ yes. subst (λ ks. Contains ks path) (sym keys) (says.0 (sym is ∙ yes)),
       λ valid. is ∙ says.1 (subst (λ ks. Contains ks path) keys valid),
     )
@@ -88,7 +85,7 @@ pub row_pushed :
     new ≡ insert_entry (pointwise nat_eq) rows.entries r.path r.info →
     registrations_of new ≡ registrations_of rows.entries ++ r ∷ []
 row_pushed rows r new fresh added =
-    let none = not_found rows.entries r.path (λ there. fresh (subst (λ ks. Contains ks r.path) (sym (paths_of_rows rows.entries)) there)) in
+    let none = not_found rows.entries r.path (λ there. fresh (subst (λ ks. Contains ks r.path) (sym (paths_are_keys rows.entries)) there)) in
     ap registrations_of (added ∙ insert_entry-new (pointwise nat_eq) rows r.path r.info none)
     ∙ map_push (λ (row : List ℕ × PathInfo). record { path = row.0; info = row.1 }) rows.entries (r.path, r.info)
 

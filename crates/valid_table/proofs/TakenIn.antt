@@ -5,22 +5,22 @@ use Rattle.std.specs.Cmp.Lexicographic.{pointwise}
 use Rattle.std.specs.List.{IsDistinct}
 use Rattle.std.proofs.lemmas.List.Elements.{All-append, Contains-append_cases, Contains-append_right}
 use Rattle.nix_names.specs.Rising.{IsRising}
+use Rattle.nix_names.proofs.RisingLists.{distinct_from_rising}
 use Rattle.valid_table.specs.Adding.{AreClosed, AreNew, IsFaultOf, IsObstacle, IsTaking}
 use Rattle.valid_table.specs.Entries.{paths_of}
 use Rattle.valid_table.specs.Valid.{AreReferencesValid, IsOnce, IsValid, references_of}
 use Rattle.valid_table.specs.declared.entry.Registration.{Registration}
 use Rattle.valid_table.specs.declared.fault.TableFault.{TableFault}
-use Rattle.valid_table.specs.declared.fault.TableFault.TheVariants.{NoMemory, Unclosed, AlreadyValid}
 use Rattle.valid_table.specs.declared.obstacle.Obstacle.{Obstacle}
 use Rattle.valid_table.specs.declared.obstacle.Obstacle.TheVariants as obstacle
 use Rattle.valid_table.proofs.JournalLists.{paths_of-append, references_of-append, valid_more}
-use Rattle.valid_table.proofs.PathLists.{distinct_append, rising_distinct}
+use Rattle.valid_table.proofs.PathLists.{distinct_append}
 
 -- new registrations that rise repeat no path behind known ones
 pub once_more : (known some : List Registration) → IsOnce known → IsRising (paths_of some) → AreNew known some → IsOnce (known ++ some)
 once_more known some once rising new =
     subst (IsDistinct (pointwise nat_eq)) (sym (paths_of-append known some))
-    (distinct_append (paths_of known) (paths_of some) once (rising_distinct (paths_of some) rising) new)
+    (distinct_append (paths_of known) (paths_of some) once (distinct_from_rising (paths_of some) rising) new)
 
 -- closed registrations behind known ones whose references are valid: all references are
 pub valid_with_more : (known some : List Registration) → AreReferencesValid known → AreClosed known some → AreReferencesValid (known ++ some)

@@ -1,7 +1,6 @@
 use Rattle.std.proofs.Common.{sym, ◌∙◌, ⊎_elim}
 use Rattle.std.proofs.lemmas.Bool.{false≢true}
 use Rattle.valid_table.specs.Tables.{registrations_of}
-use Rattle.valid_table.proofs.JournalLists.{still_valid}
 use Rattle.valid_table.proofs.TakenIn.{valid_by_some, valid_cases}
 use Rattle.valid_table.proofs.entering.is_known.Goals as goal
 

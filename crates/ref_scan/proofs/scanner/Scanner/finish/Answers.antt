@@ -2,9 +2,10 @@ use Rattle.std.proofs.Common.{◌≡◌, ◌∙◌, ◌+◌, sym, ap, subst, ari
 use Rattle.std.specs.Prelude.{Contains}
 use Rattle.std.proofs.lemmas.Bool.{false≢true}
 use Rattle.nix_names.specs.Rising.{IsRising}
+use Rattle.nix_names.proofs.RisingLists.{rising_take}
 use Rattle.ref_scan.specs.Feed.{lists_of}
 use Rattle.ref_scan.specs.Scanned.{Scanned}
-use Rattle.ref_scan.proofs.Findings.{found_one, found_no_more, taken_with, rising_taken}
+use Rattle.ref_scan.proofs.Findings.{found_one, found_no_more, taken_with}
 use Rattle.ref_scan.proofs.Scanning.{met_of}
 use Rattle.ref_scan.proofs.scanner.Scanner.finish.Goals as goal
 use Rattle.ref_scan.proofs.scanner.Scanner.finish.Goals.{then-is_met+in_ok-copy_of+in_ok-push, else-is_met}
@@ -19,7 +20,7 @@ loop-path-preserved c =
     let scanned = subst (λ f. Scanned f s.index.places s.index.sieve.items s.met.items s.tail.items) c.self.view_is c.self.invariant in
     let same : items ≡ c.args.self.permitted = c.deref-path-items.ensures.value ∙ ap (λ f. f.permitted) c.self.view_is in
     let taken = taken_with items i path (omega arith) c.path-item.is in
-    let rises = subst IsRising taken (rising_taken items (i + 1) (subst IsRising (sym same) scanned.rising)) in
+    let rises = subst IsRising taken (rising_take items (i + 1) (subst IsRising (sym same) scanned.rising)) in
     let has = subst (λ l. Contains l path) same (i, omega arith, sym c.path-item.is) in
     let met = subst (λ m. Scanned c.args.self s.index.places s.index.sieve.items m s.tail.items) (sym c.deref.ensures.value) scanned in
     let answer = met_of c.args.self s.index.places s.index.sieve.items c.deref.result.now s.tail.items path c.is_met.result met has c.is_met.ensures in
