@@ -99,7 +99,7 @@ fn register_text(
     let Ok(path) = path.copy(alloc) else {
         return Err(TableFault::NoMemory);
     };
-    journal.add(path, Record::new(Vec::new(alloc), Some(digest)))?;
+    journal.add(path, Record::new(Vec::new(alloc), Some(digest))?)?;
     Ok(true)
 }
 

@@ -31,8 +31,8 @@ fn paths(alloc: Global, numbers: &[usize]) -> Result<Vec<StorePath>, Fail> {
 // The record of a path with one reference, or none.
 fn record(alloc: Global, reference: Option<usize>) -> Result<Record, Fail> {
     match reference {
-        Some(n) => Ok(Record::new(vec![in alloc; path(alloc, n)?]?, None)),
-        None => Ok(Record::new(Vec::new(alloc), None)),
+        Some(n) => Ok(Record::new(vec![in alloc; path(alloc, n)?]?, None)?),
+        None => Ok(Record::new(Vec::new(alloc), None)?),
     }
 }
 
@@ -94,7 +94,7 @@ fn closure_of_two_references(rt: HostRuntime) -> Result<(), Fail> {
     let second = path(alloc, 1)?;
     assert!(rt; matches!(first.cmp(&second), Ordering::Less));
     let mut rows = rows(alloc, &[Some(1), None])?;
-    let both = Record::new(vec![in alloc; first, second]?, None);
+    let both = Record::new(vec![in alloc; first, second]?, None)?;
     add_row(&mut rows, path(alloc, 2)?, both)?;
     let answer = close(alloc, &rows, &paths(alloc, &[2])?);
     assert!(rt; is_closure(alloc, answer, &[0, 1, 2])?);

@@ -1,41 +1,53 @@
 //! Entries of a journal: paths that were added, and outputs that were built.
-ghost use Rattle.std.specs.Prelude.{◌≡◌, ◌≢◌, [], List, IfOk, IfErr};
+ghost use Rattle.std.specs.Prelude.{◌≡◌, ◌≢◌, [], List, IfOk, IfErr, IsOk};
+ghost use Rattle.std.specs.Arc.{arc_slice_items};
+ghost use Rattle.std.specs.Option.{option_map_or};
 ghost use Rattle.nix_names.specs.Rising.{IsRising};
 ghost use Rattle.valid_table.specs.Entries.{paths_of, registered_by};
 
 use crate::fault::TableFault;
 use nix_names::{NameFault, StorePath};
-use std::alloc::Global;
+use std::alloc::{AllocError, Global};
 use std::marker::Model;
 use std::slice;
+use std::sync::ArcSlice;
 
-/// What is known of a valid path. A contract sees its references and its digest.
+/// What is known of a valid path. A contract sees its references and its digest. All copies of a
+/// record share one list of references, in any threads; no references take no room.
 #[derive(Debug, Drop)]
 pub struct Record {
-    references: Vec<StorePath>,
+    references: Option<ArcSlice<StorePath>>,
     digest: Option<[u8; 32]>,
 }
 
 impl Model for Record {
+    ghost use Rattle.std.specs.Prelude.{[]};
+    ghost use Rattle.std.specs.Arc.{arc_slice_items};
+    ghost use Rattle.std.specs.Option.{option_map_or};
     ghost use Rattle.nix_names.specs.Rising.{IsRising};
     ghost use Rattle.valid_table.specs.PathInfos.{PathInfo};
 
     ghost Value = { PathInfo };
 
-    ghost view = { λ r. record { references = r.references.items; digest = r.digest } };
+    ghost view = { λ r. record { references = option_map_or arc_slice_items r.references []; digest = r.digest } };
 
-    ghost invariant = { λ r. IsRising r.references.items };
+    ghost invariant = { λ r. IsRising (option_map_or arc_slice_items r.references []) };
 }
 
 impl Record {
     /// The record of a path with these references, and with the digest of its bytes where it is a
-    /// file.
-    pub fn new(references: Vec<StorePath>, digest: Option<[u8; 32]>) -> Record
+    /// file. Takes memory only where there are references.
+    pub fn new(
+        references: Vec<StorePath>,
+        digest: Option<[u8; 32]>,
+    ) -> Result<Record, AllocError>
         requires rising { IsRising references.items }
-        ensures references { result.references ≡ references.items }
-        ensures digest { result.digest ≡ digest }
+        ensures references { IfOk result (λ r. r.references ≡ references.items) }
+        ensures digest { IfOk result (λ r. r.digest ≡ digest) }
+        ensures none { references.items ≡ [] → IsOk result }
     {
-        Record { references, digest }
+        let references = share(references)?;
+        Ok(Record { references, digest })
     }
 
     /// The paths that the path refers to, strictly rising.
@@ -43,7 +55,10 @@ impl Record {
         ensures value { result.now ≡ self.now.references }
         ensures rising { IsRising result.now }
     {
-        &self.references
+        match &self.references {
+            None => &[],
+            Some(shared) => shared.as_slice(),
+        }
     }
 
     /// SHA-256 of the path's bytes where it is a file, else none.
@@ -53,15 +68,16 @@ impl Record {
         self.digest
     }
 
-    /// The same record again. Answers `NoMemory` where memory is refused, and no other fault.
-    pub fn copy(&self, alloc: Global) -> Result<Record, TableFault>
+    /// The same record again, with the same list of references. Answers `NoMemory` where the list
+    /// can have no more owners, and no other fault.
+    pub fn copy(&self, _alloc: Global) -> Result<Record, TableFault>
         ensures ok { IfOk result (λ r. r ≡ self.now) }
         ensures err { IfErr result (λ e. e ≡ TableFault.NoMemory) }
     {
-        let mut references = Vec::with_capacity(alloc, self.references.len())?;
-        for path in &self.references {
-            references.push(copy_path(alloc, path)?)?;
-        }
+        let references = match &self.references {
+            None => None,
+            Some(shared) => Some(shared.clone()?),
+        };
         Ok(Record {
             references,
             digest: self.digest,
@@ -175,6 +191,18 @@ impl Entry {
             )),
         }
     }
+}
+
+// Paths as a list that copies share, or none of no paths.
+fn share(paths: Vec<StorePath>) -> Result<Option<ArcSlice<StorePath>>, AllocError>
+    ensures ok { IfOk result (λ shared. option_map_or arc_slice_items shared [] ≡ paths.items) }
+    ensures none { paths.items ≡ [] → IsOk result }
+{
+    if paths.is_empty() {
+        return Ok(None);
+    }
+    let shared = ArcSlice::from_vec(paths)?;
+    Ok(Some(shared))
 }
 
 // The same path again.

@@ -25,7 +25,7 @@ fn record(alloc: Global, reference: Option<&[u8]>) -> Result<Record, Fail> {
     if let Some(text) = reference {
         references = vec![in alloc; path(alloc, text)?]?;
     }
-    Ok(Record::new(references, None))
+    Ok(Record::new(references, None)?)
 }
 
 // The one output with this path, which refers to itself.

@@ -21,7 +21,7 @@ fn added(alloc: Global) -> Result<Entry, Fail>
         &store,
         b"/nix/store/aaaaaaaaaaaaaaaaaaaaaaaaaaaaaaaa-x",
     )?;
-    let info = Record::new(Vec::new(alloc), None);
+    let info = Record::new(Vec::new(alloc), None)?;
     Ok(Entry::Add(Registration { path, info }))
 }
 

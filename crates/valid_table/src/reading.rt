@@ -141,7 +141,7 @@ fn registration_of<'a>(
         return Err(Stop::Left(bytes.len()));
     }
     let (references, rest) = references_of(alloc, dir, rest)?;
-    let info = Record::new(references, digest);
+    let info = Record::new(references, digest)?;
     Ok(Some((Registration { path, info }, rest)))
 }
 

@@ -13,5 +13,5 @@ returns-then-not-is_above-clause-left c =
 pub returns-clause-ok : goal.returns-clause-ok
 returns-clause-ok c =
     registration_found _ _ _ _ c.in-Some.fields.now c.in-Some-2.path c.in-Some-2.digest c.in-Some-2.rest.now c.in_ok-references.rest.now
-    c.in_ok-references.references.items c.new-info.result c.in-Some.ensures (MatchOption-at_some _ _ _ c.in-Some-2.is c.in_ok-path.ensures)
-    (c.is_above.ensures.0 c.if-not-is_above.false) c.in_ok-references.ensures.ok c.new-info.ensures.references c.new-info.ensures.digest
+    c.in_ok-references.references.items c.in_ok-info.info c.in-Some.ensures (MatchOption-at_some _ _ _ c.in-Some-2.is c.in_ok-path.ensures)
+    (c.is_above.ensures.0 c.if-not-is_above.false) c.in_ok-references.ensures.ok c.in_ok-info.ensures.references c.in_ok-info.ensures.digest
