@@ -8,7 +8,7 @@ use Rattle.memchr.proofs.lemmas.MatchLemmas.{OccursAt-split, OccursAt-from_part}
 use Rattle.ref_scan.specs.Scan.{Within, Occurs}
 use Rattle.ref_scan.specs.Trees.{pieces}
 use Rattle.ref_scan.specs.declared.tree.Tree.{Tree, File, Dir}
-use Rattle.ref_scan.specs.declared.tree.Entry.{Entry}
+use Rattle.ref_scan.specs.declared.tree.Member.{Member}
 use Rattle.ref_scan.proofs.Folders.{pieces_below, pieces_dir}
 
 module _ {X : Type 0} (P : X → Type 0) where
@@ -58,17 +58,17 @@ within_found part bytes None h (before, after, is) =
     absurd (h n (omega arith) (omega arith) (OccursAt-from_part bytes part n (omega arith) stands))
 
 -- Some piece of a tree has the part exactly where one of these last entries of the tree's folder has it.
-pub record Searched (part : List ℕ) (tree : Tree) (rest : List Entry) : Type 0 where
+pub record Searched (part : List ℕ) (tree : Tree) (rest : List Member) : Type 0 where
   pub ahead : Occurs part tree → Any (Within part) (pieces_below rest)
   pub back : Any (Within part) (pieces_below rest) → Occurs part tree
 
-pub searched_start : (part : List ℕ) (tree : Tree) (entries : _) (items : List Entry) → tree ≡ Dir entries → items ≡ entries.items → Searched part tree items
+pub searched_start : (part : List ℕ) (tree : Tree) (entries : _) (items : List Member) → tree ≡ Dir entries → items ≡ entries.items → Searched part tree items
 searched_start part tree entries items is same =
     let held = ap pieces is ∙ pieces_dir entries ∙ ap pieces_below (sym same) in
     record { ahead = subst (Any (Within part)) held; back = subst (Any (Within part)) (sym held) }
 
 pub searched_step :
-    (part : List ℕ) (tree : Tree) (e : Entry) (rest : List Entry) →
+    (part : List ℕ) (tree : Tree) (e : Member) (rest : List Member) →
     Searched part tree (e ∷ rest) →
     ¬ Within part e.name.items →
     ¬ Occurs part e.tree →
@@ -86,7 +86,7 @@ searched_step part tree e rest before unnamed none =
     }
 
 pub searched_name :
-    (part : List ℕ) (tree : Tree) (e : Entry) (rest : List Entry) →
+    (part : List ℕ) (tree : Tree) (e : Member) (rest : List Member) →
     Searched part tree (e ∷ rest) →
     Within part e.name.items →
     Occurs part tree
@@ -94,7 +94,7 @@ searched_name part tree e rest before named =
     before.back (Any-first (Within part) e.name.items (pieces e.tree ++ pieces_below rest) named)
 
 pub searched_tree :
-    (part : List ℕ) (tree : Tree) (e : Entry) (rest : List Entry) →
+    (part : List ℕ) (tree : Tree) (e : Member) (rest : List Member) →
     Searched part tree (e ∷ rest) →
     Occurs part e.tree →
     Occurs part tree

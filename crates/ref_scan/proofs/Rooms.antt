@@ -4,11 +4,11 @@ use Rattle.ref_scan.specs.Room.{FitsIn, Fills}
 use Rattle.ref_scan.specs.Trees.{depth_of, entry_count, file_bytes}
 use Rattle.ref_scan.specs.declared.tree.Room.{Room}
 use Rattle.ref_scan.specs.declared.tree.Tree.{Tree, Dir}
-use Rattle.ref_scan.specs.declared.tree.Entry.{Entry}
+use Rattle.ref_scan.specs.declared.tree.Member.{Member}
 use Rattle.ref_scan.proofs.Folders.{depth_below, count_below, bytes_below, depth_dir, count_dir, bytes_dir, depth_some, members_counted}
 
 -- What is left beside a folder's entries but for these last ones; the room of all members was taken up before the first.
-pub record Counting (below : ℕ) (room left : Room) (tree : Tree) (rest : List Entry) : Type 0 where
+pub record Counting (below : ℕ) (room left : Room) (tree : Tree) (rest : List Member) : Type 0 where
   pub depth : max (depth_of tree) (below + 1) ≡ max (1 + depth_below rest) (below + 1)
   pub entries : room.entries + count_below rest ≡ left.entries + length rest + entry_count tree
   pub bytes : room.bytes + bytes_below rest ≡ left.bytes + file_bytes tree
@@ -26,7 +26,7 @@ counting_start below room left tree entries is members same =
     record { depth = omega arith; entries = omega arith; bytes = omega arith }
 
 pub counting_step :
-    (below b : ℕ) (room left next : Room) (tree : Tree) (e : Entry) (rest : List Entry) →
+    (below b : ℕ) (room left next : Room) (tree : Tree) (e : Member) (rest : List Member) →
     below ≡ b + 1 →
     Counting below room left tree (e ∷ rest) →
     Fills b left e.tree next →
@@ -51,7 +51,7 @@ counting_end below room left tree before =
 
 -- an entry that doesn't fit in what is left
 pub counting_full :
-    (below b : ℕ) (room left : Room) (tree : Tree) (e : Entry) (rest : List Entry) →
+    (below b : ℕ) (room left : Room) (tree : Tree) (e : Member) (rest : List Member) →
     below ≡ b + 1 →
     Counting below room left tree (e ∷ rest) →
     ¬ FitsIn b left e.tree →
@@ -66,7 +66,7 @@ counting_full below b room left tree e rest is before full fits =
 
 -- an entry where no more levels are allowed
 pub counting_deep :
-    (below : ℕ) (room left : Room) (tree : Tree) (e : Entry) (rest : List Entry) →
+    (below : ℕ) (room left : Room) (tree : Tree) (e : Member) (rest : List Member) →
     below ≡ 0 →
     Counting below room left tree (e ∷ rest) →
     ¬ FitsIn below room tree

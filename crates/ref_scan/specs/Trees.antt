@@ -1,6 +1,6 @@
 -- Trees of files and folders: the pieces in which a reference may stand, and the measures that an output's limits bound.
 use Rattle.std.specs.Prelude.{ℕ, ◌+◌, ◌≤◌, max, List, [], ◌∷◌, ◌++◌, length}
-use Rattle.ref_scan.specs.declared.tree.Tree.{Tree, File, Dir', Row_of-Entry, end_of-Entry, more_of-Entry}
+use Rattle.ref_scan.specs.declared.tree.Tree.{Tree, File, Dir', Row_of-Member, end_of-Member, more_of-Member}
 
 abbrev mutual
   -- the pieces of a tree: each file's bytes and each entry's name, at any depth, apart; the root has no name
@@ -9,9 +9,9 @@ abbrev mutual
   pieces (Dir' shape entries) = pieces_among entries
 
   -- the pieces of a folder's entries
-  pub pieces_among : {m : _} → Row_of-Entry m → List (List ℕ)
-  pieces_among end_of-Entry = []
-  pieces_among (more_of-Entry name tree rest) = name.items ∷ (pieces tree ++ pieces_among rest)
+  pub pieces_among : {m : _} → Row_of-Member m → List (List ℕ)
+  pieces_among end_of-Member = []
+  pieces_among (more_of-Member name tree rest) = name.items ∷ (pieces tree ++ pieces_among rest)
 
 abbrev mutual
   -- the levels of a tree: one for a file or an empty folder
@@ -20,9 +20,9 @@ abbrev mutual
   depth_of (Dir' shape entries) = 1 + depth_among entries
 
   -- the levels below a folder
-  pub depth_among : {m : _} → Row_of-Entry m → ℕ
-  depth_among end_of-Entry = 0
-  depth_among (more_of-Entry name tree rest) = max (depth_of tree) (depth_among rest)
+  pub depth_among : {m : _} → Row_of-Member m → ℕ
+  depth_among end_of-Member = 0
+  depth_among (more_of-Member name tree rest) = max (depth_of tree) (depth_among rest)
 
 abbrev mutual
   -- the named members of folders at any depth; the root is none
@@ -31,9 +31,9 @@ abbrev mutual
   entry_count (Dir' shape entries) = entry_count_among entries
 
   -- a folder's members and those below them
-  pub entry_count_among : {m : _} → Row_of-Entry m → ℕ
-  entry_count_among end_of-Entry = 0
-  entry_count_among (more_of-Entry name tree rest) = 1 + entry_count tree + entry_count_among rest
+  pub entry_count_among : {m : _} → Row_of-Member m → ℕ
+  entry_count_among end_of-Member = 0
+  entry_count_among (more_of-Member name tree rest) = 1 + entry_count tree + entry_count_among rest
 
 abbrev mutual
   -- the bytes of all files
@@ -42,9 +42,9 @@ abbrev mutual
   file_bytes (Dir' shape entries) = file_bytes_among entries
 
   -- the bytes of all files of a folder's entries
-  pub file_bytes_among : {m : _} → Row_of-Entry m → ℕ
-  file_bytes_among end_of-Entry = 0
-  file_bytes_among (more_of-Entry name tree rest) = file_bytes tree + file_bytes_among rest
+  pub file_bytes_among : {m : _} → Row_of-Member m → ℕ
+  file_bytes_among end_of-Member = 0
+  file_bytes_among (more_of-Member name tree rest) = file_bytes tree + file_bytes_among rest
 
 -- A tree keeps the limits of an output: 32 levels, 65,536 entries, 64 MiB of files.
 pub record Fits (tree : Tree) : Type 0 where

@@ -17,4 +17,4 @@ mod tree;
 
 pub use fault::ScanFault;
 pub use references::scan;
-pub use tree::{Entry, Tree};
+pub use tree::{Member, Tree};

@@ -5,7 +5,7 @@ ghost use Rattle.std.specs.Cmp.Lexicographic.{slice_cmp};
 ghost use Rattle.std.specs.declared.cmp.Ordering.{Ordering};
 ghost use Rattle.nix_names.specs.Rising.{IsRising};
 
-use crate::{Entry, ScanFault, Tree, scan};
+use crate::{Member, ScanFault, Tree, scan};
 use nix_names::{StoreDir, StorePath, parse_path};
 use std::alloc::Global;
 use std::test::Fail;
@@ -27,7 +27,7 @@ fn file(alloc: Global, bytes: &[u8]) -> Result<Tree, Fail> {
 
 fn folder(alloc: Global, name: &[u8], tree: Tree) -> Result<Tree, Fail> {
     let name = name.to_vec(alloc)?;
-    Ok(Tree::Dir(vec![in alloc; Entry { name, tree }]?))
+    Ok(Tree::Dir(vec![in alloc; Member { name, tree }]?))
 }
 
 fn two_paths(alloc: Global, first: &[u8], second: &[u8]) -> Result<Vec<StorePath>, Fail>
@@ -63,7 +63,7 @@ fn wide(alloc: Global, members: usize) -> Result<Tree, Fail> {
     for _ in 0..members {
         let name = b"d".to_vec(alloc)?;
         let tree = Tree::Dir(Vec::new(alloc));
-        entries.push(Entry { name, tree })?;
+        entries.push(Member { name, tree })?;
     }
     Ok(Tree::Dir(entries))
 }
@@ -73,11 +73,11 @@ fn zeros(alloc: Global, len: usize) -> Result<Tree, Fail> {
 }
 
 fn pair(alloc: Global, first: Tree, second: Tree) -> Result<Tree, Fail> {
-    let first = Entry {
+    let first = Member {
         name: b"one".to_vec(alloc)?,
         tree: first,
     };
-    let second = Entry {
+    let second = Member {
         name: b"two".to_vec(alloc)?,
         tree: second,
     };

@@ -22,13 +22,13 @@ pub enum Tree {
     /// A file's bytes.
     File(Vec<u8>),
     /// A folder's entries, in any order.
-    Dir(Vec<Entry>),
+    Dir(Vec<Member>),
 }
 
 /// A named member of a folder.
 #[derive(Debug, Drop)]
 #[cycle(tree)]
-pub struct Entry {
+pub struct Member {
     /// The name, without the folder's path.
     pub name: Vec<u8>,
     /// What stands under it.
@@ -86,7 +86,7 @@ impl Tree {
         match self {
             Tree::File(bytes) => part.find(bytes).is_some(),
             Tree::Dir(entries) => {
-                for Entry { name, tree } in entries {
+                for Member { name, tree } in entries {
                     if part.find(name).is_some() {
                         return true;
                     }
