@@ -1,0 +1,5 @@
+pub mod Jobs
+pub mod Legal
+pub mod Runs
+pub mod States
+pub mod Verdicts

@@ -1,0 +1,13 @@
+//! The book of a run: which derivations are built, which can be, and what each built output refers to.
+//!
+//! | Module | What is in it |
+//! |---|---|
+//! | `job` | what a builder is given, and what it answers |
+//! | `reason` | why a derivation was not built, its state, and events |
+#![tactic(auto)]
+
+mod job;
+mod reason;
+
+pub use job::{Answer, Job, JobOutput};
+pub use reason::{Event, Reason, Refusal, State};
