@@ -1,19 +1,16 @@
 -- The characters of digits.
-use Rattle.std.proofs.Common.{◌≡◌, ◌+◌, ◌<◌, ◌==◌, ℕ, suc, Bool, true, false, List, [], ◌∷◌, ◌||◌, ◌≤◌, Some, None, length, get_or, refl, subst, ◌∙◌, arith}
-use Rattle.std.specs.Prelude.{nat_lt, map, cond, not, unwrap_or}
-use Rattle.std.specs.List.{list_all, list_any, range_with_len, position, position_or_len, All}
-use Rattle.std.proofs.lemmas.Bool.{eqb-true, ltb-true, ltb-false}
-use Rattle.std.proofs.lemmas.List.Elements.{All-get_or, All-head, All-tail}
-use Rattle.std.proofs.lemmas.List.Sums.{AllPass-from_list_all, passes_at_first, prefix_len-le-length}
-use Rattle.std.proofs.lemmas.List.FromFn.{length-range_with_len, get_or-range_with_len}
+use Rattle.std.proofs.Common.{◌≡◌, ◌+◌, ◌<◌, ◌==◌, ℕ, suc, Bool, true, false, List, [], ◌∷◌, ◌||◌, length, inl, inr, refl, sym, subst, ◌∙◌, arith}
+use Rattle.std.specs.Prelude.{nat_lt, map, cond, not}
+use Rattle.std.specs.List.{list_all, list_any, range_with_len, position_or_len, All}
+use Rattle.std.proofs.lemmas.Bool.{cases_Bool, eqb-true, false_from_ne_true, false≢true, ltb-true, lt-ltb}
+use Rattle.std.proofs.lemmas.List.Elements.{All-head, All-tail}
+use Rattle.std.proofs.lemmas.List.Sums.{passes_at_first}
 use Rattle.nix_names.specs.Base32.{alphabet, digit_char, digit_of, is_digit}
+use Rattle.nix_names.proofs.Base32Runs.{each_from}
 
 -- a test that each digit passes
 each_digit : (p : ℕ → Bool) → list_all p (range_with_len 0 32) ≡ true → (d : ℕ) → d < 32 → p d ≡ true
-each_digit p all d h =
-    let at : get_or (range_with_len 0 32) d 0 ≡ d = get_or-range_with_len 0 32 d 0 h ∙ omega arith in
-    let pass = All-get_or (λ x. p x ≡ true) (range_with_len 0 32) d 0 (omega (arith, length-range_with_len 0 32)) (AllPass-from_list_all p (range_with_len 0 32) all) in
-    subst (λ x. p x ≡ true) at pass
+each_digit p all d h = each_from 0 32 p all d (omega arith) (omega arith)
 
 pub digit_char_ascii : (d : ℕ) → d < 32 → digit_char d < 128
 digit_char_ascii d h = ltb-true (digit_char d) 128 (each_digit (λ x. nat_lt (digit_char x) 128) refl d h)
@@ -39,9 +36,24 @@ pub digit_of_below : (c : ℕ) → is_digit c ≡ true → digit_of c < 32
 unfolding digit_of
 digit_of_below c is = first_of_any (λ a. a == c) alphabet is
 
-pub digit_char_digit_of : (c : ℕ) → is_digit c ≡ true → digit_char (digit_of c) ≡ c
+-- the character at the place where a character is found
+char_at_place : (c : ℕ) → digit_of c < 32 → digit_char (digit_of c) ≡ c
 unfolding digit_of
-digit_char_digit_of c is = eqb-true (digit_char (digit_of c)) c (passes_at_first (λ a. a == c) alphabet 0 (digit_of_below c is))
+char_at_place c below = eqb-true (digit_char (digit_of c)) c (passes_at_first (λ a. a == c) alphabet 0 below)
+
+pub digit_char_digit_of : (c : ℕ) → is_digit c ≡ true → digit_char (digit_of c) ≡ c
+digit_char_digit_of c is = char_at_place c (digit_of_below c is)
+
+-- a character is one of the alphabet where its digit is below 32
+is_digit_where_below : (c : ℕ) → digit_of c < 32 → is_digit c ≡ true
+is_digit_where_below c below = subst (λ x. is_digit x ≡ true) (char_at_place c below) (is_digit_digit_char (digit_of c) below)
+
+pub is_digit_by_digit : (c : ℕ) → nat_lt (digit_of c) 32 ≡ is_digit c
+is_digit_by_digit c =
+    elim (cases_Bool (is_digit c)) [
+      | inl is ↦ lt-ltb (digit_of c) 32 (digit_of_below c is) ∙ sym is
+      | inr isnt ↦ false_from_ne_true (nat_lt (digit_of c) 32) (λ e. false≢true (sym isnt ∙ is_digit_where_below c (ltb-true (digit_of c) 32 e))) ∙ sym isnt
+    ]
 
 pub map_digit_of : (ds : List ℕ) → All (λ d. d < 32) ds → map digit_of (map digit_char ds) ≡ ds
 map_digit_of [] below = refl
@@ -52,16 +64,3 @@ pub map_digit_char : (text : List ℕ) → All (λ c. is_digit c ≡ true) text 
 map_digit_char [] are = refl
 map_digit_char (c ∷ text) are =
     rw (digit_char_digit_of c (All-head (λ x. is_digit x ≡ true) c text are), map_digit_char text (All-tail (λ x. is_digit x ≡ true) c text are))
-
--- the place of the first that passes, or the length
-unwrap_place : (first len : ℕ) → first ≤ len → unwrap_or (cond (nat_lt first len) (Some first) None) len ≡ first
-unwrap_place first len h = go (nat_lt first len) refl
-  where
-    go : (b : Bool) → nat_lt first len ≡ b → unwrap_or (cond b (Some first) None) len ≡ first
-    go true is = refl
-    go false is = omega (arith, ltb-false first len is)
-
-pub digit_of_place : (c : ℕ) → unwrap_or (position (λ a. a == c) alphabet) 32 ≡ digit_of c
-unfolding digit_of
-digit_of_place c =
-    unwrap_place (position_or_len (λ a. a == c) alphabet) 32 (prefix_len-le-length (λ a. not (a == c)) alphabet)

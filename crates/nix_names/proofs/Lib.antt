@@ -3,9 +3,11 @@ pub mod Base32Chars
 pub mod Base32Digits
 pub mod Base32Laws
 pub mod Base32Reading
+pub mod Base32Runs
 pub mod Base32Texts
 pub mod PathBytes
 pub mod PathDigests
 pub mod PathFaults
 pub mod PathFolders
 pub mod PathTexts
+pub mod RisingLists

@@ -1,8 +1,9 @@
-//! Bytes as base-32 text and back, in the notation of a store path's hash part (Nix manual, "Store Path").
+//! Bytes as base-32 text and back, in the notation of a store path's hash part (Nix manual,
+//! "Store Path").
 //!
-//! n bytes are one number, in which byte i weighs 256 to the power i. Its text has `ceil(8n / 5)` digits of
-//! `0123456789abcdfghijklmnpqrsvwxyz`, the most significant first. The code reads each digit's five bits, and
-//! each byte's eight, where they lie.
+//! n bytes are one number, in which byte i weighs 256 to the power i. Its text has `ceil(8n / 5)`
+//! digits of `0123456789abcdfghijklmnpqrsvwxyz`, the most significant first. The code reads each
+//! digit's five bits, and each byte's eight, where they lie.
 ghost use Rattle.std.specs.Prelude.{◌≡◌, ◌==◌, ◌/◌, ◌%◌, ◌^◌, ◌<◌, ◌≤◌, length, map, reverse, slice_index, string_bytes, IfOk, IfErr, not};
 ghost use Rattle.nix_names.specs.Base32.{alphabet, base32, base32_fault, StandsFor, number, digits_of, text_len, text_number, digit_char, digit_of, is_digit};
 ghost use Rattle.nix_names.specs.Answers.{Answers};
@@ -11,12 +12,13 @@ ghost use Rattle.std.specs.List.{AllPass, position};
 use crate::fault::NameFault;
 use std::alloc::{AllocError, Global};
 
-/// The characters of the digits 0 to 31: no e, o, t or u.
+// The characters of the digits 0 to 31: no e, o, t or u.
 const ALPHABET: &[u8; 32] = b"0123456789abcdfghijklmnpqrsvwxyz";
 
 /// The base-32 text of bytes: `ceil(8n / 5)` characters for n bytes, and none for none.
 ///
-/// Fails with `NoMemory` alone. Costs one allocation of the text's length, and one step for each character.
+/// Fails with `NoMemory` alone. Costs one allocation of the text's length, and one step for each
+/// character.
 pub fn to_base32(alloc: Global, bytes: &[u8]) -> Result<String, NameFault>
     ensures text { IfOk result (λ t. string_bytes t ≡ base32 bytes.now) }
     ensures stands { IfOk result (λ t. StandsFor (string_bytes t) bytes.now) }
@@ -32,12 +34,14 @@ pub fn to_base32(alloc: Global, bytes: &[u8]) -> Result<String, NameFault>
 
 /// The `n` bytes that a base-32 text stands for.
 ///
-/// Fails with the first of these that holds: `BadLength` where the text has not `ceil(8n / 5)` bytes, `BadChar`
-/// with the place of the first byte that is no digit, counted from 0, and `Overflow` where a bit that the `n`
-/// bytes leave spare is set. So each list of bytes has one text. `NoMemory` comes only where none of them does.
-/// Costs one allocation of `n` bytes, and one step for each character.
+/// Fails with the first of these that holds: `BadLength` where the text has not `ceil(8n / 5)`
+/// bytes, `BadChar` with the place of the first byte that is no digit, counted from 0, and
+/// `Overflow` where a bit that the `n` bytes leave spare is set. So each list of bytes has one
+/// text. `NoMemory` comes only where none of them does. Costs one allocation of `n` bytes, and a
+/// few steps for each character.
 pub fn from_base32(alloc: Global, text: &[u8], n: usize) -> Result<Vec<u8>, NameFault>
-    ensures { Answers (base32_fault text.now n) result (λ bytes. (length bytes.items ≡ n) × StandsFor text.now bytes.items) }
+    ensures { Answers (base32_fault text.now n) result (λ bytes.
+        (length bytes.items ≡ n) × StandsFor text.now bytes.items) }
 {
     if let Some(fault) = fault_of(text, n) {
         return Err(fault);
@@ -45,7 +49,7 @@ pub fn from_base32(alloc: Global, text: &[u8], n: usize) -> Result<Vec<u8>, Name
     Ok(bytes_of(alloc, text, n)?)
 }
 
-/// What is wrong first with a text as that of `n` bytes.
+// What is wrong first with a text as that of `n` bytes.
 fn fault_of(text: &[u8], n: usize) -> Option<NameFault>
     ensures { result ≡ base32_fault text.now n }
 {
@@ -63,14 +67,14 @@ fn fault_of(text: &[u8], n: usize) -> Option<NameFault>
     None
 }
 
-/// The place of the first character that is no digit.
+// The place of the first character that is no digit.
 fn first_bad(text: &[u8]) -> Option<usize>
     ensures { result ≡ position (λ c. not (is_digit c)) text.now }
 {
     text.iter().position(|c| !is_digit(*c))
 }
 
-/// The first `n` bytes of the number that a text of digits writes.
+// The first `n` bytes of the number that a text of digits writes.
 fn bytes_of(alloc: Global, text: &[u8], n: usize) -> Result<Vec<u8>, AllocError>
     requires digits { AllPass is_digit text.now }
     requires within { n ≤ length text.now }
@@ -83,7 +87,7 @@ fn bytes_of(alloc: Global, text: &[u8], n: usize) -> Result<Vec<u8>, AllocError>
     Ok(bytes)
 }
 
-/// How many characters the text of `n` bytes has.
+// How many characters the text of `n` bytes has.
 fn text_len(n: usize) -> usize
     requires { n < 2 ^ 63 }
     ensures { result ≡ text_len n }
@@ -91,7 +95,7 @@ fn text_len(n: usize) -> usize
     n / 5 * 8 + (n % 5 * 8).div_ceil(5)
 }
 
-/// The character of a digit below 32.
+// The character of a digit below 32.
 fn digit_char(digit: u8) -> char
     requires { digit < 32 }
     ensures { result ≡ digit_char digit }
@@ -99,7 +103,7 @@ fn digit_char(digit: u8) -> char
     char::from(ALPHABET[digit as usize])
 }
 
-/// The digit at `place`, counted from the least significant; eight digits are five bytes.
+// The digit at `place`, counted from the least significant; eight digits are five bytes.
 fn digit_at(bytes: &[u8], place: usize) -> u8
     ensures { result ≡ number 256 bytes.now / 32 ^ place % 32 }
 {
@@ -109,14 +113,14 @@ fn digit_at(bytes: &[u8], place: usize) -> u8
     ((pair >> (bit % 8)) % 32) as u8
 }
 
-/// The byte at `at`, or 0 past the last.
+// The byte at `at`, or 0 past the last.
 fn byte_at(bytes: &[u8], at: usize) -> u8
     ensures { result ≡ slice_index bytes.now at }
 {
     bytes.get(at).copied().unwrap_or(0)
 }
 
-/// The byte at `at` of the number that a text of digits writes; five bytes are eight digits.
+// The byte at `at` of the number that a text of digits writes; five bytes are eight digits.
 fn byte_of(text: &[u8], at: usize) -> u8
     requires digits { AllPass is_digit text.now }
     requires within { at ≤ length text.now }
@@ -130,7 +134,7 @@ fn byte_of(text: &[u8], at: usize) -> u8
     (((high * 1024 + middle * 32 + low) >> (bit % 5)) % 256) as u8
 }
 
-/// The digit at `place`, counted from a text's end, or 0 before its first.
+// The digit at `place`, counted from a text's end, or 0 before its first.
 fn digit_from_end(text: &[u8], place: usize) -> u8
     ensures { result ≡ slice_index (reverse (map digit_of text.now)) place }
 {
@@ -141,25 +145,26 @@ fn digit_from_end(text: &[u8], place: usize) -> u8
     }
 }
 
-/// The digit of a character, or 32 where it is none of the alphabet.
+// The digit of a character, or 32 where it is none of the alphabet. Costs a few comparisons.
+#[tactic(auto, using(crate::proofs::Base32Runs::digits))]
 fn digit_of(character: u8) -> u8
     ensures { result ≡ digit_of character }
 {
-    place_in_alphabet(character).unwrap_or(32) as u8
+    match character {
+        b'0'..=b'9' => character - b'0',
+        b'a'..=b'd' => character - b'a' + 10,
+        b'f'..=b'n' => character - b'f' + 14,
+        b'p'..=b's' => character - b'p' + 23,
+        b'v'..=b'z' => character - b'v' + 27,
+        _ => 32,
+    }
 }
 
-/// The place of a character in the alphabet.
-fn place_in_alphabet(character: u8) -> Option<usize>
-    ensures { result ≡ position (λ a. a == character) alphabet }
-{
-    ALPHABET.iter().position(|a| *a == character)
-}
-
-/// Whether a character is one of the alphabet.
+/// Whether a character is one of the alphabet. Costs a few comparisons.
 pub fn is_digit(character: u8) -> bool
     ensures { result ≡ is_digit character }
 {
-    ALPHABET.iter().any(|a| *a == character)
+    digit_of(character) < 32
 }
 
 #[cfg(test)]
@@ -167,7 +172,7 @@ mod tests {
     use super::*;
     use std::test::Fail;
 
-    /// Bytes in hex and their base-32 text.
+    // Bytes in hex and their base-32 text.
     const VECTORS: [(&str, &str); 6] = [
         ("", ""),
         ("ff", "7z"),

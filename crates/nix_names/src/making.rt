@@ -34,7 +34,8 @@ pub fn make_path(
     dir: &StoreDir,
     name: &[u8],
 ) -> Result<StorePath, NameFault>
-    ensures { Answers (if is_name name.now then None else Some NameFault.BadName) result (λ path. path ≡ store_path kind.now inner.now dir.now name.now) }
+    ensures { Answers (if is_name name.now then None else Some NameFault.BadName) result (λ path.
+        path ≡ store_path kind.now inner.now dir.now name.now) }
 {
     if !is_name(name) {
         return Err(NameFault::BadName);

@@ -6,8 +6,8 @@ ghost use Rattle.nix_names.specs.Names.{is_component, is_dotted, is_drv_name, is
 // The greatest length of a name, in bytes.
 const MAX_NAME_LEN: usize = 211;
 
-/// Whether some bytes are a store path's name: 1 to 211 bytes of `A-Z a-z 0-9 + - . _ ? =`, neither `.`
-/// nor `..`, nor beginning with `.-` or `..-`.
+/// Whether some bytes are a store path's name: 1 to 211 bytes of `A-Z a-z 0-9 + - . _ ? =`, neither
+/// `.` nor `..`, nor beginning with `.-` or `..-`. Costs one pass at most.
 #[tactic(auto, unfolding(crate::specs::Names::is_name))]
 pub fn is_name(name: &[u8]) -> bool
     ensures { result ≡ is_name name.now }
@@ -15,7 +15,8 @@ pub fn is_name(name: &[u8]) -> bool
     1 <= name.len() && name.len() <= MAX_NAME_LEN && are_name_chars(name) && !is_dotted(name)
 }
 
-/// Whether a name is that of a derivation's file: it ends in `.drv`, with at least one byte before it.
+/// Whether a name is that of a derivation's file: it ends in `.drv`, with at least one byte before
+/// it.
 pub fn is_drv_name(name: &[u8]) -> bool
     ensures { result ≡ is_drv_name name.now }
 {

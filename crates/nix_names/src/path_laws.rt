@@ -6,7 +6,8 @@ ghost use Rattle.nix_names.specs.StorePaths.{IsPathOf, hash_part_of, is_hash_par
 /// The hash part and the name of a path are those that it was made of.
 pub fn parts_are_found()
     ensures { (dir hash name : List ℕ) → IsTrue (is_hash_part hash) → IsTrue (is_name name)
-        → (hash_part_of (path_text dir hash name) ≡ hash) × (name_of (path_text dir hash name) ≡ name) }
+        → (hash_part_of (path_text dir hash name) ≡ hash)
+        × (name_of (path_text dir hash name) ≡ name) }
 {}
 
 /// One text is the path of one folder, hash part and name only.
@@ -25,5 +26,6 @@ pub fn only_paths_are_accepted()
 
 /// The store path of a name is a path of its folder.
 pub fn made_paths_are_paths()
-    ensures { (kind inner dir name : List ℕ) → IsTrue (is_name name) → IsPathOf dir (store_path kind inner dir name) }
+    ensures { (kind inner dir name : List ℕ) → IsTrue (is_name name)
+        → IsPathOf dir (store_path kind inner dir name) }
 {}

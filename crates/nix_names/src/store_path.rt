@@ -30,7 +30,8 @@ const HASH_PART_LEN: usize = 32;
 #[derive(Debug, Drop)]
 pub struct StorePath {
     text: ArcSlice<u8>,
-    // Where the base name begins, behind the last slash: at most 256, as a folder has at most 255 bytes.
+    // Where the base name begins, behind the last slash: at most 256, since a folder has at most
+    // 255 bytes.
     base_at: u16,
 }
 
@@ -52,7 +53,7 @@ impl StorePath {
         ensures value { result.now ≡ self.now }
         ensures is_path { IsStorePath self.now }
     {
-        &self.text
+        self.text.as_slice()
     }
 
     /// The 32 base-32 characters that begin the base name.
@@ -112,7 +113,9 @@ impl Eq for StorePath {
 impl PartialOrd for StorePath {
     ghost partial_cmp = { as_partial_cmp (slice_cmp nat_cmp) };
 
-    ghost laws = { partial_order_from_own_ties (Prim.search (comparing, rules)) (Prim.search (comparing, rules)) };
+    ghost laws = { partial_order_from_own_ties
+        (Prim.search (comparing, rules))
+        (Prim.search (comparing, rules)) };
 
     fn partial_cmp(&self, other: &StorePath) -> Option<Ordering> {
         Some(self.cmp(other))
@@ -145,9 +148,11 @@ impl Hash for StorePath {
 
 /// The path of the store folder that is spelled by these bytes. In this order: `NotInStore` where
 /// they do not begin with the folder and a slash, `BadHashPart` where the next 33 are not 32
-/// base-32 digits and a dash, `BadName` where the rest is no name. Costs one pass and one copy.
+/// base-32 digits and a dash, `BadName` where the rest is no name. Costs one pass, and one copy of
+/// the text in two allocations.
 pub fn parse_path(alloc: Global, dir: &StoreDir, text: &[u8]) -> Result<StorePath, NameFault>
-    ensures { Answers (path_fault dir.now text.now) result (λ path. (path ≡ text.now) × IsPathOf dir.now text.now) }
+    ensures { Answers (path_fault dir.now text.now) result (λ path.
+        (path ≡ text.now) × IsPathOf dir.now text.now) }
 {
     check_path(dir.text(), text)?;
     Ok(StorePath {
@@ -198,7 +203,9 @@ fn base_place(dir: &StoreDir) -> u16
 
 // Err with what is wrong first with a text as a path of the folder.
 fn check_path(dir: &[u8], text: &[u8]) -> Result<(), NameFault>
-    ensures { MatchResult result (λ _. path_fault dir.now text.now ≡ None) (λ e. path_fault dir.now text.now ≡ Some e) }
+    ensures { MatchResult result
+        (λ _. path_fault dir.now text.now ≡ None)
+        (λ e. path_fault dir.now text.now ≡ Some e) }
 {
     if !is_under(dir, text) {
         return Err(NameFault::NotInStore);
@@ -218,7 +225,9 @@ fn is_under(dir: &[u8], text: &[u8]) -> bool
 // Err with what is wrong with a path's base name, the hash part before the name.
 #[tactic(auto, unfolding(crate::specs::StorePaths::base_fault))]
 fn check_base(base: &[u8]) -> Result<(), NameFault>
-    ensures { MatchResult result (λ _. base_fault base.now ≡ None) (λ e. base_fault base.now ≡ Some e) }
+    ensures { MatchResult result
+        (λ _. base_fault base.now ≡ None)
+        (λ e. base_fault base.now ≡ Some e) }
 {
     if !begins_with_hash_part(base) {
         return Err(NameFault::BadHashPart);
@@ -232,7 +241,8 @@ fn check_base(base: &[u8]) -> Result<(), NameFault>
 // Whether a base name begins with a hash part and a dash.
 #[tactic(auto, using(crate::proofs::PathFaults::short_is_no_hash))]
 fn begins_with_hash_part(base: &[u8]) -> bool
-    ensures value { result ≡ (is_hash_part (take 32 base.now) && starts_with nat_eq (drop 32 base.now) (codes "-")) }
+    ensures value { result ≡ (is_hash_part (take 32 base.now)
+        && starts_with nat_eq (drop 32 base.now) (codes "-")) }
     ensures long { IsTrue result → 33 ≤ length base.now }
 {
     base.len() > HASH_PART_LEN
