@@ -1,5 +1,6 @@
 //! What a builder is given, and what it answers.
-ghost use Rattle.std.specs.Prelude.{◌≡◌};
+ghost use Rattle.std.specs.Prelude.{◌≡◌, MatchOption, None, Some};
+ghost use Rattle.sched_core.specs.Verdicts.{tree_at};
 
 use drv_graph::Kind;
 use nix_drv::EnvEntry;
@@ -41,4 +42,16 @@ pub struct Answer {
     pub status: Option<i32>,
     /// What lies at each output's path, in the job's order.
     pub trees: Vec<Option<Tree>>,
+}
+
+impl Answer {
+    // What lies at the output with this number, if anything.
+    pub(crate) fn tree_at(&self, n: usize) -> Option<&Tree>
+        ensures { MatchOption result (tree_at self.now n ≡ None) (λ tree. tree_at self.now n ≡ Some tree.now) }
+    {
+        match self.trees.get(n) {
+            Some(Some(tree)) => Some(tree),
+            _ => None,
+        }
+    }
 }

@@ -1,4 +1,10 @@
 //! Why a derivation was not built: the reason of a failure, and the cause of a refusal.
+ghost use Rattle.std.specs.Prelude.{◌≡◌};
+ghost use Rattle.sched_core.specs.Numbers.{reason_number_of, refusal_number_of};
+ghost use Rattle.sched_core.specs.declared.reason.Reason.TheVariants.{OutOfMemory};
+
+use ref_scan::ScanFault;
+use std::alloc::{AllocError, AllocFailed};
 
 /// Why the building of a derivation failed.
 #[derive(Clone, Copy, Debug, PartialEq, Eq)]
@@ -25,6 +31,50 @@ pub enum Reason {
     Killed,
 }
 
+impl Reason {
+    /// The reason's number in the table of faults.
+    pub fn number(&self) -> u8
+        ensures { result ≡ reason_number_of self.now }
+    {
+        match self {
+            Reason::ExitStatus(_) => 50,
+            Reason::NoStart => 51,
+            Reason::MissingOutput(_) => 52,
+            Reason::NotFlatFile => 53,
+            Reason::HashMismatch => 54,
+            Reason::OutputCycle => 55,
+            Reason::TooLarge => 56,
+            Reason::ReadFault => 57,
+            Reason::OutOfMemory => 58,
+            Reason::Killed => 59,
+        }
+    }
+}
+
+impl From<AllocError> for Reason {
+    ghost from_gives = { λ _ reason. reason ≡ OutOfMemory };
+
+    fn from(_: AllocError) -> Self {
+        Reason::OutOfMemory
+    }
+}
+
+impl<T: Drop> From<AllocFailed<T>> for Reason {
+    ghost from_gives = { λ _ reason. reason ≡ OutOfMemory };
+
+    fn from(_: AllocFailed<T>) -> Self {
+        Reason::OutOfMemory
+    }
+}
+
+impl From<ScanFault> for Reason {
+    ghost from_gives = { λ _ reason. reason ≡ OutOfMemory };
+
+    fn from(_: ScanFault) -> Self {
+        Reason::OutOfMemory
+    }
+}
+
 /// Why a derivation is not begun.
 #[derive(Clone, Copy, Debug, PartialEq, Eq)]
 pub enum Refusal {
@@ -39,6 +89,21 @@ pub enum Refusal {
     InputNotRealised(usize),
     /// The output with this number, counted from 0, is valid, while another isn't.
     PartlyValid(usize),
+}
+
+impl Refusal {
+    /// The refusal's number in the table of faults.
+    pub fn number(&self) -> u8
+        ensures { result ≡ refusal_number_of self.now }
+    {
+        match self {
+            Refusal::WrongSystem => 60,
+            Refusal::Unsupported => 61,
+            Refusal::MissingSource(_) => 62,
+            Refusal::InputNotRealised(_) => 63,
+            Refusal::PartlyValid(_) => 64,
+        }
+    }
 }
 
 /// What has become of a derivation.
