@@ -1,0 +1,9 @@
+use Rattle.std.proofs.Common.{◌∙◌, ◌+◌, [], ◌∷◌, ap, length, length-append}
+use Rattle.sched_core.proofs.Linkages.{no_links_more}
+use Rattle.sched_core.proofs.links.no_links.Goals as goal
+
+pub loop-preserved : goal.loop-preserved
+loop-preserved c = record {
+  count = ap length c.in_ok-push.ensures.items ∙ length-append c.loop.links.items (c.new.result ∷ []) ∙ ap (λ n. n + 1) c.loop.invariant.count;
+  none = no_links_more c.loop.links.items c.push.new.self.items c.new.result c.loop.invariant.none c.new.ensures.items c.in_ok-push.ensures.items;
+}

@@ -1,0 +1,7 @@
+use Rattle.std.proofs.lemmas.Result.{err_from_is_err_and}
+use Rattle.sched_core.proofs.verdict.check_complete.Goals as goal
+
+pub returns-in_err-check_status-clause-err : goal.returns-in_err-check_status-clause-err
+returns-in_err-check_status-clause-err c =
+    let p = err_from_is_err_and c.from_residual.result c.from_residual.ensures.1 in
+    rw (p.1, p.2) (λ permitted. c.in_err-check_status.ensures.err c.args.job.now permitted)

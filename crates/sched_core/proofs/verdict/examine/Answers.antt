@@ -1,0 +1,14 @@
+use Rattle.std.proofs.Common.{inr}
+use Rattle.std.proofs.lemmas.Result.{err_from_is_err_and}
+use Rattle.sched_core.proofs.Verdicts.{cycle_found}
+use Rattle.sched_core.proofs.verdict.examine.Goals as goal
+
+pub returns-in_err-check_complete : goal.returns-in_err-check_complete
+returns-in_err-check_complete c =
+    let p = err_from_is_err_and c.from_residual.result c.from_residual.ensures.1 in
+    rw (p.1, p.2) (inr (c.in_err-check_complete.ensures.err c.args.permitted.now))
+
+pub returns-then-branch : goal.returns-then-branch
+returns-then-branch c =
+    let told = rw (c.deref.ensures.value, c.deref-2.ensures.value) at c.in_ok-is_cyclic.ensures in
+    cycle_found c.args.job.now c.args.permitted.now c.args.answer c.in_ok-records.records.items c.in_ok-records.ensures.taken c.in_ok-records.ensures.records (told.0 c.if-branch.true)

@@ -1,0 +1,80 @@
+-- *Legal*: which histories a run may have (this product's own; the closure invariant is that of Dolstra's thesis, section 5.5).
+use Rattle.std.specs.Prelude.{◌≡◌, ◌↔◌, ◌⊎◌, ◌<◌, ◌++◌, Bool, true, false, ℕ, Some, List, [], ◌∷◌, length, map, count_by, slice_get, Contains}
+use Rattle.nix_names.specs.Rising.{IsRising}
+use Rattle.drv_graph.specs.Kinds.{HasKind}
+use Rattle.drv_graph.specs.Nodes.{Node}
+use Rattle.drv_graph.specs.declared.kinds.Kind.TheVariants.{Fixed}
+use Rattle.drv_graph.specs.declared.kinds.Method.{Method}
+use Rattle.valid_table.specs.Closure.{Reaches}
+use Rattle.valid_table.specs.Entries.{paths_of, registered}
+use Rattle.valid_table.specs.PathInfos.{PathInfo}
+use Rattle.valid_table.specs.Valid.{IsJournal, IsValid}
+use Rattle.valid_table.specs.declared.entry.Entry.{Entry}
+use Rattle.valid_table.specs.declared.entry.Entry.TheVariants.{Done}
+use Rattle.valid_table.specs.declared.entry.Registration.{Registration}
+use Rattle.sched_core.specs.Jobs.{output_paths, seeds_of}
+use Rattle.sched_core.specs.Runs.{History, IsWanted, Run, state_in}
+use Rattle.sched_core.specs.States.{Begun, phase_of}
+use Rattle.sched_core.specs.Verdicts.{IsCyclic}
+use Rattle.sched_core.specs.declared.reason.Event.{Event}
+use Rattle.sched_core.specs.declared.reason.Event.TheVariants.{Begin, Done as Finish, Fail}
+use Rattle.sched_core.specs.declared.reason.Reason.{Reason}
+use Rattle.sched_core.specs.declared.reason.State.TheVariants.{Ready}
+
+-- whether an event is a Begin
+abbrev pub is_begin : Event → Bool
+is_begin (Begin d lease) = true
+is_begin event = false
+
+-- how many Begins there are
+abbrev pub begins : List Event → ℕ
+begins events = count_by is_begin events
+
+-- a history with one event more, and with one entry more for a Done
+abbrev pub begun : History → (d : ℕ) → History
+begun history d = record { opening = history.opening; entries = history.entries; events = history.events ++ Begin d (begins history.events) ∷ [] }
+
+abbrev pub ended : History → (d lease : ℕ) → Entry → History
+ended history d lease entry = record { opening = history.opening; entries = history.entries ++ entry ∷ []; events = history.events ++ Finish d lease ∷ [] }
+
+abbrev pub failed : History → (d lease : ℕ) → Reason → History
+failed history d lease reason = record { opening = history.opening; entries = history.entries; events = history.events ++ Fail d lease reason ∷ [] }
+
+-- *Permitted*: a path that one of the seeds reaches, or an own output
+abbrev pub MayRefer : List Registration → (seeds outputs : List (List ℕ)) → (path : List ℕ) → Type 0
+MayRefer registrations seeds outputs path =
+    ((seed : List ℕ) × Contains seeds seed × Reaches registrations seed path) ⊎ Contains outputs path
+
+-- The permitted paths, in rising order.
+pub record ArePermitted (registrations : List Registration) (seeds outputs permitted : List (List ℕ)) : Type 0 where
+  pub rising : IsRising permitted
+  pub each : (path : List ℕ) → Contains permitted path ↔ MayRefer registrations seeds outputs path
+
+-- The entry of a derivation that was built, with these records of its outputs, in its text's order.
+pub record IsEntryOf (node : Node) (infos : List PathInfo) (entry : Entry) : Type 0 where
+  pub outputs : List Registration
+  pub is_done : entry ≡ Done node.path outputs
+  pub rising : IsRising (paths_of outputs)
+  pub each : (path : List ℕ) (info : PathInfo)
+      → Contains outputs (record { path = path; info = info })
+        ↔ ((n : ℕ) × (slice_get (output_paths node.drv) n ≡ Some path) × (slice_get infos n ≡ Some info))
+
+-- What a Done of a derivation may register behind some entries.
+pub record IsAllowed (run : Run) (entries : List Entry) (node : Node) (infos : List PathInfo) : Type 0 where
+  pub count : length infos ≡ length node.drv.outputs
+  pub new : (path : List ℕ) → Contains (output_paths node.drv) path → IsValid (registered entries) path → ⊥
+  pub permitted : (info : PathInfo) (path : List ℕ) → Contains infos info → Contains info.references path
+      → MayRefer (registered entries) (seeds_of run.graph.nodes node.drv) (output_paths node.drv) path
+  pub fixed : (method : Method) (digest : List ℕ) → HasKind node.drv (Fixed method digest) → (info : PathInfo) → Contains infos info → info.digest ≡ Some digest
+  pub acyclic : IsCyclic (output_paths node.drv) infos → ⊥
+
+-- A legal history: it opens with a journal's entries, and each event is allowed after those before it.
+pub data IsLegal (run : Run) : History → Type 0 where
+  legal_opening : (entries : List Entry) → IsJournal entries → IsLegal run (record { opening = entries; entries = entries; events = [] })
+  legal_begin : (history : History) (d : ℕ) → IsLegal run history
+      → d < length run.graph.nodes → IsWanted run history.opening d → state_in run history d ≡ Ready → IsLegal run (begun history d)
+  legal_done : (history : History) (d lease : ℕ) (node : Node) (infos : List PathInfo) (entry : Entry) → IsLegal run history
+      → phase_of history.events d ≡ Begun lease → slice_get run.graph.nodes d ≡ Some node
+      → IsAllowed run history.entries node infos → IsEntryOf node infos entry → IsLegal run (ended history d lease entry)
+  legal_fail : (history : History) (d lease : ℕ) (reason : Reason) → IsLegal run history
+      → phase_of history.events d ≡ Begun lease → IsLegal run (failed history d lease reason)

@@ -1,0 +1,9 @@
+pub mod Jobs
+pub mod Legal
+pub mod Linking
+pub mod Numbers
+pub mod Runs
+pub mod States
+pub mod VerdictLaws
+pub mod Verdicts
+pub mod Walking

@@ -1,0 +1,44 @@
+-- The links among a job's outputs, between the places of their paths in a list without repetition. Places count from 0.
+use Rattle.std.specs.Prelude.{◌≡◌, ◌↔◌, ◌⊎◌, ◌<◌, ℕ, List, Some, Contains, length, map, nat_eq, slice_get}
+use Rattle.std.specs.Cmp.Lexicographic.{pointwise}
+use Rattle.std.specs.Global.{Vec}
+use Rattle.std.specs.List.{IsDistinct}
+use Rattle.valid_table.specs.PathInfos.{PathInfo}
+use Rattle.sched_core.specs.Walking.{AreInner, IsLinked}
+use Rattle.sched_core.specs.declared.job.JobOutput.{JobOutput}
+
+-- the paths of some outputs
+abbrev pub paths_of_outputs : List JobOutput → List (List ℕ)
+paths_of_outputs outputs = map (λ (o : JobOutput). o.path) outputs
+
+-- Some paths, each once.
+pub record AreEachOnce (paths keys : List (List ℕ)) : Type 0 where
+  pub distinct : IsDistinct (pointwise nat_eq) keys
+  pub same : (path : List ℕ) → Contains keys path ↔ Contains paths path
+
+-- one of the first outputs, so many, has the first path, and refers to the second
+abbrev pub MayLink : (paths : List (List ℕ)) → List PathInfo → (count : ℕ) → (from to : List ℕ) → Type 0
+MayLink paths infos count from to =
+    (n : ℕ) × (info : PathInfo) × (n < count) × (slice_get paths n ≡ Some from) × (slice_get infos n ≡ Some info) × Contains info.references to
+
+-- The links of the first outputs, so many: each from a key's place to the place of a key that it refers to.
+pub record AreLinks (paths : List (List ℕ)) (infos : List PathInfo) (keys : List (List ℕ)) (count : ℕ) (links : List (Vec ℕ)) : Type 0 where
+  pub places : length links ≡ length keys
+  pub sound : (from to : ℕ) → IsLinked links from to
+      → (a : List ℕ) × (b : List ℕ) × (slice_get keys from ≡ Some a) × (slice_get keys to ≡ Some b) × MayLink paths infos count a b
+  pub whole : (from to : ℕ) (a b : List ℕ) → slice_get keys from ≡ Some a → slice_get keys to ≡ Some b → MayLink paths infos count a b → IsLinked links from to
+
+-- Links among all outputs.
+pub record HaveLinks (paths : List (List ℕ)) (infos : List PathInfo) (links : List (Vec ℕ)) : Type 0 where
+  pub keys : List (List ℕ)
+  pub once : AreEachOnce paths keys
+  pub are : AreLinks paths infos keys (length infos) links
+
+-- behind old links stand new ones, to the places of keys that are referred to
+abbrev pub AddsLinks : (keys references : List (List ℕ)) → (old new : List ℕ) → Type 0
+AddsLinks keys references old new =
+    (to : ℕ) → Contains new to ↔ (Contains old to ⊎ ((path : List ℕ) × (slice_get keys to ≡ Some path) × Contains references path))
+
+-- no number is linked to any
+abbrev pub HaveNoLinks : List (Vec ℕ) → Type 0
+HaveNoLinks links = (from to : ℕ) → IsLinked links from to → ⊥

@@ -1,0 +1,103 @@
+-- A run over a plan for one system, its history, and which derivations of it are wanted (this product's own; Nix manual, "Building").
+use Rattle.std.specs.Prelude.{◌≡◌, ◌||◌, ◌++◌, not, Bool, ℕ, Option, Some, None, List, [], ◌∷◌, map, codes, nat_eq, slice_get, Contains, if◌then◌else◌}
+use Rattle.std.specs.List.{list_any, list_all, position, position_or_len, starts_with}
+use Rattle.nix_names.specs.Names.{same_bytes}
+use Rattle.nix_drv.specs.Derivation.{Drv, EnvEntry, Output}
+use Rattle.drv_graph.specs.Nodes.{Node, inputs_of, paths_of}
+use Rattle.drv_graph.specs.Plans.{Graph}
+use Rattle.valid_table.specs.Entries.{registered, paths_of as registered_paths}
+use Rattle.valid_table.specs.declared.entry.Entry.{Entry}
+use Rattle.sched_core.specs.Jobs.{output_paths}
+use Rattle.sched_core.specs.States.{Phase, Rows, Standing, AllValid, Hindered, Free, phase_of, state}
+use Rattle.sched_core.specs.declared.reason.Event.{Event}
+use Rattle.sched_core.specs.declared.reason.Refusal.{Refusal}
+use Rattle.sched_core.specs.declared.reason.Refusal.TheVariants.{WrongSystem, Unsupported, MissingSource, PartlyValid}
+use Rattle.sched_core.specs.declared.reason.State.{State}
+
+-- What a run is over: the plan, and the system for which it builds.
+pub record Run : Type 0 where
+  pub graph : Graph
+  pub system : List ℕ
+
+-- What has happened: the entries that the journal opened with, all its entries now, and the events since.
+pub record History : Type 0 where
+  pub opening : List Entry
+  pub entries : List Entry
+  pub events : List Event
+
+-- whether some entry registers the path
+abbrev pub is_valid : List Entry → List ℕ → Bool
+is_valid entries path = list_any (same_bytes path) (registered_paths (registered entries))
+
+-- keys of the environment that ask for what is left out
+abbrev pub left_out : List (List ℕ)
+left_out =
+    codes "__json" ∷ codes "passAsFile" ∷ codes "exportReferencesGraph" ∷ codes "allowedReferences" ∷ codes "allowedRequisites"
+    ∷ codes "disallowedReferences" ∷ codes "disallowedRequisites" ∷ []
+
+-- whether a derivation asks for what is left out: a builtin builder, one of those keys, or a fixed output that is a whole tree
+abbrev pub is_unsupported : Drv → Bool
+is_unsupported drv =
+    starts_with nat_eq drv.builder (codes "builtin:")
+    || list_any (λ (e : EnvEntry). list_any (same_bytes e.key) left_out) drv.env
+    || list_any (λ (o : Output). same_bytes o.algo (codes "r:sha256")) drv.outputs
+
+-- the first of two causes
+abbrev pub or_else : Option Refusal → Option Refusal → Option Refusal
+or_else (Some cause) other = Some cause
+or_else None other = other
+
+-- a cause with the number at which it was found
+abbrev pub cause_at : (ℕ → Refusal) → Option ℕ → Option Refusal
+cause_at cause (Some n) = Some (cause n)
+cause_at cause None = None
+
+-- the first cause for which a derivation can't be begun, behind these entries: another system, something left out, an output that is
+-- valid while another isn't, a source that isn't valid
+abbrev pub own_cause : (system : List ℕ) → (opening : List Entry) → Drv → Option Refusal
+own_cause system opening drv =
+    or_else (if same_bytes drv.system system then None else Some WrongSystem)
+    (or_else (if is_unsupported drv then Some Unsupported else None)
+    (or_else (cause_at PartlyValid (position (is_valid opening) (output_paths drv)))
+    (cause_at MissingSource (position (λ path. not (is_valid opening path)) drv.sources))))
+
+-- where a derivation stands by its cause, if it has one
+abbrev pub by_cause : Option Refusal → Standing
+by_cause (Some cause) = Hindered cause
+by_cause None = Free
+
+-- where a derivation stands by itself behind these entries
+abbrev pub standing_of : (system : List ℕ) → (opening : List Entry) → Drv → Standing
+standing_of system opening drv =
+    if list_all (is_valid opening) (output_paths drv) then AllValid else by_cause (own_cause system opening drv)
+
+-- the numbers of a derivation's inputs, in its text's order
+abbrev pub input_numbers : List Node → Drv → List ℕ
+input_numbers nodes drv = map (λ path. position_or_len (same_bytes path) (paths_of nodes)) (inputs_of drv)
+
+-- of a node, if there is one
+abbrev pub inputs_at : List Node → Option Node → List ℕ
+inputs_at nodes (Some node) = input_numbers nodes node.drv
+inputs_at nodes None = []
+
+abbrev pub standing_at : (system : List ℕ) → (opening : List Entry) → Option Node → Standing
+standing_at system opening (Some node) = standing_of system opening node.drv
+standing_at system opening None = Free
+
+-- what the states follow from
+abbrev pub rows_of : Run → (opening : List Entry) → List Event → Rows
+rows_of run opening events = record {
+  inputs = λ d. inputs_at run.graph.nodes (slice_get run.graph.nodes d);
+  standing = λ d. standing_at run.system opening (slice_get run.graph.nodes d);
+  phase = phase_of events;
+}
+
+-- the state of a derivation in a history
+abbrev pub state_in : Run → History → ℕ → State
+state_in run history d = state (rows_of run history.opening history.events) d
+
+-- A derivation is wanted: it is a root, or an input of a wanted user whose outputs aren't all valid and that can be begun by itself.
+pub data IsWanted (run : Run) (opening : List Entry) : ℕ → Type 0 where
+  wanted_root : (d : ℕ) → Contains run.graph.roots d → IsWanted run opening d
+  wanted_input : (user d : ℕ) → IsWanted run opening user → standing_at run.system opening (slice_get run.graph.nodes user) ≡ Free
+      → Contains (inputs_at run.graph.nodes (slice_get run.graph.nodes user)) d → IsWanted run opening d

@@ -1,0 +1,104 @@
+-- *State*: what has become of each derivation of a plan (this product's own; a failure stops only its users, as with Nix's `--keep-going`).
+use Rattle.std.specs.Prelude.{◌≡◌, ◌<◌, ◌==◌, ℕ, zero, suc, Bool, true, false, Option, Some, None, List, [], ◌∷◌, ◌++◌, find, if◌then◌else◌, Contains}
+use Rattle.std.specs.List.{list_all, slice_index_or}
+use Rattle.sched_core.specs.declared.reason.Event.{Event}
+use Rattle.sched_core.specs.declared.reason.Event.TheVariants.{Begin, Done as Finish, Fail}
+use Rattle.sched_core.specs.declared.reason.Reason.{Reason}
+use Rattle.sched_core.specs.declared.reason.Refusal.{Refusal}
+use Rattle.sched_core.specs.declared.reason.Refusal.TheVariants.{InputNotRealised}
+use Rattle.sched_core.specs.declared.reason.State.{State}
+use Rattle.sched_core.specs.declared.reason.State.TheVariants.{Done, Failed, Building, Reused, Refused, Ready, Blocked}
+
+-- where a derivation stands by its last event: it has none; it began under this lease; it was built; it failed
+pub data Phase : Type 0 where
+  Idle : Phase
+  Begun : (lease : ℕ) → Phase
+  Ended : Phase
+  Broken : (reason : Reason) → Phase
+
+-- where it stands by one event
+abbrev pub phase_by : Event → ℕ → Phase
+phase_by (Begin e lease) d = if e == d then Begun lease else Idle
+phase_by (Finish e lease) d = if e == d then Ended else Idle
+phase_by (Fail e lease reason) d = if e == d then Broken reason else Idle
+
+-- the later of two phases
+abbrev pub later : (before after : Phase) → Phase
+later before Idle = before
+later before after = after
+
+-- where it stands by its last event among these
+abbrev pub phase_of : List Event → ℕ → Phase
+phase_of [] d = Idle
+phase_of (event ∷ events) d = later (phase_by event d) (phase_of events d)
+
+-- where a derivation stands by itself, before anything is begun: all its outputs are valid; it can't be begun, for this cause; neither
+pub data Standing : Type 0 where
+  AllValid : Standing
+  Hindered : (cause : Refusal) → Standing
+  Free : Standing
+
+-- What the states of derivations follow from: of each, by its number, its inputs' numbers in its text's order, its standing and its phase.
+pub record Rows : Type 0 where
+  pub inputs : ℕ → List ℕ
+  pub standing : ℕ → Standing
+  pub phase : ℕ → Phase
+
+-- whether a user can be begun behind an input in this state
+abbrev pub is_good : State → Bool
+is_good Done = true
+is_good Reused = true
+is_good state = false
+
+-- whether a user of an input in this state is refused
+abbrev pub is_bad : State → Bool
+is_bad (Failed reason) = true
+is_bad (Refused cause) = true
+is_bad state = false
+
+-- by the first input that failed or is refused, if there is one, and by whether all are built or were valid
+abbrev pub by_first : Option ℕ → Bool → State
+by_first (Some input) all = Refused (InputNotRealised input)
+by_first None true = Ready
+by_first None false = Blocked
+
+-- by the states of the inputs
+abbrev pub by_inputs : (state : ℕ → State) → (inputs : List ℕ) → State
+by_inputs state inputs = by_first (find (λ i. is_bad (state i)) inputs) (list_all (λ i. is_good (state i)) inputs)
+
+abbrev pub by_standing : Standing → State → State
+by_standing AllValid other = Reused
+by_standing (Hindered cause) other = Refused cause
+by_standing Free other = other
+
+abbrev pub by_phase : Phase → State → State
+by_phase Idle other = other
+by_phase (Begun lease) other = Building lease
+by_phase Ended other = Done
+by_phase (Broken reason) other = Failed reason
+
+-- the table of states: the first that applies of the derivation's last event, its own standing, and its inputs
+unfoldable pub table : Rows → (state : ℕ → State) → ℕ → State
+table rows state d = by_phase (rows.phase d) (by_standing (rows.standing d) (by_inputs state (rows.inputs d)))
+
+-- the states of the first derivations, so many
+unfoldable pub states : Rows → (count : ℕ) → List State
+states rows zero = []
+states rows (suc n) = states rows n ++ table rows (λ i. slice_index_or (states rows n) i Blocked) n ∷ []
+
+-- the state of a derivation, by the table, from those of its inputs, which have smaller numbers
+unfoldable pub state : Rows → ℕ → State
+state rows d = table rows (λ i. slice_index_or (states rows d) i Blocked) d
+
+-- the inputs of each derivation have smaller numbers
+abbrev pub InputsFirst : Rows → Type 0
+InputsFirst rows = (d i : ℕ) → Contains (rows.inputs d) i → i < d
+
+-- each derivation has the state that the table gives from the states of all
+abbrev pub StatesAgree : Type 0
+StatesAgree = (rows : Rows) (d : ℕ) → InputsFirst rows → state rows d ≡ table rows (state rows) d
+
+-- no other states do
+abbrev pub StatesAreOne : Type 0
+StatesAreOne = (rows : Rows) (other : ℕ → State) (count : ℕ) → InputsFirst rows → ((d : ℕ) → d < count → other d ≡ table rows other d)
+    → (d : ℕ) → d < count → other d ≡ state rows d

@@ -1,0 +1,26 @@
+//! The book of a run: which derivations are built, which can be, and what each built output refers to.
+//!
+//! | Module | What is in it |
+//! |---|---|
+//! | `job` | what a builder is given, and what it answers |
+//! | `verdict`, `checked` | the verdict on an answer, and the records that it gives |
+//! | `cycle`, `links`, `walk` | whether outputs refer to each other in a cycle |
+//! | `reason` | why a derivation was not built, its state, and events |
+//! | `laws` | laws over the definitions that contracts cite |
+#![tactic(auto)]
+
+mod checked;
+mod cycle;
+mod job;
+pub mod laws;
+mod links;
+mod reason;
+mod verdict;
+#[cfg(test)]
+mod verdict_tests;
+mod walk;
+
+pub use checked::Checked;
+pub use job::{Answer, Job, JobOutput};
+pub use reason::{Event, Reason, Refusal, State};
+pub use verdict::examine;

@@ -1,0 +1,104 @@
+//! The links among a job's outputs, by numbers.
+ghost use Rattle.std.specs.Prelude.{◌≡◌, IfOk, MatchOption, OnOk, Contains, Some, length, nat_eq, slice_get, take};
+ghost use Rattle.std.specs.Cmp.Lexicographic.{pointwise};
+ghost use Rattle.std.specs.List.{IsDistinct};
+ghost use Rattle.sched_core.specs.Linking.{AddsLinks, AreEachOnce, HaveLinks, HaveNoLinks, paths_of_outputs};
+
+use crate::job::JobOutput;
+use indexmap::IndexSet;
+use nix_names::StorePath;
+use std::alloc::{AllocError, AllocFailed, Global};
+use valid_table::Record;
+
+// For each different path of the outputs, the places of those that its outputs refer to.
+pub(crate) fn links_among(
+    alloc: Global,
+    outputs: &[JobOutput],
+    records: &[Record],
+) -> Result<Vec<Vec<usize>>, AllocError>
+    requires { length records.now ≡ length outputs.now }
+    ensures { IfOk result (λ links. HaveLinks (paths_of_outputs outputs.now) records.now links.items) }
+{
+    let paths = each_once(alloc, outputs)?;
+    let mut links = no_links(alloc, paths.len())?;
+    fill_links(&paths, outputs, records, &mut links)?;
+    Ok(links)
+}
+
+// Adds the links of each output, by its record.
+fn fill_links(
+    paths: &IndexSet<StorePath>,
+    outputs: &[JobOutput],
+    records: &[Record],
+    links: &mut Vec<Vec<usize>>,
+) -> Result<(), AllocFailed<usize>>
+    requires same { length records.now ≡ length outputs.now }
+    requires once { AreEachOnce (paths_of_outputs outputs.now) paths.now.keys }
+    requires count { length links.old.items ≡ length paths.now.keys }
+    requires none { HaveNoLinks links.old.items }
+    ensures { OnOk result (HaveLinks (paths_of_outputs outputs.now) records.now links.new.items) }
+{
+    for (n, record) in records.iter().enumerate() {
+        if let Some(from) = place_of(paths, &outputs[n].path) {
+            add_links(paths, record.references(), &mut links[from])?;
+        }
+    }
+    Ok(())
+}
+
+// The paths of the outputs, each once.
+fn each_once(alloc: Global, outputs: &[JobOutput]) -> Result<IndexSet<StorePath>, AllocError>
+    ensures { IfOk result (λ paths. AreEachOnce (paths_of_outputs outputs.now) paths.keys) }
+{
+    let mut paths = IndexSet::new(alloc);
+    for output in outputs {
+        paths.insert(copy_path(alloc, &output.path)?)?;
+    }
+    Ok(paths)
+}
+
+// The same path again.
+fn copy_path(alloc: Global, path: &StorePath) -> Result<StorePath, AllocError>
+    ensures { IfOk result (λ copy. copy ≡ path.now) }
+{
+    match path.copy(alloc) {
+        Ok(copy) => Ok(copy),
+        Err(_) => Err(AllocError),
+    }
+}
+
+// Lists without links, so many.
+fn no_links(alloc: Global, count: usize) -> Result<Vec<Vec<usize>>, AllocError>
+    ensures count { IfOk result (λ links. length links.items ≡ count) }
+    ensures none { IfOk result (λ links. HaveNoLinks links.items) }
+{
+    let mut links = Vec::with_capacity(alloc, count)?;
+    for _ in 0..count {
+        links.push(Vec::new(alloc))?;
+    }
+    Ok(links)
+}
+
+// The place of a path, if it is one of these.
+fn place_of(paths: &IndexSet<StorePath>, path: &StorePath) -> Option<usize>
+    ensures { MatchOption result (Contains paths.now.keys path.now → ⊥) (λ n. slice_get paths.now.keys n ≡ Some path.now) }
+{
+    paths.get_index_of(path)
+}
+
+// Adds the places of those of the references that are among the paths.
+fn add_links(
+    paths: &IndexSet<StorePath>,
+    references: &[StorePath],
+    own: &mut Vec<usize>,
+) -> Result<(), AllocFailed<usize>>
+    requires { IsDistinct (pointwise nat_eq) paths.now.keys }
+    ensures { OnOk result (AddsLinks paths.now.keys references.now own.old.items own.new.items) }
+{
+    for reference in references {
+        if let Some(to) = place_of(paths, reference) {
+            own.push(to)?;
+        }
+    }
+    Ok(())
+}

@@ -1,0 +1,137 @@
+//! Why a derivation was not built: the reason of a failure, and the cause of a refusal.
+ghost use Rattle.std.specs.Prelude.{◌≡◌};
+ghost use Rattle.sched_core.specs.Numbers.{reason_number_of, refusal_number_of};
+ghost use Rattle.sched_core.specs.declared.reason.Reason.TheVariants.{OutOfMemory};
+
+use ref_scan::ScanFault;
+use std::alloc::{AllocError, AllocFailed};
+
+/// Why the building of a derivation failed.
+#[derive(Clone, Copy, Debug, PartialEq, Eq)]
+pub enum Reason {
+    /// The builder ended with this exit status, which isn't 0.
+    ExitStatus(i32),
+    /// The builder could not be started.
+    NoStart,
+    /// The output with this number, counted from 0, is missing.
+    MissingOutput(usize),
+    /// A fixed output isn't one file.
+    NotFlatFile,
+    /// A fixed output's content hasn't the declared hash.
+    HashMismatch,
+    /// Different outputs refer to each other.
+    OutputCycle,
+    /// An output passes the limits of an output's tree.
+    TooLarge,
+    /// An output could not be read.
+    ReadFault,
+    /// Memory was refused.
+    OutOfMemory,
+    /// A signal ended the builder.
+    Killed,
+}
+
+impl Reason {
+    /// The reason's number in the table of faults.
+    pub fn number(&self) -> u8
+        ensures { result ≡ reason_number_of self.now }
+    {
+        match self {
+            Reason::ExitStatus(_) => 50,
+            Reason::NoStart => 51,
+            Reason::MissingOutput(_) => 52,
+            Reason::NotFlatFile => 53,
+            Reason::HashMismatch => 54,
+            Reason::OutputCycle => 55,
+            Reason::TooLarge => 56,
+            Reason::ReadFault => 57,
+            Reason::OutOfMemory => 58,
+            Reason::Killed => 59,
+        }
+    }
+}
+
+impl From<AllocError> for Reason {
+    ghost from_gives = { λ _ reason. reason ≡ OutOfMemory };
+
+    fn from(_: AllocError) -> Self {
+        Reason::OutOfMemory
+    }
+}
+
+impl<T: Drop> From<AllocFailed<T>> for Reason {
+    ghost from_gives = { λ _ reason. reason ≡ OutOfMemory };
+
+    fn from(_: AllocFailed<T>) -> Self {
+        Reason::OutOfMemory
+    }
+}
+
+impl From<ScanFault> for Reason {
+    ghost from_gives = { λ _ reason. reason ≡ OutOfMemory };
+
+    fn from(_: ScanFault) -> Self {
+        Reason::OutOfMemory
+    }
+}
+
+/// Why a derivation is not begun.
+#[derive(Clone, Copy, Debug, PartialEq, Eq)]
+pub enum Refusal {
+    /// It is for another system than the run's.
+    WrongSystem,
+    /// Its builder or one of its environment's keys asks for what is left out, or its output is a
+    /// whole tree with a declared hash.
+    Unsupported,
+    /// The source with this number, counted from 0, isn't valid.
+    MissingSource(usize),
+    /// The input derivation with this number in the plan failed or is refused.
+    InputNotRealised(usize),
+    /// The output with this number, counted from 0, is valid, while another isn't.
+    PartlyValid(usize),
+}
+
+impl Refusal {
+    /// The refusal's number in the table of faults.
+    pub fn number(&self) -> u8
+        ensures { result ≡ refusal_number_of self.now }
+    {
+        match self {
+            Refusal::WrongSystem => 60,
+            Refusal::Unsupported => 61,
+            Refusal::MissingSource(_) => 62,
+            Refusal::InputNotRealised(_) => 63,
+            Refusal::PartlyValid(_) => 64,
+        }
+    }
+}
+
+/// What has become of a derivation.
+#[derive(Clone, Copy, Debug, PartialEq, Eq)]
+pub enum State {
+    /// It was built.
+    Done,
+    /// Its building failed.
+    Failed(Reason),
+    /// It is being built, under the lease with this number.
+    Building(u64),
+    /// Its outputs were valid before.
+    Reused,
+    /// It can't be begun.
+    Refused(Refusal),
+    /// It can be begun.
+    Ready,
+    /// It waits for its inputs.
+    Blocked,
+}
+
+/// What happened to a derivation, by its number in the plan, under a lease, by its number.
+#[derive(Clone, Copy, Debug, PartialEq, Eq)]
+pub enum Event {
+    /// It began.
+    Begin(usize, u64),
+    /// Its outputs were registered.
+    Done(usize, u64),
+    /// It failed.
+    Fail(usize, u64, Reason),
+}

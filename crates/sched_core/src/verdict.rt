@@ -1,0 +1,137 @@
+//! The verdict on what a builder left behind.
+ghost use Rattle.std.specs.Prelude.{◌≡◌, ◌⊎◌, ℕ, List, Ok, Err, pos, Some, IfOk, IfErr, MatchResult, OnOk};
+ghost use Rattle.nix_names.specs.Rising.{IsRising};
+ghost use Rattle.sched_core.specs.Verdicts.{AreRecords, IsExamining, IsRecordOf, IsTaken, IsThere, IsTreeFault, IsVerdict, digest_of};
+
+use crate::checked::Checked;
+use crate::cycle::is_cyclic;
+use crate::job::{Answer, Job};
+use crate::reason::Reason;
+use drv_graph::Kind;
+use nix_names::StorePath;
+use ref_scan::{Tree, scan};
+use sha2::{Digest, Sha256};
+use std::alloc::Global;
+use valid_table::Record;
+
+/// The verdict on what the builder of a job left behind, where the outputs may refer to these
+/// permitted paths alone: a record of each output, in the job's order, with the permitted paths that
+/// are found in it and a file's SHA-256.
+///
+/// Else the first of these that holds: `Killed`; `ExitStatus` with a status that isn't 0;
+/// `MissingOutput` with the first output at which nothing lies; for the first output at which one of
+/// them holds, `TooLarge`, or of a fixed output `NotFlatFile` or `HashMismatch`; `OutputCycle` where
+/// two different outputs lead to each other by references among the outputs. `OutOfMemory` may come
+/// in place of any answer, where memory was refused.
+///
+/// A tree is scanned as `ref_scan::scan` says, and a file's bytes are read once more for the digest.
+/// Takes memory for the records, and for the outputs and the references among them.
+pub fn examine(
+    alloc: Global,
+    job: &Job,
+    permitted: &[StorePath],
+    answer: Answer,
+) -> Result<Checked, Reason>
+    requires { IsRising permitted.now }
+    ensures { IsExamining job.now permitted.now answer result }
+{
+    check_complete(job, &answer)?;
+    let records = records_of(alloc, job, permitted, &answer)?;
+    if is_cyclic(alloc, &job.outputs, &records)? {
+        return Err(Reason::OutputCycle);
+    }
+    Ok(Checked::new(records))
+}
+
+// Whether the builder ended well and left something at each output's path.
+fn check_complete(job: &Job, answer: &Answer) -> Result<(), Reason>
+    ensures there { OnOk result (IsThere job.now answer.now) }
+    ensures err { IfErr result (λ why. (permitted : List (List ℕ)) → IsVerdict job.now permitted answer.now (Err why)) }
+{
+    check_status(answer)?;
+    for n in 0..job.outputs.len() {
+        if answer.tree_at(n).is_none() {
+            return Err(Reason::MissingOutput(n));
+        }
+    }
+    Ok(())
+}
+
+// Whether the builder ended with exit status 0.
+fn check_status(answer: &Answer) -> Result<(), Reason>
+    ensures ok { OnOk result (answer.now.status ≡ Some (pos 0)) }
+    ensures err { IfErr result (λ why. (job : _) (permitted : List (List ℕ)) → IsVerdict job permitted answer.now (Err why)) }
+{
+    match answer.status {
+        None => Err(Reason::Killed),
+        Some(0) => Ok(()),
+        Some(status) => Err(Reason::ExitStatus(status)),
+    }
+}
+
+// The record of what lies at each output's path.
+fn records_of(
+    alloc: Global,
+    job: &Job,
+    permitted: &[StorePath],
+    answer: &Answer,
+) -> Result<Vec<Record>, Reason>
+    requires rising { IsRising permitted.now }
+    requires there { IsThere job.now answer.now }
+    ensures taken { OnOk result (IsTaken job.now answer.now) }
+    ensures records { IfOk result (λ records. AreRecords job.now permitted.now answer.now records.items) }
+    ensures err { IfErr result (λ why. IsExamining job.now permitted.now answer.now (Err why)) }
+{
+    let mut records = Vec::with_capacity(alloc, job.outputs.len())?;
+    for n in 0..job.outputs.len() {
+        let Some(tree) = answer.tree_at(n) else {
+            return Err(Reason::MissingOutput(n));
+        };
+        records.push(record_of(alloc, &job.kind, permitted, tree)?)?;
+    }
+    Ok(records)
+}
+
+// The record of an output with this tree.
+fn record_of(
+    alloc: Global,
+    kind: &Kind,
+    permitted: &[StorePath],
+    tree: &Tree,
+) -> Result<Record, Reason>
+    requires { IsRising permitted.now }
+    ensures taken { OnOk result ((why : Reason) → IsTreeFault kind.now tree.now why → ⊥) }
+    ensures record { IfOk result (λ info. IsRecordOf permitted.now tree.now info) }
+    ensures err { IfErr result (λ why. (why ≡ Reason.OutOfMemory) ⊎ IsTreeFault kind.now tree.now why) }
+{
+    let digest = checked_digest(kind, tree)?;
+    let references = scan(alloc, tree, permitted)?;
+    Ok(Record::new(references, digest)?)
+}
+
+// The digest of an output's tree, which is taken.
+fn checked_digest(kind: &Kind, tree: &Tree) -> Result<Option<[u8; 32]>, Reason>
+    ensures taken { OnOk result ((why : Reason) → IsTreeFault kind.now tree.now why → ⊥) }
+    ensures digest { IfOk result (λ digest. digest ≡ digest_of tree.now) }
+    ensures err { IfErr result (λ why. IsTreeFault kind.now tree.now why) }
+{
+    if !tree.fits() {
+        return Err(Reason::TooLarge);
+    }
+    let digest = digest_of(tree);
+    match (kind, &digest) {
+        (Kind::Fixed(_, _), None) => Err(Reason::NotFlatFile),
+        (Kind::Fixed(_, declared), Some(found)) if found != declared => Err(Reason::HashMismatch),
+        _ => Ok(digest),
+    }
+}
+
+// SHA-256 of a file's bytes.
+fn digest_of(tree: &Tree) -> Option<[u8; 32]>
+    ensures { result ≡ digest_of tree.now }
+{
+    match tree {
+        Tree::File(bytes) => Some(Sha256::digest(bytes)),
+        Tree::Dir(_) => None,
+    }
+}
