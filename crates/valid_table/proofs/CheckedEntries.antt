@@ -6,7 +6,7 @@ use Rattle.std.proofs.lemmas.List.Concat.{flat_map-append}
 use Rattle.std.proofs.lemmas.List.Elements.{All-append, All-cons, All-drop, All-head, All-map, All-nil, All-tail, All-take, All-weaker}
 use Rattle.std.proofs.lemmas.Option.{MatchOption-at_some, slice_get-get_or}
 use Rattle.valid_table.specs.Checking.{IsEntryCheck, IsLineCheck, IsRight, RegistersKnown, header}
-use Rattle.valid_table.specs.Entering.{AreNew, IsNewFront}
+use Rattle.valid_table.specs.Entering.{AreUnknown, IsNewFront}
 use Rattle.valid_table.specs.Entries.{paths_of, registered_by}
 use Rattle.valid_table.specs.Texts.{Line, Added, Deriver, Output, Reference, entry_lines}
 use Rattle.valid_table.specs.Valid.{references_of}
@@ -14,10 +14,11 @@ use Rattle.valid_table.specs.declared.entry.Entry.{Entry}
 use Rattle.valid_table.specs.declared.entry.Entry.TheVariants.{Add, Done}
 use Rattle.valid_table.specs.declared.entry.Registration.{Registration}
 use Rattle.valid_table.specs.declared.fault.TableFault.{TableFault}
-use Rattle.valid_table.specs.declared.fault.TableFault.TheVariants.{NoMemory, BadLine, NotClosed, Twice, WrongVersion, NotValid, TooLong, Unclosed, AlreadyValid}
+use Rattle.valid_table.specs.declared.fault.TableFault.TheVariants.{NoMemory, NotClosed, Twice}
 use Rattle.valid_table.proofs.CheckedLines.{line_count}
 use Rattle.valid_table.proofs.EnteredPaths.{all_new, length-paths_of, path_at}
-use Rattle.valid_table.proofs.JournalLists.{parts_at, paths_of-append}
+use Rattle.valid_table.proofs.JournalLists.{paths_of-append}
+use Rattle.valid_table.proofs.PathLists.{parts_at}
 
 -- which line begins a registration of an entry
 abbrev pub starts : Entry → List ℕ → Option (List ℕ) → Line
@@ -71,7 +72,7 @@ references_right known all references valid = All-map (IsRight known all) Refere
 -- the lines of registrations with new paths and known references are right
 lines_right :
     (known all : List (List ℕ)) (entry : Entry) (rs : List Registration) →
-    AreNew known (paths_of rs) →
+    AreUnknown known (paths_of rs) →
     All (Contains all) (references_of rs) →
     All (IsRight known all) (flat_map (lines_by (starts entry)) rs)
 lines_right known all entry [] new closed = All-nil (IsRight known all)
@@ -88,7 +89,7 @@ lines_right known all entry (r ∷ rs) new closed =
 -- the lines of an entry before those of a registration, and its lines up to there are right
 pub up_to :
     (known all : List (List ℕ)) (entry : Entry) (before : List Registration) →
-    AreNew known (paths_of before) →
+    AreUnknown known (paths_of before) →
     All (Contains all) (references_of before) →
     All (IsRight known all) (header entry ++ flat_map (lines_by (starts entry)) before)
 up_to known all entry before new closed =
@@ -118,7 +119,7 @@ element_at (r ∷ rs) zero lt = (r, refl)
 element_at (r ∷ rs) (suc i) lt = element_at rs i (omega arith)
 
 -- of paths whose first ones are new, those up to one of these are
-new_front : (known xs ys : List (List ℕ)) (x : List ℕ) (new : ℕ) → AreNew known (take new (xs ++ x ∷ ys)) → length xs < new → AreNew known (xs ++ x ∷ [])
+new_front : (known xs ys : List (List ℕ)) (x : List ℕ) (new : ℕ) → AreUnknown known (take new (xs ++ x ∷ ys)) → length xs < new → AreUnknown known (xs ++ x ∷ [])
 new_front known xs ys x new all lt =
     let New : List ℕ → Type 0 = λ path. Contains known path → ⊥ in
     let k = length xs + 1 in
@@ -141,7 +142,7 @@ twice_checked known all entry new first n front (lt, closed, number) =
     let after = drop (new + 1) rs in
     let at : slice_get (paths_of rs) new ≡ Some r.path =
     slice_get-get_or (paths_of rs) new r.path (omega (arith, length-paths_of rs)) ∙ ap Some (path_at rs new r r.path lt is) in
-    let new_before : AreNew known (paths_of before) = subst (AreNew known) (take-map (λ (x : Registration). x.path) new rs) front.new in (
+    let new_before : AreUnknown known (paths_of before) = subst (AreUnknown known) (take-map (λ (x : Registration). x.path) new rs) front.new in (
       starts entry r.path r.info.digest,
       length (header entry) + line_count before,
       record {
@@ -168,7 +169,7 @@ open_checked known all entry new first n front (before, r, after, place, parts, 
     let earlier = map Reference unknown.before in
     let later = map Reference unknown.after in
     let paths = ap paths_of parts ∙ paths_of-append before (r ∷ after) in
-    let all_front = new_front known (paths_of before) (paths_of after) r.path new (subst (λ l. AreNew known (take new l)) paths front.new) (omega (arith, length-paths_of before)) in
+    let all_front = new_front known (paths_of before) (paths_of after) r.path new (subst (λ l. AreUnknown known (take new l)) paths front.new) (omega (arith, length-paths_of before)) in
     let New : List ℕ → Type 0 = λ p. Contains known p → ⊥ in
     let new_before = All-left New (paths_of before) (r.path ∷ []) all_front in
     let new_here = All-head New r.path [] (All-right New (paths_of before) (r.path ∷ []) all_front) in
@@ -187,9 +188,9 @@ open_checked known all entry new first n front (before, r, after, place, parts, 
         parts = split;
         is_place = refl;
         right = All-append (IsRight known all) up (start ∷ earlier) (up_to known all entry before new_before closed)
-            (All-cons (IsRight known all) start earlier (start_right known all entry r.path r.info.digest new_here) (references_right known all unknown.before unknown.valid));
+            (All-cons (IsRight known all) start earlier (start_right known all entry r.path r.info.digest new_here) (references_right known all unknown.before unknown.others));
       },
-      unknown.unknown,
+      unknown.is,
       omega (arith, up_to_count entry before, length-map unknown.before Reference),
     )
 
@@ -207,7 +208,7 @@ right_checked known all entry new first behind front (long, closed, number) =
     )
 
 -- what the lines of what an entry registers answer, its own do
-pub entry_checked :
+entry_checked :
     (known all : List (List ℕ)) (entry : Entry) (new first : ℕ) (result : Result ℕ TableFault) →
     IsNewFront known (paths_of (registered_by entry)) new →
     IsLineCheck all (registered_by entry) new (first + length (header entry)) result →
@@ -216,48 +217,18 @@ entry_checked known all entry new first (Ok behind) front check = right_checked 
 entry_checked known all entry new first (Err (Twice n)) front check = twice_checked known all entry new first n front check
 entry_checked known all entry new first (Err (NotClosed n)) front check = open_checked known all entry new first n front check
 entry_checked known all entry new first (Err NoMemory) front check = tt
-entry_checked known all entry new first (Err (BadLine n)) front check = check
-entry_checked known all entry new first (Err WrongVersion) front check = check
-entry_checked known all entry new first (Err TooLong) front check = check
-entry_checked known all entry new first (Err (NotValid path)) front check = check
-entry_checked known all entry new first (Err (Unclosed path)) front check = check
-entry_checked known all entry new first (Err (AlreadyValid path)) front check = check
+entry_checked known all entry new first (Err other) front check = check
 
--- a check of lines is one against all lists with the same paths
-pub same_check :
-    (all other : List (List ℕ)) (rs : List Registration) (new first : ℕ) (result : Result ℕ TableFault) →
-    ((path : List ℕ) → Contains all path ↔ Contains other path) →
-    IsLineCheck all rs new first result →
-    IsLineCheck other rs new first result
-same_check all other rs new first (Ok behind) same (long, closed, number) =
-    (long, All-weaker (Contains all) (Contains other) (λ path. (same path).0) (references_of rs) closed, number)
-same_check all other rs new first (Err (Twice n)) same (lt, closed, number) =
-    (lt, All-weaker (Contains all) (Contains other) (λ path. (same path).0) (references_of (take new rs)) closed, number)
-same_check all other rs new first (Err (NotClosed n)) same (before, r, after, place, parts, lt, closed, (path, unknown, at), number) = (
-  before,
-  r,
-  after,
-  place,
-  parts,
-  lt,
-  All-weaker (Contains all) (Contains other) (λ p. (same p).0) (references_of before) closed,
-  (
-    path,
-    record {
-      before = unknown.before;
-      after = unknown.after;
-      parts = unknown.parts;
-      valid = All-weaker (Contains all) (Contains other) (λ p. (same p).0) unknown.before unknown.valid;
-      unknown = λ there. unknown.unknown ((same path).1 there);
-    },
-    at,
-  ),
-  number,
-)
-same_check all other rs new first (Err NoMemory) same check = check
-same_check all other rs new first (Err (BadLine n)) same check = check
-same_check all other rs new first (Err WrongVersion) same check = check
-same_check all other rs new first (Err TooLong) same check = check
-same_check all other rs new first (Err (NotValid path)) same check = check
-same_check all other rs new first (Err (Unclosed path)) same check = check
-same_check all other rs new first (Err (AlreadyValid path)) same check = check
+-- what the lines of an entry's registrations answer, the entry's own do, behind known registrations
+pub own_checked :
+    (known : List Registration) (entry : Entry) (rs : List Registration) (new first at : ℕ) (result : Result ℕ TableFault) →
+    rs ≡ registered_by entry →
+    at ≡ first + length (header entry) →
+    IsNewFront (paths_of known) (paths_of rs) new →
+    IsLineCheck (paths_of (known ++ rs)) rs new at result →
+    IsEntryCheck (paths_of known) (paths_of (known ++ registered_by entry)) (entry_lines entry) first result
+own_checked known entry rs new first at result own number front check =
+    entry_checked (paths_of known) (paths_of (known ++ registered_by entry)) entry new first result
+    (subst (λ l. IsNewFront (paths_of known) (paths_of l) new) own front)
+    (subst (λ l. IsLineCheck (paths_of (known ++ l)) l new (first + length (header entry)) result) own
+    (subst (λ n. IsLineCheck (paths_of (known ++ rs)) rs new n result) number check))

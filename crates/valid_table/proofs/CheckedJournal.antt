@@ -13,10 +13,11 @@ use Rattle.valid_table.specs.Valid.{IsClosed, IsClosedBehind, references_of}
 use Rattle.valid_table.specs.declared.entry.Entry.{Entry}
 use Rattle.valid_table.specs.declared.entry.Registration.{Registration}
 use Rattle.valid_table.specs.declared.fault.TableFault.{TableFault}
-use Rattle.valid_table.specs.declared.fault.TableFault.TheVariants.{NoMemory, BadLine, NotClosed, Twice, WrongVersion, NotValid, TooLong, Unclosed, AlreadyValid}
-use Rattle.valid_table.proofs.AddedEntries.{paths_push}
+use Rattle.valid_table.specs.declared.fault.TableFault.TheVariants.{NoMemory, NotClosed, Twice}
+use Rattle.valid_table.proofs.AddedEntries.{registered_push}
 use Rattle.valid_table.proofs.CheckedEntries.{All-left, All-right, entry_lines_are, lines_by, starts}
-use Rattle.valid_table.proofs.JournalLists.{parts_at, paths_of-append}
+use Rattle.valid_table.proofs.JournalLists.{paths_of-append}
+use Rattle.valid_table.proofs.PathLists.{parts_at}
 
 -- a line of an entry behind earlier registrations is right
 abbrev pub IsRightBehind : List Registration → Entry → Line → Type 0
@@ -232,15 +233,14 @@ abbrev pub IsCheckBehind : List Entry → Entry → ℕ → Result ℕ TableFaul
 IsCheckBehind pre entry first result =
     IsEntryCheck (paths_of (registered pre)) (paths_of (registered pre ++ registered_by entry)) (entry_lines entry) first result
 
--- that is what it is checked against where the known paths are theirs
+-- that is what it is checked against where the known registrations are theirs
 pub check_behind :
-    (pre : List Entry) (entry : Entry) (known : List (List ℕ)) (first : ℕ) (result : Result ℕ TableFault) →
-    known ≡ paths_of (registered pre) →
-    IsEntryCheck known (known ++ paths_of (registered_by entry)) (entry_lines entry) first result →
+    (pre : List Entry) (entry : Entry) (known : List Registration) (first : ℕ) (result : Result ℕ TableFault) →
+    known ≡ registered pre →
+    IsEntryCheck (paths_of known) (paths_of (known ++ registered_by entry)) (entry_lines entry) first result →
     IsCheckBehind pre entry first result
 check_behind pre entry known first result same check =
-    let moved = subst (λ ks. IsEntryCheck ks (ks ++ paths_of (registered_by entry)) (entry_lines entry) first result) same check in
-    subst (λ all. IsEntryCheck (paths_of (registered pre)) all (entry_lines entry) first result) (sym (paths_of-append (registered pre) (registered_by entry))) moved
+    subst (λ rs. IsEntryCheck (paths_of rs) (paths_of (rs ++ registered_by entry)) (entry_lines entry) first result) same check
 
 -- the first fault of entries
 pub first_fault :
@@ -264,12 +264,7 @@ first_fault entries i entry first (NotClosed n) lt is right number (line, place,
       least_fault entries (take i entries) entry (drop (i + 1) entries) line place n parts right up at,
     )
 first_fault entries i entry first NoMemory lt is right number check = tt
-first_fault entries i entry first (BadLine n) lt is right number check = check
-first_fault entries i entry first WrongVersion lt is right number check = check
-first_fault entries i entry first TooLong lt is right number check = check
-first_fault entries i entry first (NotValid path) lt is right number check = check
-first_fault entries i entry first (Unclosed path) lt is right number check = check
-first_fault entries i entry first (AlreadyValid path) lt is right number check = check
+first_fault entries i entry first other lt is right number check = check
 
 -- the lines of the first entries and the next one are no more than all
 pub lines_fit :
@@ -300,18 +295,18 @@ pub lines_more :
     length (lines (take (i + 1) entries)) ≡ length (lines (take i entries)) + length (entry_lines entry)
 lines_more entries i entry lt is = ap (λ es. length (lines es)) (take_push entries i entry lt is) ∙ lines_push (take i entries) entry
 
--- and its paths are known
-pub paths_more :
-    (entries : List Entry) (i : ℕ) (entry : Entry) (known next : List (List ℕ)) →
+-- and what it registers is known
+pub known_more :
+    (entries : List Entry) (i : ℕ) (entry : Entry) (known next : List Registration) →
     i < length entries →
     entry ≡ get_or entries i entry →
-    known ≡ paths_of (registered (take i entries)) →
-    next ≡ known ++ paths_of (registered_by entry) →
-    next ≡ paths_of (registered (take (i + 1) entries))
-paths_more entries i entry known next lt is same entered =
-    entered
-    ∙ ap (λ l. l ++ paths_of (registered_by entry)) same
-    ∙ sym (ap (λ es. paths_of (registered es)) (take_push entries i entry lt is) ∙ paths_push (take i entries) entry)
+    known ≡ registered (take i entries) →
+    next ≡ known ++ registered_by entry →
+    next ≡ registered (take (i + 1) entries)
+known_more entries i entry known next lt is same added =
+    added
+    ∙ ap (λ l. l ++ registered_by entry) same
+    ∙ sym (ap registered (take_push entries i entry lt is) ∙ registered_push (take i entries) entry)
 
 -- where all entries are right, they are closed
 pub closed_behind : (entries : List Entry) (i : ℕ) → length entries ≤ i → AreRight [] (take i entries) → IsClosed entries

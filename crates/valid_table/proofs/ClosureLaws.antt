@@ -12,7 +12,7 @@ use Rattle.valid_table.specs.declared.entry.Entry.{Entry}
 use Rattle.valid_table.specs.declared.entry.Registration.{Registration}
 use Rattle.valid_table.proofs.Following.{one_info}
 use Rattle.valid_table.proofs.Rising.{rising_same}
-use Rattle.valid_table.proofs.Rows.{path_count}
+use Rattle.valid_table.proofs.RowNumbers.{path_count}
 
 -- what is valid stays so
 valid_behind : (first more : List Registration) (path : List ℕ) → IsValid first path → IsValid (first ++ more) path

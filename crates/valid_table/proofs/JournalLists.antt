@@ -8,7 +8,7 @@ use Rattle.valid_table.specs.Entries.{paths_of, registered, registered_by}
 use Rattle.valid_table.specs.Valid.{AreReferencesValid, IsClosed, IsClosedBehind, IsOnce, IsValid, references_of}
 use Rattle.valid_table.specs.declared.entry.Entry.{Entry}
 use Rattle.valid_table.specs.declared.entry.Registration.{Registration}
-use Rattle.valid_table.proofs.PathLists.{once_front}
+use Rattle.valid_table.proofs.PathLists.{once_front, parts_at}
 
 -- the paths of two lists of registrations, one behind the other
 pub paths_of-append : (a b : List Registration) → paths_of (a ++ b) ≡ paths_of a ++ paths_of b
@@ -28,7 +28,7 @@ still_valid some more path valid =
     subst (λ paths. Contains paths path) (sym (paths_of-append some more)) (Contains-append_left (paths_of some) (paths_of more) path valid)
 
 -- each reference of registrations is valid, and so behind more of them
-valid_more : (some more : List Registration) (paths : List (List ℕ)) → All (IsValid some) paths → All (IsValid (some ++ more)) paths
+pub valid_more : (some more : List Registration) (paths : List (List ℕ)) → All (IsValid some) paths → All (IsValid (some ++ more)) paths
 valid_more some more paths valid = All-weaker (IsValid some) (IsValid (some ++ more)) (still_valid some more) paths valid
 
 -- in closed entries behind registrations whose references are valid, each reference is valid
@@ -44,11 +44,6 @@ closed_valid earlier (entry ∷ entries) valid closed =
 -- in a closed list of entries each reference is valid
 pub closed_references_valid : (entries : List Entry) → IsClosed entries → AreReferencesValid (registered entries)
 closed_references_valid entries closed = closed_valid [] entries (All-nil (IsValid [])) closed
-
--- a list is its first elements, the next one and the rest
-pub parts_at : {X : Type 0} (xs : List X) (i : ℕ) (x : X) → i < length xs → x ≡ get_or xs i x → xs ≡ take i xs ++ x ∷ drop (i + 1) xs
-parts_at xs i x lt is =
-    sym (take-append-drop i xs) ∙ ap (λ l. take i xs ++ l) (drop_more xs i x lt ∙ ap (λ y. y ∷ drop (i + 1) xs) (sym is))
 
 -- what entries register is what the first ones do, the next one and the rest
 pub registered_at :

@@ -28,10 +28,12 @@ pub mod RegistrationLines
 pub mod Rising
 pub mod RisingPaths
 pub mod Roots
-pub mod Rows
+pub mod RowNumbers
 pub mod Separators
+pub mod Searched
 pub mod Sorting
 pub mod StepLists
 pub mod TableRows
+pub mod TakenIn
 pub mod TextsRead
 pub mod Versions

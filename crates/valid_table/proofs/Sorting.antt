@@ -19,7 +19,7 @@ use Rattle.valid_table.specs.Entries.{paths_of}
 use Rattle.valid_table.specs.Valid.{IsOnce}
 use Rattle.valid_table.specs.declared.entry.Registration.{Registration}
 use Rattle.valid_table.proofs.Reaching.{same_place}
-use Rattle.valid_table.proofs.Rows.{path_count, same_text}
+use Rattle.valid_table.proofs.RowNumbers.{path_count, same_text}
 
 -- texts that are each below all later ones rise
 pub rising_from_sorted : (texts : List (List ℕ)) → IsStrictlySortedBy (slice_cmp nat_cmp) texts → IsRising texts

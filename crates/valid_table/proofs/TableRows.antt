@@ -1,20 +1,22 @@
 -- The rows of a table, and the registrations that they are.
-use Rattle.std.proofs.Common.{◌≡◌, ◌∙◌, ℕ, zero, suc, ◌+◌, ◌<◌, List, [], ◌∷◌, ◌++◌, length, take, drop, get_or, refl, sym, ap, subst, arith, nat_eq, Bor, true≢false}
-use Rattle.std.specs.Prelude.{Contains, Option, Some, None, MatchOption, is_some}
+use Rattle.std.proofs.Common.{◌≡◌, ◌∙◌, ℕ, zero, suc, ◌+◌, ◌<◌, List, [], ◌∷◌, ◌++◌, length, take, drop, get_or, refl, sym, ap, subst, arith, nat_eq, Bor, Bool, Result, Ok, Err, true≢false}
+use Rattle.std.specs.Prelude.{◌↔◌, Contains, IsOk, IsTrue, OnOk, Option, Some, None, MatchOption, is_some}
 use Rattle.std.specs.Cmp.Lexicographic.{pointwise, nat_list_eq_equiv}
+use Rattle.std.specs.List.{IsDistinct}
 use Rattle.std.specs.Map.{keys_of, lookup}
 use Rattle.std.specs.Option.{option_copied}
+use Rattle.std.proofs.lemmas.Bool.{false≢true}
 use Rattle.std.proofs.lemmas.List.{append_assoc, map_push, take_more}
-use Rattle.std.proofs.lemmas.Map.Views.{Contains-from_lookup, Contains-keys_from_lookup, IsSome-lookup_from_Contains}
+use Rattle.std.proofs.lemmas.Map.Views.{Contains-from_lookup, Contains-keys_from_lookup, IsSome-lookup_from_Contains, hash_map_contains_key_iff}
 use Rattle.indexmap.proofs.CallerLemmas.{insert_entry-new}
-use Rattle.indexmap.specs.IndexMap.{IndexMap, insert_entry}
+use Rattle.indexmap.specs.IndexMap.{IndexMap, get_by, insert_entry}
 use Rattle.valid_table.specs.Entries.{paths_of}
 use Rattle.valid_table.specs.PathInfos.{PathInfo}
 use Rattle.valid_table.specs.Tables.{registrations_of}
-use Rattle.valid_table.specs.Valid.{IsOnce, IsValid, Registers}
+use Rattle.valid_table.specs.Valid.{IsNotValid, IsOnce, IsValid, Registers}
 use Rattle.valid_table.specs.declared.entry.Registration.{Registration}
-use Rattle.valid_table.proofs.JournalLists.{parts_at, paths_of-append}
-use Rattle.valid_table.proofs.PathLists.{once_apart, same_bytes}
+use Rattle.valid_table.proofs.JournalLists.{paths_of-append}
+use Rattle.valid_table.proofs.PathLists.{once_apart, same_bytes, parts_at}
 
 -- the paths of the rows are their keys
 pub paths_of_rows : (rows : List (List ℕ × PathInfo)) → paths_of (registrations_of rows) ≡ keys_of rows
@@ -66,3 +68,41 @@ row_added rows before rs i r new once is_so lt is added =
     ∙ ap (λ l. l ++ r ∷ []) is_so
     ∙ append_assoc before (take i rs) (r ∷ [])
     ∙ ap (λ l. before ++ l) (ap (λ x. take i rs ++ x ∷ []) is ∙ sym (take_more rs i r lt))
+
+-- whether a path is among the keys tells whether it is valid
+pub has_row_says :
+    {S : Type 0} (rows : IndexMap (List ℕ) PathInfo S) (path : List ℕ) (found : Bool) →
+    found ≡ is_some (get_by (pointwise nat_eq path) rows) →
+    IsTrue found ↔ IsValid (registrations_of rows.entries) path
+has_row_says rows path found is =
+    let keys = paths_of_rows rows.entries in
+    let says = hash_map_contains_key_iff nat_list_eq_equiv same_bytes rows path in (
+      λ yes. subst (λ ks. Contains ks path) (sym keys) (says.0 (sym is ∙ yes)),
+      λ valid. is ∙ says.1 (subst (λ ks. Contains ks path) keys valid),
+    )
+
+-- a row that is moved in
+pub row_pushed :
+    {S : Type 0} (rows : IndexMap (List ℕ) PathInfo S) (r : Registration) (new : List (List ℕ × PathInfo)) →
+    IsNotValid (registrations_of rows.entries) r.path →
+    new ≡ insert_entry (pointwise nat_eq) rows.entries r.path r.info →
+    registrations_of new ≡ registrations_of rows.entries ++ r ∷ []
+row_pushed rows r new fresh added =
+    let none = not_found rows.entries r.path (λ there. fresh (subst (λ ks. Contains ks r.path) (sym (paths_of_rows rows.entries)) there)) in
+    ap registrations_of (added ∙ insert_entry-new (pointwise nat_eq) rows r.path r.info none)
+    ∙ map_push (λ (row : List ℕ × PathInfo). record { path = row.0; info = row.1 }) rows.entries (r.path, r.info)
+
+-- the path of a registration behind others is not valid by them, where no path is registered twice
+pub next_new : (known later : List Registration) (r : Registration) → IsOnce (known ++ r ∷ later) → IsNotValid known r.path
+next_new known later r once =
+    once_apart (paths_of known) (paths_of later) r.path (subst (IsDistinct (pointwise nat_eq)) (paths_of-append known (r ∷ later)) once)
+
+-- what holds where there is a value holds where there is one
+pub on_ok : {T E P : Type 0} (result : Result T E) → IsOk result → OnOk result P → P
+on_ok (Ok x) is holds = holds
+on_ok (Err e) is holds = absurd (false≢true is)
+
+-- a list without elements
+pub no_element : {X : Type 0} (xs : List X) → length xs ≡ 0 → xs ≡ []
+no_element [] long = refl
+no_element (x ∷ xs) long = absurd (omega arith)

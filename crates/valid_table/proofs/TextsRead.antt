@@ -6,7 +6,7 @@ use Rattle.std.specs.List.{IsDistinct, flat_map}
 use Rattle.std.proofs.lemmas.List.{append_assoc, get_or_default}
 use Rattle.std.proofs.lemmas.List.Elements.{All-cons, All-nil, Contains-append_left}
 use Rattle.valid_table.specs.BadLines.{IsOtherVersion}
-use Rattle.valid_table.specs.Entering.{AreNew}
+use Rattle.valid_table.specs.Entering.{AreUnknown}
 use Rattle.valid_table.specs.Entries.{paths_of, registered, registered_by}
 use Rattle.valid_table.specs.LineFaults.{IsNotClosedAt, IsTwiceAt}
 use Rattle.valid_table.specs.ReadingLaws.{JournalTextsAreRead}
@@ -18,9 +18,9 @@ use Rattle.valid_table.specs.declared.fault.TableFault.TheVariants.{NoMemory, Ba
 use Rattle.valid_table.proofs.BadLineLaws.{texts_have_no_bad_line}
 use Rattle.valid_table.proofs.CheckedEntries.{entry_lines_are, up_to}
 use Rattle.valid_table.proofs.CheckedJournal.{AreRight, IsRightBehind, IsWrongAt, not_among, right_at, wrong_line}
-use Rattle.valid_table.proofs.JournalLists.{parts_at, paths_of-append}
+use Rattle.valid_table.proofs.JournalLists.{paths_of-append}
 use Rattle.valid_table.proofs.OneList.{text_has_one_list}
-use Rattle.valid_table.proofs.PathLists.{once_apart, once_front}
+use Rattle.valid_table.proofs.PathLists.{once_apart, once_front, parts_at}
 use Rattle.valid_table.proofs.Separators.{Lacks}
 use Rattle.valid_table.proofs.Versions.{by_number}
 
@@ -41,7 +41,7 @@ not_other_version dir bytes entries is other =
 -- ---- journals have no wrong line
 
 -- of paths without repetition, none is among those before it
-later_new : (known paths : List (List ℕ)) → IsDistinct (pointwise nat_eq) (known ++ paths) → AreNew known paths
+later_new : (known paths : List (List ℕ)) → IsDistinct (pointwise nat_eq) (known ++ paths) → AreUnknown known paths
 later_new known paths once k d lt there =
     let path = get_or paths k d in
     let parts = parts_at paths k path lt (get_or_default paths k d path lt) in
@@ -80,8 +80,8 @@ no_fault entries m is fault = right_not_wrong entries m (journal_right [] entrie
 -- the text of a journal is read as just that journal, want of memory apart
 pub journal_texts_are_read : JournalTextsAreRead
 journal_texts_are_read dir bytes entries (Ok others) is_dir within is journal h =
-    inl (ap Ok (h.checked.0 ∙ text_has_one_list dir bytes h.entries entries h.is_text is))
-journal_texts_are_read dir bytes entries (Err NoMemory) is_dir within is journal h = inr refl
+    h.checked.0 ∙ text_has_one_list dir bytes h.entries entries h.is_text is
+journal_texts_are_read dir bytes entries (Err NoMemory) is_dir within is journal h = refl
 journal_texts_are_read dir bytes entries (Err TooLong) is_dir within is journal h = absurd (omega arith)
 journal_texts_are_read dir bytes entries (Err WrongVersion) is_dir within is journal h = absurd (not_other_version dir bytes entries is h.1)
 journal_texts_are_read dir bytes entries (Err (BadLine n)) is_dir within is journal h = absurd (texts_have_no_bad_line dir bytes entries n is_dir is h.2)
@@ -91,6 +91,4 @@ journal_texts_are_read dir bytes entries (Err (NotClosed n)) is_dir within is jo
 journal_texts_are_read dir bytes entries (Err (Twice n)) is_dir within is journal h =
     let same = text_has_one_list dir bytes h.entries entries h.is_text is in
     absurd (no_fault entries n journal (inr (subst (λ es. IsTwiceAt es n) same h.checked.0)))
-journal_texts_are_read dir bytes entries (Err (NotValid path)) is_dir within is journal h = absurd h
-journal_texts_are_read dir bytes entries (Err (Unclosed path)) is_dir within is journal h = absurd h
-journal_texts_are_read dir bytes entries (Err (AlreadyValid path)) is_dir within is journal h = absurd h
+journal_texts_are_read dir bytes entries (Err other) is_dir within is journal h = absurd h

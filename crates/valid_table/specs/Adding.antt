@@ -1,44 +1,61 @@
--- What it means that an entry is added to a journal.
-use Rattle.std.specs.Prelude.{◌≡◌, ◌++◌, ⊤, ℕ, List, [], ◌∷◌, All, Result, Ok, Err}
+-- What it means that an entry is taken in: into a table, or at the end of a journal.
+use Rattle.std.specs.Prelude.{◌≡◌, ◌++◌, ◌⊎◌, ⊤, ℕ, List, [], ◌∷◌, All, Result, Ok, Err}
 use Rattle.valid_table.specs.Entries.{paths_of, registered, registered_by}
-use Rattle.valid_table.specs.Valid.{IsValid, references_of}
+use Rattle.valid_table.specs.Firsts.{IsFirst}
+use Rattle.valid_table.specs.Valid.{IsNotValid, IsValid, references_of}
 use Rattle.valid_table.specs.declared.entry.Entry.{Entry}
+use Rattle.valid_table.specs.declared.entry.Registration.{Registration}
 use Rattle.valid_table.specs.declared.fault.TableFault.{TableFault}
-use Rattle.valid_table.specs.declared.fault.TableFault.TheVariants.{NoMemory, BadLine, NotClosed, Twice, WrongVersion, NotValid, TooLong, Unclosed, AlreadyValid}
+use Rattle.valid_table.specs.declared.fault.TableFault.TheVariants.{NoMemory, Unclosed, AlreadyValid}
+use Rattle.valid_table.specs.declared.obstacle.Obstacle.{Obstacle}
+use Rattle.valid_table.specs.declared.obstacle.Obstacle.TheVariants as obstacle
+
+-- none of the paths of some registrations is valid by known ones
+abbrev pub AreNew : (known some : List Registration) → Type 0
+AreNew known some = All (IsNotValid known) (paths_of some)
+
+-- each of their references is valid by known ones or by themselves
+abbrev pub AreClosed : (known some : List Registration) → Type 0
+AreClosed known some = All (IsValid (known ++ some)) (references_of some)
+
+-- a path is the first of theirs that is valid by known ones
+abbrev pub IsFirstValid : (known some : List Registration) → List ℕ → Type 0
+IsFirstValid known some path = IsFirst (IsNotValid known) (IsValid known) (paths_of some) path
+
+-- a path is the first of their references that is valid neither by known ones nor by themselves
+abbrev pub IsFirstUnclosed : (known some : List Registration) → List ℕ → Type 0
+IsFirstUnclosed known some path = IsFirst (IsValid (known ++ some)) (IsNotValid (known ++ some)) (references_of some) path
+
+-- what stands against some registrations behind known ones
+abbrev pub IsObstacle : (known some : List Registration) → Obstacle → Type 0
+IsObstacle known some (obstacle.AlreadyValid path) = IsFirstValid known some path.now
+IsObstacle known some (obstacle.Unclosed path) = AreNew known some × IsFirstUnclosed known some path.now
+
+-- an obstacle is told as a fault, where its path can be copied
+abbrev pub IsFaultOf : Obstacle → TableFault → Type 0
+IsFaultOf (obstacle.AlreadyValid path) fault = (fault ≡ AlreadyValid path.now) ⊎ (fault ≡ NoMemory)
+IsFaultOf (obstacle.Unclosed path) fault = (fault ≡ Unclosed path.now) ⊎ (fault ≡ NoMemory)
+
+-- What is answered where some registrations are to be taken in behind known ones: they are, or nothing changes.
+abbrev pub IsTaking : (known some : List Registration) (taken same : Type 0) → Result ⊤ TableFault → Type 0
+IsTaking known some taken same (Ok _) = AreNew known some × AreClosed known some × taken
+IsTaking known some taken same (Err (AlreadyValid path)) = IsFirstValid known some path × same
+IsTaking known some taken same (Err (Unclosed path)) = AreNew known some × IsFirstUnclosed known some path × same
+IsTaking known some taken same (Err NoMemory) = same
+IsTaking known some taken same (Err other) = ⊥
+
+-- what is answered where an entry is to be added to a list of entries, and the list behind that
+abbrev pub IsAdding : (old new : List Entry) → Entry → Result ⊤ TableFault → Type 0
+IsAdding old new entry result = IsTaking (registered old) (registered_by entry) (new ≡ old ++ entry ∷ []) (new ≡ old) result
+
+-- what is answered where an entry is to be registered behind known registrations, and the registrations behind that
+abbrev pub IsRegistering : (old new : List Registration) → Entry → Result ⊤ TableFault → Type 0
+IsRegistering old new entry result = IsTaking old (registered_by entry) (new ≡ old ++ registered_by entry) (new ≡ old) result
 
 -- none of the paths that an entry registers is valid
 abbrev pub IsNew : List Entry → Entry → Type 0
-IsNew entries entry = All (λ path. IsValid (registered entries) path → ⊥) (paths_of (registered_by entry))
+IsNew entries entry = AreNew (registered entries) (registered_by entry)
 
 -- a path is valid behind some entries and one more
 abbrev pub IsValidWith : List Entry → Entry → List ℕ → Type 0
 IsValidWith entries entry path = IsValid (registered entries ++ registered_by entry) path
-
--- A path is the first that the entry registers and that is valid already.
-pub record IsFirstValid (entries : List Entry) (entry : Entry) (path : List ℕ) : Type 0 where
-  pub before : List (List ℕ)
-  pub after : List (List ℕ)
-  pub parts : paths_of (registered_by entry) ≡ before ++ path ∷ after
-  pub new : All (λ p. IsValid (registered entries) p → ⊥) before
-  pub valid : IsValid (registered entries) path
-
--- A path is the entry's first reference that is neither valid nor registered by the entry.
-pub record IsFirstUnclosed (entries : List Entry) (entry : Entry) (path : List ℕ) : Type 0 where
-  pub before : List (List ℕ)
-  pub after : List (List ℕ)
-  pub parts : references_of (registered_by entry) ≡ before ++ path ∷ after
-  pub valid : All (IsValidWith entries entry) before
-  pub unclosed : IsValidWith entries entry path → ⊥
-
--- what is answered where an entry is to be added to a list of entries, and the list behind that
-abbrev pub IsAdding : (old new : List Entry) → Entry → Result ⊤ TableFault → Type 0
-IsAdding old new entry (Ok _) = IsNew old entry × All (IsValidWith old entry) (references_of (registered_by entry)) × (new ≡ old ++ entry ∷ [])
-IsAdding old new entry (Err (AlreadyValid path)) = IsFirstValid old entry path × (new ≡ old)
-IsAdding old new entry (Err (Unclosed path)) = IsNew old entry × IsFirstUnclosed old entry path × (new ≡ old)
-IsAdding old new entry (Err NoMemory) = new ≡ old
-IsAdding old new entry (Err (BadLine line)) = ⊥
-IsAdding old new entry (Err (NotClosed line)) = ⊥
-IsAdding old new entry (Err (Twice line)) = ⊥
-IsAdding old new entry (Err WrongVersion) = ⊥
-IsAdding old new entry (Err TooLong) = ⊥
-IsAdding old new entry (Err (NotValid path)) = ⊥

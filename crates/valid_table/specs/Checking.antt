@@ -7,7 +7,7 @@ use Rattle.valid_table.specs.declared.entry.Entry.{Entry}
 use Rattle.valid_table.specs.declared.entry.Entry.TheVariants.{Add, Done}
 use Rattle.valid_table.specs.declared.entry.Registration.{Registration}
 use Rattle.valid_table.specs.declared.fault.TableFault.{TableFault}
-use Rattle.valid_table.specs.declared.fault.TableFault.TheVariants.{NoMemory, BadLine, NotClosed, Twice, WrongVersion, NotValid, TooLong, Unclosed, AlreadyValid}
+use Rattle.valid_table.specs.declared.fault.TableFault.TheVariants.{NoMemory, NotClosed, Twice}
 
 -- the lines of an entry that stand before those of what it registers
 abbrev pub header : Entry → List Line
@@ -55,12 +55,7 @@ IsEntryCheck known all some first (Err (Twice n)) =
 IsEntryCheck known all some first (Err (NotClosed n)) =
     (line : Line) × (place : ℕ) × IsRightUpTo known all some line place × RefersToOther all line × (n ≡ first + place)
 IsEntryCheck known all some first (Err NoMemory) = Unit {0}
-IsEntryCheck known all some first (Err (BadLine n)) = ⊥
-IsEntryCheck known all some first (Err WrongVersion) = ⊥
-IsEntryCheck known all some first (Err TooLong) = ⊥
-IsEntryCheck known all some first (Err (NotValid path)) = ⊥
-IsEntryCheck known all some first (Err (Unclosed path)) = ⊥
-IsEntryCheck known all some first (Err (AlreadyValid path)) = ⊥
+IsEntryCheck known all some first (Err other) = ⊥
 
 -- what is answered for the lines of registrations, the first so many of which have new paths
 abbrev pub IsLineCheck : (all : List (List ℕ)) → List Registration → (new first : ℕ) → Result ℕ TableFault → Type 0
@@ -72,10 +67,4 @@ IsLineCheck all rs new first (Err (NotClosed n)) =
     (before : List Registration) × (r : Registration) × (after : List Registration) × (place : ℕ)
     × (rs ≡ before ++ r ∷ after) × (length before < new) × All (Contains all) (references_of before)
     × IsFirstUnknownAt all r.info.references place × (n ≡ first + length (flat_map output_lines before) + 1 + place)
-IsLineCheck all rs new first (Err NoMemory) = ⊥
-IsLineCheck all rs new first (Err (BadLine n)) = ⊥
-IsLineCheck all rs new first (Err WrongVersion) = ⊥
-IsLineCheck all rs new first (Err TooLong) = ⊥
-IsLineCheck all rs new first (Err (NotValid path)) = ⊥
-IsLineCheck all rs new first (Err (Unclosed path)) = ⊥
-IsLineCheck all rs new first (Err (AlreadyValid path)) = ⊥
+IsLineCheck all rs new first (Err other) = ⊥

@@ -3,11 +3,12 @@ use Rattle.std.specs.Prelude.{◌≡◌, ◌↔◌, ◌++◌, ℕ, List, [], ◌
 use Rattle.std.specs.Global.{Vec}
 use Rattle.nix_names.specs.Rising.{IsRising}
 use Rattle.valid_table.specs.Entries.{registered}
-use Rattle.valid_table.specs.Valid.{IsValid, RefersTo, IsClosed, IsOnce}
+use Rattle.valid_table.specs.Firsts.{IsFirst}
+use Rattle.valid_table.specs.Valid.{IsClosed, IsNotValid, IsOnce, IsValid, RefersTo}
 use Rattle.valid_table.specs.declared.entry.Entry.{Entry}
 use Rattle.valid_table.specs.declared.entry.Registration.{Registration}
 use Rattle.valid_table.specs.declared.fault.TableFault.{TableFault}
-use Rattle.valid_table.specs.declared.fault.TableFault.TheVariants.{NoMemory, BadLine, NotClosed, Twice, WrongVersion, NotValid, TooLong, Unclosed, AlreadyValid}
+use Rattle.valid_table.specs.declared.fault.TableFault.TheVariants.{NoMemory, NotValid}
 
 -- valid paths lead from one to another, each next one a reference of the one before
 abbrev pub Leads : List Registration → List ℕ → List ℕ → List (List ℕ) → Type 0
@@ -23,26 +24,12 @@ pub record IsClosure (registrations : List Registration) (roots all : List (List
   pub rising : IsRising all
   pub each : (path : List ℕ) → Contains all path ↔ ((root : List ℕ) × Contains roots root × Reaches registrations root path)
 
--- A path is the first of some that is not valid.
-pub record IsFirstNotValid (registrations : List Registration) (roots : List (List ℕ)) (path : List ℕ) : Type 0 where
-  pub before : List (List ℕ)
-  pub after : List (List ℕ)
-  pub parts : roots ≡ before ++ path ∷ after
-  pub valid : All (IsValid registrations) before
-  pub not_valid : IsValid registrations path → ⊥
-
 -- what a question for the closure of some roots answers
 abbrev pub IsClosing : List Registration → List (List ℕ) → Result (Vec (List ℕ)) TableFault → Type 0
 IsClosing registrations roots (Ok all) = All (IsValid registrations) roots × IsClosure registrations roots all.items
-IsClosing registrations roots (Err (NotValid path)) = IsFirstNotValid registrations roots path
+IsClosing registrations roots (Err (NotValid path)) = IsFirst (IsValid registrations) (IsNotValid registrations) roots path
 IsClosing registrations roots (Err NoMemory) = Unit {0}
-IsClosing registrations roots (Err (BadLine line)) = ⊥
-IsClosing registrations roots (Err (NotClosed line)) = ⊥
-IsClosing registrations roots (Err (Twice line)) = ⊥
-IsClosing registrations roots (Err WrongVersion) = ⊥
-IsClosing registrations roots (Err TooLong) = ⊥
-IsClosing registrations roots (Err (Unclosed path)) = ⊥
-IsClosing registrations roots (Err (AlreadyValid path)) = ⊥
+IsClosing registrations roots (Err other) = ⊥
 
 -- the closure of paths that are valid in a closed list stays the same in each list of entries that begins with it
 abbrev pub ClosureStays : Type 0

@@ -1,7 +1,8 @@
 -- That the text of a journal is read as just that journal.
-use Rattle.std.specs.Prelude.{◌≡◌, ◌⊎◌, ◌≤◌, ℕ, List, length, Result, Ok, Err}
+use Rattle.std.specs.Prelude.{◌≡◌, ◌≤◌, ℕ, List, length, MatchResult, Result}
 use Rattle.nix_names.specs.Names.{IsStoreDir}
 use Rattle.valid_table.specs.Reading.{IsReading, max_len}
+use Rattle.valid_table.specs.Tables.{JournalValue}
 use Rattle.valid_table.specs.Texts.{IsText}
 use Rattle.valid_table.specs.Valid.{IsJournal}
 use Rattle.valid_table.specs.declared.entry.Entry.{Entry}
@@ -15,5 +16,5 @@ TextHasOneList = (dir bytes : List ℕ) (a b : List Entry) → IsText dir a byte
 -- the text of a journal, within the limit, is read as just that journal, want of memory apart
 abbrev pub JournalTextsAreRead : Type 0
 JournalTextsAreRead =
-    (dir bytes : List ℕ) (entries : List Entry) (answer : Result (List Entry) TableFault) → IsStoreDir dir → length bytes ≤ max_len
-    → IsText dir entries bytes → IsJournal entries → IsReading dir bytes answer → (answer ≡ Ok entries) ⊎ (answer ≡ Err NoMemory)
+    (dir bytes : List ℕ) (entries : List Entry) (answer : Result JournalValue TableFault) → IsStoreDir dir → length bytes ≤ max_len
+    → IsText dir entries bytes → IsJournal entries → IsReading dir bytes answer → MatchResult answer (λ journal. journal.entries ≡ entries) (λ fault. fault ≡ NoMemory)

@@ -17,6 +17,10 @@ Registers registrations path info = Contains registrations (record { path = path
 abbrev pub IsValid : List Registration → List ℕ → Type 0
 IsValid registrations path = Contains (paths_of registrations) path
 
+-- a path is not valid
+abbrev pub IsNotValid : List Registration → List ℕ → Type 0
+IsNotValid registrations path = IsValid registrations path → ⊥
+
 -- a path is a reference of a registered one
 abbrev pub RefersTo : List Registration → List ℕ → List ℕ → Type 0
 RefersTo registrations path next = (info : PathInfo) × Registers registrations path info × Contains info.references next

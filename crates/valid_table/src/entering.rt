@@ -1,102 +1,100 @@
-//! The paths that an entry registers, entered among known ones.
-ghost use Rattle.std.specs.Prelude.{◌≡◌, ◌++◌, All, Contains, IfOk, IfErr, OnOk, MatchOption, length, nat_eq, take};
-ghost use Rattle.std.specs.Cmp.Lexicographic.{pointwise};
-ghost use Rattle.std.specs.List.{IsDistinct};
+//! What stands against registrations, found by look-ups in the rows of a table.
+ghost use Rattle.std.specs.Prelude.{◌++◌, ◌↔◌, All, IsTrue, MatchOption};
 ghost use Rattle.nix_names.specs.Rising.{IsRising};
-ghost use Rattle.valid_table.specs.Entering.{IsEntering, IsFirstUnknown, IsFirstUnknownAt, IsNewFront};
+ghost use Rattle.valid_table.specs.Adding.{AreClosed, AreNew, IsFirstUnclosed, IsObstacle};
+ghost use Rattle.valid_table.specs.Entering.{IsFirstUnknownAt, IsNewFront};
 ghost use Rattle.valid_table.specs.Entries.{paths_of};
-ghost use Rattle.valid_table.specs.Valid.{references_of};
+ghost use Rattle.valid_table.specs.Tables.{registrations_of};
+ghost use Rattle.valid_table.specs.Valid.{IsValid};
 
-use crate::entry::{Registration, copy_path};
-use crate::fault::TableFault;
-use indexmap::IndexSet;
+use crate::entry::{Record, Registration};
+use crate::obstacle::Obstacle;
+use crate::rows::has_row;
+use indexmap::IndexMap;
 use nix_names::StorePath;
-use std::alloc::Global;
 
-// Enters the paths of registrations. In this order: `AlreadyValid` with the first path that is
-// known already, `Unclosed` with the first reference that is neither known nor registered here.
-// Behind a fault some of the paths may stand behind the known ones.
-pub(crate) fn enter(
-    paths: &mut IndexSet<StorePath>,
-    registrations: &[Registration],
-) -> Result<(), TableFault>
-    requires rising { IsRising (paths_of registrations.now) }
-    ensures entering { IsEntering paths.old.keys registrations.now result }
-    ensures entered { OnOk result (paths.new.keys ≡ paths.old.keys ++ paths_of registrations.now) }
-    ensures kept { take (length paths.old.keys) paths.new.keys ≡ paths.old.keys }
-    ensures unique { IsDistinct (pointwise nat_eq) paths.old.keys → IsDistinct (pointwise nat_eq) paths.new.keys }
+// What stands against registrations, if anything: the first path that has a row, or else the first
+// reference that neither has one nor is registered here.
+pub(crate) fn obstacle<'a>(
+    rows: &IndexMap<StorePath, Record>,
+    registrations: &'a [Registration],
+) -> Option<Obstacle<'a>>
+    requires { IsRising (paths_of registrations.now) }
+    ensures { MatchOption result (AreNew (registrations_of rows.now.entries) registrations.now × AreClosed (registrations_of rows.now.entries) registrations.now) (IsObstacle (registrations_of rows.now.entries) registrations.now) }
 {
-    let alloc = *paths.allocator();
-    let count = enter_new(alloc, paths, registrations)?;
+    let count = new_front(rows, registrations);
     if let Some(registration) = registrations.get(count) {
-        let path = copy_path(alloc, &registration.path)?;
-        return Err(TableFault::AlreadyValid(path));
+        return Some(Obstacle::AlreadyValid(&registration.path));
     }
-    if let Some(path) = first_unclosed(paths, registrations) {
-        let path = copy_path(alloc, path)?;
-        return Err(TableFault::Unclosed(path));
+    match first_unclosed(rows, registrations) {
+        Some(path) => Some(Obstacle::Unclosed(path)),
+        None => None,
     }
-    Ok(())
 }
 
-// Enters the paths of registrations up to the first that is known already, and says how many.
-pub(crate) fn enter_new(
-    alloc: Global,
-    paths: &mut IndexSet<StorePath>,
-    registrations: &[Registration],
-) -> Result<usize, TableFault>
-    requires rising { IsRising (paths_of registrations.now) }
-    ensures front { IfOk result (IsNewFront paths.old.keys (paths_of registrations.now)) }
-    ensures entered { IfOk result (λ count. paths.new.keys ≡ paths.old.keys ++ take count (paths_of registrations.now)) }
-    ensures kept { take (length paths.old.keys) paths.new.keys ≡ paths.old.keys }
-    ensures unique { IsDistinct (pointwise nat_eq) paths.old.keys → IsDistinct (pointwise nat_eq) paths.new.keys }
-    ensures err { IfErr result (λ e. e ≡ TableFault.NoMemory) }
+// How many first registrations have paths without a row.
+pub(crate) fn new_front(rows: &IndexMap<StorePath, Record>, registrations: &[Registration]) -> usize
+    ensures { IsNewFront (paths_of (registrations_of rows.now.entries)) (paths_of registrations.now) result }
 {
     for (count, registration) in registrations.iter().enumerate() {
-        let path = copy_path(alloc, &registration.path)?;
-        let added = paths.insert(path)?;
-        if !added {
-            return Ok(count);
+        if has_row(rows, &registration.path) {
+            return count;
         }
     }
-    Ok(registrations.len())
+    registrations.len()
 }
 
-// The first reference of registrations that isn't known.
+// The first reference of registrations that neither has a row nor is registered here.
 fn first_unclosed<'a>(
-    paths: &IndexSet<StorePath>,
+    rows: &IndexMap<StorePath, Record>,
     registrations: &'a [Registration],
 ) -> Option<&'a StorePath>
-    ensures { MatchOption result (All (Contains paths.now.keys) (references_of registrations.now)) (λ path. IsFirstUnknown paths.now.keys (references_of registrations.now) path.now) }
+    requires { IsRising (paths_of registrations.now) }
+    ensures { MatchOption result (AreClosed (registrations_of rows.now.entries) registrations.now) (λ path. IsFirstUnclosed (registrations_of rows.now.entries) registrations.now path.now) }
 {
     for registration in registrations {
         let references = registration.info.references();
-        if let Some(place) = first_unknown(paths, references) {
+        if let Some(place) = first_unknown(rows, registrations, references) {
             return Some(&references[place]);
         }
     }
     None
 }
 
-// The place of the first path of some that isn't known.
-pub(crate) fn first_unknown(paths: &IndexSet<StorePath>, some: &[StorePath]) -> Option<usize>
-    ensures { MatchOption result (All (Contains paths.now.keys) some.now) (IsFirstUnknownAt paths.now.keys some.now) }
+// The place of the first of some paths that neither has a row nor is registered here.
+pub(crate) fn first_unknown(
+    rows: &IndexMap<StorePath, Record>,
+    registrations: &[Registration],
+    paths: &[StorePath],
+) -> Option<usize>
+    requires { IsRising (paths_of registrations.now) }
+    ensures { MatchOption result (All (IsValid (registrations_of rows.now.entries ++ registrations.now)) paths.now) (IsFirstUnknownAt (paths_of (registrations_of rows.now.entries ++ registrations.now)) paths.now) }
 {
-    some.iter().position(|path| !paths.contains(path))
+    for (place, path) in paths.iter().enumerate() {
+        if !is_known(rows, registrations, path) {
+            return Some(place);
+        }
+    }
+    None
 }
 
-// The same known paths again.
-pub(crate) fn copy_paths(
-    alloc: Global,
-    paths: &IndexSet<StorePath>,
-) -> Result<IndexSet<StorePath>, TableFault>
-    ensures ok { IfOk result (λ copied. copied.keys ≡ paths.now.keys) }
-    ensures err { IfErr result (λ e. e ≡ TableFault.NoMemory) }
+// Whether a path has a row or is registered here.
+fn is_known(
+    rows: &IndexMap<StorePath, Record>,
+    registrations: &[Registration],
+    path: &StorePath,
+) -> bool
+    requires { IsRising (paths_of registrations.now) }
+    ensures { IsTrue result ↔ IsValid (registrations_of rows.now.entries ++ registrations.now) path.now }
 {
-    let mut copied = IndexSet::with_capacity(alloc, paths.len())?;
-    for path in paths.as_slice() {
-        let path = copy_path(alloc, path)?;
-        copied.insert(path)?;
-    }
-    Ok(copied)
+    has_row(rows, path) || is_registered(registrations, path)
+}
+
+// Whether a path is registered here. Costs a binary search.
+fn is_registered(registrations: &[Registration], path: &StorePath) -> bool
+    requires { IsRising (paths_of registrations.now) }
+    ensures { IsTrue result ↔ IsValid registrations.now path.now }
+{
+    let found = registrations.binary_search_by(|registration| registration.path.cmp(path));
+    found.is_ok()
 }

@@ -37,10 +37,7 @@ impl Model for Record {
 impl Record {
     /// The record of a path with these references, and with the digest of its bytes where it is a
     /// file. Takes memory only where there are references.
-    pub fn new(
-        references: Vec<StorePath>,
-        digest: Option<[u8; 32]>,
-    ) -> Result<Record, AllocError>
+    pub fn new(references: Vec<StorePath>, digest: Option<[u8; 32]>) -> Result<Record, AllocError>
         requires rising { IsRising references.items }
         ensures references { IfOk result (λ r. r.references ≡ references.items) }
         ensures digest { IfOk result (λ r. r.digest ≡ digest) }
@@ -144,6 +141,13 @@ impl Outputs {
         &self.registrations
     }
 
+    // The outputs, by path, taken out.
+    pub(crate) fn into_registrations(self) -> Vec<Registration>
+        ensures { result.items ≡ self }
+    {
+        self.registrations
+    }
+
     /// The same outputs again. Answers `NoMemory` where memory is refused, and no other fault.
     pub fn copy(&self, alloc: Global) -> Result<Outputs, TableFault>
         ensures ok { IfOk result (λ o. o ≡ self.now) }
@@ -170,6 +174,7 @@ impl Entry {
     /// What the entry registers, strictly rising by path.
     pub fn registrations(&self) -> &[Registration]
         ensures value { result.now ≡ registered_by self.now }
+        ensures some { result.now ≢ [] }
         ensures rising { IsRising (paths_of result.now) }
     {
         match self {

@@ -1,83 +1,100 @@
 //! Journals: entries in their order, each reference registered, no path twice.
-ghost use Rattle.std.specs.Prelude.{◌≡◌, ◌≤◌, ◌↔◌, ◌++◌, [], ◌∷◌, All, IfOk, IfErr, IsTrue, OnOk, OnErr, length, nat_eq, take};
-ghost use Rattle.std.specs.Cmp.Lexicographic.{pointwise};
-ghost use Rattle.std.specs.List.{IsDistinct};
+ghost use Rattle.std.specs.Prelude.{◌≡◌, ◌≤◌, ◌+◌, ◌↔◌, ◌++◌, [], ◌∷◌, All, IfOk, IfErr, IsTrue, MatchOption, OnOk, length};
 ghost use Rattle.nix_names.specs.StorePaths.{IsDrvPath};
-ghost use Rattle.valid_table.specs.Adding.{IsAdding};
-ghost use Rattle.valid_table.specs.Entering.{IsEntering};
-ghost use Rattle.valid_table.specs.Entries.{paths_of, registered, registered_by};
+ghost use Rattle.valid_table.specs.Adding.{AreClosed, AreNew, IsAdding};
+ghost use Rattle.valid_table.specs.Entries.{registered, registered_by};
 ghost use Rattle.valid_table.specs.Reading.{IsChecking};
 ghost use Rattle.valid_table.specs.Texts.{lines};
 ghost use Rattle.valid_table.specs.Valid.{HasDrvPath, IsJournal, IsValid};
 ghost use Rattle.valid_table.specs.declared.entry.Entry.TheVariants.{Add, Done};
 
 use crate::checking::check_entries;
-use crate::entering::{copy_paths, enter};
 use crate::entry::{Entry, Outputs, Record, Registration};
 use crate::fault::TableFault;
-use indexmap::IndexSet;
+use crate::table::Table;
 use nix_names::StorePath;
 use std::alloc::Global;
 use std::marker::Model;
 
 /// The entries of a journal in their order. Each reference in an entry is registered by an earlier
 /// entry or by the same one, no path is registered twice, and each deriver has the name of a
-/// derivation's file. A contract sees the list of entries. Each registered path is kept twice, in
-/// its entry and for look-ups by hash.
+/// derivation's file. A contract sees the list of entries, and how many more paths they can
+/// register without taking memory. Beside its entries a journal keeps the table of what they
+/// register, which shares their paths and references.
 #[derive(Debug, Drop)]
 pub struct Journal {
     entries: Vec<Entry>,
     // What the entries register, in their order.
-    paths: IndexSet<StorePath>,
+    table: Table,
 }
 
 impl Model for Journal {
-    ghost use Rattle.std.specs.Prelude.{◌≡◌, List};
-    ghost use Rattle.valid_table.specs.Entries.{paths_of, registered};
+    ghost use Rattle.std.specs.Prelude.{◌≡◌, ◌-◌, length, min, vec_capacity};
+    ghost use Rattle.valid_table.specs.Entries.{registered};
+    ghost use Rattle.valid_table.specs.Tables.{JournalValue};
     ghost use Rattle.valid_table.specs.Valid.{IsJournal};
-    ghost use Rattle.valid_table.specs.declared.entry.Entry.{Entry};
 
-    ghost Value = { List Entry };
+    ghost Value = { JournalValue };
 
-    ghost view = { λ j. j.entries.items };
+    ghost view = { λ j. record { entries = j.entries.items; room = min j.table.room (vec_capacity j.entries - length j.entries.items) } };
 
-    ghost invariant = { λ j. IsJournal j.entries.items × (j.paths.keys ≡ paths_of (registered j.entries.items)) };
+    ghost invariant = { λ j. IsJournal j.entries.items × (j.table.registrations ≡ registered j.entries.items) };
 }
 
 impl Journal {
     /// The journal without entries. Takes no memory.
     pub fn new(alloc: Global) -> Journal
-        ensures { result ≡ [] }
+        ensures { result.entries ≡ [] }
     {
         Journal {
             entries: Vec::new(alloc),
-            paths: IndexSet::new(alloc),
+            table: Table::new(alloc),
         }
     }
 
     /// The entries, in their order.
     pub fn entries(&self) -> &[Entry]
-        ensures value { result.now ≡ self.now }
+        ensures value { result.now ≡ self.now.entries }
         ensures is_journal { IsJournal result.now }
     {
         &self.entries
     }
 
+    /// The table of what the entries register.
+    pub fn table(&self) -> &Table
+        ensures value { result.now.registrations ≡ registered self.now.entries }
+        ensures is_journal { IsJournal self.now.entries }
+    {
+        &self.table
+    }
+
     /// Whether a path is valid by the journal, that is whether an entry registers it. Costs one
     /// look-up by hash.
     pub fn registers(&self, path: &StorePath) -> bool
-        ensures { IsTrue result ↔ IsValid (registered self.now) path.now }
+        ensures { IsTrue result ↔ IsValid (registered self.now.entries) path.now }
     {
-        self.paths.contains(path)
+        self.table.registers(path)
+    }
+
+    /// Makes room for entries that register so many more paths. Answers `NoMemory` where memory is
+    /// refused, and no other fault; the entries stay.
+    pub fn reserve(&mut self, paths: usize) -> Result<(), TableFault>
+        ensures same { self.new.entries ≡ self.old.entries }
+        ensures ok { OnOk result (paths ≤ self.new.room) }
+        ensures kept { self.old.room ≤ self.new.room }
+        ensures err { IfErr result (λ e. e ≡ TableFault.NoMemory) }
+    {
+        self.entries.reserve(paths)?;
+        self.table.reserve(paths)
     }
 
     /// Adds a path with its record. In this order: `AlreadyValid` with the path where it is valid,
     /// `Unclosed` with the first reference that is neither valid nor the path itself. `NoMemory`
-    /// may come in the place of either. A fault leaves the journal as it was. Costs one copy of
-    /// the path, which the journal then has twice, and one look-up by hash for the path and for
-    /// each reference.
+    /// may come in the place of either. A fault leaves the entries as they were. Costs one look-up
+    /// by hash for each reference, and two for the path.
     pub fn add(&mut self, path: StorePath, info: Record) -> Result<(), TableFault>
-        ensures { IsAdding self.old self.new (Add (record { path = path; info = info })) result }
+        ensures adding { IsAdding self.old.entries self.new.entries (Add (record { path = path; info = info })) result }
+        ensures room { self.old.room ≤ self.new.room + 1 }
     {
         self.add_entry(Entry::Add(Registration { path, info }))
     }
@@ -85,73 +102,74 @@ impl Journal {
     /// Adds the outputs of a derivation that was built; its path ends in `.drv`. In this order:
     /// `AlreadyValid` with the first output that is valid, `Unclosed` with the first reference
     /// that is neither valid nor an output. `NoMemory` may come in the place of either. A fault
-    /// leaves the journal as it was. Costs one copy of each output's path, which the journal then
-    /// has twice, and one look-up by hash for each output and each reference.
+    /// leaves the entries as they were. Costs one look-up by hash for each reference and two for
+    /// each output, and a binary search among the outputs for each reference that is not valid.
     pub fn append(&mut self, deriver: StorePath, outputs: Outputs) -> Result<(), TableFault>
         requires { IsDrvPath deriver }
-        ensures { IsAdding self.old self.new (Done deriver outputs) result }
+        ensures adding { IsAdding self.old.entries self.new.entries (Done deriver outputs) result }
+        ensures room { self.old.room ≤ self.new.room + length outputs }
     {
         self.add_entry(Entry::Done(deriver, outputs))
     }
 
+    /// Adds an entry for which there is room, and against which nothing stands (`Table::obstacle`
+    /// tells). The copy of the entry is what the table takes in. Takes no memory, and never fails.
+    /// Costs one look-up by hash for each registration.
+    pub fn push_reserved(&mut self, entry: Entry, copy: Entry)
+        requires room { length (registered_by entry) ≤ self.old.room }
+        requires new { AreNew (registered self.old.entries) (registered_by entry) }
+        requires closed { AreClosed (registered self.old.entries) (registered_by entry) }
+        requires derived { HasDrvPath entry }
+        requires same { copy ≡ entry }
+        ensures entries { self.new.entries ≡ self.old.entries ++ entry ∷ [] }
+        ensures room { self.old.room ≤ self.new.room + length (registered_by entry) }
+    {
+        // Its contract says that an entry registers a path at least.
+        let _ = entry.registrations();
+        let _ = self.entries.push(entry);
+        self.table.register_reserved(copy);
+    }
+
     /// The same journal again. Answers `NoMemory` where memory is refused, and no other fault. Costs
-    /// two copies of each registered path, one of each deriver and reference, and one look-up by
-    /// hash for each registered path.
+    /// one look-up by hash for each registered path.
     pub fn copy(&self, alloc: Global) -> Result<Journal, TableFault>
-        ensures ok { IfOk result (λ journal. journal ≡ self.now) }
+        ensures ok { IfOk result (λ journal. journal.entries ≡ self.now.entries) }
         ensures err { IfErr result (λ e. e ≡ TableFault.NoMemory) }
     {
-        Ok(Journal {
-            entries: copy_entries(alloc, &self.entries)?,
-            paths: copy_paths(alloc, &self.paths)?,
-        })
+        let entries = copy_entries(alloc, &self.entries)?;
+        let table = Table::of_entries(alloc, &entries)?;
+        Ok(Journal { entries, table })
     }
 
     // The journal of entries whose text was read. `Twice` has the first line that registers a path
     // again and `NotClosed` the first that refers to a path which neither an earlier entry nor its
     // own registers, whichever comes first; line 1 is the version's. `NoMemory` may come in the
-    // place of either. Costs one copy of each registered path, and one look-up by hash for each
-    // registered path and each reference.
+    // place of either. Costs two look-ups by hash for each registered path and one for each
+    // reference.
     pub(crate) fn checked(alloc: Global, entries: Vec<Entry>) -> Result<Journal, TableFault>
         requires derived { All HasDrvPath entries.items }
         requires few { length (lines entries.items) ≤ 67108865 }
         ensures { IsChecking entries.items result }
     {
-        let paths = check_entries(alloc, &entries)?;
-        Ok(Journal { entries, paths })
+        let table = check_entries(alloc, &entries)?;
+        Ok(Journal { entries, table })
     }
 
-    // Adds an entry, or leaves the journal as it was.
+    // Adds an entry, or leaves the entries as they were.
     fn add_entry(&mut self, entry: Entry) -> Result<(), TableFault>
         requires { HasDrvPath entry }
-        ensures { IsAdding self.old self.new entry result }
+        ensures adding { IsAdding self.old.entries self.new.entries entry result }
+        ensures room { self.old.room ≤ self.new.room + length (registered_by entry) }
     {
-        let known = self.paths.len();
-        if let Err(fault) = push_entered(&mut self.entries, &mut self.paths, entry) {
-            self.paths.truncate(known);
-            return Err(fault);
+        let alloc = *self.entries.allocator();
+        if let Some(obstacle) = self.table.obstacle(&entry) {
+            return Err(obstacle.fault(alloc));
         }
+        let copy = entry.copy(alloc)?;
+        self.reserve(entry.registrations().len())?;
+        self.push_reserved(entry, copy);
         Ok(())
     }
-}
-
-// Enters what an entry registers, and puts the entry last. Behind a fault the entries are as
-// before, and some of the entry's paths may stand behind the known ones.
-fn push_entered(
-    entries: &mut Vec<Entry>,
-    paths: &mut IndexSet<StorePath>,
-    entry: Entry,
-) -> Result<(), TableFault>
-    ensures entering { IsEntering paths.old.keys (registered_by entry) result }
-    ensures entered { OnOk result (paths.new.keys ≡ paths.old.keys ++ paths_of (registered_by entry)) }
-    ensures kept { take (length paths.old.keys) paths.new.keys ≡ paths.old.keys }
-    ensures unique { IsDistinct (pointwise nat_eq) paths.old.keys → IsDistinct (pointwise nat_eq) paths.new.keys }
-    ensures pushed { OnOk result (entries.new.items ≡ entries.old.items ++ entry ∷ []) }
-    ensures same { OnErr result (entries.new.items ≡ entries.old.items) }
-{
-    enter(paths, entry.registrations())?;
-    entries.push(entry)?;
-    Ok(())
 }
 
 // The same entries again.

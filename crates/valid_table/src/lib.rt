@@ -5,8 +5,9 @@
 //! | `entry`, `entry_eq` | entries of a journal, and when they are equal |
 //! | `journal` | journals: their entries, one more |
 //! | `lines`, `reading`, `writing` | a journal's text: one line, the whole read, the whole written |
-//! | `entering`, `checking` | the paths that an entry registers, one entry more or line by line |
-//! | `table` | the table of valid paths |
+//! | `entering`, `obstacle` | what stands against an entry |
+//! | `checking` | entries whose text was read, line by line |
+//! | `rows`, `table` | the rows of valid paths, and the table of them |
 //! | `closing` | how a closure is found |
 //! | `outlet`, `list_outlet` | where registrations go, and the outlet in memory |
 //! | `fault` | why a call refused |
@@ -27,12 +28,14 @@ mod journal_tests;
 pub mod laws;
 mod lines;
 mod list_outlet;
+mod obstacle;
 mod outlet;
 #[cfg(test)]
 mod outlet_tests;
 mod reading;
 #[cfg(test)]
 mod row_tests;
+mod rows;
 mod table;
 mod writing;
 
@@ -40,5 +43,6 @@ pub use entry::{Entry, Outputs, Record, Registration};
 pub use fault::{OutletFault, TableFault};
 pub use journal::Journal;
 pub use list_outlet::ListOutlet;
+pub use obstacle::Obstacle;
 pub use outlet::Outlet;
 pub use table::Table;

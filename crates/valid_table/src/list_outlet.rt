@@ -32,7 +32,7 @@ impl ListOutlet {
     /// The outlet that shows the journal's entries. Answers `NoMemory` where memory is refused, and
     /// no other fault. Copies each entry.
     pub fn open(alloc: Global, journal: &Journal) -> Result<ListOutlet, OutletFault>
-        ensures shown { IfOk result (λ outlet. outlet.shown ≡ journal.now) }
+        ensures shown { IfOk result (λ outlet. outlet.shown ≡ journal.now.entries) }
         ensures pending { IfOk result (λ outlet. outlet.pending ≡ []) }
         ensures err { IfErr result (λ e. e ≡ OutletFault.NoMemory) }
     {

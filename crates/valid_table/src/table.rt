@@ -1,57 +1,73 @@
 //! The table of valid paths.
-ghost use Rattle.std.specs.Prelude.{◌≡◌, ◌++◌, IfOk, IfErr, OnOk, MatchOption};
+ghost use Rattle.std.specs.Prelude.{◌≡◌, ◌≤◌, ◌+◌, ◌++◌, ◌↔◌, [], IfErr, IfOk, IsOk, IsTrue, MatchOption, OnOk, length};
+ghost use Rattle.valid_table.specs.Adding.{AreClosed, AreNew, IsObstacle, IsRegistering};
 ghost use Rattle.valid_table.specs.Closure.{IsClosing};
-ghost use Rattle.valid_table.specs.Entries.{registered};
+ghost use Rattle.valid_table.specs.Entries.{registered, registered_by};
 ghost use Rattle.valid_table.specs.Tables.{registrations_of};
-ghost use Rattle.valid_table.specs.Valid.{AreReferencesValid, IsOnce, IsValid, Registers};
+ghost use Rattle.valid_table.specs.Valid.{AreReferencesValid, IsClosed, IsOnce, IsValid, Registers};
 
 use crate::closing::close;
-use crate::entry::{Record, Registration, copy_path};
+use crate::entering::obstacle;
+use crate::entry::{Entry, Record};
 use crate::fault::TableFault;
 use crate::journal::Journal;
+use crate::obstacle::Obstacle;
+use crate::rows::{add_rows, has_row, push_entry};
 use indexmap::IndexMap;
 use nix_names::StorePath;
 use std::alloc::Global;
 use std::marker::Model;
 
-/// The valid paths with their records: what a journal registers. A contract sees the list of what
-/// was registered, in its order.
+/// The valid paths with their records. A contract sees the list of what was registered, in its
+/// order, and how many more paths can be registered without taking memory. Each reference is
+/// valid, and no path is registered twice.
 #[derive(Debug, Drop)]
 pub struct Table {
     rows: IndexMap<StorePath, Record>,
 }
 
 impl Model for Table {
-    ghost use Rattle.std.specs.Prelude.{List};
-    ghost use Rattle.valid_table.specs.Tables.{registrations_of};
+    ghost use Rattle.indexmap.specs.IndexMap.{spare};
+    ghost use Rattle.valid_table.specs.Tables.{TableValue, registrations_of};
     ghost use Rattle.valid_table.specs.Valid.{AreReferencesValid, IsOnce};
-    ghost use Rattle.valid_table.specs.declared.entry.Registration.{Registration};
 
-    ghost Value = { List Registration };
+    ghost Value = { TableValue };
 
-    ghost view = { λ t. registrations_of t.rows.entries };
+    ghost view = { λ t. record { registrations = registrations_of t.rows.entries; room = spare t.rows } };
 
     ghost invariant = { λ t. IsOnce (registrations_of t.rows.entries) × AreReferencesValid (registrations_of t.rows.entries) };
 }
 
 impl Table {
+    /// The table without rows. Takes no memory.
+    pub fn new(alloc: Global) -> Table
+        ensures { result.registrations ≡ [] }
+    {
+        Table {
+            rows: IndexMap::new(alloc),
+        }
+    }
+
     /// The table of a journal: each path that an entry registers, with its record. Answers
-    /// `NoMemory` where memory is refused, and no other fault. Costs a copy and one look-up by hash
-    /// for each path.
+    /// `NoMemory` where memory is refused, and no other fault. Costs one look-up by hash for each
+    /// path.
     pub fn replay(alloc: Global, journal: &Journal) -> Result<Table, TableFault>
-        ensures ok { IfOk result (λ table. table ≡ registered journal.now) }
+        ensures ok { IfOk result (λ table. table.registrations ≡ registered journal.now.entries) }
         ensures err { IfErr result (λ e. e ≡ TableFault.NoMemory) }
     {
-        let mut rows = IndexMap::new(alloc);
-        for entry in journal.entries() {
-            add_rows(alloc, &mut rows, entry.registrations())?;
-        }
-        Ok(Table { rows })
+        Table::of_entries(alloc, journal.entries())
+    }
+
+    /// Whether a path is valid. Costs one look-up by hash.
+    pub fn registers(&self, path: &StorePath) -> bool
+        ensures { IsTrue result ↔ IsValid self.now.registrations path.now }
+    {
+        has_row(&self.rows, path)
     }
 
     /// The record of a path, where it is valid. Costs one look-up by hash.
     pub fn get(&self, path: &StorePath) -> Option<&Record>
-        ensures { MatchOption result (IsValid self.now path.now → ⊥) (λ info. Registers self.now path.now info.now) }
+        ensures { MatchOption result (IsValid self.now.registrations path.now → ⊥) (λ info. Registers self.now.registrations path.now info.now) }
     {
         self.rows.get(path)
     }
@@ -61,26 +77,86 @@ impl Table {
     /// memory is refused; no other fault. Costs one look-up by hash for each root and for each
     /// reference of what is reached, one sort of the paths and one copy of each. Does not recurse.
     pub fn closure(&self, alloc: Global, roots: &[StorePath]) -> Result<Vec<StorePath>, TableFault>
-        ensures { IsClosing self.now roots.now result }
+        ensures { IsClosing self.now.registrations roots.now result }
     {
         close(alloc, &self.rows, roots)
     }
-}
 
-// Adds a row for each registration. No path of theirs has a row yet.
-fn add_rows(
-    alloc: Global,
-    rows: &mut IndexMap<StorePath, Record>,
-    registrations: &[Registration],
-) -> Result<(), TableFault>
-    requires once { IsOnce (registrations_of rows.old.entries ++ registrations.now) }
-    ensures ok { OnOk result (registrations_of rows.new.entries ≡ registrations_of rows.old.entries ++ registrations.now) }
-    ensures err { IfErr result (λ e. e ≡ TableFault.NoMemory) }
-{
-    for registration in registrations {
-        let path = copy_path(alloc, &registration.path)?;
-        let info = registration.info.copy(alloc)?;
-        rows.insert(path, info)?;
+    /// What stands against an entry, if anything: the first path of its registrations that is
+    /// valid, or else its first reference that is neither valid nor registered by the entry itself.
+    /// Takes no memory. Costs a look-up by hash for each registration and reference, and a binary
+    /// search among the registrations for each reference that is not valid.
+    pub fn obstacle<'a>(&self, entry: &'a Entry) -> Option<Obstacle<'a>>
+        ensures { MatchOption result (AreNew self.now.registrations (registered_by entry.now) × AreClosed self.now.registrations (registered_by entry.now)) (IsObstacle self.now.registrations (registered_by entry.now)) }
+    {
+        obstacle(&self.rows, entry.registrations())
     }
-    Ok(())
+
+    /// Makes room for so many more paths. Answers `NoMemory` where memory is refused, and no other
+    /// fault; what is registered stays.
+    pub fn reserve(&mut self, paths: usize) -> Result<(), TableFault>
+        ensures same { self.new.registrations ≡ self.old.registrations }
+        ensures ok { OnOk result (paths ≤ self.new.room) }
+        ensures succeeds { paths ≤ self.old.room → IsOk result }
+        ensures kept { self.old.room ≤ self.new.room }
+        ensures err { IfErr result (λ e. e ≡ TableFault.NoMemory) }
+    {
+        self.rows.reserve(paths)?;
+        Ok(())
+    }
+
+    /// Registers what an entry registers. In this order: `AlreadyValid` with the first path that is
+    /// valid, `Unclosed` with the first reference that is neither valid nor registered by the entry
+    /// itself. `NoMemory` may come in the place of either. A fault leaves what is registered as it
+    /// was. Costs as `obstacle` does, and one more look-up by hash and a copy for each registration.
+    pub fn register(&mut self, entry: &Entry) -> Result<(), TableFault>
+        ensures registering { IsRegistering self.old.registrations self.new.registrations entry.now result }
+        ensures room { self.old.room ≤ self.new.room + length (registered_by entry.now) }
+    {
+        let alloc = *self.rows.allocator();
+        if let Some(obstacle) = self.obstacle(entry) {
+            return Err(obstacle.fault(alloc));
+        }
+        let copy = entry.copy(alloc)?;
+        self.reserve(entry.registrations().len())?;
+        self.register_reserved(copy);
+        Ok(())
+    }
+
+    /// Registers what an entry registers, for which there is room. Takes no memory. Costs one
+    /// look-up by hash for each registration.
+    pub fn register_reserved(&mut self, entry: Entry)
+        requires room { length (registered_by entry) ≤ self.old.room }
+        requires new { AreNew self.old.registrations (registered_by entry) }
+        requires closed { AreClosed self.old.registrations (registered_by entry) }
+        ensures registrations { self.new.registrations ≡ self.old.registrations ++ registered_by entry }
+        ensures room { self.old.room ≤ self.new.room + length (registered_by entry) }
+    {
+        // Its contract says that the registrations rise.
+        let _ = entry.registrations();
+        push_entry(&mut self.rows, entry);
+    }
+
+    // The table of what entries register.
+    pub(crate) fn of_entries(alloc: Global, entries: &[Entry]) -> Result<Table, TableFault>
+        requires closed { IsClosed entries.now }
+        requires once { IsOnce (registered entries.now) }
+        ensures ok { IfOk result (λ table. table.registrations ≡ registered entries.now) }
+        ensures err { IfErr result (λ e. e ≡ TableFault.NoMemory) }
+    {
+        let mut rows = IndexMap::new(alloc);
+        for entry in entries {
+            add_rows(alloc, &mut rows, entry.registrations())?;
+        }
+        Ok(Table { rows })
+    }
+
+    // The table of these rows.
+    pub(crate) fn of_rows(rows: IndexMap<StorePath, Record>) -> Table
+        requires once { IsOnce (registrations_of rows.entries) }
+        requires closed { AreReferencesValid (registrations_of rows.entries) }
+        ensures { result.registrations ≡ registrations_of rows.entries }
+    {
+        Table { rows }
+    }
 }

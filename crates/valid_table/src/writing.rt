@@ -15,7 +15,7 @@ impl Journal {
     /// Answers `NoMemory` where memory is refused, and no other fault. Costs one pass over the
     /// entries, and memory for the text alone.
     pub fn write(&self, alloc: Global) -> Result<Vec<u8>, TableFault>
-        ensures ok { IfOk result (λ bytes. bytes.items ≡ text self.now) }
+        ensures ok { IfOk result (λ bytes. bytes.items ≡ text self.now.entries) }
         ensures err { IfErr result (λ e. e ≡ TableFault.NoMemory) }
     {
         write_text(alloc, self.entries())

@@ -1,21 +1,35 @@
-use Rattle.std.proofs.Common.{◌+◌, ◌++◌, ap, length, subst}
-use Rattle.valid_table.specs.Checking.{IsLineCheck, header}
-use Rattle.valid_table.specs.Entering.{IsNewFront}
-use Rattle.valid_table.specs.Entries.{paths_of, registered_by}
-use Rattle.valid_table.proofs.CheckedEntries.{entry_checked, same_check}
-use Rattle.valid_table.proofs.EnteredPaths.{members_whole}
+use Rattle.std.proofs.Common.{◌+◌, ap, subst, sym}
+use Rattle.std.specs.Prelude.{Err, Ok}
+use Rattle.std.proofs.lemmas.Result.{err_from_is_err_and}
+use Rattle.valid_table.specs.Entries.{paths_of}
+use Rattle.valid_table.specs.Tables.{registrations_of}
+use Rattle.valid_table.specs.Valid.{IsOnce}
+use Rattle.valid_table.proofs.CheckedEntries.{own_checked}
+use Rattle.valid_table.proofs.EnteredPaths.{all_new}
+use Rattle.valid_table.proofs.TakenIn.{once_more}
 use Rattle.valid_table.proofs.checking.check_entry.Goals as goal
+
+pub returns-in_err-behind-clause-checked : goal.returns-in_err-behind-clause-checked
+returns-in_err-behind-clause-checked c =
+    let p = err_from_is_err_and c.from_residual.result c.from_residual.ensures.1 in
+    rw (p.1, p.2)
+    (own_checked (registrations_of c.args.rows.now.entries) c.args.entry.now c.registrations-registrations.result.now c.new_front-new.result c.args.line _ (Err c.in_err-behind.field-0.0)
+    c.registrations-registrations.ensures.value (ap (λ n. c.args.line + n) c.header_len.ensures) c.new_front-new.ensures c.in_err-behind.ensures)
+
+pub add_rows-requires : goal.add_rows-requires
+add_rows-requires c = record {
+  once = once_more (registrations_of c.args.rows.now.entries) c.registrations-registrations.result.now c.requires.once c.registrations-registrations.ensures.rising
+      (all_new (paths_of (registrations_of c.args.rows.now.entries)) c.registrations-registrations.result.now c.new_front-new.result c.new_front-new.ensures c.in_ok-behind.ensures.0);
+}
 
 pub returns-clause-checked : goal.returns-clause-checked
 returns-clause-checked c =
-    let known = c.args.paths.now.keys in
-    let entry = c.args.entry.now in
-    let rs = c.registrations-registrations.result.now in
-    let same = members_whole known c.enter_new.new.paths.keys c.enter_all.new.paths.keys rs c.in_ok-new.new c.in_ok-new.ensures.entered c.in_ok-enter_all.ensures.members in
-    let check = same_check c.enter_all.new.paths.keys (known ++ paths_of rs) rs c.in_ok-new.new _ c.check_lines.result same c.check_lines.ensures in
-    let first = ap (λ n. c.args.line + n) c.header_len.ensures in
-    let own = c.registrations-registrations.ensures.value in
-    entry_checked known (known ++ paths_of (registered_by entry)) entry c.in_ok-new.new c.args.line c.check_lines.result
-    (subst (λ l. IsNewFront known (paths_of l) c.in_ok-new.new) own c.in_ok-new.ensures.front)
-    (subst (λ l. IsLineCheck (known ++ paths_of l) l c.in_ok-new.new (c.args.line + length (header entry)) c.check_lines.result) own
-    (subst (λ n. IsLineCheck (known ++ paths_of rs) rs c.in_ok-new.new n c.check_lines.result) first check))
+    own_checked (registrations_of c.args.rows.now.entries) c.args.entry.now c.registrations-registrations.result.now c.new_front-new.result c.args.line _ (Ok c.in_ok-behind.behind)
+    c.registrations-registrations.ensures.value (ap (λ n. c.args.line + n) c.header_len.ensures) c.new_front-new.ensures c.in_ok-behind.ensures
+
+pub returns-clause-unique : goal.returns-clause-unique
+returns-clause-unique c =
+    let known = registrations_of c.args.rows.now.entries in
+    let some = c.registrations-registrations.result.now in
+    subst IsOnce (sym c.in_ok-add_rows.ensures.ok)
+    (once_more known some c.requires.once c.registrations-registrations.ensures.rising (all_new (paths_of known) some c.new_front-new.result c.new_front-new.ensures c.in_ok-behind.ensures.0))

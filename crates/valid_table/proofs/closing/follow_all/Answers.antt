@@ -2,7 +2,7 @@ use Rattle.std.proofs.Common.{arith, length, get_or, ◌<◌}
 use Rattle.std.proofs.lemmas.List.{get_or_default}
 use Rattle.valid_table.specs.Tables.{registrations_of}
 use Rattle.valid_table.proofs.Following.{few_rows, followed_all, followed_more, followed_none, row_below, row_registers}
-use Rattle.valid_table.proofs.Rows.{row_count}
+use Rattle.valid_table.proofs.RowNumbers.{row_count}
 use Rattle.valid_table.proofs.closing.follow_all.Goals as goal
 
 pub loop-next-init : goal.loop-next-init

@@ -5,7 +5,7 @@ use Rattle.valid_table.specs.Tables.{registrations_of}
 use Rattle.valid_table.specs.Valid.{IsValid}
 use Rattle.valid_table.proofs.AddedRows.{adds_a_row, taken_more}
 use Rattle.valid_table.proofs.Roots.{first_not_valid}
-use Rattle.valid_table.proofs.Rows.{valid_from_row}
+use Rattle.valid_table.proofs.RowNumbers.{valid_from_row}
 use Rattle.valid_table.proofs.closing.root_rows.Goals as goal
 
 pub returns-in_default-clause-err : goal.returns-in_default-clause-err

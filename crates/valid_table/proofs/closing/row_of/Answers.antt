@@ -1,4 +1,4 @@
-use Rattle.valid_table.proofs.Rows.{row_found}
+use Rattle.valid_table.proofs.RowNumbers.{row_found}
 use Rattle.valid_table.proofs.closing.row_of.Goals as goal
 
 pub returns : goal.returns

@@ -4,7 +4,7 @@ use Rattle.std.proofs.lemmas.List.{take_all}
 use Rattle.valid_table.specs.Closing.{paths_at}
 use Rattle.valid_table.specs.Entries.{paths_of}
 use Rattle.valid_table.specs.Tables.{registrations_of}
-use Rattle.valid_table.proofs.Rows.{paths_are_keys}
+use Rattle.valid_table.proofs.RowNumbers.{paths_are_keys}
 use Rattle.valid_table.proofs.Sorting.{paths_more, sorted_rising, sorted_same}
 use Rattle.valid_table.proofs.closing.sorted_paths.Goals as goal
 

@@ -1,4 +1,4 @@
-use Rattle.valid_table.proofs.Rows.{once_from_unique}
+use Rattle.valid_table.proofs.RowNumbers.{once_from_unique}
 use Rattle.valid_table.proofs.closure_tests.add_row.Goals as goal
 
 pub returns : goal.returns

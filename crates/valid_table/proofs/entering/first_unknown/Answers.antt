@@ -1,14 +1,23 @@
-use Rattle.std.proofs.Common.{rules, tests}
-use Rattle.std.specs.Prelude.{Contains}
-use Rattle.std.proofs.lemmas.Iterator.{IsFirst-from_position, YieldsList-from_slice}
-use Rattle.valid_table.proofs.EnteredPaths.{unknown_from_place}
-use Rattle.valid_table.proofs.PathLists.{known_path, unknown_path}
+use Rattle.std.proofs.Common.{◌++◌, ◌∙◌, subst, sym}
+use Rattle.std.specs.Prelude.{All}
+use Rattle.std.proofs.lemmas.Bool.{false≢true}
+use Rattle.std.proofs.lemmas.List.{take_all}
+use Rattle.valid_table.specs.Entries.{paths_of}
+use Rattle.valid_table.specs.Tables.{registrations_of}
+use Rattle.valid_table.specs.Valid.{IsValid}
+use Rattle.valid_table.proofs.EnteredPaths.{known_more, unknown_here}
 use Rattle.valid_table.proofs.entering.first_unknown.Goals as goal
+
+pub returns-then-not-is_known : goal.returns-then-not-is_known
+returns-then-not-is_known c =
+    unknown_here (paths_of (registrations_of c.args.rows.now.entries ++ c.args.registrations.now)) c.args.paths.now c.loop-place.place c.index-paths-place.result c.loop-place.invariant c.loop-place-test.true c.index-paths-place.is
+    (λ there. false≢true (sym c.if-not-is_known.true ∙ c.is_known.ensures.1 there))
+
+pub loop-place-preserved : goal.loop-place-preserved
+loop-place-preserved c =
+    known_more (paths_of (registrations_of c.args.rows.now.entries ++ c.args.registrations.now)) c.args.paths.now c.loop-place.place c.index-paths-place.result c.loop-place.invariant c.loop-place-test.true c.index-paths-place.is
+    (c.is_known.ensures.0 c.if-not-is_known.false)
 
 pub returns : goal.returns
 returns c =
-    let known = c.args.paths.now.keys in
-    unknown_from_place known c.args.some.now c.position.result
-    (IsFirst-from_position _ _ _ (λ path. Contains known path → ⊥) (Contains known) c.position.ensures.ran (YieldsList-from_slice c.args.some.now cc)
-    (λ x q k. unknown_path known x.now (search (rules, tests)))
-    (λ x q k. (search (rules, tests), known_path known x.now (search (rules, tests)))))
+    subst (All (IsValid (registrations_of c.args.rows.now.entries ++ c.args.registrations.now))) (take_all c.loop-place.place c.args.paths.now c.loop-place-test.false) c.loop-place.invariant

@@ -1,28 +1,23 @@
-use Rattle.std.proofs.Common.{◌≡◌, ◌∙◌, ◌++◌, subst}
-use Rattle.std.specs.Prelude.{Err, Ok}
-use Rattle.valid_table.specs.Adding.{IsAdding}
-use Rattle.valid_table.specs.Entering.{IsEntering}
-use Rattle.valid_table.specs.Entries.{paths_of, registered, registered_by}
-use Rattle.valid_table.proofs.AddedEntries.{adding_fault, adding_ok, journal_push, paths_push}
+use Rattle.std.proofs.Common.{◌≡◌, ◌∙◌, ◌++◌, ◌∷◌, [], ap, refl}
+use Rattle.valid_table.specs.Entries.{registered, registered_by}
+use Rattle.valid_table.proofs.TakenIn.{taking_refused}
 use Rattle.valid_table.proofs.journal.Journal.add_entry.Goals as goal
 
-pub returns-in-Err : goal.returns-in-Err
-returns-in-Err c =
-    let entering = subst (λ known. IsEntering known (registered_by c.args.entry) (Err c.in-Err.fault)) c.self.invariant.1 c.in-Err.ensures.entering in
-    subst (λ old. IsAdding old c.push_entered.new.entries.items c.args.entry (Err c.in-Err.fault)) c.self.view_is
-    (adding_fault c.self.inside.entries.items c.args.entry _ c.in-Err.fault entering c.in-Err.ensures.same)
+pub returns-in-Some-clause-adding : goal.returns-in-Some-clause-adding
+returns-in-Some-clause-adding c =
+    let old = c.args.self.now.entries in
+    taking_refused (registered old) (registered_by c.args.entry) (old ≡ old ++ c.args.entry ∷ []) (old ≡ old) c.in-Some.obstacle c.fault.result
+    (rw (← c.self.view_is, ← c.self.invariant.1) c.in-Some.ensures) c.fault.ensures refl
 
-pub invariant_of-self-in_default : goal.invariant_of-self-in_default
-invariant_of-self-in_default c =
-    let entries = c.self.inside.entries.items in
-    let entering = subst (λ known. IsEntering known (registered_by c.args.entry) (Ok c.in_default.field-0)) c.self.invariant.1 c.in_default.ensures.entering in
-    let added = adding_ok entries c.args.entry _ c.in_default.field-0 entering c.in_default.ensures.pushed in
-    let keys : c.push_entered.new.paths.keys ≡ paths_of (registered entries) ++ paths_of (registered_by c.args.entry) =
-    c.in_default.ensures.entered ∙ rw c.self.invariant.1 in
-    let once = rw keys at (c.in_default.ensures.unique c.len-known.ensures.unique) in
-    rw c.in_default.ensures.pushed (journal_push entries c.args.entry c.self.invariant.0 c.requires added.1 once, rw (paths_push entries c.args.entry) keys)
+pub push_reserved-requires-clause-new : goal.push_reserved-requires-clause-new
+push_reserved-requires-clause-new c = rw (c.reserve.ensures.same, ← c.self.view_is, ← c.self.invariant.1) c.in_default.ensures.0
 
-pub returns : goal.returns
-returns c =
-    let entering = subst (λ known. IsEntering known (registered_by c.args.entry) (Ok c.in_default.field-0)) c.self.invariant.1 c.in_default.ensures.entering in
-    rw (← c.self.view_is) (adding_ok c.self.inside.entries.items c.args.entry _ c.in_default.field-0 entering c.in_default.ensures.pushed)
+pub push_reserved-requires-clause-closed : goal.push_reserved-requires-clause-closed
+push_reserved-requires-clause-closed c = rw (c.reserve.ensures.same, ← c.self.view_is, ← c.self.invariant.1) c.in_default.ensures.1
+
+pub returns-clause-adding : goal.returns-clause-adding
+returns-clause-adding c = (
+  rw (← c.self.view_is, ← c.self.invariant.1) c.in_default.ensures.0,
+  rw (← c.self.view_is, ← c.self.invariant.1) c.in_default.ensures.1,
+  c.push_reserved.ensures.entries ∙ ap (λ l. l ++ c.args.entry ∷ []) c.reserve.ensures.same,
+)

@@ -1,7 +1,7 @@
 -- The rows behind those that were there are the first registrations.
 use Rattle.std.proofs.Common.{◌≡◌, ◌++◌, take}
 use Rattle.valid_table.specs.Tables.{registrations_of}
-use Rattle.valid_table.proofs.table.add_rows.Given as goal
+use Rattle.valid_table.proofs.rows.add_rows.Given as goal
 
 abbrev pub invariant-loop-registration : goal.invariant-loop-registration
 invariant-loop-registration l =

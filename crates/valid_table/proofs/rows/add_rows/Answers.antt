@@ -1,5 +1,5 @@
 use Rattle.valid_table.proofs.TableRows.{row_added}
-use Rattle.valid_table.proofs.table.add_rows.Goals as goal
+use Rattle.valid_table.proofs.rows.add_rows.Goals as goal
 
 pub loop-registration-preserved : goal.loop-registration-preserved
 loop-registration-preserved c =

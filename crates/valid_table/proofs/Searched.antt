@@ -1,0 +1,65 @@
+-- What a binary search among registrations by path finds.
+use Rattle.std.proofs.Common.{◌≡◌, ◌∙◌, ◌↔◌, ℕ, zero, suc, ◌+◌, ◌<◌, ◌≤◌, true, false, List, [], ◌∷◌, length, get_or, nat_eq, Result, Ok, Err, None, is_ok, IsTrue, refl, sym, ap, subst, arith, ⊎_elim}
+use Rattle.std.specs.Cmp.Lexicographic.{pointwise, slice_cmp, texts_ties}
+use Rattle.std.specs.List.Sorted.{IsBinarySearchResult, IsSearchInRange, IsSortedBy}
+use Rattle.std.specs.Ordering.{is_eq, is_lt, nat_cmp, ordering_reverse}
+use Rattle.std.specs.declared.cmp.Ordering.{Ordering}
+use Rattle.std.specs.declared.cmp.Ordering.TheVariants.{Less, Equal, Greater}
+use Rattle.std.proofs.lemmas.Bool.{cases_lt, false≢true}
+use Rattle.std.proofs.lemmas.Cmp.{nat_list_cmp_total, tied_itself}
+use Rattle.std.proofs.lemmas.List.{get_or-map, get_or_default, length-map}
+use Rattle.std.proofs.lemmas.List.Sorted.{searchable_from_sorted}
+use Rattle.nix_names.specs.Rising.{IsRising}
+use Rattle.valid_table.specs.Entries.{paths_of}
+use Rattle.valid_table.specs.PathInfos.{PathInfo}
+use Rattle.valid_table.specs.Valid.{IsValid}
+use Rattle.valid_table.specs.declared.entry.Registration.{Registration}
+use Rattle.valid_table.proofs.PathLists.{same_bytes}
+
+-- how a registration's path compares with a path
+abbrev pub compared : List ℕ → Registration → Ordering
+compared path r = slice_cmp nat_cmp r.path path
+
+-- the path of the registration at a place
+path_at : (rs : List Registration) (i : ℕ) (r : Registration) (d : List ℕ) → i < length rs → get_or (paths_of rs) i d ≡ (get_or rs i r).path
+path_at rs i r d lt = get_or-map (λ (x : Registration). x.path) rs i r d lt
+
+-- of neighbours in a rising list the second is not less
+pub rising_sorted_at : (rs : List Registration) (k : ℕ) (d : Registration) → IsRising (paths_of rs) → k + 1 < length rs → is_lt (slice_cmp nat_cmp (get_or rs (k + 1) d).path (get_or rs k d).path) ≡ false
+rising_sorted_at [] k d rises lt = absurd (omega arith)
+rising_sorted_at (x ∷ []) k d rises lt = absurd (omega arith)
+rising_sorted_at (x ∷ y ∷ rs) zero d rises lt =
+    ap is_lt (nat_list_cmp_total.antisymm y.path x.path ∙ ap ordering_reverse rises.0)
+rising_sorted_at (x ∷ y ∷ rs) (suc k) d rises lt =
+    let next : suc (k + 1) ≡ suc k + 1 = omega arith in
+    subst (λ n. is_lt (slice_cmp nat_cmp (get_or (x ∷ y ∷ rs) n d).path (get_or (y ∷ rs) k d).path) ≡ false) next
+    (rising_sorted_at (y ∷ rs) k d rises.1 (omega arith))
+
+-- a search tells whether a path is registered
+pub search_tells :
+    (rs : List Registration) (path : List ℕ) (found : Result ℕ ℕ) →
+    IsRising (paths_of rs) →
+    IsSearchInRange found (length rs) →
+    IsBinarySearchResult (compared path) rs found →
+    IsTrue (is_ok found) ↔ IsValid rs path
+search_tells rs path (Ok i) rises within here = (
+  λ _.
+      let none : Registration = record { path = path; info = record { references = []; digest = None } } in
+      let same : (get_or rs i none).path ≡ path = same_bytes _ path (texts_ties (get_or rs i none).path path ∙ ap is_eq (here none)) in
+      (i, omega (arith, length-map rs (λ (r : Registration). r.path)), path_at rs i none path within ∙ same),
+  λ _. refl,
+)
+search_tells rs path (Err i) rises within apart = (
+  λ no. absurd (false≢true no),
+  λ valid.
+      let none : Registration = record { path = path; info = record { references = []; digest = None } } in
+      let k = valid.0 in
+      let lt : k < length rs = omega (arith, valid.1, length-map rs (λ (r : Registration). r.path)) in
+      let parts = apart (searchable_from_sorted nat_list_cmp_total (λ (r : Registration). r.path) rs path (λ j d low below. rising_sorted_at rs j d rises below)) in
+      let same : compared path (get_or rs k none) ≡ Equal =
+      ap (λ p. slice_cmp nat_cmp p path) (sym (path_at rs k none path lt) ∙ valid.2) ∙ tied_itself nat_list_cmp_total path in
+      ⊎_elim
+      (λ before. let less : compared path (get_or rs k none) ≡ Less = parts.0 k none (omega arith) before in cc)
+      (λ behind. let more : compared path (get_or rs k none) ≡ Greater = parts.1 k none behind lt in cc)
+      (cases_lt k i),
+)

@@ -1,0 +1,59 @@
+-- Registrations that are taken in behind known ones.
+use Rattle.std.proofs.Common.{◌≡◌, ◌⊎◌, ◌≤◌, ℕ, List, [], ◌∷◌, ◌++◌, length, nat_eq, refl, sym, subst, ⊎_elim, arith}
+use Rattle.std.specs.Prelude.{All, Contains, Err}
+use Rattle.std.specs.Cmp.Lexicographic.{pointwise}
+use Rattle.std.specs.List.{IsDistinct}
+use Rattle.std.proofs.lemmas.List.Elements.{All-append, Contains-append_cases, Contains-append_right}
+use Rattle.nix_names.specs.Rising.{IsRising}
+use Rattle.valid_table.specs.Adding.{AreClosed, AreNew, IsFaultOf, IsObstacle, IsTaking}
+use Rattle.valid_table.specs.Entries.{paths_of}
+use Rattle.valid_table.specs.Valid.{AreReferencesValid, IsOnce, IsValid, references_of}
+use Rattle.valid_table.specs.declared.entry.Registration.{Registration}
+use Rattle.valid_table.specs.declared.fault.TableFault.{TableFault}
+use Rattle.valid_table.specs.declared.fault.TableFault.TheVariants.{NoMemory, Unclosed, AlreadyValid}
+use Rattle.valid_table.specs.declared.obstacle.Obstacle.{Obstacle}
+use Rattle.valid_table.specs.declared.obstacle.Obstacle.TheVariants as obstacle
+use Rattle.valid_table.proofs.JournalLists.{paths_of-append, references_of-append, valid_more}
+use Rattle.valid_table.proofs.PathLists.{distinct_append, rising_distinct}
+
+-- new registrations that rise repeat no path behind known ones
+pub once_more : (known some : List Registration) → IsOnce known → IsRising (paths_of some) → AreNew known some → IsOnce (known ++ some)
+once_more known some once rising new =
+    subst (IsDistinct (pointwise nat_eq)) (sym (paths_of-append known some))
+    (distinct_append (paths_of known) (paths_of some) once (rising_distinct (paths_of some) rising) new)
+
+-- closed registrations behind known ones whose references are valid: all references are
+pub valid_with_more : (known some : List Registration) → AreReferencesValid known → AreClosed known some → AreReferencesValid (known ++ some)
+valid_with_more known some valid closed =
+    let all = known ++ some in
+    subst (All (IsValid all)) (sym (references_of-append known some))
+    (All-append (IsValid all) (references_of known) (references_of some) (valid_more known some (references_of known) valid) closed)
+
+-- a path that is valid by two lists of registrations is so by one of them
+pub valid_cases : (known some : List Registration) (path : List ℕ) → IsValid (known ++ some) path → IsValid known path ⊎ IsValid some path
+valid_cases known some path valid =
+    Contains-append_cases (paths_of known) (paths_of some) path (subst (λ paths. Contains paths path) (paths_of-append known some) valid)
+
+-- and one that is by the second
+pub valid_by_some : (known some : List Registration) (path : List ℕ) → IsValid some path → IsValid (known ++ some) path
+valid_by_some known some path valid =
+    subst (λ paths. Contains paths path) (sym (paths_of-append known some)) (Contains-append_right (paths_of known) (paths_of some) path valid)
+
+-- what stands against registrations is what is answered
+pub taking_refused :
+    (known some : List Registration) (taken same : Type 0) (o : Obstacle) (fault : TableFault) →
+    IsObstacle known some o →
+    IsFaultOf o fault →
+    same →
+    IsTaking known some taken same (Err fault)
+taking_refused known some taken same (obstacle.AlreadyValid path) fault stands told kept =
+    let Is : TableFault → Type 0 = λ f. IsTaking known some taken same (Err f) in
+    ⊎_elim (λ e. subst Is (sym e) (stands, kept)) (λ e. subst Is (sym e) kept) told
+taking_refused known some taken same (obstacle.Unclosed path) fault stands told kept =
+    let Is : TableFault → Type 0 = λ f. IsTaking known some taken same (Err f) in
+    ⊎_elim (λ e. subst Is (sym e) (stands.0, stands.1, kept)) (λ e. subst Is (sym e) kept) told
+
+-- a list that isn't empty has an element
+pub some_elements : {X : Type 0} (xs : List X) → (xs ≡ [] → ⊥) → 1 ≤ length xs
+some_elements [] some = absurd (some refl)
+some_elements (x ∷ xs) some = omega arith

@@ -1,0 +1,10 @@
+-- The first element of a list that has a property.
+use Rattle.std.specs.Prelude.{◌≡◌, List, ◌∷◌, ◌++◌, All}
+
+-- An element is the first of some of its kind: all before it are of another kind.
+pub record IsFirst {X : Type 0} (Other Kind : X → Type 0) (list : List X) (x : X) : Type 0 where
+  pub before : List X
+  pub after : List X
+  pub parts : list ≡ before ++ x ∷ after
+  pub others : All Other before
+  pub is : Kind x

@@ -1,0 +1,73 @@
+//! The rows of a table: asked for, copied in, moved in.
+ghost use Rattle.std.specs.Prelude.{◌≡◌, ◌≤◌, ◌<◌, ◌+◌, ◌++◌, ◌↔◌, [], ◌∷◌, IfErr, IsTrue, OnOk, length};
+ghost use Rattle.indexmap.specs.IndexMap.{spare};
+ghost use Rattle.valid_table.specs.Entries.{registered_by};
+ghost use Rattle.valid_table.specs.Tables.{registrations_of};
+ghost use Rattle.valid_table.specs.Valid.{IsNotValid, IsOnce, IsValid};
+
+use crate::entry::{Entry, Record, Registration, copy_path};
+use crate::fault::TableFault;
+use indexmap::IndexMap;
+use nix_names::StorePath;
+use std::alloc::Global;
+
+// Whether a path has a row.
+pub(crate) fn has_row(rows: &IndexMap<StorePath, Record>, path: &StorePath) -> bool
+    ensures { IsTrue result ↔ IsValid (registrations_of rows.now.entries) path.now }
+{
+    rows.contains_key(path)
+}
+
+// Adds a row for each registration. No path of theirs has a row yet.
+pub(crate) fn add_rows(
+    alloc: Global,
+    rows: &mut IndexMap<StorePath, Record>,
+    registrations: &[Registration],
+) -> Result<(), TableFault>
+    requires once { IsOnce (registrations_of rows.old.entries ++ registrations.now) }
+    ensures ok { OnOk result (registrations_of rows.new.entries ≡ registrations_of rows.old.entries ++ registrations.now) }
+    ensures err { IfErr result (λ e. e ≡ TableFault.NoMemory) }
+{
+    for registration in registrations {
+        let path = copy_path(alloc, &registration.path)?;
+        let info = registration.info.copy(alloc)?;
+        rows.insert(path, info)?;
+    }
+    Ok(())
+}
+
+// Moves in what an entry registers. There is room, and no path of theirs has a row yet.
+pub(crate) fn push_entry(rows: &mut IndexMap<StorePath, Record>, entry: Entry)
+    requires room { length (registered_by entry) ≤ spare rows.old }
+    requires once { IsOnce (registrations_of rows.old.entries ++ registered_by entry) }
+    ensures rows { registrations_of rows.new.entries ≡ registrations_of rows.old.entries ++ registered_by entry }
+    ensures room { spare rows.old ≤ spare rows.new + length (registered_by entry) }
+{
+    match entry {
+        Entry::Add(registration) => push_row(rows, registration),
+        Entry::Done(_, outputs) => push_rows(rows, outputs.into_registrations()),
+    }
+}
+
+// Moves in registrations. There is room, and no path of theirs has a row yet.
+fn push_rows(rows: &mut IndexMap<StorePath, Record>, registrations: Vec<Registration>)
+    requires room { length registrations.items ≤ spare rows.old }
+    requires once { IsOnce (registrations_of rows.old.entries ++ registrations.items) }
+    ensures rows { registrations_of rows.new.entries ≡ registrations_of rows.old.entries ++ registrations.items }
+    ensures room { spare rows.old ≤ spare rows.new + length registrations.items }
+{
+    for registration in registrations {
+        push_row(rows, registration);
+    }
+}
+
+// Moves in a registration. There is room, and its path has no row yet.
+fn push_row(rows: &mut IndexMap<StorePath, Record>, registration: Registration)
+    requires room { 0 < spare rows.old }
+    requires new { IsNotValid (registrations_of rows.old.entries) registration.path }
+    ensures rows { registrations_of rows.new.entries ≡ registrations_of rows.old.entries ++ registration ∷ [] }
+    ensures room { spare rows.old ≤ spare rows.new + 1 }
+{
+    let Registration { path, info } = registration;
+    let _ = rows.insert(path, info);
+}
