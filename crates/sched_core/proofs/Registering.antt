@@ -6,10 +6,12 @@ use Rattle.std.specs.List.{IsDistinct}
 use Rattle.std.proofs.Math.Nat.{eq-or-lt_of_le}
 use Rattle.std.proofs.Math.Seq.{get_or-append_right}
 use Rattle.std.proofs.lemmas.Bool.{cases_Bool, cases_lt}
-use Rattle.std.proofs.lemmas.List.{get_or_append_left, append-nil, map-append}
+use Rattle.std.proofs.lemmas.List.{get_or_append_left, append-nil, length-map, map-append}
 use Rattle.std.proofs.lemmas.List.Elements.{All-from_get_or, Contains-append_cases, Contains-append_left, Contains-append_right, Contains-get_or}
 use Rattle.std.proofs.lemmas.Map.Keys.{IsDistinct-from_apart, apart_from_distinct}
 use Rattle.nix_names.proofs.RisingLists.{Contains-cons_cases, Contains-first, Contains-later, Contains-nothing, distinct_from_rising, equal_from_eq}
+use Rattle.nix_names.specs.StorePaths.{IsDrvPath}
+use Rattle.nix_drv.specs.Derivation.{Output}
 use Rattle.drv_graph.specs.Nodes.{Node}
 use Rattle.valid_table.specs.Closure.{Leads, Reaches}
 use Rattle.valid_table.specs.Entries.{paths_of, registered, registered_by}
@@ -21,7 +23,7 @@ use Rattle.valid_table.specs.declared.entry.Registration.{Registration}
 use Rattle.valid_table.proofs.AddedEntries.{journal_push}
 use Rattle.sched_core.specs.Headline.{AreDrvPaths, DonesAreAllowed, EntriesAreJournal, WasDone}
 use Rattle.sched_core.specs.Jobs.{output_paths, seeds_of}
-use Rattle.sched_core.specs.Legal.{IsAllowed, IsEntryOf, IsLegal, MayRefer, legal_opening, legal_begin, legal_done, legal_fail, begins}
+use Rattle.sched_core.specs.Legal.{IsAllowed, IsEntryOf, IsLegal, MayRefer, legal_opening, legal_begin, legal_done, legal_fail, begins, ended}
 use Rattle.sched_core.specs.Runs.{History, Run}
 use Rattle.sched_core.specs.declared.reason.Event.{Event}
 use Rattle.sched_core.specs.declared.reason.Event.TheVariants.{Begin, Done as Finish, Fail}
@@ -121,3 +123,98 @@ pub registered_output : (node : Node) (infos : List PathInfo) (entry : Entry) (i
 registered_output node infos entry is r has =
     let at = (is.each r.path r.info).0 has in
     (Contains-got (output_paths node.drv) at.0 r.path at.1, Contains-got infos at.0 r.info at.2)
+
+pub from_mapped : {A B : Type 0} (f : A → B) (xs : List A) (y : B) → Contains (map f xs) y → (x : A) × Contains xs x × (f x ≡ y)
+from_mapped f [] y has = absurd (Contains-nothing y has)
+from_mapped f (z ∷ zs) y has =
+    ⊎_elim
+    (λ same. (z, Contains-first z zs, same))
+    (λ later. let it = from_mapped f zs y later in (it.0, Contains-later z zs it.0 it.1, it.2))
+    (Contains-cons_cases (f z) (map f zs) y has)
+
+-- as many records as outputs
+records_for_paths : (run : Run) (entries : List Entry) (node : Node) (infos : List PathInfo) → IsAllowed run entries node infos → length infos ≡ length (output_paths node.drv)
+records_for_paths run entries node infos allowed = allowed.count ∙ sym (length-map node.drv.outputs (λ (o : Output). o.path))
+
+-- ---- a journal with an allowed entry is one
+
+pushed : (run : Run) (entries : List Entry) (node : Node) (infos : List PathInfo) (entry : Entry)
+    → IsJournal entries → IsDrvPath node.path → IsAllowed run entries node infos → (is : IsEntryOf node infos entry)
+    → IsJournal (entries ++ Built node.path is.outputs ∷ [])
+pushed run entries node infos entry journal named allowed is =
+    let count = records_for_paths run entries node infos allowed in
+    let refers : (path : List ℕ) → Contains (references_of is.outputs) path → IsValid (registered entries ++ is.outputs) path = λ path has.
+      let part = part_with (λ (r : Registration). r.info.references) is.outputs path has in
+      let own = registered_output node infos entry is part.0 part.1 in
+      ⊎_elim
+      (λ reached. valid_with_more (registered entries) is.outputs path (reached_is_valid (registered entries) reached.0 path reached.2.0 reached.2.1))
+      (λ output. valid_with_last (registered entries) is.outputs path (output_registered node infos is.outputs entry is count path output))
+      (allowed.permitted part.0.info path own.1 part.2) in
+    let apart : (path : List ℕ) → Contains (paths_of (registered entries)) path → Contains (paths_of is.outputs) path → ⊥ = λ path known there.
+      let r = from_mapped (λ (x : Registration). x.path) is.outputs path there in
+      let own = registered_output node infos entry is r.0 r.1 in
+      allowed.new path (subst (Contains (output_paths node.drv)) r.2 own.0) known in
+    journal_push entries (Built node.path is.outputs) journal named
+    (All-from_get_or (IsValid (registered entries ++ is.outputs)) (references_of is.outputs) [] (λ i lt.
+      refers (get_or (references_of is.outputs) i []) (Contains-get_or (references_of is.outputs) i [] lt)))
+    (subst (IsDistinct (pointwise nat_eq)) (sym (map-append (λ (r : Registration). r.path) (registered entries) is.outputs))
+      (distinct_append (paths_of (registered entries)) (paths_of is.outputs) journal.once (distinct_from_rising (paths_of is.outputs) is.rising) apart))
+
+pub entries_are_journal : EntriesAreJournal
+entries_are_journal run _ named (legal_opening entries journal) = journal
+entries_are_journal run _ named (legal_begin history d legal within wanted ready) = entries_are_journal run history named legal
+entries_are_journal run _ named (legal_fail history d lease reason legal phase) = entries_are_journal run history named legal
+entries_are_journal run _ named (legal_done history d lease node infos entry legal phase is_node allowed is_entry) =
+    subst (λ (e : Entry). IsJournal (history.entries ++ e ∷ [])) (sym is_entry.is_done)
+    (pushed run history.entries node infos entry (entries_are_journal run history named legal) (named node (Contains-got run.graph.nodes d node is_node)) allowed is_entry)
+
+-- ---- each Done was allowed
+
+done_with_more : (run : Run) (history after : History) (d : ℕ) (more : List Entry) → after.entries ≡ history.entries ++ more → WasDone run history d → WasDone run after d
+done_with_more run history after d more same was = record {
+  node = was.node;
+  is_node = was.is_node;
+  before = was.before;
+  entry = was.entry;
+  after = was.after ++ more;
+  parts = same ∙ ap (λ (es : List Entry). es ++ more) was.parts ∙ append_assoc was.before (was.entry ∷ was.after) more;
+  infos = was.infos;
+  allowed = was.allowed;
+  is_entry = was.is_entry;
+}
+
+pub dones_are_allowed : DonesAreAllowed
+dones_are_allowed run _ (legal_opening entries journal) d lease has = absurd (Contains-nothing (Finish d lease) has)
+dones_are_allowed run _ (legal_begin history e legal within wanted ready) d lease has =
+    let event = Begin e (begins history.events) in
+    ⊎_elim
+    (λ before. done_with_more run history _ d [] (sym (append-nil history.entries)) (dones_are_allowed run history legal d lease before))
+    (λ last. ⊎_elim (λ same. absurd cc) (λ none. absurd (Contains-nothing (Finish d lease) none)) (Contains-cons_cases event [] (Finish d lease) last))
+    (Contains-append_cases history.events (event ∷ []) (Finish d lease) has)
+dones_are_allowed run _ (legal_fail history e number reason legal phase) d lease has =
+    let event = Fail e number reason in
+    ⊎_elim
+    (λ before. done_with_more run history _ d [] (sym (append-nil history.entries)) (dones_are_allowed run history legal d lease before))
+    (λ last. ⊎_elim (λ same. absurd cc) (λ none. absurd (Contains-nothing (Finish d lease) none)) (Contains-cons_cases event [] (Finish d lease) last))
+    (Contains-append_cases history.events (event ∷ []) (Finish d lease) has)
+dones_are_allowed run _ (legal_done history e number node infos entry legal phase is_node allowed is_entry) d lease has =
+    let event = Finish e number in
+    ⊎_elim
+    (λ before. done_with_more run history _ d (entry ∷ []) refl (dones_are_allowed run history legal d lease before))
+    (λ last. ⊎_elim
+      (λ same. let number_is : e ≡ d = cc in
+        subst (λ n. WasDone run (ended history e number entry) n) number_is
+        (record {
+          node = node;
+          is_node = is_node;
+          before = history.entries;
+          entry = entry;
+          after = [];
+          parts = refl;
+          infos = infos;
+          allowed = allowed;
+          is_entry = is_entry;
+        }))
+      (λ none. absurd (Contains-nothing (Finish d lease) none))
+      (Contains-cons_cases event [] (Finish d lease) last))
+    (Contains-append_cases history.events (event ∷ []) (Finish d lease) has)
