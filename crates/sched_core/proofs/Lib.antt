@@ -1,3 +1,4 @@
 pub mod Histories
 pub mod Registering
-mod StateLaws
+pub mod Seeds
+pub mod StateLaws

@@ -133,7 +133,7 @@ from_mapped f (z ∷ zs) y has =
     (Contains-cons_cases (f z) (map f zs) y has)
 
 -- as many records as outputs
-records_for_paths : (run : Run) (entries : List Entry) (node : Node) (infos : List PathInfo) → IsAllowed run entries node infos → length infos ≡ length (output_paths node.drv)
+pub records_for_paths : (run : Run) (entries : List Entry) (node : Node) (infos : List PathInfo) → IsAllowed run entries node infos → length infos ≡ length (output_paths node.drv)
 records_for_paths run entries node infos allowed = allowed.count ∙ sym (length-map node.drv.outputs (λ (o : Output). o.path))
 
 -- ---- a journal with an allowed entry is one

@@ -21,7 +21,7 @@ paths_named names drv = map (λ (o : Output). o.path) (filter (λ (o : Output). 
 
 -- the outputs that an input names, of the derivation at its path
 abbrev pub named_outputs : List Node → Input → List (List ℕ)
-named_outputs nodes input = paths_of_found input.names (find (λ (n : Node). same_bytes n.path input.path) nodes)
+named_outputs nodes input = paths_of_found input.names (find (λ (n : Node). same_bytes input.path n.path) nodes)
   where
     paths_of_found : (names : List (List ℕ)) → Option Node → List (List ℕ)
     paths_of_found names (Some node) = paths_named names node.drv
