@@ -1,8 +1,11 @@
 pub mod Cycles
+pub mod Histories
 pub mod Linkages
 pub mod OneVerdict
 pub mod Places
+pub mod Registering
 pub mod Registrable
-mod StateLaws
+pub mod Seeds
+pub mod StateLaws
 pub mod Verdicts
 pub mod Walks

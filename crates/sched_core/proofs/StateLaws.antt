@@ -31,7 +31,7 @@ table_same rows f g d same =
     ap (λ s. by_phase (rows.phase d) (by_standing (rows.standing d) s))
     (rw (find_same f g (rows.inputs d) same, all_same f g (rows.inputs d) same) refl)
 
-length_states : (rows : Rows) (n : ℕ) → length (states rows n) ≡ n
+pub length_states : (rows : Rows) (n : ℕ) → length (states rows n) ≡ n
 unfolding states
 length_states rows zero = refl
 length_states rows (suc n) = omega (arith, length-append (states rows n) (table rows (λ i. slice_index_or (states rows n) i Blocked) n ∷ []), length_states rows n)

@@ -19,13 +19,14 @@ output_paths drv = map (λ (o : Output). o.path) drv.outputs
 abbrev pub paths_named : (names : List (List ℕ)) → Drv → List (List ℕ)
 paths_named names drv = map (λ (o : Output). o.path) (filter (λ (o : Output). list_any (same_bytes o.name) names) drv.outputs)
 
+-- the paths of the outputs with these names, of a node if there is one
+abbrev pub paths_of_found : (names : List (List ℕ)) → Option Node → List (List ℕ)
+paths_of_found names (Some node) = paths_named names node.drv
+paths_of_found names None = []
+
 -- the outputs that an input names, of the derivation at its path
 abbrev pub named_outputs : List Node → Input → List (List ℕ)
-named_outputs nodes input = paths_of_found input.names (find (λ (n : Node). same_bytes n.path input.path) nodes)
-  where
-    paths_of_found : (names : List (List ℕ)) → Option Node → List (List ℕ)
-    paths_of_found names (Some node) = paths_named names node.drv
-    paths_of_found names None = []
+named_outputs nodes input = paths_of_found input.names (find (λ (n : Node). same_bytes input.path n.path) nodes)
 
 -- the paths that a derivation is built from: its sources, then the named outputs of each input, in the text's order
 abbrev pub seeds_of : List Node → Drv → List (List ℕ)

@@ -1,3 +1,4 @@
+pub mod Headline
 pub mod Jobs
 pub mod Legal
 pub mod Linking

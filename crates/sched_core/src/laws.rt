@@ -1,4 +1,5 @@
 //! Laws over the definitions that contracts cite, each on the contract of a function that does nothing.
+ghost use Rattle.sched_core.specs.Headline.{BeginsOnce, DonesAreAllowed, EntriesAreJournal, LeasesApart, LeasesBelow, PermittedStays, SeedsAreValid};
 ghost use Rattle.sched_core.specs.States.{StatesAgree, StatesAreOne};
 ghost use Rattle.sched_core.specs.VerdictLaws.{VerdictsAreRegistrable};
 ghost use Rattle.sched_core.specs.Verdicts.{HasOneVerdict};
@@ -19,4 +20,33 @@ pub fn verdict_is_one()
 /// to permitted paths alone, have a fixed output's declared digest, and make no cycle.
 pub fn verdict_is_registrable()
     ensures { VerdictsAreRegistrable }
+{}
+
+/// In a legal history a derivation begins at most once, and no two leases have one number.
+pub fn leases_are_apart()
+    ensures begins { BeginsOnce }
+    ensures numbers { LeasesApart }
+    ensures below { LeasesBelow }
+{}
+
+/// In a legal history over derivations' files the entries are a journal: each valid path's references
+/// are valid, and no path is registered twice.
+pub fn entries_are_a_journal()
+    ensures { EntriesAreJournal }
+{}
+
+/// In a legal history each derivation that was built registered one record for each output, new,
+/// with permitted references alone, and with the declared hash where an output is fixed.
+pub fn what_was_built_was_allowed()
+    ensures { DonesAreAllowed }
+{}
+
+/// All paths that a derivation is built from are valid when it begins, and ever after.
+pub fn seeds_are_valid()
+    ensures { SeedsAreValid }
+{}
+
+/// What a derivation may refer to stays the same while more is registered.
+pub fn permitted_stays()
+    ensures { PermittedStays }
 {}
