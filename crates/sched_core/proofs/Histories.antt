@@ -89,13 +89,13 @@ leases_apart run _ (legal_begin history k legal within wanted ready) d e n i j i
     let before : (x m : ℕ) → slice_get history.events m ≡ Some (Begin x n) → n < count = λ x m there. leases_below run history legal x n m there in
     ⊎_elim
     (λ here. ⊎_elim
-        (λ there. leases_apart run history legal d e n i j here there)
-        (λ last. let same : count ≡ n = cc in let low = before d i here in absurd (omega arith))
-        (at_push history.events (Begin k count) (Begin e n) j other))
+    (λ there. leases_apart run history legal d e n i j here there)
+    (λ last. let same : count ≡ n = cc in let low = before d i here in absurd (omega arith))
+    (at_push history.events (Begin k count) (Begin e n) j other))
     (λ first. ⊎_elim
-        (λ there. let same : count ≡ n = cc in let low = before e j there in absurd (omega arith))
-        (λ last. first.0 ∙ sym last.0)
-        (at_push history.events (Begin k count) (Begin e n) j other))
+    (λ there. let same : count ≡ n = cc in let low = before e j there in absurd (omega arith))
+    (λ last. first.0 ∙ sym last.0)
+    (at_push history.events (Begin k count) (Begin e n) j other))
     (at_push history.events (Begin k count) (Begin d n) i is)
 leases_apart run _ (legal_done history k lease node infos entry legal phase is_node allowed is_entry) d e n i j is other =
     leases_apart run history legal d e n i j
@@ -112,16 +112,16 @@ begins_once run _ (legal_begin history k legal within wanted ready) d n m i j is
     let count = begins history.events in
     let rests = ready_is_idle run history k ready in
     let apart : (x y : ℕ) → k ≡ d → slice_get history.events y ≡ Some (Begin d x) → ⊥ =
-        λ x y same there. idle_not_begun history.events d x y (subst (λ z. phase_of history.events z ≡ Idle) same rests) there in
+    λ x y same there. idle_not_begun history.events d x y (subst (λ z. phase_of history.events z ≡ Idle) same rests) there in
     ⊎_elim
     (λ here. ⊎_elim
-        (λ there. begins_once run history legal d n m i j here there)
-        (λ last. let same : k ≡ d = cc in absurd (apart n i same here))
-        (at_push history.events (Begin k count) (Begin d m) j other))
+    (λ there. begins_once run history legal d n m i j here there)
+    (λ last. let same : k ≡ d = cc in absurd (apart n i same here))
+    (at_push history.events (Begin k count) (Begin d m) j other))
     (λ first. ⊎_elim
-        (λ there. let same : k ≡ d = cc in absurd (apart m j same there))
-        (λ last. first.0 ∙ sym last.0)
-        (at_push history.events (Begin k count) (Begin d m) j other))
+    (λ there. let same : k ≡ d = cc in absurd (apart m j same there))
+    (λ last. first.0 ∙ sym last.0)
+    (at_push history.events (Begin k count) (Begin d m) j other))
     (at_push history.events (Begin k count) (Begin d n) i is)
 begins_once run _ (legal_done history k lease node infos entry legal phase is_node allowed is_entry) d n m i j is other =
     begins_once run history legal d n m i j

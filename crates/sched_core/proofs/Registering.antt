@@ -74,19 +74,19 @@ pub distinct_append : (a b : List (List ℕ)) → IsDistinct (pointwise nat_eq) 
     → ((x : List ℕ) → Contains a x → Contains b x → ⊥) → IsDistinct (pointwise nat_eq) (a ++ b)
 distinct_append a b once once' apart =
     IsDistinct-from_apart (pointwise nat_eq) (a ++ b) (λ i j d lt below.
-      let left : (k : ℕ) → k < length a → get_or (a ++ b) k d ≡ get_or a k d = λ k low. get_or_append_left a b d k low in
-      let right : (k : ℕ) → length a ≤ k → get_or (a ++ b) k d ≡ get_or b (k - length a) d = λ k high. get_or-append_right a b k d high in
-      let all = length-append a b in
-      ⊎_elim
-      (λ low. rw (left i (omega arith), left j low) (apart_from_distinct (pointwise nat_eq) a i j d once lt low))
-      (λ high. ⊎_elim
-        (λ low. rw (left i low, right j high)
-          (different (get_or a i d) (get_or b (j - length a) d) (λ same.
-            apart (get_or a i d) (Contains-get_or a i d low)
-            (subst (Contains b) (sym same) (Contains-get_or b (j - length a) d (omega arith))))))
-        (λ above. rw (right i above, right j high) (apart_from_distinct (pointwise nat_eq) b (i - length a) (j - length a) d once' (omega arith) (omega arith)))
-        (cases_lt i (length a)))
-      (cases_lt j (length a)))
+    let left : (k : ℕ) → k < length a → get_or (a ++ b) k d ≡ get_or a k d = λ k low. get_or_append_left a b d k low in
+    let right : (k : ℕ) → length a ≤ k → get_or (a ++ b) k d ≡ get_or b (k - length a) d = λ k high. get_or-append_right a b k d high in
+    let all = length-append a b in
+    ⊎_elim
+    (λ low. rw (left i (omega arith), left j low) (apart_from_distinct (pointwise nat_eq) a i j d once lt low))
+    (λ high. ⊎_elim
+    (λ low. rw (left i low, right j high)
+    (different (get_or a i d) (get_or b (j - length a) d) (λ same.
+    apart (get_or a i d) (Contains-get_or a i d low)
+    (subst (Contains b) (sym same) (Contains-get_or b (j - length a) d (omega arith))))))
+    (λ above. rw (right i above, right j high) (apart_from_distinct (pointwise nat_eq) b (i - length a) (j - length a) d once' (omega arith) (omega arith)))
+    (cases_lt i (length a)))
+    (cases_lt j (length a)))
   where
     different : (x y : List ℕ) → (x ≡ y → ⊥) → pointwise nat_eq x y ≡ false
     different x y not = ⊎_elim (λ e. absurd (not (equal_from_eq x y e))) (λ e. e) (cases_Bool (pointwise nat_eq x y))
@@ -144,21 +144,21 @@ pushed : (run : Run) (entries : List Entry) (node : Node) (infos : List PathInfo
 pushed run entries node infos entry journal named allowed is =
     let count = records_for_paths run entries node infos allowed in
     let refers : (path : List ℕ) → Contains (references_of is.outputs) path → IsValid (registered entries ++ is.outputs) path = λ path has.
-      let part = part_with (λ (r : Registration). r.info.references) is.outputs path has in
-      let own = registered_output node infos entry is part.0 part.1 in
-      ⊎_elim
-      (λ reached. valid_with_more (registered entries) is.outputs path (reached_is_valid (registered entries) reached.0 path reached.2.0 reached.2.1))
-      (λ output. valid_with_last (registered entries) is.outputs path (output_registered node infos is.outputs entry is count path output))
-      (allowed.permitted part.0.info path own.1 part.2) in
+    let part = part_with (λ (r : Registration). r.info.references) is.outputs path has in
+    let own = registered_output node infos entry is part.0 part.1 in
+    ⊎_elim
+    (λ reached. valid_with_more (registered entries) is.outputs path (reached_is_valid (registered entries) reached.0 path reached.2.0 reached.2.1))
+    (λ output. valid_with_last (registered entries) is.outputs path (output_registered node infos is.outputs entry is count path output))
+    (allowed.permitted part.0.info path own.1 part.2) in
     let apart : (path : List ℕ) → Contains (paths_of (registered entries)) path → Contains (paths_of is.outputs) path → ⊥ = λ path known there.
-      let r = from_mapped (λ (x : Registration). x.path) is.outputs path there in
-      let own = registered_output node infos entry is r.0 r.1 in
-      allowed.new path (subst (Contains (output_paths node.drv)) r.2 own.0) known in
+    let r = from_mapped (λ (x : Registration). x.path) is.outputs path there in
+    let own = registered_output node infos entry is r.0 r.1 in
+    allowed.new path (subst (Contains (output_paths node.drv)) r.2 own.0) known in
     journal_push entries (Built node.path is.outputs) journal named
     (All-from_get_or (IsValid (registered entries ++ is.outputs)) (references_of is.outputs) [] (λ i lt.
-      refers (get_or (references_of is.outputs) i []) (Contains-get_or (references_of is.outputs) i [] lt)))
+    refers (get_or (references_of is.outputs) i []) (Contains-get_or (references_of is.outputs) i [] lt)))
     (subst (IsDistinct (pointwise nat_eq)) (sym (map-append (λ (r : Registration). r.path) (registered entries) is.outputs))
-      (distinct_append (paths_of (registered entries)) (paths_of is.outputs) journal.once (distinct_from_rising (paths_of is.outputs) is.rising) apart))
+    (distinct_append (paths_of (registered entries)) (paths_of is.outputs) journal.once (distinct_from_rising (paths_of is.outputs) is.rising) apart))
 
 pub entries_are_journal : EntriesAreJournal
 entries_are_journal run _ named (legal_opening entries journal) = journal
@@ -202,19 +202,19 @@ dones_are_allowed run _ (legal_done history e number node infos entry legal phas
     ⊎_elim
     (λ before. done_with_more run history _ d (entry ∷ []) refl (dones_are_allowed run history legal d lease before))
     (λ last. ⊎_elim
-      (λ same. let number_is : e ≡ d = cc in
-        subst (λ n. WasDone run (ended history e number entry) n) number_is
-        (record {
-          node = node;
-          is_node = is_node;
-          before = history.entries;
-          entry = entry;
-          after = [];
-          parts = refl;
-          infos = infos;
-          allowed = allowed;
-          is_entry = is_entry;
-        }))
-      (λ none. absurd (Contains-nothing (Finish d lease) none))
-      (Contains-cons_cases event [] (Finish d lease) last))
+    (λ same. let number_is : e ≡ d = cc in
+    subst (λ n. WasDone run (ended history e number entry) n) number_is
+    (record {
+      node = node;
+      is_node = is_node;
+      before = history.entries;
+      entry = entry;
+      after = [];
+      parts = refl;
+      infos = infos;
+      allowed = allowed;
+      is_entry = is_entry;
+    }))
+    (λ none. absurd (Contains-nothing (Finish d lease) none))
+    (Contains-cons_cases event [] (Finish d lease) last))
     (Contains-append_cases history.events (event ∷ []) (Finish d lease) has)

@@ -10,7 +10,6 @@ use Rattle.std.proofs.lemmas.List.{get_or_past}
 use Rattle.std.proofs.lemmas.List.Sums.{fails_before_first}
 use Rattle.std.proofs.lemmas.List.Elements.{Contains-append_cases, Contains-append_left}
 use Rattle.nix_names.specs.Names.{same_bytes}
-use Rattle.nix_names.proofs.RisingLists.{Contains-cons_cases, Contains-first, Contains-later, Contains-nothing}
 use Rattle.nix_drv.specs.Derivation.{Drv, Input, Output}
 use Rattle.drv_graph.specs.Nodes.{Node, inputs_of, paths_of as node_paths}
 use Rattle.valid_table.specs.Entries.{paths_of, registered, registered_by}
@@ -20,7 +19,9 @@ use Rattle.valid_table.specs.declared.entry.Entry.{Entry}
 use Rattle.valid_table.specs.declared.entry.Registration.{Registration}
 use Rattle.valid_table.proofs.AddedEntries.{registered_push}
 use Rattle.valid_table.proofs.ClosureLaws.{leads_before, leads_behind}
-use Rattle.valid_table.proofs.PathLists.{known_path}
+use Rattle.std.specs.Cmp.Lexicographic.{pointwise}
+use Rattle.std.proofs.lemmas.Map.Views.{Contains-from_any}
+use Rattle.nix_names.proofs.RisingLists.{Contains-cons_cases, Contains-first, Contains-later, Contains-nothing, equal_from_eq}
 use Rattle.sched_core.specs.Headline.{PermittedStays, SeedsAreValid}
 use Rattle.sched_core.specs.Jobs.{named_outputs, output_paths, paths_named, paths_of_found, seeds_of}
 use Rattle.sched_core.specs.Legal.{IsLegal, legal_opening, legal_begin, legal_done, legal_fail, begins}
@@ -86,14 +87,14 @@ ended_is_valid run _ (legal_fail history e lease reason legal phase) d node is_n
 ended_is_valid run _ (legal_done history e lease own infos entry legal phase is_own allowed is_entry) d node is_node ended path has =
     ⊎_elim
     (λ same.
-      let number : e ≡ d = same_number e d same in
-      let one : Some own ≡ Some node = sym is_own ∙ ap (slice_get run.graph.nodes) number ∙ is_node in
-      let node_is : own ≡ node = cc in
-      let own_has : Contains (output_paths own.drv) path = subst (λ (n : Node). Contains (output_paths n.drv) path) (sym node_is) has in
-      let there = output_registered own infos is_entry.outputs entry is_entry (records_for_paths run history.entries own infos allowed) path own_has in
-      subst (λ (rs : List Registration). IsValid rs path) (sym (registered_push history.entries entry))
-      (valid_with_last (registered history.entries) (registered_by entry) path
-        (subst (λ (x : Entry). IsValid (registered_by x) path) (sym is_entry.is_done) there)))
+    let number : e ≡ d = same_number e d same in
+    let one : Some own ≡ Some node = sym is_own ∙ ap (slice_get run.graph.nodes) number ∙ is_node in
+    let node_is : own ≡ node = cc in
+    let own_has : Contains (output_paths own.drv) path = subst (λ (n : Node). Contains (output_paths n.drv) path) (sym node_is) has in
+    let there = output_registered own infos is_entry.outputs entry is_entry (records_for_paths run history.entries own infos allowed) path own_has in
+    subst (λ (rs : List Registration). IsValid rs path) (sym (registered_push history.entries entry))
+    (valid_with_last (registered history.entries) (registered_by entry) path
+    (subst (λ (x : Entry). IsValid (registered_by x) path) (sym is_entry.is_done) there)))
     (λ before. valid_behind history.entries entry path (ended_is_valid run history legal d node is_node before path has))
     (ended_by_done (eqb e d) (phase_of history.events d) (sym (phase_push history.events (Finish e lease) d) ∙ ended))
 
@@ -111,9 +112,9 @@ pub opening_stays_valid : (run : Run) (history : History) → IsLegal run histor
 opening_stays_valid run history legal path is =
     let more = opened_with run history legal in
     let whole : registered history.entries ≡ registered history.opening ++ registered more.0 =
-      ap registered more.1 ∙ flat_map-append registered_by history.opening more.0 in
+    ap registered more.1 ∙ flat_map-append registered_by history.opening more.0 in
     subst (λ (rs : List Registration). IsValid rs path) (sym whole)
-    (valid_with_more (registered history.opening) (registered more.0) path (known_path (paths_of (registered history.opening)) path is))
+    (valid_with_more (registered history.opening) (registered more.0) path (Contains-from_any equal_from_eq path (paths_of (registered history.opening)) is))
 
 -- ---- what it takes to be ready
 
@@ -203,12 +204,12 @@ at_number run history legal i good node is_node path has =
     ⊎_elim
     (λ ended. ended_is_valid run history legal i node is_node ended path has)
     (λ all.
-      let own : standing_of run.system history.opening node.drv ≡ AllValid =
-        sym (ap (standing_at run.system history.opening) is_node) ∙ all in
-      let there = standing_all (list_all (is_valid history.opening) (output_paths node.drv)) (own_cause run.system history.opening node.drv) own in
-      opening_stays_valid run history legal path (list_all_has (is_valid history.opening) (output_paths node.drv) path there has))
+    let own : standing_of run.system history.opening node.drv ≡ AllValid =
+    sym (ap (standing_at run.system history.opening) is_node) ∙ all in
+    let there = standing_all (list_all (is_valid history.opening) (output_paths node.drv)) (own_cause run.system history.opening node.drv) own in
+    opening_stays_valid run history legal path (list_all_has (is_valid history.opening) (output_paths node.drv) path there has))
     (good_by (phase_of history.events i) (rows.standing i)
-      (find (λ j. is_bad (f j)) (rows.inputs i)) (list_all (λ j. is_good (f j)) (rows.inputs i)) good)
+    (find (λ j. is_bad (f j)) (rows.inputs i)) (list_all (λ j. is_good (f j)) (rows.inputs i)) good)
 
 -- ---- the seeds
 
@@ -266,28 +267,28 @@ seeds_at run history legal d ready node is_node path has =
     let free : standing_of run.system history.opening node.drv ≡ Free = sym (ap (standing_at run.system history.opening) is_node) ∙ facts.free in
     let no_cause = standing_free (list_all (is_valid history.opening) (output_paths node.drv)) (own_cause run.system history.opening node.drv) free in
     let none_missing = cause_none MissingSource (position (λ p. not (is_valid history.opening p)) node.drv.sources)
-      (or_else_none (cause_at PartlyValid (position (is_valid history.opening) (output_paths node.drv))) _
-      (or_else_none (if is_unsupported node.drv then Some Unsupported else None) _
-      (or_else_none (if same_bytes node.drv.system run.system then None else Some WrongSystem) _ no_cause))) in
+    (or_else_none (cause_at PartlyValid (position (is_valid history.opening) (output_paths node.drv))) _
+    (or_else_none (if is_unsupported node.drv then Some Unsupported else None) _
+    (or_else_none (if same_bytes node.drv.system run.system then None else Some WrongSystem) _ no_cause))) in
     let good = all_good (find (λ i. is_bad (f i)) (rows.inputs d)) (list_all (λ i. is_good (f i)) (rows.inputs d)) facts.open_is in
     ⊎_elim
     (λ source.
-      opening_stays_valid run history legal path
-      (not_false (is_valid history.opening path) (none_found (λ p. not (is_valid history.opening p)) node.drv.sources none_missing path source)))
+    opening_stays_valid run history legal path
+    (not_false (is_valid history.opening path) (none_found (λ p. not (is_valid history.opening p)) node.drv.sources none_missing path source)))
     (λ named.
-      let part = part_with (named_outputs nodes) node.drv.inputs path named in
-      let input = part.0 in
-      let i = position_or_len (same_bytes input.path) (node_paths nodes) in
-      let at = named_at nodes input path part.2 in
-      let listed : Contains (input_numbers nodes node.drv) i =
-        Contains-mapped (λ (p : List ℕ). position_or_len (same_bytes p) (node_paths nodes)) (inputs_of node.drv) input.path
-        (Contains-mapped (λ (x : Input). x.path) node.drv.inputs input part.1) in
-      let is_input : Contains (rows.inputs d) i = subst (λ (o : Option Node). Contains (inputs_at nodes o) i) (sym is_node) listed in
-      let well = list_all_has (λ j. is_good (f j)) (rows.inputs d) i good is_input in
-      ⊎_elim
-      (λ less. at_number run history legal i (sym (ap is_good (state_at rows d i less)) ∙ well) at.0 at.1 path at.2)
-      (λ past. absurd (blocked_is_not_good (f i) (get_or_past (states rows d) i Blocked (omega (arith, length_states rows d))) well))
-      (cases_lt i d))
+    let part = part_with (named_outputs nodes) node.drv.inputs path named in
+    let input = part.0 in
+    let i = position_or_len (same_bytes input.path) (node_paths nodes) in
+    let at = named_at nodes input path part.2 in
+    let listed : Contains (input_numbers nodes node.drv) i =
+    Contains-mapped (λ (p : List ℕ). position_or_len (same_bytes p) (node_paths nodes)) (inputs_of node.drv) input.path
+    (Contains-mapped (λ (x : Input). x.path) node.drv.inputs input part.1) in
+    let is_input : Contains (rows.inputs d) i = subst (λ (o : Option Node). Contains (inputs_at nodes o) i) (sym is_node) listed in
+    let well = list_all_has (λ j. is_good (f j)) (rows.inputs d) i good is_input in
+    ⊎_elim
+    (λ less. at_number run history legal i (sym (ap is_good (state_at rows d i less)) ∙ well) at.0 at.1 path at.2)
+    (λ past. absurd (blocked_is_not_good (f i) (get_or_past (states rows d) i Blocked (omega (arith, length_states rows d))) well))
+    (cases_lt i d))
     (Contains-append_cases node.drv.sources (flat_map (named_outputs nodes) node.drv.inputs) path has)
 
 pub seeds_are_valid : SeedsAreValid
@@ -297,10 +298,10 @@ seeds_are_valid run _ (legal_begin history e legal within wanted ready) d lease 
     ⊎_elim
     (λ before. seeds_are_valid run history legal d lease before node is_node path seed)
     (λ last. ⊎_elim
-      (λ same. let number : e ≡ d = cc in
-        seeds_at run history legal d (subst (λ n. state_in run history n ≡ Ready) number ready) node is_node path seed)
-      (λ none. absurd (Contains-nothing (Begin d lease) none))
-      (Contains-cons_cases event [] (Begin d lease) last))
+    (λ same. let number : e ≡ d = cc in
+    seeds_at run history legal d (subst (λ n. state_in run history n ≡ Ready) number ready) node is_node path seed)
+    (λ none. absurd (Contains-nothing (Begin d lease) none))
+    (Contains-cons_cases event [] (Begin d lease) last))
     (Contains-append_cases history.events (event ∷ []) (Begin d lease) has)
 seeds_are_valid run _ (legal_fail history e number reason legal phase) d lease has node is_node path seed =
     let event = Fail e number reason in

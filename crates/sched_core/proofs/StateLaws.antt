@@ -44,9 +44,9 @@ state_at rows (suc n) i below =
     let last = table rows (λ j. slice_index_or (states rows n) j Blocked) n in
     ⊎_elim
     (λ same.
-        subst (λ k. slice_index_or (states rows n ++ last ∷ []) k Blocked ≡ state rows k) (sym same)
-        (subst (λ k. slice_index_or (states rows n ++ last ∷ []) k Blocked ≡ last) (length_states rows n)
-            (get_or-append_seam (states rows n) last [] Blocked)))
+    subst (λ k. slice_index_or (states rows n ++ last ∷ []) k Blocked ≡ state rows k) (sym same)
+    (subst (λ k. slice_index_or (states rows n ++ last ∷ []) k Blocked ≡ last) (length_states rows n)
+    (get_or-append_seam (states rows n) last [] Blocked)))
     (λ less. get_or-append (states rows n) (last ∷ []) Blocked i (omega (arith, length_states rows n)) ∙ state_at rows n i less)
     (eq-or-lt_of_le {n = i} {m = n} (omega arith))
 
@@ -61,7 +61,7 @@ one_below : (rows : Rows) (other : ℕ → State) (count : ℕ) → InputsFirst 
 one_below rows other count first meets zero d low below = absurd (omega arith)
 one_below rows other count first meets (suc bound) d low below =
     let same : (i : ℕ) → Contains (rows.inputs d) i → other i ≡ state rows i = λ i has.
-        let less = first d i has in one_below rows other count first meets bound i (omega arith) (omega arith) in
+    let less = first d i has in one_below rows other count first meets bound i (omega arith) (omega arith) in
     meets d below ∙ table_same rows other (state rows) d same ∙ sym (states_agree rows d first)
 
 pub states_are_one : StatesAreOne

@@ -57,7 +57,7 @@ pub record IsEntryOf (node : Node) (infos : List PathInfo) (entry : Entry) : Typ
   pub rising : IsRising (paths_of outputs)
   pub each : (path : List ℕ) (info : PathInfo)
       → Contains outputs (record { path = path; info = info })
-        ↔ ((n : ℕ) × (slice_get (output_paths node.drv) n ≡ Some path) × (slice_get infos n ≡ Some info))
+      ↔ ((n : ℕ) × (slice_get (output_paths node.drv) n ≡ Some path) × (slice_get infos n ≡ Some info))
 
 -- What a Done of a derivation may register behind some entries.
 pub record IsAllowed (run : Run) (entries : List Entry) (node : Node) (infos : List PathInfo) : Type 0 where

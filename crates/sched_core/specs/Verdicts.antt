@@ -6,8 +6,8 @@ use Rattle.drv_graph.specs.Plans.{Leads}
 use Rattle.drv_graph.specs.declared.kinds.Kind.{Kind}
 use Rattle.drv_graph.specs.declared.kinds.Kind.TheVariants.{Addressed, Fixed}
 use Rattle.ref_scan.specs.Scan.{IsFound}
-use Rattle.ref_scan.specs.Trees.{Fits}
-use Rattle.ref_scan.specs.declared.tree.Tree.{Tree, File, Dir'}
+use Rattle.ref_scan.specs.Trees.{Fits, joined}
+use Rattle.ref_scan.specs.declared.tree.Tree.{Tree, File, Pieces, Dir'}
 use Rattle.valid_table.specs.PathInfos.{PathInfo}
 use Rattle.sched_core.specs.declared.job.Answer.{Answer}
 use Rattle.sched_core.specs.declared.job.Job.{Job}
@@ -15,9 +15,10 @@ use Rattle.sched_core.specs.declared.job.JobOutput.{JobOutput}
 use Rattle.sched_core.specs.declared.reason.Reason.{Reason}
 use Rattle.sched_core.specs.declared.reason.Reason.TheVariants.{ExitStatus, NoStart, MissingOutput, NotFlatFile, HashMismatch, OutputCycle, TooLarge, ReadFault, OutOfMemory, Killed}
 
--- SHA-256 of a file's bytes; a folder has no digest
+-- SHA-256 of a file's bytes, which pieces make together; a folder has no digest
 abbrev pub digest_of : Tree → Option (List ℕ)
 digest_of (File bytes) = Some (sha256 bytes.items)
+digest_of (Pieces parts) = Some (sha256 (joined parts.items))
 digest_of (Dir' shape entries) = None
 
 -- the paths of a job's outputs

@@ -1,6 +1,8 @@
 //! The verdict on what a builder left behind.
 ghost use Rattle.std.specs.Prelude.{◌≡◌, ◌⊎◌, ℕ, List, Ok, Err, pos, Some, IfOk, IfErr, MatchResult, OnOk};
 ghost use Rattle.nix_names.specs.Rising.{IsRising};
+ghost use Rattle.ref_scan.specs.Trees.{joined};
+ghost use Rattle.sha2.specs.Sha256.{sha256};
 ghost use Rattle.sched_core.specs.Verdicts.{AreRecords, IsExamining, IsRecordOf, IsTaken, IsThere, IsTreeFault, IsVerdict, digest_of};
 
 use crate::checked::Checked;
@@ -132,6 +134,18 @@ fn digest_of(tree: &Tree) -> Option<[u8; 32]>
 {
     match tree {
         Tree::File(bytes) => Some(Sha256::digest(bytes)),
+        Tree::Pieces(parts) => Some(digest_of_pieces(parts)),
         Tree::Dir(_) => None,
     }
+}
+
+// SHA-256 of the file that some pieces make together.
+fn digest_of_pieces(parts: &[Vec<u8>]) -> [u8; 32]
+    ensures { result ≡ sha256 (joined parts.now) }
+{
+    let mut hasher = Sha256::new();
+    'parts: for part in parts {
+        hasher.update(part.as_slice());
+    }
+    hasher.finalize()
 }
