@@ -1,5 +1,5 @@
 -- What is read behind fixed bytes: a string, two strings, a list.
-use Rattle.std.specs.Prelude.{ℕ, List, [], ◌∷◌, Result, Ok, Err}
+use Rattle.std.specs.Prelude.{ℕ, List, [], ◌∷◌, Result, Ok}
 use Rattle.nix_drv.specs.Grammar.{Str}
 use Rattle.nix_drv.specs.Reading.{◌>>=◌, fixed_at, read}
 use Rattle.nix_drv.specs.Listings.{list_read}

@@ -277,6 +277,19 @@ pub(crate) fn read_parts(alloc: Global, bytes: &[u8]) -> Result<(Parts, &[u8]), 
     Ok((parts, rest))
 }
 
+// The place behind the text of how it is built, which stands at the place, or the place in it of
+// the first element that breaks the order of its list.
+#[tactic(auto, unfolding(crate::specs::Passing::pass))]
+fn pass_build(parts: &Parts, place: usize) -> Result<usize, usize>
+    ensures { result ≡ pass_of build_form place (parts_build parts.now) }
+{
+    let at = pass_str(&parts.system, place);
+    let at = pass_str(&parts.builder, at.saturating_add(1));
+    let at = pass_list(Order::Free, &parts.args, at.saturating_add(1))?;
+    let at = pass_list(Order::Rising, &parts.env, at.saturating_add(1))?;
+    Ok(at.saturating_add(1))
+}
+
 // The place behind the parts' text, or the place in it of the first element that breaks the
 // order of its list.
 #[tactic(auto, unfolding(crate::specs::Passing::pass))]
@@ -286,11 +299,7 @@ pub(crate) fn pass_parts(parts: &Parts) -> Result<usize, usize>
     let at = pass_list(Order::Rising, &parts.outputs, 7)?;
     let at = pass_list(Order::Rising, &parts.inputs, at.saturating_add(1))?;
     let at = pass_list(Order::Rising, &parts.sources, at.saturating_add(1))?;
-    let at = pass_str(&parts.system, at.saturating_add(1));
-    let at = pass_str(&parts.builder, at.saturating_add(1));
-    let at = pass_list(Order::Free, &parts.args, at.saturating_add(1))?;
-    let at = pass_list(Order::Rising, &parts.env, at.saturating_add(1))?;
-    Ok(at.saturating_add(1))
+    pass_build(parts, at.saturating_add(1))
 }
 
 fn write_build(parts: &Parts, out: &mut Vec<u8>) -> Result<(), AllocError>
@@ -325,17 +334,30 @@ pub(crate) fn write_parts(
     write_build(parts, out)
 }
 
-// The same parts.
-pub(crate) fn copy_parts(alloc: Global, parts: &Parts) -> Result<Parts, AllocError>
-    ensures { IfOk result (λ copy. parts_value copy ≡ parts_value parts.now) }
+// How the parts are built, again.
+fn copy_build(alloc: Global, parts: &Parts) -> Result<Build, AllocError>
+    ensures { IfOk result (λ copy. build_of copy ≡ parts_build parts.now) }
 {
-    Ok(Parts {
-        outputs: copy_list(alloc, &parts.outputs)?,
-        inputs: copy_list(alloc, &parts.inputs)?,
-        sources: copy_list(alloc, &parts.sources)?,
+    Ok(Build {
         system: parts.system.copy(alloc)?,
         builder: parts.builder.copy(alloc)?,
         args: copy_list(alloc, &parts.args)?,
         env: copy_list(alloc, &parts.env)?,
+    })
+}
+
+// The same parts.
+pub(crate) fn copy_parts(alloc: Global, parts: &Parts) -> Result<Parts, AllocError>
+    ensures { IfOk result (λ copy. parts_value copy ≡ parts_value parts.now) }
+{
+    let build = copy_build(alloc, parts)?;
+    Ok(Parts {
+        outputs: copy_list(alloc, &parts.outputs)?,
+        inputs: copy_list(alloc, &parts.inputs)?,
+        sources: copy_list(alloc, &parts.sources)?,
+        system: build.system,
+        builder: build.builder,
+        args: build.args,
+        env: build.env,
     })
 }
