@@ -13,6 +13,7 @@ pub mod Spellings
 pub mod Derivations
 pub mod ListTexts
 pub mod FormTexts
+pub mod FormReadings
 pub mod ListReadings
 pub mod Back
 pub mod CheckedPaths

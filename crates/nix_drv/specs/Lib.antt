@@ -7,6 +7,7 @@ pub mod Parts
 pub mod Reading
 pub mod Passing
 pub mod Listings
+pub mod Behind
 pub mod Stops
 pub mod Ordering
 pub mod Outcome

@@ -5,6 +5,7 @@ use Rattle.nix_drv.specs.declared.derivation.Output.{Output as OutputStruct}
 use Rattle.nix_drv.specs.declared.derivation.Input.{Input as InputStruct}
 use Rattle.nix_drv.specs.declared.derivation.EnvEntry.{EnvEntry as EnvEntryStruct}
 use Rattle.nix_drv.specs.declared.derivation.Parts.{Parts}
+use Rattle.nix_drv.specs.declared.forms.Build.{Build}
 use Rattle.nix_drv.specs.Grammar.{Value}
 use Rattle.nix_drv.specs.Derivation.{Output, Input, EnvEntry, Drv, output_value, input_value, entry_value, build_form, derivation_form}
 
@@ -37,6 +38,10 @@ drv_of p = record {
 -- the parts as a value of the language, with each list in one step
 abbrev pub parts_build : Parts → Value build_form
 parts_build p = (p.system.items, (tt, (p.builder.items, (tt, (map bytes_of p.args.items, (tt, (map (λ (e : EnvEntryStruct). entry_value (entry_of e)) p.env.items, tt)))))))
+
+-- how it is built, by itself, as such a value
+abbrev pub build_of : Build → Value build_form
+build_of b = (b.system.items, (tt, (b.builder.items, (tt, (map bytes_of b.args.items, (tt, (map (λ (e : EnvEntryStruct). entry_value (entry_of e)) b.env.items, tt)))))))
 
 abbrev pub parts_value : Parts → Value derivation_form
 parts_value p =

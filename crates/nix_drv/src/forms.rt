@@ -2,12 +2,13 @@
 
 ghost use Rattle.std.specs.Prelude.{◌≡◌, ◌++◌, IfOk, OnOk, map};
 ghost use Rattle.std.proofs.Common.{rules};
-ghost use Rattle.nix_drv.specs.Grammar.{Str, text};
-ghost use Rattle.nix_drv.specs.Derivation.{drv_value, output_form, output_value, input_form, input_value, entry_form, entry_value, build_form, derivation_form};
+ghost use Rattle.nix_drv.specs.Grammar.{Str, Then, text};
+ghost use Rattle.nix_drv.specs.Derivation.{drv_value, output_form, output_value, input_form, input_value, entry_form, entry_value, build_form, derivation_form, comma};
 ghost use Rattle.nix_drv.specs.Reading.{read as read_of};
 ghost use Rattle.nix_drv.specs.Passing.{pass as pass_of};
+ghost use Rattle.nix_drv.specs.Behind.{string_behind, strings_behind, list_behind};
 ghost use Rattle.nix_drv.specs.Stops.{Gives};
-ghost use Rattle.nix_drv.specs.Parts.{drv_of, bytes_of, output_of, input_of, entry_of, parts_build, parts_value};
+ghost use Rattle.nix_drv.specs.Parts.{drv_of, bytes_of, output_of, input_of, entry_of, build_of, parts_build, parts_value};
 
 use crate::derivation::{EnvEntry, Input, Output, Parts};
 use crate::element::{Element, Order, copy_list, pass_list, read_list, write_list};
@@ -15,6 +16,45 @@ use crate::fault::Stop;
 use crate::reading::{fixed_of, str_of};
 use crate::writing::{pass_str, write_str};
 use std::alloc::{AllocError, Global};
+
+// A string behind the bytes that are wanted.
+#[tactic(auto, unfolding(crate::specs::Behind::string_behind))]
+fn read_str<'a>(alloc: Global, wanted: &[u8], bytes: &'a [u8]) -> Result<(Vec<u8>, &'a [u8]), Stop>
+    ensures { Gives (λ x. (x.0.items, x.1.now)) result (string_behind wanted.now bytes.now) }
+{
+    let rest = fixed_of(bytes, wanted)?;
+    str_of(alloc, rest)
+}
+
+// Two strings with a comma between, behind the bytes that are wanted.
+#[tactic(auto, unfolding(crate::specs::Behind::strings_behind))]
+fn read_strs<'a>(
+    alloc: Global,
+    wanted: &[u8],
+    bytes: &'a [u8],
+) -> Result<((Vec<u8>, Vec<u8>), &'a [u8]), Stop>
+    ensures { Gives
+        (λ x. ((x.0.0.items, x.0.1.items), x.1.now)) result (strings_behind wanted.now bytes.now) }
+{
+    let (first, rest) = read_str(alloc, wanted, bytes)?;
+    let (second, rest) = read_str(alloc, b",", rest)?;
+    Ok(((first, second), rest))
+}
+
+// A list behind the bytes that are wanted.
+#[tactic(auto, unfolding(crate::specs::Behind::list_behind))]
+fn read_items<'a, T: Element + Drop>(
+    alloc: Global,
+    wanted: &[u8],
+    bytes: &'a [u8],
+) -> Result<(Vec<T>, &'a [u8]), Stop>
+    ensures { Gives
+        (λ x. (map T.value x.0.items, x.1.now)) result
+        (list_behind wanted.now (read_of T.form) bytes.now) }
+{
+    let rest = fixed_of(bytes, wanted)?;
+    read_list(alloc, rest)
+}
 
 impl Element for Vec<u8> {
     ghost form = { Str };
@@ -55,12 +95,8 @@ impl Element for EnvEntry {
         &self.key
     }
 
-    #[tactic(auto, unfolding(crate::specs::Reading::read))]
     fn read(alloc: Global, bytes: &[u8]) -> Result<(Self, &[u8]), Stop> {
-        let rest = fixed_of(bytes, b"(")?;
-        let (key, rest) = str_of(alloc, rest)?;
-        let rest = fixed_of(rest, b",")?;
-        let (value, rest) = str_of(alloc, rest)?;
+        let ((key, value), rest) = read_strs(alloc, b"(", bytes)?;
         let rest = fixed_of(rest, b")")?;
         Ok((EnvEntry { key, value }, rest))
     }
@@ -101,12 +137,9 @@ impl Element for Input {
         &self.path
     }
 
-    #[tactic(auto, unfolding(crate::specs::Reading::read))]
     fn read(alloc: Global, bytes: &[u8]) -> Result<(Self, &[u8]), Stop> {
-        let rest = fixed_of(bytes, b"(")?;
-        let (path, rest) = str_of(alloc, rest)?;
-        let rest = fixed_of(rest, b",")?;
-        let (names, rest) = read_list(alloc, rest)?;
+        let (path, rest) = read_str(alloc, b"(", bytes)?;
+        let (names, rest) = read_items(alloc, b",", rest)?;
         let rest = fixed_of(rest, b")")?;
         Ok((Input { path, names }, rest))
     }
@@ -147,16 +180,9 @@ impl Element for Output {
         &self.name
     }
 
-    #[tactic(auto, unfolding(crate::specs::Reading::read))]
     fn read(alloc: Global, bytes: &[u8]) -> Result<(Self, &[u8]), Stop> {
-        let rest = fixed_of(bytes, b"(")?;
-        let (name, rest) = str_of(alloc, rest)?;
-        let rest = fixed_of(rest, b",")?;
-        let (path, rest) = str_of(alloc, rest)?;
-        let rest = fixed_of(rest, b",")?;
-        let (algo, rest) = str_of(alloc, rest)?;
-        let rest = fixed_of(rest, b",")?;
-        let (hash, rest) = str_of(alloc, rest)?;
+        let ((name, path), rest) = read_strs(alloc, b"(", bytes)?;
+        let ((algo, hash), rest) = read_strs(alloc, b",", rest)?;
         let rest = fixed_of(rest, b")")?;
         Ok((
             Output {
@@ -204,36 +230,64 @@ impl Element for Output {
     ghost clear = { Prim.search rules };
 }
 
-// The parts at the head of the bytes, and the bytes behind them.
-#[tactic(auto, unfolding(crate::specs::Reading::read))]
-pub(crate) fn read_parts(alloc: Global, bytes: &[u8]) -> Result<(Parts, &[u8]), Stop>
-    ensures { Gives (λ x. (parts_value x.0, x.1.now)) result (read_of derivation_form bytes.now) }
+// How a derivation is built.
+#[derive(Drop)]
+struct Build {
+    system: Vec<u8>,
+    builder: Vec<u8>,
+    args: Vec<Vec<u8>>,
+    env: Vec<EnvEntry>,
+}
+
+// How it is built, behind a comma.
+fn read_build(alloc: Global, bytes: &[u8]) -> Result<(Build, &[u8]), Stop>
+    ensures { Gives
+        (λ x. ((tt, build_of x.0), x.1.now)) result (read_of (Then comma build_form) bytes.now) }
 {
-    let rest = fixed_of(bytes, b"Derive(")?;
-    let (outputs, rest) = read_list(alloc, rest)?;
-    let rest = fixed_of(rest, b",")?;
-    let (inputs, rest) = read_list(alloc, rest)?;
-    let rest = fixed_of(rest, b",")?;
-    let (sources, rest) = read_list(alloc, rest)?;
-    let rest = fixed_of(rest, b",")?;
-    let (system, rest) = str_of(alloc, rest)?;
-    let rest = fixed_of(rest, b",")?;
-    let (builder, rest) = str_of(alloc, rest)?;
-    let rest = fixed_of(rest, b",")?;
-    let (args, rest) = read_list(alloc, rest)?;
-    let rest = fixed_of(rest, b",")?;
-    let (env, rest) = read_list(alloc, rest)?;
+    let ((system, builder), rest) = read_strs(alloc, b",", bytes)?;
+    let (args, rest) = read_items(alloc, b",", rest)?;
+    let (env, rest) = read_items(alloc, b",", rest)?;
     let rest = fixed_of(rest, b")")?;
-    let parts = Parts {
-        outputs,
-        inputs,
-        sources,
+    let build = Build {
         system,
         builder,
         args,
         env,
     };
+    Ok((build, rest))
+}
+
+// The parts at the head of the bytes, and the bytes behind them.
+pub(crate) fn read_parts(alloc: Global, bytes: &[u8]) -> Result<(Parts, &[u8]), Stop>
+    ensures { Gives (λ x. (parts_value x.0, x.1.now)) result (read_of derivation_form bytes.now) }
+{
+    let (outputs, rest) = read_items(alloc, b"Derive(", bytes)?;
+    let (inputs, rest) = read_items(alloc, b",", rest)?;
+    let (sources, rest) = read_items(alloc, b",", rest)?;
+    let (build, rest) = read_build(alloc, rest)?;
+    let parts = Parts {
+        outputs,
+        inputs,
+        sources,
+        system: build.system,
+        builder: build.builder,
+        args: build.args,
+        env: build.env,
+    };
     Ok((parts, rest))
+}
+
+// The place behind the text of how it is built, which stands at the place, or the place in it of
+// the first element that breaks the order of its list.
+#[tactic(auto, unfolding(crate::specs::Passing::pass))]
+fn pass_build(parts: &Parts, place: usize) -> Result<usize, usize>
+    ensures { result ≡ pass_of build_form place (parts_build parts.now) }
+{
+    let at = pass_str(&parts.system, place);
+    let at = pass_str(&parts.builder, at.saturating_add(1));
+    let at = pass_list(Order::Free, &parts.args, at.saturating_add(1))?;
+    let at = pass_list(Order::Rising, &parts.env, at.saturating_add(1))?;
+    Ok(at.saturating_add(1))
 }
 
 // The place behind the parts' text, or the place in it of the first element that breaks the
@@ -245,11 +299,7 @@ pub(crate) fn pass_parts(parts: &Parts) -> Result<usize, usize>
     let at = pass_list(Order::Rising, &parts.outputs, 7)?;
     let at = pass_list(Order::Rising, &parts.inputs, at.saturating_add(1))?;
     let at = pass_list(Order::Rising, &parts.sources, at.saturating_add(1))?;
-    let at = pass_str(&parts.system, at.saturating_add(1));
-    let at = pass_str(&parts.builder, at.saturating_add(1));
-    let at = pass_list(Order::Free, &parts.args, at.saturating_add(1))?;
-    let at = pass_list(Order::Rising, &parts.env, at.saturating_add(1))?;
-    Ok(at.saturating_add(1))
+    pass_build(parts, at.saturating_add(1))
 }
 
 fn write_build(parts: &Parts, out: &mut Vec<u8>) -> Result<(), AllocError>
@@ -284,17 +334,30 @@ pub(crate) fn write_parts(
     write_build(parts, out)
 }
 
-// The same parts.
-pub(crate) fn copy_parts(alloc: Global, parts: &Parts) -> Result<Parts, AllocError>
-    ensures { IfOk result (λ copy. parts_value copy ≡ parts_value parts.now) }
+// How the parts are built, again.
+fn copy_build(alloc: Global, parts: &Parts) -> Result<Build, AllocError>
+    ensures { IfOk result (λ copy. build_of copy ≡ parts_build parts.now) }
 {
-    Ok(Parts {
-        outputs: copy_list(alloc, &parts.outputs)?,
-        inputs: copy_list(alloc, &parts.inputs)?,
-        sources: copy_list(alloc, &parts.sources)?,
+    Ok(Build {
         system: parts.system.copy(alloc)?,
         builder: parts.builder.copy(alloc)?,
         args: copy_list(alloc, &parts.args)?,
         env: copy_list(alloc, &parts.env)?,
+    })
+}
+
+// The same parts.
+pub(crate) fn copy_parts(alloc: Global, parts: &Parts) -> Result<Parts, AllocError>
+    ensures { IfOk result (λ copy. parts_value copy ≡ parts_value parts.now) }
+{
+    let build = copy_build(alloc, parts)?;
+    Ok(Parts {
+        outputs: copy_list(alloc, &parts.outputs)?,
+        inputs: copy_list(alloc, &parts.inputs)?,
+        sources: copy_list(alloc, &parts.sources)?,
+        system: build.system,
+        builder: build.builder,
+        args: build.args,
+        env: build.env,
     })
 }

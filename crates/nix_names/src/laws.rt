@@ -21,7 +21,8 @@ pub fn text_stands_for_one()
 /// Nothing is wrong with a text as that of n bytes exactly where it stands for some n bytes.
 pub fn base32_fault_is_exact()
     ensures { (text : List ℕ) (n : ℕ) → ((base32_fault text n ≡ None)
-        ↔ ((bytes : List ℕ) × (length bytes ≡ n) × All (λ b. b < 256) bytes × StandsFor text bytes)) }
+        ↔ ((bytes : List ℕ) × (length bytes ≡ n) × All (λ b. b < 256) bytes
+        × StandsFor text bytes)) }
 {}
 
 /// Two rising lists with the same members are equal.

@@ -1,4 +1,5 @@
 use crate::*;
+use std::alloc::Global;
 use std::collections::HashMap;
 use std::mem::size_of;
 use std::test::Fail;
@@ -68,32 +69,37 @@ fn parse_path_cases(rt: HostRuntime) -> Result<(), Fail> {
     Ok(())
 }
 
+// The path in `/nix/store` of this type and name, with the digest of nothing.
+fn path_of(alloc: Global, kind: &[u8], name: &[u8]) -> Result<StorePath, NameFault> {
+    let dir = StoreDir::new(alloc, b"/nix/store")?;
+    make_path(alloc, kind, &nothing(), &dir, name)
+}
+
 #[test]
 fn text_fingerprints(rt: HostRuntime) -> Result<(), Fail> {
     let alloc = rt.alloc();
-    let dir = StoreDir::new(alloc, b"/nix/store")?;
     // As Nix 2.8 prints it for `builtins.toFile "empty" ""`.
-    let empty = make_path(alloc, b"text", &nothing(), &dir, b"empty")?;
+    let empty = path_of(alloc, b"text", b"empty")?;
     assert_eq!(rt;
         empty.text(),
         b"/nix/store/wflv0hgb0qb1ddc5nxmsg0y9zjjhfvmh-empty".as_slice()
     );
     // As its `nix-store --print-fixed-path --recursive sha256` prints it.
-    let source = make_path(alloc, b"source", &nothing(), &dir, b"src")?;
+    let source = path_of(alloc, b"source", b"src")?;
     assert_eq!(rt;
         source.text(),
         b"/nix/store/brxav88rzrya6bhi20qbzdb13b9f9sj5-src".as_slice()
     );
     // By sha256sum of the 185 bytes of the fingerprint.
-    let refs =
-        b"text:/nix/store/aaaaaaaaaaaaaaaaaaaaaaaaaaaaaaaa-x:/nix/store/cccccccccccccccccccccccccccccccc-y";
-    let both = make_path(alloc, refs, &nothing(), &dir, b"empty")?;
+    let refs = b"text:/nix/store/aaaaaaaaaaaaaaaaaaaaaaaaaaaaaaaa-x\
+        :/nix/store/cccccccccccccccccccccccccccccccc-y";
+    let both = path_of(alloc, refs, b"empty")?;
     assert_eq!(rt;
         both.hash_part(),
         b"9ssrlk9c7rixkm03g2jbzgw38qh9l5k7".as_slice()
     );
     assert_eq!(rt;
-        make_path(alloc, b"text", &nothing(), &dir, b"..").err(),
+        path_of(alloc, b"text", b"..").err(),
         Some(NameFault::BadName)
     );
     Ok(())
@@ -141,9 +147,8 @@ fn copies_outlive_their_path(rt: HostRuntime) -> Result<(), Fail> {
     Ok(())
 }
 
-#[test]
-fn paths_compare_by_their_text(rt: HostRuntime) -> Result<(), Fail> {
-    let alloc = rt.alloc();
+// Two paths, the first of which is the lesser.
+fn two_paths(alloc: Global) -> Result<(StorePath, StorePath), NameFault> {
     let dir = StoreDir::new(alloc, b"/nix/store")?;
     let x = parse_path(
         alloc,
@@ -155,11 +160,25 @@ fn paths_compare_by_their_text(rt: HostRuntime) -> Result<(), Fail> {
         &dir,
         b"/nix/store/cccccccccccccccccccccccccccccccc-y",
     )?;
-    assert!(rt; x == x.copy(alloc)?);
+    Ok((x, y))
+}
+
+// A map that holds 1 at the path.
+fn map_of(alloc: Global, path: StorePath) -> Result<HashMap<StorePath, i32>, Fail> {
+    let mut map = HashMap::new(alloc);
+    map.insert(path, 1)?;
+    Ok(map)
+}
+
+#[test]
+fn paths_compare_by_their_text(rt: HostRuntime) -> Result<(), Fail> {
+    let alloc = rt.alloc();
+    let (x, y) = two_paths(alloc)?;
+    let copy = x.copy(alloc)?;
+    assert!(rt; x == copy);
     assert!(rt; x != y);
     assert!(rt; x < y);
-    let mut seen = HashMap::new(alloc);
-    seen.insert(x.copy(alloc)?, 1)?;
+    let seen = map_of(alloc, copy)?;
     assert_eq!(rt; seen.get(&x).copied(), Some(1));
     assert!(rt; !seen.contains_key(&y));
     Ok(())

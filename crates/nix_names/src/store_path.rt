@@ -1,5 +1,5 @@
 //! Store paths: parsed, lent, copied, compared.
-ghost use Rattle.std.specs.Prelude.{◌≡◌, ◌⊎◌, ◌↔◌, IfOk, IfErr, IsTrue, nat_eq, ◌&&◌, ◌+◌, ◌^◌, ◌<◌, ◌≤◌, ◌++◌, ◌∷◌, [], codes, drop, length, take, MatchResult, Some, None};
+ghost use Rattle.std.specs.Prelude.{◌≡◌, ◌⊎◌, ◌↔◌, IfOk, IfErr, OnOk, IsTrue, nat_eq, ◌&&◌, ◌+◌, ◌^◌, ◌<◌, ◌≤◌, ◌++◌, ◌∷◌, [], codes, drop, length, take, MatchResult, Some, None};
 ghost use Rattle.std.specs.List.{list_all, starts_with};
 ghost use Rattle.nix_names.specs.Base32.{is_digit};
 ghost use Rattle.std.specs.Cmp.{partial_equiv_from_equiv, partial_order_from_own_ties};
@@ -188,10 +188,17 @@ fn join_text(alloc: Global, dir: &[u8], hash: &[u8], name: &[u8]) -> Result<Vec<
     let mut text = Vec::with_capacity(alloc, dir.len() + 1 + hash.len() + 1 + name.len())?;
     text.extend_from_slice(dir)?;
     text.extend_from_slice(b"/")?;
+    add_base(hash, name, &mut text)?;
+    Ok(text)
+}
+
+// Adds a base name: a hash part, a dash and a name.
+fn add_base(hash: &[u8], name: &[u8], text: &mut Vec<u8>) -> Result<(), AllocError>
+    ensures { OnOk result (text.new.items ≡ text.old.items ++ hash.now ++ 45 ∷ name.now) }
+{
     text.extend_from_slice(hash)?;
     text.extend_from_slice(b"-")?;
-    text.extend_from_slice(name)?;
-    Ok(text)
+    text.extend_from_slice(name)
 }
 
 // Where the base name begins in each path of a folder.

@@ -30,7 +30,8 @@ pub(crate) fn is_digit(byte: u8) -> bool
 #[inline(always)]
 pub(crate) fn last_foreign(window: &[u8; 32], from: usize) -> Option<usize>
     requires { from ≤ 32 }
-    ensures { IfSome result (λ place. (place < 32) × (is_digit (slice_index window.now place) ≡ false)) }
+    ensures { IfSome result
+        (λ place. (place < 32) × (is_digit (slice_index window.now place) ≡ false)) }
 {
     let mut place = 32;
     while place > from {

@@ -32,7 +32,8 @@ impl Fed {
     // The present list goes on with the piece.
     #[inline(always)]
     pub(crate) fn and(&self, _piece: &Piece<'_>) -> Fed
-        ensures { (result.ended ≡ self.now.ended) × (result.present ≡ self.now.present ++ _piece.now.bytes.now) }
+        ensures { (result.ended ≡ self.now.ended)
+            × (result.present ≡ self.now.present ++ _piece.now.bytes.now) }
     {
         Fed {}
     }

@@ -1,9 +1,12 @@
-//! Laws over the definitions that contracts cite, each on the contract of a function that does nothing.
+//! Laws over the definitions that contracts cite, each on the contract of a function that does
+//! nothing.
 ghost use Rattle.ref_scan.specs.Scan.{IsFound};
 ghost use Rattle.ref_scan.specs.declared.tree.Tree.{Tree};
 ghost use Rattle.std.specs.Prelude.{◌≡◌, List, ℕ};
 
-/// What is found is one list: there are no two that are found in a tree for the same permitted paths.
+/// What is found is one list: there are no two that are found in a tree for the same permitted
+/// paths.
 pub fn found_is_one()
-    ensures { (tree : Tree) (permitted a b : List (List ℕ)) → IsFound tree permitted a → IsFound tree permitted b → a ≡ b }
+    ensures { (tree : Tree) (permitted a b : List (List ℕ)) → IsFound tree permitted a
+        → IsFound tree permitted b → a ≡ b }
 {}

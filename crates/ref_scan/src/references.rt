@@ -33,7 +33,8 @@ pub fn scan(
 // Feeds each file and each entry's name as a list of its own.
 fn feed_tree(scanner: &mut Scanner, tree: &Tree)
     requires { scanner.old.present ≡ [] }
-    ensures { scanner.new ≡ record scanner.old { ended = scanner.old.ended ++ pieces tree.now; present = [] } }
+    ensures { scanner.new
+        ≡ record scanner.old { ended = scanner.old.ended ++ pieces tree.now; present = [] } }
 {
     match tree {
         Tree::File(bytes) => feed_list(scanner, bytes),
@@ -52,7 +53,11 @@ fn feed_tree(scanner: &mut Scanner, tree: &Tree)
 
 // Feeds a list of its own.
 fn feed_list(scanner: &mut Scanner, bytes: &[u8])
-    ensures { scanner.new ≡ record scanner.old { ended = scanner.old.ended ++ (scanner.old.present ++ bytes.now) ∷ []; present = [] } }
+    ensures { scanner.new
+        ≡ record scanner.old {
+          ended = scanner.old.ended ++ (scanner.old.present ++ bytes.now) ∷ [];
+          present = [];
+        } }
 {
     scanner.feed(bytes);
     scanner.cut();
@@ -60,7 +65,8 @@ fn feed_list(scanner: &mut Scanner, bytes: &[u8])
 
 // Feeds the pieces of one file.
 fn feed_pieces(scanner: &mut Scanner, pieces: &[Vec<u8>])
-    ensures { scanner.new ≡ record scanner.old { present = scanner.old.present ++ joined pieces.now } }
+    ensures { scanner.new
+        ≡ record scanner.old { present = scanner.old.present ++ joined pieces.now } }
 {
     for piece in pieces {
         scanner.feed(piece);

@@ -38,9 +38,15 @@ impl Model for Scanner {
 
     ghost Value = { Feed };
 
-    ghost view = { λ s. record { permitted = s.permitted.items; ended = s.fed.ended; present = s.fed.present } };
+    ghost view = { λ s. record {
+      permitted = s.permitted.items;
+      ended = s.fed.ended;
+      present = s.fed.present;
+    } };
 
-    ghost invariant = { λ s. Scanned (record { permitted = s.permitted.items; ended = s.fed.ended; present = s.fed.present }) s.index.places s.index.sieve.items s.met.items s.tail.items };
+    ghost invariant = { λ s. Scanned
+        (record { permitted = s.permitted.items; ended = s.fed.ended; present = s.fed.present })
+        s.index.places s.index.sieve.items s.met.items s.tail.items };
 }
 
 impl Scanner {
@@ -49,7 +55,8 @@ impl Scanner {
     /// where it was refused.
     pub fn new(alloc: Global, permitted: &[StorePath]) -> Result<Scanner, ScanFault>
         requires { IsRising permitted.now }
-        ensures { IfOk result (λ scanner. scanner ≡ record { permitted = permitted.now; ended = []; present = [] }) }
+        ensures { IfOk result
+            (λ scanner. scanner ≡ record { permitted = permitted.now; ended = []; present = [] }) }
     {
         Ok(Scanner {
             permitted: copies(alloc, permitted)?,
@@ -74,7 +81,8 @@ impl Scanner {
     /// The present list ends, and an empty one begins: no hash part is found across a cut. Takes no
     /// memory and has no fault.
     pub fn cut(&mut self)
-        ensures { self.new ≡ record self.old { ended = self.old.ended ++ self.old.present ∷ []; present = [] } }
+        ensures { self.new
+            ≡ record self.old { ended = self.old.ended ++ self.old.present ∷ []; present = [] } }
     {
         self.tail.clear();
         self.fed = self.fed.cut();
@@ -84,8 +92,10 @@ impl Scanner {
     /// the lists were cut into pieces. Two permitted paths with the same hash part are both found.
     /// `NoMemory`, the only fault, where memory was refused.
     pub fn finish(self) -> Result<Vec<StorePath>, ScanFault>
-        ensures found { IfOk result (λ found. IsFoundIn (lists_of self) self.permitted found.items) }
-        ensures are_parts { (path : List ℕ) → Contains self.permitted path → IsTrue (is_hash_part (hash_part_of path)) }
+        ensures found { IfOk result
+            (λ found. IsFoundIn (lists_of self) self.permitted found.items) }
+        ensures are_parts { (path : List ℕ) → Contains self.permitted path
+            → IsTrue (is_hash_part (hash_part_of path)) }
     {
         let Scanner {
             permitted,
@@ -108,7 +118,8 @@ impl Scanner {
 // Whether a path's hash part has its mark.
 fn is_met(index: &Index, met: &[bool], path: &StorePath) -> bool
     requires { IsIndex index.now.places index.now.sieve.items (length met.now) }
-    ensures { (k : ℕ) → place_at index.now.places (hash_part_of path.now) ≡ Some k → IsTrue result ↔ IsMet met.now k }
+    ensures { (k : ℕ) → place_at index.now.places (hash_part_of path.now) ≡ Some k
+        → IsTrue result ↔ IsMet met.now k }
 {
     match index.place_of(&part_of(path)) {
         Some(place) => met[place],

@@ -83,6 +83,32 @@ fn two_paths(alloc: Global, first: &[u8], second: &[u8]) -> Result<Vec<StorePath
     Ok(vec![in alloc; first, second]?)
 }
 
+// What a file with these bytes refers to, of the permitted paths.
+fn scan_file(alloc: Global, bytes: &[u8], permitted: &[StorePath]) -> Result<Vec<StorePath>, Fail>
+    requires { IsRising permitted.now }
+{
+    let tree = file(alloc, bytes)?;
+    Ok(scan(alloc, &tree, permitted)?)
+}
+
+// What a tree refers to, of two permitted paths.
+fn found_in(alloc: Global, tree: &Tree) -> Result<Vec<StorePath>, Fail> {
+    let permitted = two_paths(alloc, A_P, B_Q)?;
+    Ok(scan(alloc, tree, &permitted)?)
+}
+
+// The same of a file with these bytes.
+fn found_in_file(alloc: Global, bytes: &[u8]) -> Result<Vec<StorePath>, Fail> {
+    let tree = file(alloc, bytes)?;
+    found_in(alloc, &tree)
+}
+
+// The same of a folder with a file of this name and these bytes.
+fn found_in_folder(alloc: Global, name: &[u8], bytes: &[u8]) -> Result<Vec<StorePath>, Fail> {
+    let tree = folder(alloc, name, file(alloc, bytes)?)?;
+    found_in(alloc, &tree)
+}
+
 fn are(paths: &[StorePath], texts: &[&[u8]]) -> bool {
     paths.len() == texts.len()
         && paths
@@ -134,13 +160,31 @@ fn pair(alloc: Global, first: Tree, second: Tree) -> Result<Tree, Fail> {
     Ok(Tree::Dir(vec![in alloc; first, second]?))
 }
 
+// A folder with a folder of two files, whose bytes are `B` and `A`.
+fn deep(alloc: Global) -> Result<Tree, Fail> {
+    let files = pair(alloc, file(alloc, B)?, file(alloc, A)?)?;
+    folder(alloc, b"bin", files)
+}
+
 #[test]
-fn limits(rt: HostRuntime) -> Result<(), Fail> {
+fn limit_of_levels(rt: HostRuntime) -> Result<(), Fail> {
     let alloc = rt.alloc();
     assert!(rt; nested(alloc, 32)?.fits());
     assert!(rt; !nested(alloc, 33)?.fits());
+    Ok(())
+}
+
+#[test]
+fn limit_of_entries(rt: HostRuntime) -> Result<(), Fail> {
+    let alloc = rt.alloc();
     assert!(rt; wide(alloc, 65_536)?.fits());
     assert!(rt; !wide(alloc, 65_537)?.fits());
+    Ok(())
+}
+
+#[test]
+fn limit_of_bytes(rt: HostRuntime) -> Result<(), Fail> {
+    let alloc = rt.alloc();
     assert!(rt; zeros(alloc, 67_108_864)?.fits());
     assert!(rt; !zeros(alloc, 67_108_865)?.fits());
     Ok(())
@@ -149,26 +193,18 @@ fn limits(rt: HostRuntime) -> Result<(), Fail> {
 #[test]
 fn scan_boundaries(rt: HostRuntime) -> Result<(), Fail> {
     let alloc = rt.alloc();
-    let permitted = two_paths(alloc, A_P, B_Q)?;
-
-    let both = file(alloc, b"aaaaaaaaaaaaaaaaaaaaaaaaaaaaaaaab")?;
-    assert!(rt; are(&scan(alloc, &both, &permitted)?, &[A_P, B_Q]));
-
-    let longer = file(alloc, b"aaaaaaaaaaaaaaaaaaaaaaaaaaaaaaaaa")?;
-    assert!(rt; are(&scan(alloc, &longer, &permitted)?, &[A_P]));
-
-    let shorter = file(alloc, b"aaaaaaaaaaaaaaaaaaaaaaaaaaaaaaa")?;
-    assert!(rt; are(&scan(alloc, &shorter, &permitted)?, &[]));
-
-    let named = folder(alloc, A, file(alloc, b"")?)?;
-    assert!(rt; are(&scan(alloc, &named, &permitted)?, &[A_P]));
-
-    let parted = folder(
-        alloc,
-        b"aaaaaaaaaaaaaaaa",
-        file(alloc, b"aaaaaaaaaaaaaaaa")?,
-    )?;
-    assert!(rt; are(&scan(alloc, &parted, &permitted)?, &[]));
+    let rows: [(&[u8], &[&[u8]]); 3] = [
+        (b"aaaaaaaaaaaaaaaaaaaaaaaaaaaaaaaab", &[A_P, B_Q]),
+        (b"aaaaaaaaaaaaaaaaaaaaaaaaaaaaaaaaa", &[A_P]),
+        (b"aaaaaaaaaaaaaaaaaaaaaaaaaaaaaaa", &[]),
+    ];
+    for (bytes, texts) in rows {
+        assert!(rt; are(&found_in_file(alloc, bytes)?, texts));
+    }
+    let named = found_in_folder(alloc, A, b"")?;
+    assert!(rt; are(&named, &[A_P]));
+    let parted = found_in_folder(alloc, HALF, HALF)?;
+    assert!(rt; are(&parted, &[]));
     Ok(())
 }
 
@@ -237,26 +273,19 @@ fn limits_of_pieces(rt: HostRuntime) -> Result<(), Fail> {
 #[test]
 fn places_of_a_part(rt: HostRuntime) -> Result<(), Fail> {
     let alloc = rt.alloc();
-    let permitted = two_paths(alloc, A_P, B_Q)?;
-
-    let start = file(alloc, b"aaaaaaaaaaaaaaaaaaaaaaaaaaaaaaaab-p and more")?;
-    assert!(rt; are(&scan(alloc, &start, &permitted)?, &[A_P, B_Q]));
-
-    let end = file(
-        alloc,
-        b"more and /nix/store/aaaaaaaaaaaaaaaaaaaaaaaaaaaaaaab",
-    )?;
-    assert!(rt; are(&scan(alloc, &end, &permitted)?, &[B_Q]));
-
-    let split = file(alloc, b"aaaaaaaaaaaaaaaa-aaaaaaaaaaaaaaaa")?;
-    assert!(rt; are(&scan(alloc, &split, &permitted)?, &[]));
-
-    let deep = folder(
-        alloc,
-        b"bin",
-        pair(alloc, file(alloc, B)?, file(alloc, A)?)?,
-    )?;
-    assert!(rt; are(&scan(alloc, &deep, &permitted)?, &[A_P, B_Q]));
+    let rows: [(&[u8], &[&[u8]]); 3] = [
+        (b"aaaaaaaaaaaaaaaaaaaaaaaaaaaaaaaab-p and more", &[A_P, B_Q]),
+        (
+            b"more and /nix/store/aaaaaaaaaaaaaaaaaaaaaaaaaaaaaaab",
+            &[B_Q],
+        ),
+        (b"aaaaaaaaaaaaaaaa-aaaaaaaaaaaaaaaa", &[]),
+    ];
+    for (bytes, texts) in rows {
+        assert!(rt; are(&found_in_file(alloc, bytes)?, texts));
+    }
+    let deep = found_in(alloc, &deep(alloc)?)?;
+    assert!(rt; are(&deep, &[A_P, B_Q]));
     Ok(())
 }
 
@@ -264,17 +293,17 @@ fn places_of_a_part(rt: HostRuntime) -> Result<(), Fail> {
 fn one_part_of_two_paths(rt: HostRuntime) -> Result<(), Fail> {
     let alloc = rt.alloc();
     let permitted = two_paths(alloc, A_P, A_Q)?;
-    assert!(rt; are(&scan(alloc, &file(alloc, A)?, &permitted)?, &[A_P, A_Q]));
-    assert!(rt; are(&scan(alloc, &file(alloc, B)?, &permitted)?, &[]));
+    assert!(rt; are(&scan_file(alloc, A, &permitted)?, &[A_P, A_Q]));
+    assert!(rt; are(&scan_file(alloc, B, &permitted)?, &[]));
     Ok(())
 }
 
 #[test]
 fn nothing_to_find(rt: HostRuntime) -> Result<(), Fail> {
     let alloc = rt.alloc();
-    assert!(rt; are(&scan(alloc, &file(alloc, A)?, &[])?, &[]));
+    assert!(rt; are(&scan_file(alloc, A, &[])?, &[]));
     let empty = Tree::Dir(Vec::new(alloc));
-    assert!(rt; are(&scan(alloc, &empty, &two_paths(alloc, A_P, B_Q)?)?, &[]));
+    assert!(rt; are(&found_in(alloc, &empty)?, &[]));
     Ok(())
 }
 

@@ -57,13 +57,11 @@ impl Tree {
 
     // What is left of the room beside the tree, if it fits in with so many levels below its root.
     fn room_beside(&self, below: usize, room: Room) -> Option<Room>
-        ensures { MatchOption result (¬ FitsIn below room self.now) (λ left. Fills below room self.now left) }
+        ensures { MatchOption result (¬ FitsIn below room self.now)
+            (λ left. Fills below room self.now left) }
     {
         match self {
-            Tree::File(bytes) => Some(Room {
-                bytes: room.bytes.checked_sub(bytes.len())?,
-                ..room
-            }),
+            Tree::File(bytes) => room_beside_file(bytes, room),
             Tree::Pieces(pieces) => Some(Room {
                 bytes: bytes_beside(pieces, room.bytes)?,
                 ..room
@@ -82,9 +80,22 @@ impl Tree {
     }
 }
 
+// What is left of the room beside a file in one piece.
+fn room_beside_file(bytes: &[u8], room: Room) -> Option<Room>
+    ensures { MatchOption result (room.bytes < length bytes.now)
+        (λ left. (left.entries ≡ room.entries)
+        × (left.bytes + length bytes.now ≡ room.bytes)) }
+{
+    Some(Room {
+        bytes: room.bytes.checked_sub(bytes.len())?,
+        ..room
+    })
+}
+
 // What is left of so many bytes beside a file in pieces.
 fn bytes_beside(pieces: &[Vec<u8>], bytes: usize) -> Option<usize>
-    ensures { MatchOption result (bytes < length (joined pieces.now)) (λ left. left + length (joined pieces.now) ≡ bytes) }
+    ensures { MatchOption result (bytes < length (joined pieces.now))
+        (λ left. left + length (joined pieces.now) ≡ bytes) }
 {
     let mut left = bytes;
     for piece in pieces {

@@ -5,7 +5,9 @@
 //! |---|---|
 //! | `journal_texts` | which texts are journals, and where the others are wrong |
 //! | `journals` | journals, their copies and their tables |
+//! | `registering` | entries taken into a table, or added where there is room |
 //! | `closures` | closures of small tables |
+//! | `path_lists` | outputs that are sorted, and unions of lists of paths |
 //! | `outlets` | the plain outlet |
 //! | `many_paths` | thousands of entries, roots and permitted paths |
 //! | `paths` | paths and journals that the tests are made of |
@@ -22,4 +24,8 @@ mod many_paths;
 #[cfg(test)]
 mod outlets;
 #[cfg(test)]
+mod path_lists;
+#[cfg(test)]
 mod paths;
+#[cfg(test)]
+mod registering;

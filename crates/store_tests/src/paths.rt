@@ -2,7 +2,7 @@
 use nix_names::{StoreDir, StorePath, parse_path};
 use std::alloc::Global;
 use std::test::Fail;
-use valid_table::{Journal, Record, TableFault};
+use valid_table::{Journal, Record, Registration, TableFault};
 
 // The path of the store with this text.
 pub(crate) fn path(alloc: Global, text: &[u8]) -> Result<StorePath, Fail> {
@@ -40,6 +40,29 @@ pub(crate) fn record(alloc: Global, reference: Option<StorePath>) -> Result<Reco
         Some(path) => Ok(Record::new(vec![in alloc; path]?, None)?),
         None => Ok(Record::new(Vec::new(alloc), None)?),
     }
+}
+
+// Path n with a record whose one reference is the path of another number.
+pub(crate) fn registration(
+    alloc: Global,
+    n: usize,
+    reference: usize,
+) -> Result<Registration, Fail> {
+    let info = record(alloc, Some(numbered(alloc, reference)?))?;
+    let path = numbered(alloc, n)?;
+    Ok(Registration { path, info })
+}
+
+// The same of each path with its reference.
+pub(crate) fn registrations(
+    alloc: Global,
+    pairs: &[(usize, usize)],
+) -> Result<Vec<Registration>, Fail> {
+    let mut all = Vec::new(alloc);
+    for (n, reference) in pairs {
+        all.push(registration(alloc, *n, *reference)?)?;
+    }
+    Ok(all)
 }
 
 // The journal of the store with this text.
