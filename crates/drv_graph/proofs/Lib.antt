@@ -22,3 +22,4 @@ pub mod SameSources
 pub mod Loaded
 pub mod Kept
 pub mod Going
+pub mod Copies

@@ -47,3 +47,12 @@ drvs_of nodes = map (λ (n : Node). n.drv) nodes
 -- a hash is the modulo hash of a derivation, by its kind
 abbrev pub HasKnownHash : List Node → Drv → (hash : List ℕ) → Type 0
 HasKnownHash nodes drv hash = (kind : Kind) × HasKind drv kind × HasHash nodes drv kind hash
+
+-- A derivation of a plan is the same as another, with all that is kept beside it.
+pub record IsSameNode (node copy : PlanNode) : Type 0 where
+  pub path : copy.path ≡ node.path
+  pub drv : copy.drv ≡ node.drv
+  pub kind : copy.kind ≡ node.kind
+  pub hash : copy.hash ≡ node.hash
+  pub inputs : copy.inputs.items ≡ node.inputs.items
+  pub outputs : copy.outputs.items ≡ node.outputs.items

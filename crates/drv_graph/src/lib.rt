@@ -24,6 +24,8 @@ mod kind_of;
 mod kinds;
 pub mod laws;
 mod load;
+#[cfg(test)]
+mod load_tests;
 mod modulo;
 mod node;
 mod outputs;

@@ -73,3 +73,15 @@ pub(crate) fn output_paths(
     }
     Ok(paths)
 }
+
+// The same paths again.
+pub(crate) fn copy_paths(alloc: Global, paths: &[StorePath]) -> Result<Vec<StorePath>, GraphFault>
+    ensures ok { IfOk result (λ copies. copies.items ≡ paths.now) }
+    ensures err { IfErr result (λ fault. fault ≡ GraphFault.NoMemory) }
+{
+    let mut copies = Vec::with_capacity(alloc, paths.len())?;
+    for path in paths {
+        copies.push(copy_path(alloc, path)?)?;
+    }
+    Ok(copies)
+}

@@ -12,7 +12,7 @@ use crate::fault::GraphFault;
 use crate::found::Found;
 use crate::kinds::Kind;
 use crate::load::{Reached, walk_all};
-use crate::node::PlanNode;
+use crate::node::{PlanNode, copy_nodes};
 use nix_drv::{Derivation, DrvSource};
 use nix_names::{StoreDir, StorePath};
 use std::alloc::Global;
@@ -63,6 +63,17 @@ impl Plan {
             marks: _,
             owners: _,
         } = found;
+        Ok(Plan { nodes, roots })
+    }
+
+    /// The same plan again. Answers `NoMemory` where memory is refused, and no other fault. Copies
+    /// each derivation; paths share their texts.
+    pub fn copy(&self, alloc: Global) -> Result<Plan, GraphFault>
+        ensures ok { IfOk result (λ plan. plan ≡ self.now) }
+        ensures err { IfErr result (λ fault. fault ≡ GraphFault.NoMemory) }
+    {
+        let nodes = copy_nodes(alloc, &self.nodes)?;
+        let roots = Vec::from_slice(alloc, &self.roots)?;
         Ok(Plan { nodes, roots })
     }
 

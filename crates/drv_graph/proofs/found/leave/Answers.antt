@@ -1,6 +1,5 @@
 use Rattle.std.proofs.Common.{ap, ◌∙◌}
 use Rattle.std.proofs.lemmas.Result.{err_from_is_err_and, on_ok_weaker}
-use Rattle.drv_graph.specs.PlanNodes.{nodes_of}
 use Rattle.drv_graph.specs.Walks.{owned}
 use Rattle.drv_graph.proofs.Leaving.{checking_right, leaving_kept, leaving_shared, outputs_are}
 use Rattle.drv_graph.proofs.found.leave.Goals as goal

@@ -1,6 +1,5 @@
 use Rattle.std.proofs.Common.{get_or, length, sym}
-use Rattle.std.specs.Prelude.{Contains}
-use Rattle.drv_graph.specs.Walks.{outputs_of, owned}
+use Rattle.drv_graph.specs.Walks.{owned}
 use Rattle.drv_graph.proofs.Marks.{sets_entry}
 use Rattle.drv_graph.proofs.Owners.{contains_item, owning_all, owning_shared, own_step, shared_here}
 use Rattle.std.proofs.lemmas.Option.{slice_get-get_or}

@@ -1,7 +1,5 @@
 -- What was left and what is open is right, and leads on to the root by plan order.
-use Rattle.std.proofs.Common.{◌≤◌, ℕ, List, length, reverse}
-use Rattle.std.specs.Prelude.{Some, slice_get}
-use Rattle.std.proofs.Common.{◌≡◌}
+use Rattle.std.proofs.Common.{◌≤◌, length, reverse}
 use Rattle.indexmap.specs.IndexMap.{keys}
 use Rattle.nix_drv.specs.Sources.{GivesSame}
 use Rattle.drv_graph.specs.PlanNodes.{nodes_of}

@@ -1,0 +1,7 @@
+use Rattle.std.proofs.Common.{take}
+use Rattle.std.specs.List.{AllZip}
+use Rattle.drv_graph.specs.PlanNodes.{IsSameNode}
+use Rattle.drv_graph.proofs.node.copy_nodes.Given as goal
+
+abbrev pub invariant-loop-node : goal.invariant-loop-node
+invariant-loop-node l = AllZip IsSameNode (take l.node-index l.nodes) l.copies.items

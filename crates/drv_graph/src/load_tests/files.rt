@@ -1,0 +1,140 @@
+//! Files of the tests of loading. Nix 2.8.0 wrote the last six; the paths of the others were computed
+//! apart, with Python's hashlib.
+
+/// A file: its path and its bytes.
+pub(crate) struct File {
+    pub path: &'static [u8],
+    pub text: &'static [u8],
+}
+
+/// Without inputs.
+pub(crate) const LEAF: &[u8] = b"/nix/store/qhjk3ym55bxb3xbjjrgrjjpcm8rgrggf-leaf.drv";
+
+/// A user of `LEAF`.
+pub(crate) const LEFT: &[u8] = b"/nix/store/mnhc9rxw2dy5n8j3g5yavi11w7r2n2ay-left.drv";
+
+/// Another user of `LEAF`.
+pub(crate) const RIGHT: &[u8] = b"/nix/store/9hn5y3i0n94gfb2s1zr5z79jkx977sip-right.drv";
+
+/// A user of `LEFT` and `RIGHT`.
+pub(crate) const TOP: &[u8] = b"/nix/store/c06xh9pi0srqydn095mvfy782dpgak6v-top.drv";
+
+/// A user of `GONE`.
+pub(crate) const NEAR: &[u8] = b"/nix/store/acr9nzg4vmdr9s6fkv9wxyhxh49lxxqn-near.drv";
+
+/// A user of `NEAR`.
+pub(crate) const FAR: &[u8] = b"/nix/store/09dln05jj1anwsfp0ijlxf2nfcshbz2c-far.drv";
+
+/// Another derivation with the output of `LEAF`.
+pub(crate) const TWIN: &[u8] = b"/nix/store/3kncmmxnrnj6rfaszzg2jp40n520irpc-leaf.drv";
+
+/// Names the output `doc` of `LEAF`, which it hasn't.
+pub(crate) const ASKING: &[u8] = b"/nix/store/w6fiin11k3l6n2fr6khbvwv6y4f54ky0-asking.drv";
+
+/// A user of `LEAF`, with the path of another output.
+pub(crate) const WRONG: &[u8] = b"/nix/store/93ka8jzjx2rnzqal3zyh3c0gsk58hnwj-wrong.drv";
+
+/// A user of `WRONG`.
+pub(crate) const OVER: &[u8] = b"/nix/store/blvss0qcq2jlx0abwg69fqqkgl9b7b2w-over.drv";
+
+/// The derivation of nothing.
+pub(crate) const NOTHING: &[u8] = b"/nix/store/5lhp9n6nphjda2gcbmin4vshljbil6kq-nothing.drv";
+
+/// No file stands here.
+pub(crate) const GONE: &[u8] = b"/nix/store/w2izfm307infjbsm5nrnqlvm5gvqmf3s-gone.drv";
+
+/// The text of `LEAF`, which does not stand here.
+pub(crate) const MOVED: &[u8] = b"/nix/store/00000000000000000000000000000000-moved.drv";
+
+/// Where that text stands under that name.
+pub(crate) const OWN: &[u8] = b"/nix/store/5j091d4jr6i1hgv0cm4qwb73fj9g8kdr-moved.drv";
+
+/// A user of `UNICODE`, `USER` and `SPLIT`.
+pub(crate) const BOTH: &[u8] = b"/nix/store/s667mngmigv270rpvh08nih0jmkw5268-both.drv";
+
+/// Without inputs, as are `SPLIT`, `SRC` and `GREET`.
+pub(crate) const UNICODE: &[u8] = b"/nix/store/gm2q3pr4izf1xksvsj3lyc4z2g123jxl-unicode.drv";
+
+/// A user of `SRC`, `GREET` and `SPLIT`.
+pub(crate) const USER: &[u8] = b"/nix/store/pszp8hiyx2gjz2bjw7jlvm63x58jvx76-user-2.0.drv";
+
+pub(crate) const SPLIT: &[u8] = b"/nix/store/vb07mpin0n17j1pbgm3qjm9vkzj2sar2-split.drv";
+
+pub(crate) const SRC: &[u8] = b"/nix/store/cjq8n83qy5g1f7zaap1rwm9433s8lq8q-src.drv";
+
+pub(crate) const GREET: &[u8] = b"/nix/store/kdc81748wrwf717c0gr4rxm3yy21gxpx-greet.drv";
+
+pub(crate) static FILES: [File; 18] = [
+    File {
+        path: LEAF,
+        text: b"Derive([(\"out\",\"/nix/store/dc3r1sz1nl2lzh0gh17nh592yg586zir-leaf\",\"r:sha256\",\"9f91161f43433e49a6de6db680d79f60159f2e4ac9172621a12846428158440b\")],[],[],\"s\",\"b\",[],[])",
+    },
+    File {
+        path: LEFT,
+        text: b"Derive([(\"out\",\"/nix/store/540yvnd0sf8d0xyi5wfndvsrcha0376n-left\",\"r:sha256\",\"360f84035942243c6a36537ae2f8673485e6c04455a0a85a0db19690f2541480\")],[(\"/nix/store/qhjk3ym55bxb3xbjjrgrjjpcm8rgrggf-leaf.drv\",[\"out\"])],[],\"s\",\"b\",[],[])",
+    },
+    File {
+        path: RIGHT,
+        text: b"Derive([(\"out\",\"/nix/store/4m1m29b5gjwkgxv09yy3564ry5nd9ccc-right\",\"r:sha256\",\"27042f4e6eca7d0b2a7ee4026df2ecfa51d3339e6d122aa099118ecd8563bad9\")],[(\"/nix/store/qhjk3ym55bxb3xbjjrgrjjpcm8rgrggf-leaf.drv\",[\"out\"])],[],\"s\",\"b\",[],[])",
+    },
+    File {
+        path: TOP,
+        text: b"Derive([(\"out\",\"/nix/store/pqpsfr49sp4knw01ppv3nkvxx2qksa9i-top\",\"r:sha256\",\"28720365c5e7476a011e4f43ac003ee5f16247a263b9d623aa85ed311d73bf39\")],[(\"/nix/store/9hn5y3i0n94gfb2s1zr5z79jkx977sip-right.drv\",[\"out\"]),(\"/nix/store/mnhc9rxw2dy5n8j3g5yavi11w7r2n2ay-left.drv\",[\"out\"])],[],\"s\",\"b\",[],[])",
+    },
+    File {
+        path: NEAR,
+        text: b"Derive([(\"out\",\"/nix/store/c2cdamajzpxhwp98z05zvkwsrykpxcnc-near\",\"r:sha256\",\"46ba34770bccfde756708d47d83fb7c8257fe8a4b3a35f25d385a8284021f476\")],[(\"/nix/store/w2izfm307infjbsm5nrnqlvm5gvqmf3s-gone.drv\",[\"out\"])],[],\"s\",\"b\",[],[])",
+    },
+    File {
+        path: FAR,
+        text: b"Derive([(\"out\",\"/nix/store/633w08ihqqqcbh68dj8j9b6a71i1w6ax-far\",\"r:sha256\",\"512eea46ceb3921dff4363c7069d89d4964d1d9fccaa0f411851a7aa60a5c868\")],[(\"/nix/store/acr9nzg4vmdr9s6fkv9wxyhxh49lxxqn-near.drv\",[\"out\"])],[],\"s\",\"b\",[],[])",
+    },
+    File {
+        path: TWIN,
+        text: b"Derive([(\"out\",\"/nix/store/dc3r1sz1nl2lzh0gh17nh592yg586zir-leaf\",\"r:sha256\",\"9f91161f43433e49a6de6db680d79f60159f2e4ac9172621a12846428158440b\")],[],[],\"s\",\"other\",[],[])",
+    },
+    File {
+        path: ASKING,
+        text: b"Derive([(\"out\",\"/nix/store/yf9dmsfr03019vfw6s07ym7dw89mgxiq-asking\",\"r:sha256\",\"8636c9478370900bee1ac6a093769b8d042c307e9ab94fcb7b2a41fdd19cd00b\")],[(\"/nix/store/qhjk3ym55bxb3xbjjrgrjjpcm8rgrggf-leaf.drv\",[\"doc\"])],[],\"s\",\"b\",[],[])",
+    },
+    File {
+        path: WRONG,
+        text: b"Derive([(\"out\",\"/nix/store/74vdi03gb2gb9qaaf2qsdljwbdiwr58h-wrong\",\"r:sha256\",\"8810ad581e59f2bc3928b261707a71308f7e139eb04820366dc4d5c18d980225\")],[(\"/nix/store/qhjk3ym55bxb3xbjjrgrjjpcm8rgrggf-leaf.drv\",[\"out\"])],[],\"s\",\"b\",[],[])",
+    },
+    File {
+        path: OVER,
+        text: b"Derive([(\"out\",\"/nix/store/42qkjz2k073s4xngdxciv57agc09idjy-over\",\"r:sha256\",\"5fb6a47e368e12e5d8b19280796e6a3d146fe391ed2e967d5f95c55bfb0f9c2f\")],[(\"/nix/store/93ka8jzjx2rnzqal3zyh3c0gsk58hnwj-wrong.drv\",[\"out\"])],[],\"s\",\"b\",[],[])",
+    },
+    File {
+        path: NOTHING,
+        text: b"Derive([],[],[],\"\",\"\",[],[])",
+    },
+    File {
+        path: MOVED,
+        text: b"Derive([(\"out\",\"/nix/store/dc3r1sz1nl2lzh0gh17nh592yg586zir-leaf\",\"r:sha256\",\"9f91161f43433e49a6de6db680d79f60159f2e4ac9172621a12846428158440b\")],[],[],\"s\",\"b\",[],[])",
+    },
+    File {
+        path: BOTH,
+        text: b"Derive([(\"out\",\"/nix/store/psr3lwb6shrxjh80mgb8wyam48szb03a-both\",\"\",\"\")],[(\"/nix/store/gm2q3pr4izf1xksvsj3lyc4z2g123jxl-unicode.drv\",[\"out\"]),(\"/nix/store/pszp8hiyx2gjz2bjw7jlvm63x58jvx76-user-2.0.drv\",[\"out\"]),(\"/nix/store/vb07mpin0n17j1pbgm3qjm9vkzj2sar2-split.drv\",[\"dev\",\"doc\",\"out\"])],[],\"x86_64-linux\",\"/nix/store/slm9w9qq4fqgmkf2pxk13nz5vqv0ljdf-split/bin/sh\",[\"/nix/store/5x8rvkfcnyxqvapsqn49rqnf6lwzjx48-split-dev\",\"/nix/store/slm9w9qq4fqgmkf2pxk13nz5vqv0ljdf-split\",\"/nix/store/ksxd1j7m4biszsfc1ymn8lzb1y16r4ma-split-doc\"],[(\"builder\",\"/nix/store/slm9w9qq4fqgmkf2pxk13nz5vqv0ljdf-split/bin/sh\"),(\"name\",\"both\"),(\"out\",\"/nix/store/psr3lwb6shrxjh80mgb8wyam48szb03a-both\"),(\"p\",\"/nix/store/1kafa76430j2szm2x8gb36yj7cvqlsrk-user-2.0\"),(\"q\",\"/nix/store/9wpq4q8q5r3ir0wgnsxw6x3l2c7a6ix8-unicode\"),(\"system\",\"x86_64-linux\")])",
+    },
+    File {
+        path: UNICODE,
+        text: b"Derive([(\"out\",\"/nix/store/9wpq4q8q5r3ir0wgnsxw6x3l2c7a6ix8-unicode\",\"\",\"\")],[],[],\"x86_64-linux\",\"/bin/sh\",[\"-c\",\"echo 'Gr\xc3\xbc\xc3\x9fe, \xd0\xbc\xd0\xb8\xd1\x80, \xe4\xb8\x96\xe7\x95\x8c \\n \xe2\x98\x83' > $out\"],[(\"builder\",\"/bin/sh\"),(\"greeting\",\"\xc3\xa7\xc3\xa0 et l\xc3\xa0 \xe2\x80\x93 \xc2\xbd\"),(\"name\",\"unicode\"),(\"out\",\"/nix/store/9wpq4q8q5r3ir0wgnsxw6x3l2c7a6ix8-unicode\"),(\"system\",\"x86_64-linux\")])",
+    },
+    File {
+        path: USER,
+        text: b"Derive([(\"out\",\"/nix/store/1kafa76430j2szm2x8gb36yj7cvqlsrk-user-2.0\",\"\",\"\")],[(\"/nix/store/cjq8n83qy5g1f7zaap1rwm9433s8lq8q-src.drv\",[\"out\"]),(\"/nix/store/kdc81748wrwf717c0gr4rxm3yy21gxpx-greet.drv\",[\"out\"]),(\"/nix/store/vb07mpin0n17j1pbgm3qjm9vkzj2sar2-split.drv\",[\"dev\",\"doc\"])],[\"/nix/store/arh7nb86h4wx19as88q85zcl0xm86h1r-source.txt\"],\"x86_64-linux\",\"/bin/sh\",[\"-c\",\"cat $a $b $c > $out\"],[(\"a\",\"/nix/store/i0439xxk79knfdnk3nffhknwdbw7fv5y-greet\"),(\"b\",\"/nix/store/5x8rvkfcnyxqvapsqn49rqnf6lwzjx48-split-dev\"),(\"builder\",\"/bin/sh\"),(\"c\",\"/nix/store/2qgpd47jrm1g5pyj4s1dacj3hnkrfzvw-src\"),(\"d\",\"/nix/store/ksxd1j7m4biszsfc1ymn8lzb1y16r4ma-split-doc\"),(\"name\",\"user-2.0\"),(\"out\",\"/nix/store/1kafa76430j2szm2x8gb36yj7cvqlsrk-user-2.0\"),(\"src\",\"/nix/store/arh7nb86h4wx19as88q85zcl0xm86h1r-source.txt\"),(\"system\",\"x86_64-linux\")])",
+    },
+    File {
+        path: SPLIT,
+        text: b"Derive([(\"dev\",\"/nix/store/5x8rvkfcnyxqvapsqn49rqnf6lwzjx48-split-dev\",\"\",\"\"),(\"doc\",\"/nix/store/ksxd1j7m4biszsfc1ymn8lzb1y16r4ma-split-doc\",\"\",\"\"),(\"out\",\"/nix/store/slm9w9qq4fqgmkf2pxk13nz5vqv0ljdf-split\",\"\",\"\")],[],[\"/nix/store/2bvgjr6zrwynvlcxdrb80gxcjq9pb8wl-build.sh\"],\"x86_64-linux\",\"/bin/sh\",[\"/nix/store/2bvgjr6zrwynvlcxdrb80gxcjq9pb8wl-build.sh\"],[(\"builder\",\"/bin/sh\"),(\"dev\",\"/nix/store/5x8rvkfcnyxqvapsqn49rqnf6lwzjx48-split-dev\"),(\"doc\",\"/nix/store/ksxd1j7m4biszsfc1ymn8lzb1y16r4ma-split-doc\"),(\"name\",\"split\"),(\"out\",\"/nix/store/slm9w9qq4fqgmkf2pxk13nz5vqv0ljdf-split\"),(\"outputs\",\"out dev doc\"),(\"system\",\"x86_64-linux\")])",
+    },
+    File {
+        path: SRC,
+        text: b"Derive([(\"out\",\"/nix/store/2qgpd47jrm1g5pyj4s1dacj3hnkrfzvw-src\",\"sha256\",\"e3b0c44298fc1c149afbf4c8996fb92427ae41e4649b934ca495991b7852b855\")],[],[],\"x86_64-linux\",\"/bin/sh\",[\"-c\",\"> $out\"],[(\"builder\",\"/bin/sh\"),(\"name\",\"src\"),(\"out\",\"/nix/store/2qgpd47jrm1g5pyj4s1dacj3hnkrfzvw-src\"),(\"outputHash\",\"e3b0c44298fc1c149afbf4c8996fb92427ae41e4649b934ca495991b7852b855\"),(\"outputHashAlgo\",\"sha256\"),(\"outputHashMode\",\"flat\"),(\"system\",\"x86_64-linux\")])",
+    },
+    File {
+        path: GREET,
+        text: b"Derive([(\"out\",\"/nix/store/i0439xxk79knfdnk3nffhknwdbw7fv5y-greet\",\"\",\"\")],[],[],\"x86_64-linux\",\"/bin/sh\",[\"-c\",\"echo hello > $out\"],[(\"builder\",\"/bin/sh\"),(\"name\",\"greet\"),(\"out\",\"/nix/store/i0439xxk79knfdnk3nffhknwdbw7fv5y-greet\"),(\"system\",\"x86_64-linux\")])",
+    },
+];
