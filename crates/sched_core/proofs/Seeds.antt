@@ -26,7 +26,7 @@ use Rattle.sched_core.specs.Headline.{PermittedStays, SeedsAreValid}
 use Rattle.sched_core.specs.Jobs.{named_outputs, output_paths, paths_named, paths_of_found, seeds_of}
 use Rattle.sched_core.specs.Legal.{IsLegal, legal_opening, legal_begin, legal_done, legal_fail, begins}
 use Rattle.sched_core.specs.Runs.{History, Run, by_cause, cause_at, input_numbers, inputs_at, is_unsupported, is_valid, or_else, own_cause, rows_of, standing_at, standing_of, state_in}
-use Rattle.sched_core.specs.States.{Phase, Idle, Begun, Ended, Broken, Rows, Standing, AllValid, Hindered, Free, by_first, by_inputs, by_phase, by_standing, is_bad, is_good, later, phase_by, phase_of, state, states, table}
+use Rattle.sched_core.specs.States.{Phase, Idle, Begun, Ended, Broken, Rows, by_first, by_inputs, by_phase, by_standing, is_bad, is_good, later, phase_by, phase_of, state, states, table}
 use Rattle.sched_core.specs.declared.reason.Event.{Event}
 use Rattle.sched_core.specs.declared.reason.Event.TheVariants.{Begin, Done as Finish, Fail}
 use Rattle.sched_core.specs.declared.reason.Refusal.{Refusal}
@@ -35,6 +35,8 @@ use Rattle.sched_core.specs.declared.reason.State.{State}
 use Rattle.sched_core.specs.declared.reason.State.TheVariants.{Ready, Blocked}
 use Rattle.sched_core.proofs.Registering.{Contains-got, Contains-mapped, from_mapped, output_registered, part_with, records_for_paths, valid_with_last, valid_with_more}
 use Rattle.sched_core.proofs.StateLaws.{length_states, state_at}
+use Rattle.sched_core.specs.declared.standing.Standing.{Standing}
+use Rattle.sched_core.specs.declared.standing.Standing.TheVariants.{AllValid, Hindered, Free}
 
 -- ---- where a derivation stands behind one event more
 

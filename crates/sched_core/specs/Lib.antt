@@ -1,3 +1,4 @@
+pub mod Courses
 pub mod Headline
 pub mod Jobs
 pub mod Legal

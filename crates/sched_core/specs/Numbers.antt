@@ -1,5 +1,7 @@
--- The numbers of reasons and of refusals in the table of faults.
+-- The numbers of reasons, of refusals and of faults in the table of faults.
 use Rattle.std.specs.Prelude.{ℕ}
+use Rattle.sched_core.specs.declared.fault.BookFault.{BookFault}
+use Rattle.sched_core.specs.declared.fault.BookFault.TheVariants.{NoMemory, NoView, ForeignLease, NotLawful}
 use Rattle.sched_core.specs.declared.reason.Reason.{Reason}
 use Rattle.sched_core.specs.declared.reason.Reason.TheVariants.{ExitStatus, NoStart, MissingOutput, NotFlatFile, HashMismatch, OutputCycle, TooLarge, ReadFault, OutOfMemory, Killed}
 use Rattle.sched_core.specs.declared.reason.Refusal.{Refusal}
@@ -25,3 +27,10 @@ refusal_number_of Unsupported = 61
 refusal_number_of (MissingSource source) = 62
 refusal_number_of (InputNotRealised input) = 63
 refusal_number_of (PartlyValid output) = 64
+
+-- a fault's number
+abbrev pub fault_number_of : BookFault → ℕ
+fault_number_of NoMemory = 9
+fault_number_of NoView = 40
+fault_number_of ForeignLease = 65
+fault_number_of NotLawful = 66

@@ -8,11 +8,13 @@ use Rattle.drv_graph.specs.Plans.{Graph}
 use Rattle.valid_table.specs.Entries.{registered, paths_of as registered_paths}
 use Rattle.valid_table.specs.declared.entry.Entry.{Entry}
 use Rattle.sched_core.specs.Jobs.{output_paths}
-use Rattle.sched_core.specs.States.{Phase, Rows, Standing, AllValid, Hindered, Free, phase_of, state}
+use Rattle.sched_core.specs.States.{Phase, Rows, phase_of, state}
 use Rattle.sched_core.specs.declared.reason.Event.{Event}
 use Rattle.sched_core.specs.declared.reason.Refusal.{Refusal}
 use Rattle.sched_core.specs.declared.reason.Refusal.TheVariants.{WrongSystem, Unsupported, MissingSource, PartlyValid}
 use Rattle.sched_core.specs.declared.reason.State.{State}
+use Rattle.sched_core.specs.declared.standing.Standing.{Standing}
+use Rattle.sched_core.specs.declared.standing.Standing.TheVariants.{AllValid, Hindered, Free}
 
 -- What a run is over: the plan, and the system for which it builds.
 pub record Run : Type 0 where

@@ -8,6 +8,8 @@ use Rattle.sched_core.specs.declared.reason.Refusal.{Refusal}
 use Rattle.sched_core.specs.declared.reason.Refusal.TheVariants.{InputNotRealised}
 use Rattle.sched_core.specs.declared.reason.State.{State}
 use Rattle.sched_core.specs.declared.reason.State.TheVariants.{Done, Failed, Building, Reused, Refused, Ready, Blocked}
+use Rattle.sched_core.specs.declared.standing.Standing.{Standing}
+use Rattle.sched_core.specs.declared.standing.Standing.TheVariants.{AllValid, Hindered, Free}
 
 -- where a derivation stands by its last event: it has none; it began under this lease; it was built; it failed
 pub data Phase : Type 0 where
@@ -31,12 +33,6 @@ later before after = after
 abbrev pub phase_of : List Event → ℕ → Phase
 phase_of [] d = Idle
 phase_of (event ∷ events) d = later (phase_by event d) (phase_of events d)
-
--- where a derivation stands by itself, before anything is begun: all its outputs are valid; it can't be begun, for this cause; neither
-pub data Standing : Type 0 where
-  AllValid : Standing
-  Hindered : (cause : Refusal) → Standing
-  Free : Standing
 
 -- What the states of derivations follow from: of each, by its number, its inputs' numbers in its text's order, its standing and its phase.
 pub record Rows : Type 0 where

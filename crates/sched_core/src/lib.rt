@@ -5,22 +5,26 @@
 //! | `job` | what a builder is given, and what it answers |
 //! | `verdict`, `checked` | the verdict on an answer, and the records that it gives |
 //! | `cycle`, `links`, `walk` | whether outputs refer to each other in a cycle |
-//! | `reason` | why a derivation was not built, its state, and events |
+//! | `reason`, `standing` | why a derivation was not built, where it stands, its state, and events |
+//! | `fault` | why a call of a book refuses |
 //! | `laws` | laws over the definitions that contracts cite |
 #![tactic(auto)]
 
 mod checked;
 mod cycle;
+mod fault;
 mod job;
 pub mod laws;
 mod links;
 mod reason;
+mod standing;
 mod verdict;
 #[cfg(test)]
 mod verdict_tests;
 mod walk;
 
 pub use checked::Checked;
+pub use fault::BookFault;
 pub use job::{Answer, Job, JobOutput};
 pub use reason::{Event, Reason, Refusal, State};
 pub use verdict::examine;

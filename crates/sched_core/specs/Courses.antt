@@ -1,0 +1,59 @@
+-- *Course*: a plan, with what the state of each of its derivations follows from (this product's own).
+use Rattle.std.specs.Prelude.{◌≡◌, ◌<◌, ◌⊎◌, Bool, true, false, ℕ, List, length, slice_get}
+use Rattle.std.specs.List.{slice_index_or}
+use Rattle.drv_graph.specs.Nodes.{Node}
+use Rattle.drv_graph.specs.Plans.{Graph}
+use Rattle.valid_table.specs.declared.entry.Entry.{Entry}
+use Rattle.sched_core.specs.Runs.{IsWanted, Run, inputs_at, standing_at}
+use Rattle.sched_core.specs.States.{Phase, Idle, Begun, Rows, state}
+use Rattle.sched_core.specs.declared.reason.State.{State}
+use Rattle.sched_core.specs.declared.reason.State.TheVariants.{Building, Ready, Blocked}
+use Rattle.sched_core.specs.declared.standing.Standing.{Standing}
+use Rattle.sched_core.specs.declared.standing.Standing.TheVariants.{Free}
+
+-- What is known of a plan's derivations, of each at its number: where it stands by itself, whether it is wanted, and where it stands by
+-- its last event.
+pub record Course : Type 0 where
+  pub graph : Graph
+  pub standings : List Standing
+  pub wanted : List Bool
+  pub phases : List Phase
+
+-- what the states follow from
+abbrev pub course_rows : Course → Rows
+course_rows course = record {
+  inputs = λ d. inputs_at course.graph.nodes (slice_get course.graph.nodes d);
+  standing = λ d. slice_index_or course.standings d Free;
+  phase = λ d. slice_index_or course.phases d Idle;
+}
+
+-- the state of a derivation
+abbrev pub course_state : Course → ℕ → State
+course_state course d = state (course_rows course) d
+
+-- a derivation is wanted and can be begun
+abbrev pub IsNext : Course → ℕ → Type 0
+IsNext course d = (d < length course.graph.nodes) × (slice_index_or course.wanted d false ≡ true) × (course_state course d ≡ Ready)
+
+-- a derivation has begun under some lease and not ended
+abbrev pub HasBegun : Course → ℕ → Type 0
+HasBegun course d = (d < length course.graph.nodes) × ((lease : ℕ) × (slice_index_or course.phases d Idle ≡ Begun lease))
+
+-- a state in which a derivation still has something before it
+abbrev pub IsOpen : State → Type 0
+IsOpen state = (state ≡ Blocked) ⊎ (state ≡ Ready) ⊎ ((lease : ℕ) × (state ≡ Building lease))
+
+-- no wanted derivation has anything before it
+abbrev pub IsSettled : Course → Type 0
+IsSettled course = (d : ℕ) → d < length course.graph.nodes → slice_index_or course.wanted d false ≡ true → IsOpen (course_state course d) → ⊥
+
+-- of each derivation, where it stands by itself behind these entries
+pub record AreStandings (system : List ℕ) (entries : List Entry) (nodes : List Node) (standings : List Standing) : Type 0 where
+  pub count : length standings ≡ length nodes
+  pub each : (d : ℕ) → d < length nodes → slice_index_or standings d Free ≡ standing_at system entries (slice_get nodes d)
+
+-- of each derivation, whether it is wanted
+pub record AreWanted (run : Run) (opening : List Entry) (wanted : List Bool) : Type 0 where
+  pub count : length wanted ≡ length run.graph.nodes
+  pub yes : (d : ℕ) → slice_index_or wanted d false ≡ true → IsWanted run opening d
+  pub no : (d : ℕ) → IsWanted run opening d → slice_index_or wanted d false ≡ true
