@@ -1,8 +1,9 @@
 -- The parts of a path's text: its base name, hash part and name.
-use Rattle.std.proofs.Common.{◌≡◌, ◌==◌, ◌<◌, ◌≤◌, ◌+◌, ◌-◌, ℕ, suc, Bool, true, false, not, List, ◌∷◌, ◌++◌, length, take, drop, get_or, refl, ap, sym, ◌∙◌, arith}
+use Rattle.std.proofs.Common.{◌≡◌, ◌==◌, ◌<◌, ◌≤◌, ◌+◌, ◌-◌, ℕ, suc, Bool, true, false, not, Some, None, List, ◌∷◌, ◌++◌, length, take, drop, get_or, refl, ap, sym, subst, ◌∙◌, arith}
+use Rattle.memchr.specs.Find.{IsLastByte, is_byte}
 use Rattle.std.specs.List.{AllPass, after_last, suffix_len}
 use Rattle.std.proofs.lemmas.Bool.{and_parts, eqb-true, leb-true, not_from_true}
-use Rattle.std.proofs.lemmas.List.{length-append, length-drop, get_or-append_right, get_or_at, drop_at, drop-drop, take_at, append_cancel_right}
+use Rattle.std.proofs.lemmas.List.{length-append, get_or-append_right, get_or_at, drop_at, drop-drop, take_at, append_cancel_right}
 use Rattle.std.proofs.lemmas.List.Elements.{All-append, All-cons}
 use Rattle.std.proofs.lemmas.List.Sums.{suffix_len_is}
 use Rattle.nix_names.specs.Base32.{is_digit}
@@ -137,29 +138,35 @@ hash_part_of_is text p = ap is_hash_part (hash_part_is p.dir text p.is_path) ∙
 pub name_of_is : (text : List ℕ) → IsStorePath text → is_name (name_of text) ≡ true
 name_of_is text p = ap is_name (name_is p.dir text p.is_path) ∙ p.is_path.named
 
--- the place where a store path's base name begins lies within it
-pub base_at_fits : (text : List ℕ) (at : ℕ) → drop at text ≡ base_of text → IsStorePath text → at ≤ length text
-base_at_fits text at begins p =
-    let long = base_long text p in
-    let behind = length-drop at text in
-    let same : length (drop at text) ≡ length (base_of text) = ap length begins in
-    omega arith
-
 -- a name has at most 211 bytes
 pub name_len : (name : List ℕ) → is_name name ≡ true → length name ≤ 211
 unfolding is_name
 name_len name h = leb-true _ _ (and_parts _ _ (and_parts _ _ (and_parts _ _ h).0).0).1
 
--- where the base name of a path of the folder begins
-pub base_at : (dir text : List ℕ) → IsPathOf dir text → drop (length dir + 1) text ≡ base_of text
-unfolding parts_of
-base_at dir text p =
-    ap (drop (length dir + 1)) p.parts ∙ drop_front_more dir (p.hash ++ 45 ∷ p.name) 47 ∙ sym (parts_of dir text p).parts
-
 -- a text that is a path of a store folder may be kept as a store path
-pub stored : (dir text items : List ℕ) (at : ℕ) → IsStoreDir dir → IsPathOf dir text → at ≡ length dir + 1 → items ≡ text → IsStorePath items × (drop at items ≡ base_of items)
-stored dir text items at is_dir p begins kept =
-    rw (begins, kept) (record { dir = dir; is_dir = is_dir; is_path = p }, base_at dir text p)
+pub stored : (dir text items : List ℕ) → IsStoreDir dir → IsPathOf dir text → items ≡ text → IsStorePath items
+stored dir text items is_dir p kept = subst IsStorePath (sym kept) (record { dir = dir; is_dir = is_dir; is_path = p })
+
+-- a test that isn't met
+unmet : (b : Bool) → (b ≡ true → ⊥) → not b ≡ true
+unmet true none = absurd (none refl)
+unmet false none = refl
+
+-- the base name begins behind the last slash
+pub behind_last_slash : (text : List ℕ) (slash : ℕ) → IsLastByte (is_byte 47) text (Some slash) → drop (slash + 1) text ≡ base_of text
+behind_last_slash text slash last =
+    let at : slash + 1 - 1 ≡ slash = omega arith in
+    let inside : slash < length text = last.0.high in
+    sym (after_last_from (λ b. b == 47) text (slash + 1) (omega arith)
+    (λ k low high. unmet _ (last.0.after k low high))
+    (rw at (not_from_true _ last.1)))
+
+-- where there is no slash, all is the base name
+pub without_slash : (text : List ℕ) → IsLastByte (is_byte 47) text None → drop 0 text ≡ base_of text
+without_slash text none =
+    let len : suffix_len (λ b. not (b == 47)) text ≡ length text - 0 = suffix_len_is (λ b. not (b == 47)) text 0 0 (omega arith) (λ k low high. unmet _ (none k low high)) (λ positive. absurd (omega arith)) in
+    let place : length text - suffix_len (λ b. not (b == 47)) text ≡ 0 = omega arith in
+    sym (ap (λ k. drop k text) place)
 
 -- one text is the path of one folder, hash part and name only
 pub parts_from_text : (dir hash name other part title : List ℕ) → is_hash_part hash ≡ true → is_name name ≡ true → is_hash_part part ≡ true → is_name title ≡ true → path_text dir hash name ≡ path_text other part title → (dir ≡ other) × (hash ≡ part) × (name ≡ title)

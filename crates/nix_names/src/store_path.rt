@@ -16,6 +16,7 @@ use crate::base32::is_digit;
 use crate::fault::NameFault;
 use crate::name::is_name;
 use crate::store_dir::StoreDir;
+use memchr::memrchr;
 use std::alloc::{AllocError, Global};
 use std::cmp::Ordering;
 use std::hash::{Hash, Hasher};
@@ -26,25 +27,21 @@ use std::sync::ArcSlice;
 const HASH_PART_LEN: usize = 32;
 
 /// A store path, as `/nix/store/<32 base-32 characters>-<name>`. A contract sees its text, which
-/// all copies of the path share, in any threads: a path takes 16 bytes beside it.
+/// all copies of the path share, in any threads: a path takes 8 bytes beside it.
 #[derive(Debug, Drop)]
 pub struct StorePath {
     text: ArcSlice<u8>,
-    // Where the base name begins, behind the last slash: at most 256, since a folder has at most
-    // 255 bytes.
-    base_at: u16,
 }
 
 impl Model for StorePath {
-    ghost use Rattle.std.specs.Prelude.{◌≡◌, List, ℕ, drop};
-    ghost use Rattle.nix_names.specs.StorePaths.{IsStorePath, base_of};
+    ghost use Rattle.std.specs.Prelude.{List, ℕ};
+    ghost use Rattle.nix_names.specs.StorePaths.{IsStorePath};
 
     ghost Value = { List ℕ };
 
     ghost view = { λ path. path.text.items.value.items };
 
-    ghost invariant = { λ path. let text = path.text.items.value.items in
-        IsStorePath text × (drop path.base_at text ≡ base_of text) };
+    ghost invariant = { λ path. IsStorePath path.text.items.value.items };
 }
 
 impl StorePath {
@@ -56,7 +53,7 @@ impl StorePath {
         self.text.as_slice()
     }
 
-    /// The 32 base-32 characters that begin the base name.
+    /// The 32 base-32 characters that begin the base name. Costs a search for the last slash.
     #[tactic(auto, using(crate::proofs::PathTexts::base_long, crate::proofs::PathTexts::hash_part_of_is))]
     pub fn hash_part(&self) -> &[u8]
         ensures value { result.now ≡ hash_part_of self.now }
@@ -65,7 +62,7 @@ impl StorePath {
         &self.base()[..HASH_PART_LEN]
     }
 
-    /// The name, behind the hash part and a dash.
+    /// The name, behind the hash part and a dash. Costs a search for the last slash.
     #[tactic(auto, using(crate::proofs::PathTexts::base_long, crate::proofs::PathTexts::name_of_is))]
     pub fn name(&self) -> &[u8]
         ensures value { result.now ≡ name_of self.now }
@@ -75,12 +72,12 @@ impl StorePath {
     }
 
     // All behind the last slash.
-    #[tactic(auto, using(crate::proofs::PathTexts::base_at_fits))]
     fn base(&self) -> &[u8]
         ensures value { result.now ≡ base_of self.now }
         ensures is_path { IsStorePath self.now }
     {
-        &self.text[usize::from(self.base_at)..]
+        let text = self.text();
+        &text[base_place(text)..]
     }
 
     /// The same path once more, at its one text. Costs no allocation and no pass: it counts one
@@ -91,7 +88,6 @@ impl StorePath {
     {
         Ok(StorePath {
             text: self.text.clone()?,
-            base_at: self.base_at,
         })
     }
 }
@@ -157,7 +153,6 @@ pub fn parse_path(alloc: Global, dir: &StoreDir, text: &[u8]) -> Result<StorePat
     check_path(dir.text(), text)?;
     Ok(StorePath {
         text: ArcSlice::from_slice(alloc, text)?,
-        base_at: base_place(dir),
     })
 }
 
@@ -176,7 +171,6 @@ pub fn join_path(
     let text = join_text(alloc, dir.text(), hash, name)?;
     Ok(StorePath {
         text: ArcSlice::from_vec(text)?,
-        base_at: base_place(dir),
     })
 }
 
@@ -201,11 +195,15 @@ fn add_base(hash: &[u8], name: &[u8], text: &mut Vec<u8>) -> Result<(), AllocErr
     text.extend_from_slice(name)
 }
 
-// Where the base name begins in each path of a folder.
-fn base_place(dir: &StoreDir) -> u16
-    ensures { result ≡ length dir.now + 1 }
+// Where the base name begins, behind the last slash.
+fn base_place(text: &[u8]) -> usize
+    ensures within { result ≤ length text.now }
+    ensures place { drop result text.now ≡ base_of text.now }
 {
-    dir.text().len() as u16 + 1
+    match memrchr(b'/', text) {
+        Some(slash) => slash + 1,
+        None => 0,
+    }
 }
 
 // Err with what is wrong first with a text as a path of the folder.

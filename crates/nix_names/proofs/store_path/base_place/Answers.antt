@@ -1,7 +1,10 @@
-use Rattle.std.proofs.Common.{◌≤◌, length, arith}
+use Rattle.std.proofs.Common.{subst}
+use Rattle.memchr.specs.Find.{IsLastByte, is_byte}
+use Rattle.nix_names.proofs.PathTexts.{behind_last_slash, without_slash}
 use Rattle.nix_names.proofs.store_path.base_place.Goals as goal
 
-pub overflow_cast-result : goal.overflow_cast-result
-overflow_cast-result c =
-    let short : length c.text.result.now ≤ 255 = rw c.text.ensures.value c.text.ensures.is_dir.short in
-    omega arith
+pub returns-in-Some-clause-place : goal.returns-in-Some-clause-place
+returns-in-Some-clause-place c = behind_last_slash _ _ (subst (IsLastByte (is_byte 47) c.args.text.now) c.in-Some.is c.memrchr.ensures)
+
+pub returns-in-None-clause-place : goal.returns-in-None-clause-place
+returns-in-None-clause-place c = without_slash _ (subst (IsLastByte (is_byte 47) c.args.text.now) c.in-None.is c.memrchr.ensures)

@@ -13,6 +13,6 @@ join_text-requires c =
 pub invariant_of-result : goal.invariant_of-result
 invariant_of-result c =
     let dir = c.text.ensures in
-    stored c.args.dir.now (path_text c.args.dir.now c.args.hash.now c.args.name.now) _ _ dir.is_dir
-    (path_of_parts _ _ _ c.requires.is_hash c.requires.named) c.base_place.ensures
+    stored c.args.dir.now (path_text c.args.dir.now c.args.hash.now c.args.name.now) _ dir.is_dir
+    (path_of_parts _ _ _ c.requires.is_hash c.requires.named)
     (c.in_ok-from_vec.ensures ∙ c.in_ok-text.ensures ∙ ap (λ d. path_text d c.args.hash.now c.args.name.now) dir.value)

@@ -11,8 +11,8 @@ in_same_dir lent dir text same none = ap (Î» d. path_fault d text) (sym same) âˆ
 pub invariant_of-result : goal.invariant_of-result
 invariant_of-result c =
     let none = in_same_dir _ c.args.dir.now c.args.text.now c.text.ensures.value c.in_ok-check_path.ensures in
-    stored c.args.dir.now c.args.text.now _ _ c.text.ensures.is_dir
-    (path_of_no_fault _ _ none) c.base_place.ensures c.in_ok-from_slice.ensures.ok
+    stored c.args.dir.now c.args.text.now _ c.text.ensures.is_dir
+    (path_of_no_fault _ _ none) c.in_ok-from_slice.ensures.ok
 
 pub returns : goal.returns
 returns c =
