@@ -127,6 +127,14 @@ impl Plan {
         &self.nodes[number].outputs
     }
 
+    /// The paths of the sources of the derivation with this number, in its text's order.
+    pub fn sources(&self, number: usize) -> &[StorePath]
+        requires { number < length self.now.nodes }
+        ensures { IfSome (slice_get self.now.nodes number) (λ node. result.now ≡ node.drv.sources) }
+    {
+        &self.nodes[number].sources
+    }
+
     // The hash by which the derivation with this number stands in its users' texts.
     pub(crate) fn modulo_hash(&self, number: usize) -> [u8; 32]
         requires { number < length self.now.nodes }
