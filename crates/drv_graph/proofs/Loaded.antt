@@ -1,19 +1,19 @@
 -- All that some roots reach: what was left behind the first roots, and the plan behind all of them.
-use Rattle.std.proofs.Common.{◌≡◌, ◌∙◌, ℕ, ◌+◌, ◌<◌, ◌≤◌, List, [], ◌∷◌, ◌++◌, length, take, get_or, refl, sym, ap, subst, nat_eq, arith, Option, Some, None, Ok, Err, Result}
+use Rattle.std.proofs.Common.{◌≡◌, ◌∙◌, ℕ, ◌+◌, ◌<◌, ◌≤◌, List, [], ◌∷◌, ◌++◌, length, map, take, get_or, refl, sym, ap, subst, nat_eq, arith, Option, Some, None, Ok, Err, Result}
 use Rattle.std.specs.Prelude.{All, Contains, slice_get}
 use Rattle.std.specs.Cmp.Lexicographic.{pointwise}
 use Rattle.std.specs.List.{IsDistinct}
 use Rattle.std.specs.Map.{lookup}
-use Rattle.std.proofs.lemmas.List.{take_all}
+use Rattle.std.proofs.lemmas.List.{length-map, take_all}
 use Rattle.std.proofs.lemmas.List.Elements.{All-contains_itself, All-nil}
-use Rattle.indexmap.specs.IndexMap.{IndexMap, get}
+use Rattle.indexmap.specs.IndexMap.{IndexMap, get, keys}
 use Rattle.indexmap.specs.IndexSet.{insert_key}
 use Rattle.nix_drv.specs.Sources.{Answer, GivesSame}
-use Rattle.drv_graph.specs.Loading.{IsLoading}
+use Rattle.drv_graph.specs.Loading.{IsLoading, max_nodes}
 use Rattle.drv_graph.specs.Nodes.{Node, paths_of}
 use Rattle.drv_graph.specs.Plans.{AreLawful, AreLeft, AreNumbers, Graph, IsPlan, IsReached, MayStand, MayUse, each_once}
 use Rattle.drv_graph.specs.Plans.AreLeft.{none_left}
-use Rattle.drv_graph.specs.PlanNodes.{AreKept, IsKept, nodes_of}
+use Rattle.drv_graph.specs.PlanNodes.{AreKept, IsKept, node_of, nodes_of}
 use Rattle.drv_graph.specs.SoundGraphs.{IsSound}
 use Rattle.drv_graph.specs.Walks.{AreMarks, AreOwners, IsEmptyFound, IsFound, IsReachedAll, IsVisited, IsWalked, marked, outputs_of, owned}
 use Rattle.drv_graph.specs.declared.found.Found.{Found}
@@ -45,6 +45,17 @@ distinct_none : IsDistinct (pointwise nat_eq) []
 unfolding IsDistinct
 distinct_none = tt
 
+no_keys : (found : Found) → IsEmptyFound found → length (keys found.marks) ≡ length found.nodes.items + 0
+no_keys found empty =
+    let marks : length (keys found.marks) ≡ 0 = ap (λ (es : List (List ℕ × Option ℕ)). length (map (λ (e : List ℕ × Option ℕ). e.0) es)) empty.1 in
+    let nodes : length found.nodes.items ≡ 0 = ap length empty.0 in
+    omega (arith, marks, nodes)
+
+no_more : (found : Found) → IsEmptyFound found → length (keys found.marks) ≤ max_nodes
+no_more found empty =
+    let nodes : length found.nodes.items ≡ 0 = ap length empty.0 in
+    omega (arith, no_keys found empty, nodes)
+
 -- nothing was left yet
 pub loading_begins : (dir : List ℕ) (gives : List ℕ → Answer → Type 0) (roots : List (List ℕ)) (found : Found) (numbers : List ℕ) → IsEmptyFound found → numbers ≡ [] → IsDistinct nat_eq numbers → IsReachedSome dir gives roots [] found numbers
 loading_begins dir gives roots found numbers empty none once = record {
@@ -58,6 +69,8 @@ loading_begins dir gives roots found numbers empty none once = record {
     given = subst (λ l. All (λ (n : Node). MayStand dir gives n.path n.drv) (nodes_of l)) (sym empty.0) (All-nil (λ (n : Node). MayStand dir gives n.path n.drv));
     reached = subst (λ l. All (IsReached (MayUse dir gives) roots) (paths_of (nodes_of l))) (sym empty.0) (All-nil (IsReached (MayUse dir gives) roots));
     marks = subst (λ l. AreMarks (marked found.marks) (paths_of (nodes_of l)) []) (sym empty.0) (marks_none (marked found.marks) (empty_get found.marks empty.1));
+    count = no_keys found empty;
+    few = no_more found empty;
   };
   in_order = λ nodes has. subst (λ l. AreLeft nodes [] [] (paths_of (nodes_of l))) (sym empty.0) (none_left []);
   are_numbers = subst (λ ns. AreNumbers (nodes_of found.nodes.items) ns []) (sym none) refl;
@@ -102,6 +115,7 @@ plan_found dir gives roots found numbers all =
       reached = plan_reached (nodes_of found.nodes.items) roots order;
       whole = plan_whole (nodes_of found.nodes.items) roots all.walked.right.distinct order;
       lawful = all.walked.right.lawful;
+      few = omega (arith, length-map found.nodes.items node_of, all.walked.count, all.walked.few);
       is_roots = all.are_numbers;
     }
 

@@ -45,6 +45,8 @@ module _ (dir : List ℕ) (G H : List ℕ → Answer → Type 0) (same : GivesSa
     given = given_by _ walked.given;
     reached = All-weaker (IsReached (MayUse dir H) roots) (IsReached (MayUse dir G) roots) (reached_by roots) _ walked.reached;
     marks = walked.marks;
+    count = walked.count;
+    few = walked.few;
   }
 
   -- a fault is true by the other source too

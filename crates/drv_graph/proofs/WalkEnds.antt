@@ -12,7 +12,7 @@ use Rattle.drv_graph.specs.Loading.{AreDistinct, IsLoading, IsOnCycle, ReachTooM
 use Rattle.drv_graph.specs.Nodes.{Node, inputs_of, paths_of}
 use Rattle.drv_graph.specs.Plans.{AreLeft, IsReached, Leads, MayStand, MayUse}
 use Rattle.drv_graph.specs.Plans.AreLeft.{none_left}
-use Rattle.drv_graph.specs.PlanNodes.{nodes_of}
+use Rattle.drv_graph.specs.PlanNodes.{node_of, nodes_of}
 use Rattle.drv_graph.specs.Walks.{AreMarks, HasAllNumbers, IsFaultAt, IsLeavingFault, IsMeetingFault, IsReadingFault, IsVisit, Leaves, SetsEntry, marked, pending_of, visited}
 use Rattle.drv_graph.specs.declared.fault.GraphFault.{GraphFault}
 use Rattle.drv_graph.specs.declared.fault.GraphFault.TheVariants.{NoMemory, At, Draft, Name}
@@ -56,6 +56,8 @@ walk_leaves dir gives roots root start found after visit visits walk all leaves 
     reached = subst (All (IsReached (MayUse dir gives) roots)) (sym paths_grown) (All-push (IsReached (MayUse dir gives) roots) (paths_of (nodes_of found.nodes.items)) visit.path walk.walked.reached is.reached);
     marks = subst (λ l. AreMarks (marked after.marks) l (pending_of visits)) (sym paths_grown)
         (marks_left (marked found.marks) (marked after.marks) (paths_of (nodes_of found.nodes.items)) (pending_of visits) visit.path walk.walked.marks walk.pending.1 (subst (λ n. SetsEntry (marked found.marks) (marked after.marks) visit.path (Some n)) (sym long) leaves.marks));
+    count = omega (arith, leaves.count, walk.walked.count, left_grown);
+    few = omega (arith, leaves.count, walk.walked.few);
   };
   pending = subst (λ ns. AreOpen dir gives roots root ns visits) (sym leaves.nodes) (open_grows dir gives roots root (nodes_of found.nodes.items) (visited visit ∷ []) visits walk.pending.3);
   more = walk.more ++ visited visit ∷ [];
@@ -75,6 +77,11 @@ walk_leaves dir gives roots root start found after visit visits walk all leaves 
 
     long : length (paths_of (nodes_of found.nodes.items)) ≡ length found.nodes.items
     long = length-map (nodes_of found.nodes.items) (λ (n : Node). n.path) ∙ length-map found.nodes.items _
+
+    left_grown : length after.nodes.items ≡ length found.nodes.items + 1
+    left_grown =
+        let grown : length (nodes_of after.nodes.items) ≡ length (nodes_of found.nodes.items) + 1 = ap length leaves.nodes ∙ length_push (nodes_of found.nodes.items) (visited visit) in
+        omega (arith, grown, length-map after.nodes.items node_of, length-map found.nodes.items node_of)
 
     not_left : Contains (paths_of (nodes_of found.nodes.items)) visit.path → ⊥
     not_left = pending_not_left (marked found.marks) (paths_of (nodes_of found.nodes.items)) (pending_of (visit ∷ visits)) visit.path walk.walked.marks (contains_first visit.path (pending_of visits))

@@ -132,6 +132,8 @@ walk_opens dir gives roots root start found after visits path child has_root wal
         given = subst (All (λ (n : Node). MayStand dir gives n.path n.drv)) (sym nodes_same) walk.walked.given;
         reached = subst (λ ns. All (IsReached (MayUse dir gives) roots) (paths_of ns)) (sym nodes_same) walk.walked.reached;
         marks = subst (λ ns. AreMarks (marked after.marks) (paths_of ns) (child.path ∷ pending_of visits)) (sym nodes_same) marks;
+        count = omega (arith, opens.count, walk.walked.count, ap (λ l. length l.items) none.nodes);
+        few = omega (arith, opens.count, opens.room);
       };
       pending = subst (λ ns. AreOpen dir gives roots root ns (child ∷ visits)) (sym nodes_same) (is_open, apart, wanted_child, walk.pending);
       more = walk.more;
@@ -188,6 +190,8 @@ walk_advances dir gives roots root start found after visit next visits walk none
         marks = subst (λ m. AreMarks (marked m) (paths_of (nodes_of after.nodes.items)) (pending_of (next ∷ visits))) (sym step.marks)
             (subst (λ l. AreMarks (marked found.marks) (paths_of l) (pending_of (next ∷ visits))) (sym nodes_same)
             (subst (AreMarks (marked found.marks) (paths_of (nodes_of found.nodes.items))) (sym pending_same) walk.walked.marks));
+        count = omega (arith, ap (λ m. length (keys m)) step.marks, walk.walked.count, ap (λ l. length l.items) none.nodes);
+        few = omega (arith, ap (λ m. length (keys m)) step.marks, walk.walked.few);
       };
       pending = subst (λ l. AreOpen dir gives roots root l (next ∷ visits)) (sym nodes_same) (is_open, subst (λ p. Contains (pending_of visits) p → ⊥) (sym step.path) walk.pending.1, subst (IsWanted root visits) (sym step.path) walk.pending.2, walk.pending.3);
       more = walk.more;

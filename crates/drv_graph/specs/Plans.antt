@@ -1,5 +1,5 @@
 -- *Plan*: the derivations that some roots reach, inputs before users (Dolstra's thesis, section 5.4; Nix manual, "Store Derivation").
-use Rattle.std.specs.Prelude.{◌≡◌, ◌++◌, ⊤, ℕ, List, [], ◌∷◌, map, not, filter, All, Contains, Result, Ok, slice_get, Some}
+use Rattle.std.specs.Prelude.{◌≡◌, ◌≤◌, ◌++◌, ⊤, ℕ, List, [], ◌∷◌, length, map, not, filter, All, Contains, Result, Ok, slice_get, Some}
 use Rattle.nix_names.specs.Names.{same_bytes}
 use Rattle.nix_drv.specs.Checked.{IsFoundAt}
 use Rattle.nix_drv.specs.Derivation.{Drv, Output}
@@ -103,4 +103,5 @@ pub record IsPlan (dir : List ℕ) (gives : List ℕ → Answer → Type 0) (roo
   pub reached : (path : List ℕ) → Contains (paths_of graph.nodes) path → IsReached (Uses graph.nodes) roots path
   pub whole : (path : List ℕ) → IsReached (Uses graph.nodes) roots path → Contains (paths_of graph.nodes) path
   pub lawful : AreLawful dir graph.nodes
+  pub few : length graph.nodes ≤ 65536
   pub is_roots : AreNumbers graph.nodes graph.roots (each_once roots)

@@ -291,6 +291,8 @@ pub record IsWalked (dir : List ℕ) (gives : List ℕ → Answer → Type 0) (r
   pub given : All (λ (n : Node). MayStand dir gives n.path n.drv) (nodes_of found.nodes.items)
   pub reached : All (IsReached (MayUse dir gives) roots) (paths_of (nodes_of found.nodes.items))
   pub marks : AreMarks (marked found.marks) (paths_of (nodes_of found.nodes.items)) pending
+  pub count : length (keys found.marks) ≡ length found.nodes.items + length pending
+  pub few : length (keys found.marks) ≤ max_nodes
 
 -- Some derivations are left after others: each path that is asked for, by plan order.
 pub record LeavesInOrder (before after : List Node) (paths : List (List ℕ)) : Type 0 where
