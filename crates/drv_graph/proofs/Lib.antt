@@ -23,3 +23,4 @@ pub mod Loaded
 pub mod Kept
 pub mod Going
 pub mod Copies
+pub mod EqualPlans
