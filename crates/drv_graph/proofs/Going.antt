@@ -1,8 +1,8 @@
 -- What going on with an open derivation answers.
-use Rattle.std.proofs.Common.{◌≡◌, ◌∙◌, ℕ, List, [], ◌∷◌, ◌++◌, refl, sym, ap, subst, inl, inr, Option, Some, None, Ok}
+use Rattle.std.proofs.Common.{◌≡◌, ◌∙◌, ℕ, List, [], ◌∷◌, ◌++◌, refl, ap, inl, inr, Option, Some, None, Ok}
 use Rattle.std.specs.Prelude.{⊤}
 use Rattle.nix_drv.specs.Sources.{Answer}
-use Rattle.drv_graph.specs.Walks.{Descends, IsGoingOn, IsStepping, LeavesNone}
+use Rattle.drv_graph.specs.Walks.{IsGoingOn, IsStepping, LeavesNone}
 use Rattle.drv_graph.specs.declared.found.Found.{Found}
 use Rattle.drv_graph.specs.declared.found.Visit.{Visit}
 

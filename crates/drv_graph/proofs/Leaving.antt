@@ -1,8 +1,8 @@
 -- How an open derivation whose inputs were all left is left itself.
-use Rattle.std.proofs.Common.{◌≡◌, ◌∙◌, ℕ, ◌+◌, ◌<◌, ◌≤◌, List, [], ◌∷◌, ◌++◌, length, map, take, refl, sym, ap, subst, inl, inr, ⊎_elim, arith, Option, Some, None, Ok, Err, Result, IfErr, OnOk}
-use Rattle.std.specs.Prelude.{◌⊎◌, ⊤, All, Contains, slice_get}
+use Rattle.std.proofs.Common.{◌≡◌, ◌∙◌, ℕ, ◌≤◌, List, [], ◌∷◌, ◌++◌, length, map, refl, sym, ap, subst, arith, Option, Some, Ok, Err, Result, IfErr, OnOk}
+use Rattle.std.specs.Prelude.{⊤, Contains}
 use Rattle.std.specs.Global.{Vec}
-use Rattle.std.proofs.lemmas.List.{append_assoc, length-append, length-map, map_push, same_from_push, take_all}
+use Rattle.std.proofs.lemmas.List.{append_assoc, map_push, same_from_push, take_all}
 use Rattle.std.proofs.lemmas.List.Elements.{All-push, All-weaker}
 use Rattle.std.proofs.lemmas.Simd.{map-map}
 use Rattle.nix_drv.specs.Derivation.{Drv, Output, Input}
@@ -10,10 +10,10 @@ use Rattle.nix_drv.specs.Parts.{input_of, output_of, path_of}
 use Rattle.nix_drv.specs.declared.derivation.Input.{Input as InputStruct}
 use Rattle.nix_drv.specs.declared.derivation.Output.{Output as OutputStruct}
 use Rattle.drv_graph.specs.Loading.{AreDistinct}
-use Rattle.drv_graph.specs.Nodes.{Node, AreHashes, inputs_of, paths_of}
+use Rattle.drv_graph.specs.Nodes.{Node, inputs_of, paths_of}
 use Rattle.drv_graph.specs.Plans.{AreLawful, AreNumbers, IsLawful, MayAnswer, ShareOutput}
 use Rattle.drv_graph.specs.PlanNodes.{AreKept, HasHash, IsKept, node_of, nodes_of, output_paths_of, text_path_of}
-use Rattle.drv_graph.specs.Walks.{AreAlone, AreOwners, HasAllNumbers, IsFound, IsLeaving, IsLeavingFault, IsOwning, IsShared, IsVisit, Leaves, SetsEntry, kept_visit, marked, outputs_of, owned, visited}
+use Rattle.drv_graph.specs.Walks.{AreAlone, AreOwners, HasAllNumbers, IsFound, IsLeaving, IsLeavingFault, IsOwning, IsShared, IsVisit, SetsEntry, kept_visit, marked, outputs_of, owned, visited}
 use Rattle.indexmap.specs.IndexMap.{keys}
 use Rattle.drv_graph.specs.declared.fault.GraphFault.{GraphFault}
 use Rattle.drv_graph.specs.declared.fault.GraphFault.TheVariants.{NoMemory, At, Draft, Name}

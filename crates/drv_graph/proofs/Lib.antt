@@ -24,3 +24,4 @@ pub mod Loaded
 pub mod Kept
 pub mod Going
 pub mod Copies
+pub mod EqualPlans

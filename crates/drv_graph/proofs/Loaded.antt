@@ -1,6 +1,6 @@
 -- All that some roots reach: what was left behind the first roots, and the plan behind all of them.
-use Rattle.std.proofs.Common.{◌≡◌, ◌∙◌, ℕ, ◌+◌, ◌<◌, ◌≤◌, List, [], ◌∷◌, ◌++◌, length, map, take, get_or, refl, sym, ap, subst, nat_eq, arith, Option, Some, None, Ok, Err, Result}
-use Rattle.std.specs.Prelude.{All, Contains, slice_get}
+use Rattle.std.proofs.Common.{◌≡◌, ℕ, ◌+◌, ◌≤◌, List, [], ◌∷◌, ◌++◌, length, map, take, refl, sym, ap, subst, nat_eq, arith, Option, None}
+use Rattle.std.specs.Prelude.{All, Contains}
 use Rattle.std.specs.Cmp.Lexicographic.{pointwise}
 use Rattle.std.specs.List.{IsDistinct}
 use Rattle.std.specs.Map.{lookup}
@@ -9,19 +9,18 @@ use Rattle.std.proofs.lemmas.List.Elements.{All-contains_itself, All-nil}
 use Rattle.indexmap.specs.IndexMap.{IndexMap, get, keys}
 use Rattle.indexmap.specs.IndexSet.{insert_key}
 use Rattle.nix_drv.specs.Sources.{Answer, GivesSame}
-use Rattle.drv_graph.specs.Loading.{IsLoading, max_nodes}
+use Rattle.drv_graph.specs.Loading.{max_nodes}
 use Rattle.drv_graph.specs.Nodes.{Node, paths_of}
-use Rattle.drv_graph.specs.Plans.{AreLawful, AreLeft, AreNumbers, Graph, IsPlan, IsReached, MayStand, MayUse, each_once}
+use Rattle.drv_graph.specs.Plans.{AreLawful, AreLeft, AreNumbers, IsPlan, IsReached, MayStand, MayUse, each_once}
 use Rattle.drv_graph.specs.Plans.AreLeft.{none_left}
 use Rattle.drv_graph.specs.PlanNodes.{AreKept, IsKept, node_of, nodes_of}
 use Rattle.drv_graph.specs.SoundGraphs.{IsSound}
-use Rattle.drv_graph.specs.Walks.{AreMarks, AreOwners, IsEmptyFound, IsFound, IsReachedAll, IsVisited, IsWalked, marked, outputs_of, owned}
+use Rattle.drv_graph.specs.Walks.{AreMarks, AreOwners, IsEmptyFound, IsReachedAll, IsVisited, IsWalked, marked, outputs_of, owned}
 use Rattle.drv_graph.specs.declared.found.Found.{Found}
 use Rattle.drv_graph.proofs.Marks.{marks_none}
 use Rattle.drv_graph.proofs.Numbers.{numbers_grow, numbers_within}
 use Rattle.drv_graph.proofs.OwnOutputs.{all_named, all_own_outputs}
 use Rattle.drv_graph.proofs.Owners.{owners_none}
-use Rattle.drv_graph.proofs.PathLists.{contains_none, take_at}
 use Rattle.drv_graph.proofs.PlanOrder.{left_append, plan_reached, plan_whole}
 use Rattle.drv_graph.proofs.Roots.{roots_more}
 use Rattle.drv_graph.proofs.SameSources.{walked_by}

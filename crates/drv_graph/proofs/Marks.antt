@@ -1,12 +1,11 @@
 -- Marks and owners, as entries are set.
-use Rattle.std.proofs.Common.{◌≡◌, ◌∙◌, ℕ, ◌<◌, ◌≤◌, List, [], ◌∷◌, ◌++◌, length, refl, sym, ap, subst, inl, inr, ⊎_elim, arith, nat_eq, Option, Some, None}
-use Rattle.std.specs.Prelude.{◌⊎◌, ◌↔◌, Contains, slice_get, unwrap_or}
+use Rattle.std.proofs.Common.{◌≡◌, ◌∙◌, ℕ, List, [], ◌∷◌, ◌++◌, length, sym, ap, subst, ⊎_elim, nat_eq, Option, Some, None}
+use Rattle.std.specs.Prelude.{Contains, slice_get}
 use Rattle.std.specs.Cmp.Lexicographic.{pointwise}
-use Rattle.std.proofs.lemmas.Option.{same_Some, none-some, slice_get_within}
-use Rattle.std.proofs.lemmas.List.Elements.{Contains-append_left, Contains-push}
+use Rattle.std.proofs.lemmas.Option.{same_Some, none-some}
 use Rattle.indexmap.specs.IndexMap.{IndexMap, Updates, get}
-use Rattle.drv_graph.specs.Walks.{AreAlone, AreMarks, AreOwners, SetsEntry}
-use Rattle.drv_graph.proofs.PathLists.{contains_cases, contains_first, contains_from_get, contains_later, contains_none, contains_push_cases, get_from_contains, get_grows, get_push_cases, get_pushed, other_path, path_cases}
+use Rattle.drv_graph.specs.Walks.{AreMarks, SetsEntry}
+use Rattle.drv_graph.proofs.PathLists.{contains_cases, contains_first, contains_from_get, contains_later, contains_none, get_from_contains, get_grows, get_push_cases, get_pushed, other_path, path_cases}
 
 -- what an insert sets
 pub sets_entry : {X S : Type 0} (before after : IndexMap (List ℕ) X S) (path : List ℕ) (entry : X) → Updates (pointwise nat_eq) before after path (Some entry) → SetsEntry (get (pointwise nat_eq) before) (get (pointwise nat_eq) after) path entry

@@ -1,10 +1,10 @@
 -- The numbers of paths among nodes, and the hashes of nodes, as nodes are added.
-use Rattle.std.proofs.Common.{◌≡◌, ◌∙◌, ℕ, ◌<◌, ◌≤◌, List, [], ◌∷◌, ◌++◌, length, map, take, refl, sym, ap, subst, inl, inr, ⊎_elim, arith, Some}
-use Rattle.std.specs.Prelude.{All, Contains, slice_get}
-use Rattle.std.proofs.lemmas.List.{length-map, length-take-le, map-append, map_push}
+use Rattle.std.proofs.Common.{◌≡◌, ◌∙◌, ℕ, ◌<◌, List, [], ◌∷◌, ◌++◌, length, map, sym, ap, arith, Some}
+use Rattle.std.specs.Prelude.{All, slice_get}
+use Rattle.std.proofs.lemmas.List.{length-map, map-append, map_push}
 use Rattle.std.proofs.lemmas.List.Elements.{All-cons, All-nil, Contains-append_left}
 use Rattle.std.proofs.lemmas.Option.{slice_get_within}
-use Rattle.drv_graph.specs.Nodes.{Node, AreHashes, inputs_of, paths_of}
+use Rattle.drv_graph.specs.Nodes.{Node, AreHashes, paths_of}
 use Rattle.drv_graph.specs.Nodes.AreHashes.{no_hashes, one_more_hash}
 use Rattle.drv_graph.specs.Plans.{AreNumbers}
 use Rattle.drv_graph.proofs.PathLists.{get_grows}

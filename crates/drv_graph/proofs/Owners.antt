@@ -1,5 +1,5 @@
 -- The owners of outputs, as those of one more derivation are entered.
-use Rattle.std.proofs.Common.{◌≡◌, ◌∙◌, ℕ, ◌<◌, ◌≤◌, List, [], ◌∷◌, ◌++◌, length, map, take, get_or, refl, sym, ap, subst, inl, inr, ⊎_elim, arith, Option, Some, None, ◌+◌, Err}
+use Rattle.std.proofs.Common.{◌≡◌, ◌∙◌, ℕ, ◌<◌, ◌≤◌, List, [], ◌∷◌, ◌++◌, length, take, get_or, refl, sym, ap, subst, inl, inr, ⊎_elim, arith, Option, Some, None, ◌+◌, Err}
 use Rattle.std.specs.Prelude.{◌⊎◌, Contains, slice_get, unwrap_or}
 use Rattle.std.proofs.lemmas.List.{length-map, take_all, take_more}
 use Rattle.std.proofs.lemmas.List.Elements.{Contains-append_left, Contains-push}

@@ -1,5 +1,5 @@
 -- What reading, opening and meeting a path answers.
-use Rattle.std.proofs.Common.{◌≡◌, ◌∙◌, ℕ, ◌+◌, ◌<◌, ◌≤◌, List, [], ◌∷◌, ◌++◌, length, get_or, refl, sym, ap, subst, arith, Option, Some, None, Ok, Err, Result, nat_eq, is_some, if◌then◌else◌}
+use Rattle.std.proofs.Common.{◌≡◌, ◌∙◌, ℕ, ◌+◌, ◌<◌, List, [], ◌∷◌, ◌++◌, length, get_or, refl, sym, ap, subst, arith, Option, Some, None, Ok, Err, nat_eq, is_some, if◌then◌else◌}
 use Rattle.std.specs.Prelude.{slice_get}
 use Rattle.std.specs.Cmp.Lexicographic.{pointwise}
 use Rattle.std.proofs.lemmas.List.{length-map}
@@ -15,7 +15,6 @@ use Rattle.drv_graph.specs.Loading.{max_nodes}
 use Rattle.drv_graph.specs.Walks.{Advances, Descends, IsMeeting, IsReadingFault, IsTextFaultAt, Opens, SetsEntry, marked}
 use Rattle.drv_graph.specs.declared.fault.GraphFault.{GraphFault}
 use Rattle.drv_graph.specs.declared.fault.GraphFault.TheVariants.{NoMemory, At, Draft, Name}
-use Rattle.drv_graph.specs.declared.fault.NodeFault.TheVariants.{Unreadable, TooMany, Text, Cycle, Outputs, SharedOutput}
 use Rattle.drv_graph.specs.declared.found.Visit.{Visit}
 use Rattle.drv_graph.specs.declared.walk.Met.TheVariants.{Done, New}
 use Rattle.drv_graph.proofs.Marks.{sets_entry}

@@ -1,8 +1,8 @@
 -- The roots of a plan, each at its first place, and their numbers.
-use Rattle.std.proofs.Common.{◌≡◌, ◌∙◌, ℕ, ◌<◌, Bool, true, false, not, cond, List, [], ◌∷◌, ◌++◌, length, map, filter, refl, sym, ap, subst, inl, inr, ⊎_elim, nat_eq, Option, Some, None, if◌then◌else◌}
-use Rattle.std.specs.Prelude.{◌⊎◌, All, Contains, slice_get}
-use Rattle.std.specs.Cmp.Lexicographic.{pointwise, nat_list_eq_equiv}
-use Rattle.std.specs.List.{IsDistinct, list_any}
+use Rattle.std.proofs.Common.{◌≡◌, ◌∙◌, ℕ, Bool, true, false, not, cond, List, [], ◌∷◌, ◌++◌, filter, refl, sym, ap, subst, inl, inr, ⊎_elim, nat_eq, Some, if◌then◌else◌}
+use Rattle.std.specs.Prelude.{◌⊎◌, Contains, slice_get}
+use Rattle.std.specs.Cmp.Lexicographic.{nat_list_eq_equiv}
+use Rattle.std.specs.List.{list_any}
 use Rattle.std.proofs.lemmas.Bool.{false≢true}
 use Rattle.std.proofs.lemmas.List.{append-nil}
 use Rattle.std.proofs.lemmas.List.Elements.{filter-append}
@@ -15,7 +15,7 @@ use Rattle.drv_graph.specs.Loading.{AreDistinct}
 use Rattle.drv_graph.specs.Nodes.{Node, paths_of}
 use Rattle.drv_graph.specs.Plans.{AreNumbers, each_once}
 use Rattle.drv_graph.proofs.Numbers.{first_number, later_numbers, numbers_push}
-use Rattle.drv_graph.proofs.PathLists.{contains_cases, contains_first, contains_later, contains_none, get_from_contains, other_path, path_cases, same_path, same_place}
+use Rattle.drv_graph.proofs.PathLists.{contains_cases, contains_first, contains_later, contains_none, other_path, path_cases, same_place}
 
 module _ {X : Type 0} (test : X → Bool) where
   source_step : (b : Bool) (y x : X) (ys : List X) → (Contains (filter test ys) x → Contains ys x) → Contains (cond b (y ∷ filter test ys) (filter test ys)) x → Contains (y ∷ ys) x

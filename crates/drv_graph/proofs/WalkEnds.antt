@@ -1,19 +1,19 @@
 -- A walk over derivations: how one is left, and why its faults are true.
-use Rattle.std.proofs.Common.{◌≡◌, ◌∙◌, ℕ, ◌+◌, ◌<◌, ◌≤◌, true, false, List, [], ◌∷◌, ◌++◌, length, map, take, drop, refl, sym, ap, subst, inl, inr, ⊎_elim, arith, Option, Some, None, Ok, Err, Result, nat_eq, is_some}
-use Rattle.std.specs.Prelude.{◌⊎◌, ⊤, All, Contains, slice_get}
-use Rattle.std.specs.Cmp.Lexicographic.{pointwise, nat_list_eq_equiv}
+use Rattle.std.proofs.Common.{◌≡◌, ◌∙◌, ℕ, ◌+◌, ◌≤◌, List, [], ◌∷◌, ◌++◌, length, take, drop, refl, sym, ap, subst, inl, inr, ⊎_elim, arith, Option, Some, None, Err, is_some}
+use Rattle.std.specs.Prelude.{All, Contains}
+use Rattle.std.specs.Cmp.Lexicographic.{nat_list_eq_equiv}
 use Rattle.std.proofs.lemmas.Bool.{false≢true}
 use Rattle.std.proofs.lemmas.List.{append_assoc, drop_all, length_push, length-map, map_push}
-use Rattle.std.proofs.lemmas.List.Elements.{All-append, All-cons, All-contains, All-nil, All-push, Contains-append_left, Contains-push}
+use Rattle.std.proofs.lemmas.List.Elements.{All-cons, All-contains, All-push, Contains-append_left, Contains-push}
 use Rattle.std.proofs.lemmas.Map.Views.{hash_map_contains_key_iff}
-use Rattle.indexmap.specs.IndexMap.{IndexMap, keys}
+use Rattle.indexmap.specs.IndexMap.{keys}
 use Rattle.nix_drv.specs.Sources.{Answer}
 use Rattle.drv_graph.specs.Loading.{AreDistinct, IsLoading, IsOnCycle, ReachTooMany, max_nodes}
 use Rattle.drv_graph.specs.Nodes.{Node, inputs_of, paths_of}
 use Rattle.drv_graph.specs.Plans.{AreLeft, IsReached, Leads, MayStand, MayUse}
 use Rattle.drv_graph.specs.Plans.AreLeft.{none_left}
 use Rattle.drv_graph.specs.PlanNodes.{node_of, nodes_of}
-use Rattle.drv_graph.specs.Walks.{AreMarks, HasAllNumbers, IsFaultAt, IsLeavingFault, IsMeetingFault, IsReadingFault, IsVisit, Leaves, SetsEntry, marked, pending_of, visited}
+use Rattle.drv_graph.specs.Walks.{AreMarks, HasAllNumbers, IsFaultAt, IsLeavingFault, IsMeetingFault, IsReadingFault, Leaves, SetsEntry, marked, pending_of, visited}
 use Rattle.drv_graph.specs.declared.fault.GraphFault.{GraphFault}
 use Rattle.drv_graph.specs.declared.fault.GraphFault.TheVariants.{NoMemory, At, Draft, Name}
 use Rattle.drv_graph.specs.declared.fault.NodeFault.TheVariants.{Unreadable, TooMany, Text, Cycle, Outputs, SharedOutput}

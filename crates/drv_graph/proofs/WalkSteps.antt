@@ -1,17 +1,17 @@
 -- The steps of a walk over derivations, as its loop takes them.
-use Rattle.std.proofs.Common.{◌≡◌, ◌∙◌, ℕ, ◌+◌, ◌-◌, ◌*◌, ◌^◌, ◌<◌, ◌≤◌, List, [], ◌∷◌, ◌++◌, length, get_or, reverse, refl, sym, ap, subst, inl, inr, ⊎_elim, arith, Option, Some, None, Ok, Err, Result}
-use Rattle.std.specs.Prelude.{◌⊎◌, ⊤, Contains, slice_get}
+use Rattle.std.proofs.Common.{◌≡◌, ◌∙◌, ℕ, ◌+◌, ◌-◌, ◌*◌, ◌^◌, ◌<◌, List, [], ◌∷◌, ◌++◌, length, get_or, reverse, refl, sym, ap, subst, inl, inr, ⊎_elim, arith, Option, Some, None, Ok, Err}
+use Rattle.std.specs.Prelude.{⊤, Contains, slice_get}
 use Rattle.std.specs.Global.{Vec}
 use Rattle.std.proofs.lemmas.List.{length_push, reverse-append}
 use Rattle.std.proofs.lemmas.Option.{same_Some, slice_get_read, slice_get_within}
 use Rattle.indexmap.specs.IndexMap.{IndexMap, keys}
 use Rattle.nix_drv.specs.Derivation.{Drv}
 use Rattle.nix_drv.specs.Sources.{Answer, GivesSame}
-use Rattle.drv_graph.specs.Loading.{IsLoading, max_nodes}
-use Rattle.drv_graph.specs.Nodes.{Node, inputs_of, paths_of}
+use Rattle.drv_graph.specs.Loading.{IsLoading}
+use Rattle.drv_graph.specs.Nodes.{Node, paths_of}
 use Rattle.drv_graph.specs.Plans.{MayStand}
 use Rattle.drv_graph.specs.PlanNodes.{nodes_of}
-use Rattle.drv_graph.specs.Walks.{Advances, Descends, HasAllNumbers, IsFound, IsGoingOn, IsInputFault, IsLeavingFault, IsMeetingFault, IsReadingFault, IsVisit, IsVisited, IsWalked, Leaves, LeavesInOrder, LeavesNone, Opens, marked, pending_of}
+use Rattle.drv_graph.specs.Walks.{IsGoingOn, IsMeetingFault, IsReadingFault, IsVisit, IsVisited, LeavesNone, Opens, marked, pending_of}
 use Rattle.drv_graph.specs.declared.fault.GraphFault.{GraphFault}
 use Rattle.drv_graph.specs.declared.fault.GraphFault.TheVariants.{NoMemory, At, Draft, Name}
 use Rattle.drv_graph.specs.declared.fault.NodeFault.TheVariants.{Unreadable, TooMany, Text, Cycle, Outputs, SharedOutput}
@@ -21,7 +21,7 @@ use Rattle.drv_graph.specs.Plans.AreLeft.{none_left, passed_over}
 use Rattle.std.proofs.lemmas.List.Elements.{All-nil}
 use Rattle.drv_graph.proofs.Marks.{pending_not_left}
 use Rattle.drv_graph.proofs.PathLists.{contains_first, contains_from_get}
-use Rattle.drv_graph.proofs.Walking.{AreOpen, IsWalk, IsWanted, walk_advances, walk_opens}
+use Rattle.drv_graph.proofs.Walking.{IsWalk, IsWanted, walk_advances, walk_opens}
 use Rattle.drv_graph.proofs.WalkEnds.{leaving_fault, meeting_fault, walk_leaves}
 
 -- sources that give the same

@@ -1,25 +1,21 @@
 -- A walk over derivations, by what was left and what is open: how each of its steps keeps it right.
-use Rattle.std.proofs.Common.{◌≡◌, ◌∙◌, ℕ, ◌+◌, ◌-◌, ◌*◌, ◌<◌, ◌≤◌, suc, List, [], ◌∷◌, ◌++◌, length, map, take, drop, refl, sym, ap, subst, inl, inr, ⊎_elim, arith, Option, Some, None, Ok, Err, Result, nat_eq}
-use Rattle.std.specs.Prelude.{◌⊎◌, ◌≢◌, ⊤, All, Contains, slice_get}
-use Rattle.std.specs.Cmp.Lexicographic.{pointwise, nat_list_eq_equiv}
-use Rattle.std.specs.List.{IsDistinct}
-use Rattle.std.proofs.lemmas.List.{append_assoc, append-nil, drop_all, length_push, length-take-le, map_push, take_all}
-use Rattle.std.proofs.lemmas.List.Elements.{All-append, All-contains, All-push, All-weaker, All-head, All-tail, Contains-append_left, Contains-append_right, Contains-push}
-use Rattle.std.proofs.lemmas.Option.{none-some, same_Some, slice_get_within}
-use Rattle.indexmap.specs.IndexMap.{IndexMap, keys}
-use Rattle.nix_drv.specs.Derivation.{Drv, Input}
-use Rattle.nix_drv.specs.Sources.{Answer, GivesSame}
-use Rattle.drv_graph.specs.Loading.{AreDistinct, IsLoading, IsOnCycle, max_nodes}
+use Rattle.std.proofs.Common.{◌≡◌, ◌∙◌, ℕ, suc, List, [], ◌∷◌, ◌++◌, length, map, take, drop, refl, sym, ap, subst, arith, Some}
+use Rattle.std.specs.Prelude.{⊤, All, Contains, slice_get}
+use Rattle.std.proofs.lemmas.List.{append-nil, length_push}
+use Rattle.std.proofs.lemmas.List.Elements.{All-head, All-tail, Contains-push}
+use Rattle.indexmap.specs.IndexMap.{keys}
+use Rattle.nix_drv.specs.Sources.{Answer}
+use Rattle.drv_graph.specs.Loading.{AreDistinct}
 use Rattle.drv_graph.specs.Nodes.{Node, inputs_of, paths_of}
-use Rattle.drv_graph.specs.Plans.{AreLawful, AreLeft, AreNumbers, IsReached, Leads, MayStand, MayUse}
-use Rattle.drv_graph.specs.Plans.AreLeft.{none_left, passed_over, left_behind_inputs}
+use Rattle.drv_graph.specs.Plans.{AreLawful, AreLeft, AreNumbers, IsReached, MayStand, MayUse}
+use Rattle.drv_graph.specs.Plans.AreLeft.{passed_over, left_behind_inputs}
 use Rattle.drv_graph.specs.PlanNodes.{AreKept, nodes_of}
-use Rattle.drv_graph.specs.Walks.{Advances, AreMarks, AreOwners, Descends, HasAllNumbers, IsFound, IsVisit, IsWalked, Leaves, LeavesNone, Opens, SetsEntry, marked, outputs_of, owned, pending_of, visited}
+use Rattle.drv_graph.specs.Walks.{Advances, AreMarks, AreOwners, IsFound, IsVisit, IsWalked, LeavesNone, Opens, marked, outputs_of, owned, pending_of, visited}
 use Rattle.drv_graph.specs.declared.found.Found.{Found}
 use Rattle.drv_graph.specs.declared.found.Visit.{Visit}
-use Rattle.drv_graph.proofs.Marks.{marks_left, marks_opened, new_not_left, new_not_pending, pending_not_left}
-use Rattle.drv_graph.proofs.Numbers.{numbers_grow, numbers_length, numbers_push, paths_append}
-use Rattle.drv_graph.proofs.PathLists.{contains_cases, contains_first, contains_from_get, contains_later, contains_none, drop_at, take_at}
+use Rattle.drv_graph.proofs.Marks.{marks_opened, new_not_left, new_not_pending}
+use Rattle.drv_graph.proofs.Numbers.{numbers_push}
+use Rattle.drv_graph.proofs.PathLists.{contains_from_get, drop_at, take_at}
 use Rattle.drv_graph.proofs.PlanOrder.{left_later, reached_more}
 
 -- What is open of a derivation is right: it may stand at its path, and is reached.

@@ -15,3 +15,4 @@ pub mod Uniting
 pub mod ExpectedPaths
 pub mod GraphLaws
 pub mod Walks
+pub mod Equality

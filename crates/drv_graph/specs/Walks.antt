@@ -1,8 +1,8 @@
 -- How derivations are walked: depth first, by a list of those that are open, innermost first.
-use Rattle.std.specs.Prelude.{◌≡◌, ◌≢◌, ◌↔◌, ◌⊎◌, ◌≤◌, ◌<◌, ⊤, ℕ, List, [], ◌∷◌, ◌++◌, length, map, take, drop, nat_eq, All, Contains, Option, Some, None, Result, Ok, Err, ◌+◌, slice_get}
+use Rattle.std.specs.Prelude.{◌≡◌, ◌≢◌, ◌↔◌, ◌⊎◌, ◌≤◌, ◌<◌, ⊤, ℕ, List, [], ◌∷◌, ◌++◌, length, map, take, nat_eq, All, Contains, Option, Some, None, Result, Ok, Err, ◌+◌, slice_get}
 use Rattle.std.specs.Global.{Vec}
 use Rattle.std.specs.Cmp.Lexicographic.{pointwise}
-use Rattle.std.specs.List.{AllZip, IsDistinct}
+use Rattle.std.specs.List.{IsDistinct}
 use Rattle.indexmap.specs.IndexMap.{IndexMap, get, keys}
 use Rattle.nix_drv.specs.Checked.{IsCheck}
 use Rattle.nix_drv.specs.Derivation.{Drv}

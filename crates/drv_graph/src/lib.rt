@@ -2,7 +2,7 @@
 //!
 //! | Module | What is in it |
 //! |---|---|
-//! | `plan` | plans: loaded, and what they tell of each derivation |
+//! | `plan`, `plan_eq` | plans: loaded, what they tell of each derivation, and when two are equal |
 //! | `load` | how all that some roots reach is found |
 //! | `walk` | how derivations are walked, depth first |
 //! | `found` | what a walk found so far, and how it leaves a derivation |
@@ -31,6 +31,7 @@ mod node;
 mod outputs;
 mod paths;
 mod plan;
+mod plan_eq;
 mod values;
 mod walk;
 

@@ -1,7 +1,9 @@
 //! A derivation of a plan, and what is kept beside it.
 ghost use Rattle.std.specs.Prelude.{◌≡◌, IfErr, IfOk};
+ghost use Rattle.std.specs.Cmp.Lexicographic.{pointwise};
 ghost use Rattle.std.specs.List.{AllZip};
-ghost use Rattle.drv_graph.specs.PlanNodes.{IsSameNode};
+ghost use Rattle.drv_graph.specs.Equality.{same_node};
+ghost use Rattle.drv_graph.specs.PlanNodes.{IsSameNode, nodes_of};
 
 use crate::fault::GraphFault;
 use crate::kinds::Kind;
@@ -48,6 +50,33 @@ impl PlanNode {
             sources,
         })
     }
+}
+
+// Derivations are equal by their paths and their texts: what is kept beside those follows from them.
+impl PartialEq for PlanNode {
+    ghost use Rattle.std.specs.Cmp.{partial_equiv_from_equiv};
+    ghost use Rattle.drv_graph.specs.Equality.{nodes_equal, nodes_equal_laws};
+
+    ghost eq = { nodes_equal };
+
+    ghost laws = { partial_equiv_from_equiv nodes_equal_laws };
+
+    fn eq(&self, other: &PlanNode) -> bool {
+        self.path == other.path && self.drv == other.drv
+    }
+}
+
+impl Eq for PlanNode {
+    ghost use Rattle.drv_graph.specs.Equality.{nodes_equal_laws};
+
+    ghost laws = { nodes_equal_laws };
+}
+
+// Whether lists of derivations are the same.
+pub(crate) fn same_nodes(a: &[PlanNode], b: &[PlanNode]) -> bool
+    ensures { result ≡ pointwise same_node (nodes_of a.now) (nodes_of b.now) }
+{
+    a == b
 }
 
 // The same derivations again.

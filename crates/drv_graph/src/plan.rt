@@ -1,6 +1,8 @@
 //! Plans of derivations.
 ghost use Rattle.std.specs.Prelude.{◌≡◌, ◌<◌, ◌≤◌, All, IfErr, IfOk, IfSome, Some, length, slice_get};
+ghost use Rattle.std.specs.Cmp.Lexicographic.{pointwise};
 ghost use Rattle.nix_drv.specs.Sources.{GivesSame};
+ghost use Rattle.drv_graph.specs.Equality.{same_node};
 ghost use Rattle.drv_graph.specs.Kinds.{HasKind};
 ghost use Rattle.drv_graph.specs.Loading.{IsLoading};
 ghost use Rattle.drv_graph.specs.Nodes.{inputs_of, paths_of};
@@ -12,7 +14,7 @@ use crate::fault::GraphFault;
 use crate::found::Found;
 use crate::kinds::Kind;
 use crate::load::{Reached, walk_all};
-use crate::node::{PlanNode, copy_nodes};
+use crate::node::{PlanNode, copy_nodes, same_nodes};
 use nix_drv::{Derivation, DrvSource};
 use nix_names::{StoreDir, StorePath};
 use std::alloc::Global;
@@ -75,6 +77,13 @@ impl Plan {
         let nodes = copy_nodes(alloc, &self.nodes)?;
         let roots = Vec::from_slice(alloc, &self.roots)?;
         Ok(Plan { nodes, roots })
+    }
+
+    // Whether the plans have the same derivations in the same order.
+    pub(crate) fn has_same_nodes(&self, other: &Plan) -> bool
+        ensures { result ≡ pointwise same_node self.now.nodes other.now.nodes }
+    {
+        same_nodes(&self.nodes, &other.nodes)
     }
 
     /// How many derivations there are.

@@ -24,3 +24,4 @@ pub mod OwnPathLaws
 pub mod Fronts
 pub mod OneAnswer
 pub mod Places
+pub mod EqualDerivations

@@ -17,3 +17,4 @@ pub mod References
 pub mod Sources
 pub mod ListedFiles
 pub mod Places
+pub mod Equality

@@ -3,6 +3,7 @@
 ghost use Rattle.nix_drv.specs.Grammar.{Grammar, IsClear};
 ghost use Rattle.nix_drv.specs.Laws.{HasOneTextEach, HasOneValueEach, HasNoTextWithin, OrderMeansRising, FrontsAreBeginnings, HasOneDerivationEach, HasNoDerivationWithin, HasOneReading, HasOneCheck};
 ghost use Rattle.nix_drv.specs.Derivation.{derivation_form};
+ghost use Rattle.nix_drv.specs.Equality.{EqualDerivationsAreSame};
 ghost use Rattle.nix_drv.specs.Outcome.{ReadsBack};
 ghost use Rattle.nix_drv.specs.OwnPath.{HasOneOwnPath};
 
@@ -50,4 +51,9 @@ pub fn written_texts_are_read_back()
 /// A derivation's text has at most one own path in a folder, under a name.
 pub fn text_has_one_own_path()
     ensures { HasOneOwnPath }
+{}
+
+/// Two derivations are equal by `==` exactly where they are the same.
+pub fn equal_derivations_are_same()
+    ensures { EqualDerivationsAreSame }
 {}

@@ -2,7 +2,7 @@
 //!
 //! | Module | What is in it |
 //! |---|---|
-//! | `derivation` | a derivation's parts, in order |
+//! | `derivation`, `derivation_eq` | a derivation's parts, in order, and when two are equal |
 //! | `reading` | bytes as a derivation |
 //! | `writing` | a derivation as bytes |
 //! | `escapes` | the bytes that strings spell by an escape |
@@ -20,6 +20,9 @@ mod check;
 #[cfg(test)]
 mod check_tests;
 mod derivation;
+mod derivation_eq;
+#[cfg(test)]
+mod derivation_tests;
 mod element;
 mod escapes;
 mod fault;
