@@ -1,4 +1,5 @@
 pub mod Cycles
+pub mod DoneEntries
 pub mod Histories
 pub mod Linkages
 pub mod OneVerdict
