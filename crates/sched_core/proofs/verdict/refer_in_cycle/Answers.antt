@@ -1,6 +1,3 @@
-use Rattle.std.proofs.Common.{◌∙◌, ◌↔◌, subst}
-use Rattle.std.specs.Prelude.{IfOk, IsTrue}
-use Rattle.sched_core.specs.Verdicts.{IsCyclic}
 use Rattle.sched_core.proofs.verdict.refer_in_cycle.Goals as goal
 
 pub returns : goal.returns
