@@ -1,4 +1,6 @@
 pub mod Cycles
+pub mod DoneEntries
+pub mod Dones
 pub mod Histories
 pub mod Linkages
 pub mod OneVerdict

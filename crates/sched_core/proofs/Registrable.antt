@@ -54,7 +54,7 @@ algo_says Flat is = absurd cc
 algo_says Recursive is = absurd cc
 
 -- a fixed derivation's kind is fixed, with its digest
-fixed_kind : (drv : Drv) (kind : Kind) (method : Method) (digest : List ℕ) → HasKind drv kind → HasKind drv (Fixed method digest) → (other : Method) × (kind ≡ Fixed other digest)
+pub fixed_kind : (drv : Drv) (kind : Kind) (method : Method) (digest : List ℕ) → HasKind drv kind → HasKind drv (Fixed method digest) → (other : Method) × (kind ≡ Fixed other digest)
 fixed_kind drv Addressed method digest (some, addressed) (output, only, fixed) =
     let own = all_first drv.outputs output addressed only.0 in
     absurd (algo_says method (sym fixed.0 ∙ own.0))

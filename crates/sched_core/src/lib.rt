@@ -4,6 +4,7 @@
 //! |---|---|
 //! | `job` | what a builder is given, and what it answers |
 //! | `verdict`, `checked` | the verdict on an answer, and the records that it gives |
+//! | `done_entry` | the entry of a derivation that was built |
 //! | `cycle`, `links`, `walk` | whether outputs refer to each other in a cycle |
 //! | `reason`, `standing` | why a derivation was not built, where it stands, its state, and events |
 //! | `fault` | why a call of a book refuses |
@@ -12,6 +13,7 @@
 
 mod checked;
 mod cycle;
+mod done_entry;
 mod fault;
 mod job;
 pub mod laws;
