@@ -1,5 +1,5 @@
 //! Entries of a journal: paths that were added, and outputs that were built.
-ghost use Rattle.std.specs.Prelude.{◌≡◌, ◌≢◌, ◌↔◌, [], List, IfOk, IfErr, IsOk, IsTrue, MatchOption};
+ghost use Rattle.std.specs.Prelude.{◌≡◌, ◌≢◌, ◌<◌, ◌↔◌, [], List, IfOk, IfErr, IsOk, IsTrue, MatchOption, Some, length, slice_get};
 ghost use Rattle.std.specs.Arc.{arc_slice_items};
 ghost use Rattle.std.specs.Option.{option_map_or};
 ghost use Rattle.nix_names.specs.Rising.{IsRising};
@@ -196,6 +196,17 @@ impl Entry {
         match self {
             Entry::Add(registration) => slice::from_ref(registration),
             Entry::Done(_, outputs) => outputs.as_slice(),
+        }
+    }
+
+    // The registration at a place, taken out.
+    pub(crate) fn into_registration(self, place: usize) -> Registration
+        requires { place < length (registered_by self) }
+        ensures { slice_get (registered_by self) place ≡ Some result }
+    {
+        match self {
+            Entry::Add(registration) => registration,
+            Entry::Done(_, outputs) => outputs.into_registrations().swap_remove(place),
         }
     }
 

@@ -1,17 +1,18 @@
 //! The table of valid paths.
 ghost use Rattle.std.specs.Prelude.{◌≡◌, ◌≤◌, ◌+◌, ◌++◌, ◌↔◌, [], IfErr, IfOk, IsOk, IsTrue, MatchOption, OnOk, length};
 ghost use Rattle.valid_table.specs.Adding.{AreClosed, AreNew, IsObstacle, IsRegistering};
+ghost use Rattle.valid_table.specs.Blames.{IsBlamed};
 ghost use Rattle.valid_table.specs.Closure.{IsClosing};
 ghost use Rattle.valid_table.specs.Entries.{registered, registered_by};
 ghost use Rattle.valid_table.specs.Tables.{registrations_of};
 ghost use Rattle.valid_table.specs.Valid.{AreReferencesValid, IsClosed, IsOnce, IsValid, Registers};
 
 use crate::closing::close;
-use crate::entering::obstacle;
+use crate::entering::blame;
 use crate::entry::{Entry, Record};
 use crate::fault::TableFault;
 use crate::journal::Journal;
-use crate::obstacle::Obstacle;
+use crate::obstacle::{Blame, Obstacle, fault_of, obstacle_of};
 use crate::rows::{add_rows, has_row, push_entry};
 use indexmap::IndexMap;
 use nix_names::StorePath;
@@ -89,7 +90,17 @@ impl Table {
     pub fn obstacle<'a>(&self, entry: &'a Entry) -> Option<Obstacle<'a>>
         ensures { MatchOption result (AreNew self.now.registrations (registered_by entry.now) × AreClosed self.now.registrations (registered_by entry.now)) (IsObstacle self.now.registrations (registered_by entry.now)) }
     {
-        obstacle(&self.rows, entry.registrations())
+        let registrations = entry.registrations();
+        let blame = self.blame(entry)?;
+        let registration = &registrations[blame.registration];
+        Some(obstacle_of(registration, blame.reference))
+    }
+
+    // Which of an entry's registrations stands against it, if any.
+    pub(crate) fn blame(&self, entry: &Entry) -> Option<Blame>
+        ensures { MatchOption result (AreNew self.now.registrations (registered_by entry.now) × AreClosed self.now.registrations (registered_by entry.now)) (IsBlamed self.now.registrations (registered_by entry.now)) }
+    {
+        blame(&self.rows, entry.registrations())
     }
 
     /// Makes room for so many more paths. Answers `NoMemory` where memory is refused, and no other
@@ -114,8 +125,9 @@ impl Table {
         ensures room { self.old.room ≤ self.new.room + length (registered_by entry.now) }
     {
         let alloc = *self.rows.allocator();
-        if let Some(obstacle) = self.obstacle(entry) {
-            return Err(obstacle.fault(alloc));
+        if let Some(blame) = self.blame(entry) {
+            let registration = entry.registrations()[blame.registration].copy(alloc)?;
+            return Err(fault_of(registration, blame.reference));
         }
         let copy = entry.copy(alloc)?;
         self.reserve(entry.registrations().len())?;
