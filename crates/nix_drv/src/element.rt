@@ -71,7 +71,8 @@ pub(crate) fn read_list<T: Element + Drop>(
     alloc: Global,
     bytes: &[u8],
 ) -> Result<(Vec<T>, &[u8]), Stop>
-    ensures { Gives (λ x. (map T.value x.0.items, x.1.now)) result (list_read (read_of T.form) bytes.now) }
+    ensures { Gives (λ x. (map T.value x.0.items, x.1.now)) result
+        (list_read (read_of T.form) bytes.now) }
 {
     let rest = fixed_of(bytes, b"[")?;
     match rest {
@@ -82,7 +83,8 @@ pub(crate) fn read_list<T: Element + Drop>(
 
 // The elements of a list at the head of the bytes, one at least, and the bytes behind the list.
 fn read_elements<T: Element + Drop>(alloc: Global, bytes: &[u8]) -> Result<(Vec<T>, &[u8]), Stop>
-    ensures { Gives (λ x. (map T.value x.0.items, x.1.now)) result (elements_of (read_of T.form) bytes.now) }
+    ensures { Gives (λ x. (map T.value x.0.items, x.1.now)) result
+        (elements_of (read_of T.form) bytes.now) }
 {
     let mut rest = bytes;
     let mut items = Vec::new(alloc);

@@ -348,7 +348,8 @@ pub(crate) fn write_parts(
     ensures { OnOk result
         (out.new.items
         ≡ out.old.items
-        ++ text derivation_form (drv_value (record (drv_of parts.now) { inputs = map input_of inputs.now }))) }
+        ++ text derivation_form
+        (drv_value (record (drv_of parts.now) { inputs = map input_of inputs.now }))) }
 {
     write_list_behind(b"Derive(", &parts.outputs, out)?;
     write_list_behind(b",", inputs, out)?;

@@ -14,14 +14,17 @@ use crate::rows::has_row;
 use indexmap::IndexMap;
 use nix_names::StorePath;
 
-// Which registration stands against their being taken in, if any: the first whose path has a row, or
-// else the first with a reference that neither has one nor is registered here.
+// Which registration stands against their being taken in, if any: the first whose path has a row,
+// or else the first with a reference that neither has one nor is registered here.
 pub(crate) fn blame(
     rows: &IndexMap<StorePath, Record>,
     registrations: &[Registration],
 ) -> Option<Blame>
     requires { IsRising (paths_of registrations.now) }
-    ensures { MatchOption result (AreNew (registrations_of rows.now.entries) registrations.now × AreClosed (registrations_of rows.now.entries) registrations.now) (IsBlamed (registrations_of rows.now.entries) registrations.now) }
+    ensures { MatchOption result
+        (AreNew (registrations_of rows.now.entries) registrations.now
+        × AreClosed (registrations_of rows.now.entries) registrations.now)
+        (IsBlamed (registrations_of rows.now.entries) registrations.now) }
 {
     let registration = new_front(rows, registrations);
     if registration < registrations.len() {
@@ -35,7 +38,8 @@ pub(crate) fn blame(
 
 // How many first registrations have paths without a row.
 pub(crate) fn new_front(rows: &IndexMap<StorePath, Record>, registrations: &[Registration]) -> usize
-    ensures { IsNewFront (paths_of (registrations_of rows.now.entries)) (paths_of registrations.now) result }
+    ensures { IsNewFront (paths_of (registrations_of rows.now.entries)) (paths_of registrations.now)
+        result }
 {
     for (count, registration) in registrations.iter().enumerate() {
         if has_row(rows, &registration.path) {
@@ -51,7 +55,8 @@ fn first_unclosed(
     registrations: &[Registration],
 ) -> Option<Blame>
     requires { IsRising (paths_of registrations.now) }
-    ensures { MatchOption result (AreClosed (registrations_of rows.now.entries) registrations.now) (IsUnclosedAt (registrations_of rows.now.entries) registrations.now) }
+    ensures { MatchOption result (AreClosed (registrations_of rows.now.entries) registrations.now)
+        (IsUnclosedAt (registrations_of rows.now.entries) registrations.now) }
 {
     for (place, registration) in registrations.iter().enumerate() {
         let references = registration.info.references();
@@ -72,7 +77,10 @@ pub(crate) fn first_unknown(
     paths: &[StorePath],
 ) -> Option<usize>
     requires { IsRising (paths_of registrations.now) }
-    ensures { MatchOption result (All (IsValid (registrations_of rows.now.entries ++ registrations.now)) paths.now) (IsFirstUnknownAt (paths_of (registrations_of rows.now.entries ++ registrations.now)) paths.now) }
+    ensures { MatchOption result
+        (All (IsValid (registrations_of rows.now.entries ++ registrations.now)) paths.now)
+        (IsFirstUnknownAt (paths_of (registrations_of rows.now.entries ++ registrations.now))
+        paths.now) }
 {
     for (place, path) in paths.iter().enumerate() {
         if !is_known(rows, registrations, path) {
@@ -89,7 +97,8 @@ fn is_known(
     path: &StorePath,
 ) -> bool
     requires { IsRising (paths_of registrations.now) }
-    ensures { IsTrue result ↔ IsValid (registrations_of rows.now.entries ++ registrations.now) path.now }
+    ensures { IsTrue result
+        ↔ IsValid (registrations_of rows.now.entries ++ registrations.now) path.now }
 {
     has_row(rows, path) || is_registered(registrations, path)
 }

@@ -30,7 +30,8 @@ impl Model for Record {
 
     ghost Value = { PathInfo };
 
-    ghost view = { λ r. record { references = option_map_or arc_slice_items r.references []; digest = r.digest } };
+    ghost view = { λ r. record
+        { references = option_map_or arc_slice_items r.references []; digest = r.digest } };
 
     ghost invariant = { λ r. IsRising (option_map_or arc_slice_items r.references []) };
 }
@@ -105,7 +106,8 @@ impl Registration {
     }
 }
 
-/// The outputs of one derivation: at least one, strictly rising by path. A contract sees their list.
+/// The outputs of one derivation: at least one, strictly rising by path. A contract sees their
+/// list.
 #[derive(Debug, Drop)]
 pub struct Outputs {
     registrations: Vec<Registration>,
@@ -120,7 +122,8 @@ impl Model for Outputs {
 
     ghost view = { λ o. o.registrations.items };
 
-    ghost invariant = { λ o. (o.registrations.items ≢ []) × IsRising (map (λ (r : Registration). r.path) o.registrations.items) };
+    ghost invariant = { λ o. (o.registrations.items ≢ [])
+        × IsRising (map (λ (r : Registration). r.path) o.registrations.items) };
 }
 
 impl Outputs {
@@ -136,7 +139,8 @@ impl Outputs {
     /// The outputs with these paths and records, in whatever order they come: none where there are
     /// none, or where a path comes twice. Sorts them in place, and takes no memory.
     pub fn sorted(mut registrations: Vec<Registration>) -> Option<Outputs>
-        ensures { MatchOption result ((registrations.items ≢ []) × IsOnce registrations.items → ⊥) (IsSortedOf registrations.items) }
+        ensures { MatchOption result ((registrations.items ≢ []) × IsOnce registrations.items → ⊥)
+            (IsSortedOf registrations.items) }
     {
         if registrations.is_empty() {
             return None;

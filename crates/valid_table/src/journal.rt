@@ -37,9 +37,13 @@ impl Model for Journal {
 
     ghost Value = { JournalValue };
 
-    ghost view = { λ j. record { entries = j.entries.items; room = min j.table.room (vec_capacity j.entries - length j.entries.items) } };
+    ghost view = { λ j. record {
+      entries = j.entries.items;
+      room = min j.table.room (vec_capacity j.entries - length j.entries.items);
+    } };
 
-    ghost invariant = { λ j. IsJournal j.entries.items × (j.table.registrations ≡ registered j.entries.items) };
+    ghost invariant = { λ j. IsJournal j.entries.items
+        × (j.table.registrations ≡ registered j.entries.items) };
 }
 
 impl Journal {
@@ -94,7 +98,8 @@ impl Journal {
     /// only where it is neither. A fault leaves the entries as they were. Costs one look-up by hash
     /// for each reference, and two for the path.
     pub fn add(&mut self, path: StorePath, info: Record) -> Result<(), TableFault>
-        ensures adding { IsAdding self.old.entries self.new.entries (Add (record { path = path; info = info })) result }
+        ensures adding { IsAdding self.old.entries self.new.entries
+            (Add (record { path = path; info = info })) result }
         ensures room { self.old.room ≤ self.new.room + 1 }
     {
         self.add_entry(Entry::Add(Registration { path, info }))
@@ -131,8 +136,8 @@ impl Journal {
         self.table.register_reserved(copy);
     }
 
-    /// The same journal again. Answers `NoMemory` where memory is refused, and no other fault. Costs
-    /// one look-up by hash for each registered path.
+    /// The same journal again. Answers `NoMemory` where memory is refused, and no other fault.
+    /// Costs one look-up by hash for each registered path.
     pub fn copy(&self, alloc: Global) -> Result<Journal, TableFault>
         ensures ok { IfOk result (λ journal. journal.entries ≡ self.now.entries) }
         ensures err { IfErr result (λ e. e ≡ TableFault.NoMemory) }

@@ -5,7 +5,7 @@
 //! | `entry`, `entry_eq` | entries of a journal, and when they are equal |
 //! | `reference` | one reference of a record |
 //! | `journal` | journals: their entries, one more |
-//! | `lines`, `reading`, `writing` | a journal's text: one line, the whole read, the whole written |
+//! | `lines`, `reading`, `writing` | a journal's text: one line, all of it read, all written |
 //! | `entering`, `obstacle` | what stands against an entry |
 //! | `checking` | entries whose text was read, line by line |
 //! | `rows`, `table` | the rows of valid paths, and the table of them |
