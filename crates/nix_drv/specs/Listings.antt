@@ -11,6 +11,11 @@ use Rattle.nix_drv.specs.Reading.{◌>>=◌, fixed_at, list_at}
 abbrev pub list_text : {A : Type 0} → (A → List ℕ) → List A → List ℕ
 list_text text_of vs = 91 ∷ separated text_of vs ++ 93 ∷ []
 
+-- the texts of the elements, with a comma before each
+abbrev pub others_text : {A : Type 0} → (A → List ℕ) → List A → List ℕ
+others_text text_of [] = []
+others_text text_of (v ∷ vs) = 44 ∷ text_of v ++ others_text text_of vs
+
 -- a list from its first bracket on
 abbrev pub list_read : {A : Type 0} → (List ℕ → Result (A × List ℕ) ℕ) → List ℕ → Result (List A × List ℕ) ℕ
 list_read one s = fixed_at (91 ∷ []) s >>= λ x. list_at one x.1

@@ -45,7 +45,9 @@ pub fn check_text(
 
 // The paths that a derivation refers to, as references of its text: rising, each once.
 fn references(alloc: Global, dir: &StoreDir, drv: &Derivation) -> Result<Vec<StorePath>, DrvFault>
-    ensures ok { IfOk result (λ refs. All (IsPathOf dir.now) (paths_of drv.now) × IsReferencesOf (paths_of drv.now) refs.items) }
+    ensures ok { IfOk result
+        (λ refs. All (IsPathOf dir.now) (paths_of drv.now)
+        × IsReferencesOf (paths_of drv.now) refs.items) }
     ensures err { IfErr result (IsStrayFault dir.now (paths_of drv.now)) }
 {
     let mut refs = Vec::new(alloc);
@@ -63,9 +65,12 @@ fn add_paths<T: Element>(
     items: &[T],
     refs: &mut Vec<StorePath>,
 ) -> Result<(), DrvFault>
-    ensures added { OnOk result (refs.new.items ≡ refs.old.items ++ map (λ item. key_of T.form (T.value item)) items.now) }
-    ensures good { OnOk result (All (IsPathOf dir.now) (map (λ item. key_of T.form (T.value item)) items.now)) }
-    ensures err { IfErr result (IsStrayFault dir.now (map (λ item. key_of T.form (T.value item)) items.now)) }
+    ensures added { OnOk result
+        (refs.new.items ≡ refs.old.items ++ map (λ item. key_of T.form (T.value item)) items.now) }
+    ensures good { OnOk result
+        (All (IsPathOf dir.now) (map (λ item. key_of T.form (T.value item)) items.now)) }
+    ensures err { IfErr result
+        (IsStrayFault dir.now (map (λ item. key_of T.form (T.value item)) items.now)) }
 {
     for item in items {
         refs.push(parse_reference(alloc, dir, item.key())?)?;

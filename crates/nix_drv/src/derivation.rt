@@ -74,7 +74,9 @@ impl Parts {
     /// The text of the parts as they stand, in order or not, with these input derivations in place
     /// of their own. Takes time in proportion to the text.
     pub fn text_with_inputs(&self, alloc: Global, inputs: &[Input]) -> Result<Vec<u8>, AllocError>
-        ensures { IfOk result (λ bytes. IsLooseText (record (drv_of self.now) { inputs = map input_of inputs.now }) bytes.items) }
+        ensures { IfOk result
+            (λ bytes. IsLooseText (record (drv_of self.now) { inputs = map input_of inputs.now })
+            bytes.items) }
     {
         let mut text = Vec::new(alloc);
         write_parts(self, inputs, &mut text)?;
@@ -137,7 +139,8 @@ impl Derivation {
 
     // Adds the derivation's text.
     pub(crate) fn write_to(&self, out: &mut Vec<u8>) -> Result<(), AllocError>
-        ensures ok { OnOk result (out.new.items ≡ out.old.items ++ text derivation_form (drv_value self.now)) }
+        ensures ok { OnOk result
+            (out.new.items ≡ out.old.items ++ text derivation_form (drv_value self.now)) }
         ensures in_order { InOrder derivation_form (drv_value self.now) }
     {
         write_parts(&self.parts, &self.parts.inputs, out)

@@ -3,8 +3,8 @@
 ghost use Rattle.std.specs.Prelude.{◌≡◌, ◌++◌, IfOk, OnOk, map, option_map};
 ghost use Rattle.nix_drv.specs.Grammar.{Grammar, Value, Free, Many, text, IsClear};
 ghost use Rattle.nix_drv.specs.Order.{key as key_of, breaks as breaks_of};
-ghost use Rattle.nix_drv.specs.Listings.{sign_at, list_read, list_text, order_of};
-ghost use Rattle.nix_drv.specs.Reading.{read as read_of};
+ghost use Rattle.nix_drv.specs.Listings.{sign_at, list_read, list_text, others_text, order_of};
+ghost use Rattle.nix_drv.specs.Reading.{elements_of, read as read_of};
 ghost use Rattle.nix_drv.specs.Passing.{pass as pass_of};
 ghost use Rattle.nix_drv.specs.Stops.{Gives};
 
@@ -71,13 +71,23 @@ pub(crate) fn read_list<T: Element + Drop>(
     alloc: Global,
     bytes: &[u8],
 ) -> Result<(Vec<T>, &[u8]), Stop>
-    ensures { Gives (λ x. (map T.value x.0.items, x.1.now)) result (list_read (read_of T.form) bytes.now) }
+    ensures { Gives (λ x. (map T.value x.0.items, x.1.now)) result
+        (list_read (read_of T.form) bytes.now) }
 {
-    let mut rest = fixed_of(bytes, b"[")?;
-    let mut items = Vec::new(alloc);
-    if let [b']', behind @ ..] = rest {
-        return Ok((items, behind));
+    let rest = fixed_of(bytes, b"[")?;
+    match rest {
+        [b']', behind @ ..] => Ok((Vec::new(alloc), behind)),
+        _ => read_elements(alloc, rest),
     }
+}
+
+// The elements of a list at the head of the bytes, one at least, and the bytes behind the list.
+fn read_elements<T: Element + Drop>(alloc: Global, bytes: &[u8]) -> Result<(Vec<T>, &[u8]), Stop>
+    ensures { Gives (λ x. (map T.value x.0.items, x.1.now)) result
+        (elements_of (read_of T.form) bytes.now) }
+{
+    let mut rest = bytes;
+    let mut items = Vec::new(alloc);
     'items: loop {
         let (item, after) = T::read(alloc, rest)?;
         items.push(item)?;
@@ -122,18 +132,27 @@ pub(crate) fn pass_list<T: Element>(order: Order, items: &[T], place: usize) -> 
 
 // Adds the list's text.
 pub(crate) fn write_list<T: Element>(items: &[T], out: &mut Vec<u8>) -> Result<(), AllocError>
-    ensures { OnOk result (out.new.items ≡ out.old.items ++ list_text (text T.form) (map T.value items.now)) }
+    ensures { OnOk result
+        (out.new.items ≡ out.old.items ++ list_text (text T.form) (map T.value items.now)) }
 {
     let [first, others @ ..] = items else {
         return out.extend_from_slice(b"[]");
     };
-    out.push(b'[')?;
+    out.extend_from_slice(b"[")?;
     first.write(out)?;
+    write_others(others, out)?;
+    out.extend_from_slice(b"]")
+}
+
+// Adds a comma and the element's text for each.
+fn write_others<T: Element>(others: &[T], out: &mut Vec<u8>) -> Result<(), AllocError>
+    ensures { OnOk result
+        (out.new.items ≡ out.old.items ++ others_text (text T.form) (map T.value others.now)) }
+{
     'others: for other in others {
         out.push(b',')?;
         other.write(out)?;
     }
-    out.push(b']')?;
     Ok(())
 }
 

@@ -1,13 +1,15 @@
 //! How the elements of a derivation's lists stand in its text.
 
-ghost use Rattle.std.specs.Prelude.{◌≡◌, ◌++◌, IfOk, OnOk, map};
+ghost use Rattle.std.specs.Prelude.{◌≡◌, ◌++◌, ◌∷◌, IfOk, OnOk, map};
 ghost use Rattle.std.proofs.Common.{rules};
 ghost use Rattle.nix_drv.specs.Grammar.{Str, Then, text};
 ghost use Rattle.nix_drv.specs.Derivation.{drv_value, output_form, output_value, input_form, input_value, entry_form, entry_value, build_form, derivation_form, comma};
 ghost use Rattle.nix_drv.specs.Reading.{read as read_of};
 ghost use Rattle.nix_drv.specs.Passing.{pass as pass_of};
 ghost use Rattle.nix_drv.specs.Behind.{string_behind, strings_behind, list_behind};
+ghost use Rattle.nix_drv.specs.Listings.{list_text};
 ghost use Rattle.nix_drv.specs.Stops.{Gives};
+ghost use Rattle.nix_drv.specs.Strings.{string_text};
 ghost use Rattle.nix_drv.specs.Parts.{drv_of, bytes_of, output_of, input_of, entry_of, build_of, parts_build, parts_value};
 
 use crate::derivation::{EnvEntry, Input, Output, Parts};
@@ -54,6 +56,44 @@ fn read_items<'a, T: Element + Drop>(
 {
     let rest = fixed_of(bytes, wanted)?;
     read_list(alloc, rest)
+}
+
+// Adds the mark and the string's text.
+fn write_str_behind(mark: &[u8], bytes: &[u8], out: &mut Vec<u8>) -> Result<(), AllocError>
+    ensures { OnOk result
+        (out.new.items ≡ out.old.items ++ (mark.now ++ string_text bytes.now)) }
+{
+    out.extend_from_slice(mark)?;
+    write_str(bytes, out)
+}
+
+// Adds the mark and the strings' texts with a comma between.
+fn write_strs_behind(
+    mark: &[u8],
+    first: &[u8],
+    second: &[u8],
+    out: &mut Vec<u8>,
+) -> Result<(), AllocError>
+    ensures { OnOk result
+        (out.new.items
+        ≡ out.old.items ++ (mark.now ++ string_text first.now ++ 44 ∷ string_text second.now)) }
+{
+    write_str_behind(mark, first, out)?;
+    write_str_behind(b",", second, out)
+}
+
+// Adds the mark and the list's text.
+fn write_list_behind<T: Element>(
+    mark: &[u8],
+    items: &[T],
+    out: &mut Vec<u8>,
+) -> Result<(), AllocError>
+    ensures { OnOk result
+        (out.new.items
+        ≡ out.old.items ++ (mark.now ++ list_text (text T.form) (map T.value items.now))) }
+{
+    out.extend_from_slice(mark)?;
+    write_list(items, out)
 }
 
 impl Element for Vec<u8> {
@@ -110,12 +150,8 @@ impl Element for EnvEntry {
 
     #[tactic(auto, unfolding(crate::specs::Grammar::text))]
     fn write(&self, out: &mut Vec<u8>) -> Result<(), AllocError> {
-        out.push(b'(')?;
-        write_str(&self.key, out)?;
-        out.push(b',')?;
-        write_str(&self.value, out)?;
-        out.push(b')')?;
-        Ok(())
+        write_strs_behind(b"(", &self.key, &self.value, out)?;
+        out.extend_from_slice(b")")
     }
 
     fn copy(&self, alloc: Global) -> Result<Self, AllocError> {
@@ -153,12 +189,9 @@ impl Element for Input {
 
     #[tactic(auto, unfolding(crate::specs::Grammar::text))]
     fn write(&self, out: &mut Vec<u8>) -> Result<(), AllocError> {
-        out.push(b'(')?;
-        write_str(&self.path, out)?;
-        out.push(b',')?;
-        write_list(&self.names, out)?;
-        out.push(b')')?;
-        Ok(())
+        write_str_behind(b"(", &self.path, out)?;
+        write_list_behind(b",", &self.names, out)?;
+        out.extend_from_slice(b")")
     }
 
     fn copy(&self, alloc: Global) -> Result<Self, AllocError> {
@@ -206,16 +239,9 @@ impl Element for Output {
 
     #[tactic(auto, unfolding(crate::specs::Grammar::text))]
     fn write(&self, out: &mut Vec<u8>) -> Result<(), AllocError> {
-        out.push(b'(')?;
-        write_str(&self.name, out)?;
-        out.push(b',')?;
-        write_str(&self.path, out)?;
-        out.push(b',')?;
-        write_str(&self.algo, out)?;
-        out.push(b',')?;
-        write_str(&self.hash, out)?;
-        out.push(b')')?;
-        Ok(())
+        write_strs_behind(b"(", &self.name, &self.path, out)?;
+        write_strs_behind(b",", &self.algo, &self.hash, out)?;
+        out.extend_from_slice(b")")
     }
 
     fn copy(&self, alloc: Global) -> Result<Self, AllocError> {
@@ -302,18 +328,15 @@ pub(crate) fn pass_parts(parts: &Parts) -> Result<usize, usize>
     pass_build(parts, at.saturating_add(1))
 }
 
+// Adds a comma and the text of how it is built.
 fn write_build(parts: &Parts, out: &mut Vec<u8>) -> Result<(), AllocError>
-    ensures { OnOk result (out.new.items ≡ out.old.items ++ text build_form (parts_build parts.now)) }
+    ensures { OnOk result
+        (out.new.items ≡ out.old.items ++ 44 ∷ text build_form (parts_build parts.now)) }
 {
-    write_str(&parts.system, out)?;
-    out.push(b',')?;
-    write_str(&parts.builder, out)?;
-    out.push(b',')?;
-    write_list(&parts.args, out)?;
-    out.push(b',')?;
-    write_list(&parts.env, out)?;
-    out.push(b')')?;
-    Ok(())
+    write_strs_behind(b",", &parts.system, &parts.builder, out)?;
+    write_list_behind(b",", &parts.args, out)?;
+    write_list_behind(b",", &parts.env, out)?;
+    out.extend_from_slice(b")")
 }
 
 // Adds the parts' text, with these input derivations in place of their own.
@@ -322,15 +345,15 @@ pub(crate) fn write_parts(
     inputs: &[Input],
     out: &mut Vec<u8>,
 ) -> Result<(), AllocError>
-    ensures { OnOk result (out.new.items ≡ out.old.items ++ text derivation_form (drv_value (record (drv_of parts.now) { inputs = map input_of inputs.now }))) }
+    ensures { OnOk result
+        (out.new.items
+        ≡ out.old.items
+        ++ text derivation_form
+        (drv_value (record (drv_of parts.now) { inputs = map input_of inputs.now }))) }
 {
-    out.extend_from_slice(b"Derive(")?;
-    write_list(&parts.outputs, out)?;
-    out.push(b',')?;
-    write_list(inputs, out)?;
-    out.push(b',')?;
-    write_list(&parts.sources, out)?;
-    out.push(b',')?;
+    write_list_behind(b"Derive(", &parts.outputs, out)?;
+    write_list_behind(b",", inputs, out)?;
+    write_list_behind(b",", &parts.sources, out)?;
     write_build(parts, out)
 }
 

@@ -33,7 +33,12 @@ impl Model for ListSource {
 
     ghost Value = { Listing };
 
-    ghost view = { λ source. record { files = entries_of source.files.entries; failing = source.failing.items; fetches = source.fetches; failures = source.failures } };
+    ghost view = { λ source. record {
+      files = entries_of source.files.entries;
+      failing = source.failing.items;
+      fetches = source.fetches;
+      failures = source.failures;
+    } };
 }
 
 impl ListSource {
@@ -102,13 +107,15 @@ impl DrvSource for ListSource {
     }
 }
 
-// The bytes of the first file at each path. The files go in from the last to the first, since a path
-// keeps the bytes that come last.
+// The bytes of the first file at each path. The files go in from the last to the first, since a
+// path keeps the bytes that come last.
 fn by_path(
     alloc: Global,
     mut files: Vec<ListedFile>,
 ) -> Result<IndexMap<Vec<u8>, Vec<u8>>, SourceFault>
-    ensures ok { IfOk result (λ map. (path : List ℕ) → bytes_at (entries_of map.entries) path ≡ bytes_at (pairs_of files.items) path) }
+    ensures ok { IfOk result
+        (λ map. (path : List ℕ)
+        → bytes_at (entries_of map.entries) path ≡ bytes_at (pairs_of files.items) path) }
     ensures err { IfErr result (λ fault. fault ≡ SourceFault.NoMemory) }
 {
     let mut by_path = IndexMap::new(alloc);

@@ -21,7 +21,8 @@ pub fn text_path(
     refs: &[StorePath],
 ) -> Result<StorePath, NameFault>
     requires { IsRising refs.now }
-    ensures { Answers (if is_name name.now then None else Some NameFault.BadName) result (λ path. path ≡ text_path dir.now name.now bytes.now refs.now) }
+    ensures { Answers (if is_name name.now then None else Some NameFault.BadName) result
+        (λ path. path ≡ text_path dir.now name.now bytes.now refs.now) }
 {
     if !is_name(name) {
         return Err(NameFault::BadName);

@@ -25,7 +25,8 @@ fn write_byte<W: Write>(out: &mut W, byte: u8) -> io::Result<()>
 /// Writes a string as a derivation's text spells it, with its quotes. Takes time in proportion to
 /// the bytes, and refuses only where the writer does.
 pub fn write_string<W: Write>(out: &mut W, bytes: &[u8]) -> io::Result<()>
-    ensures { OnOk result (Appends (W.contents out.old) (W.contents out.new) (string_text bytes.now)) }
+    ensures { OnOk result
+        (Appends (W.contents out.old) (W.contents out.new) (string_text bytes.now)) }
 {
     out.write_all(b"\"")?;
     let mut rest = bytes;

@@ -27,7 +27,7 @@ pub refused_for_memory : (old new : List Entry) (path copy : List ℕ) (info : P
     → ¬ (IsValid (registered old) path) → copy ≡ path → info.references ≡ []
     → IsAdding old new (Add (record { path = copy; info = info })) (Err fault)
     → (fault ≡ table.NoMemory) × (new ≡ old)
-refused_for_memory old new path copy info table.NoMemory fresh same none h = (refl, h)
+refused_for_memory old new path copy info table.NoMemory fresh same none h = (refl, h.2)
 refused_for_memory old new path copy info (table.AlreadyValid p) fresh same none h =
     let entry : Entry = Add (record { path = copy; info = info }) in
     let first : IsFirstValid (registered old) (registered_by entry) p = h.0 in

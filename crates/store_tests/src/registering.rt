@@ -4,7 +4,7 @@ ghost use Rattle.std.specs.Prelude.{◌+◌, ◌≤◌};
 use crate::paths::{is_written_as, numbered, path, registration, registrations};
 use std::alloc::Global;
 use std::test::Fail;
-use valid_table::{Entry, Journal, Outputs, Table, TableFault};
+use valid_table::{Entry, Journal, Obstacle, Outputs, Table, TableFault};
 
 const DERIVER: &[u8] = b"/nix/store/dddddddddddddddddddddddddddddddd-p.drv";
 
@@ -108,10 +108,8 @@ fn valid(alloc: Global, table: &Table) -> Result<[bool; 5], Fail> {
 // The number of a fault and the path that it names, if any.
 fn told(fault: &TableFault) -> (u8, &[u8]) {
     match fault {
-        TableFault::AlreadyValid(path) | TableFault::Unclosed(path) => (
-            fault.number(),
-            path.text(),
-        ),
+        TableFault::AlreadyValid(path) => (fault.number(), path.text()),
+        TableFault::Unclosed(reference) => (fault.number(), reference.text()),
         _ => (fault.number(), b""),
     }
 }
@@ -138,13 +136,21 @@ fn registered_entries(rt: HostRuntime) -> Result<(), Fail> {
     Ok(())
 }
 
+// The number of the fault that tells an obstacle, and the path that is to blame.
+fn stands(obstacle: Obstacle<'_>) -> (u8, &[u8]) {
+    match obstacle {
+        Obstacle::AlreadyValid(path) => (37, path.text()),
+        Obstacle::Unclosed(path) => (36, path.text()),
+    }
+}
+
 // Whether just this stands against the outputs in the table of two paths.
 fn is_obstacle(alloc: Global, attempt: &Attempt) -> Result<bool, Fail> {
     let table = two_paths(alloc)?;
     let entry = built(alloc, attempt.outputs)?;
     match table.obstacle(&entry) {
         None => Ok(attempt.fault.0 == 0),
-        Some(obstacle) => Ok(told(&obstacle.fault(alloc)) == attempt.fault),
+        Some(obstacle) => Ok(stands(obstacle) == attempt.fault),
     }
 }
 

@@ -1,9 +1,9 @@
 -- Registrations whose paths and references are looked up among known ones.
-use Rattle.std.proofs.Common.{◌≡◌, ◌∙◌, ℕ, ◌+◌, ◌<◌, ◌≤◌, List, ◌∷◌, ◌++◌, length, take, drop, get_or, sym, ap, subst, arith}
+use Rattle.std.proofs.Common.{◌≡◌, ◌∙◌, ℕ, ◌+◌, ◌<◌, ◌≤◌, List, ◌∷◌, ◌++◌, inl, inr, length, take, drop, get_or, sym, ap, subst, arith}
 use Rattle.std.specs.Prelude.{All, Contains, IfSome, Some, slice_get}
-use Rattle.std.proofs.lemmas.List.{append_assoc, get_or-map, get_or_at, length-take-le, take_all}
+use Rattle.std.proofs.lemmas.List.{append_assoc, get_or-map, get_or_at, length-append, length-take-le, take_all}
 use Rattle.std.proofs.lemmas.List.Elements.{All-append, All-more}
-use Rattle.std.proofs.lemmas.Option.{MatchOption-at_some, slice_get-get_or, slice_get_past}
+use Rattle.std.proofs.lemmas.Option.{MatchOption-at_some, get_or_from_slice_get, slice_get-get_or, slice_get_cases, slice_get_past}
 use Rattle.valid_table.specs.Entering.{AreUnknown, IsFirstUnknownAt, IsNewFront, IsUnknown}
 use Rattle.valid_table.specs.Entries.{paths_of}
 use Rattle.valid_table.specs.Firsts.{IsFirst}
@@ -83,33 +83,40 @@ pub known_more :
     All (Contains known) (take (i + 1) some)
 known_more known some i path all lt is there = All-more (Contains known) some i path lt all (subst (Contains known) is there)
 
+-- the element behind the first ones
+middle : {X : Type 0} (xs before : List X) (x : X) (after : List X) (i : ℕ) → xs ≡ before ++ x ∷ after → i ≡ length before → slice_get xs i ≡ Some x
+middle xs before x after i parts at =
+    let within : i < length xs = omega (arith, at, ap length parts, length-append before (x ∷ after)) in
+    slice_get-get_or xs i x within ∙ ap Some (ap (λ l. get_or l i x) parts ∙ get_or_at before x after x i (sym at))
+
 -- the first unknown reference of registrations whose first ones have none
 pub unclosed_here :
-    (known : List (List ℕ)) (rs : List Registration) (i : ℕ) (r : Registration) (references : List (List ℕ)) (place : ℕ) (path : List ℕ) →
+    (known : List (List ℕ)) (rs : List Registration) (i : ℕ) (r : Registration) (references : List (List ℕ)) (place : ℕ) →
     All (Contains known) (references_of (take i rs)) →
     i < length rs →
     r ≡ get_or rs i r →
     references ≡ r.info.references →
     IsFirstUnknownAt known references place →
-    path ≡ get_or references place path →
-    IsFirst (Contains known) (IsUnknown known) (references_of rs) path
-unclosed_here known rs i r references place path all lt is same (other, first, at) read =
+    (path : List ℕ) × (slice_get r.info.references place ≡ Some path) × IsFirst (Contains known) (IsUnknown known) (references_of rs) path
+unclosed_here known rs i r references place all lt is same (path, first, at) =
     let earlier = references_of (take i rs) in
     let rest = references_of (drop (i + 1) rs) in
-    let one : path ≡ other = read ∙ ap (λ l. get_or l place path) first.parts ∙ get_or_at first.before other first.after path place (sym at) in
-    let parts : references_of rs ≡ (earlier ++ first.before) ++ other ∷ (first.after ++ rest) =
+    let own : r.info.references ≡ first.before ++ path ∷ first.after = sym same ∙ first.parts in
+    let parts : references_of rs ≡ (earlier ++ first.before) ++ path ∷ (first.after ++ rest) =
     references_of_at rs i r lt is
-    ∙ ap (λ l. earlier ++ (l ++ rest)) (sym same ∙ first.parts)
-    ∙ ap (λ l. earlier ++ l) (append_assoc first.before (other ∷ first.after) rest)
-    ∙ sym (append_assoc earlier first.before (other ∷ (first.after ++ rest))) in
-    subst (IsFirst (Contains known) (IsUnknown known) (references_of rs)) (sym one)
-    (record {
-      before = earlier ++ first.before;
-      after = first.after ++ rest;
-      parts = parts;
-      others = All-append (Contains known) earlier first.before all first.others;
-      is = first.is;
-    })
+    ∙ ap (λ l. earlier ++ (l ++ rest)) own
+    ∙ ap (λ l. earlier ++ l) (append_assoc first.before (path ∷ first.after) rest)
+    ∙ sym (append_assoc earlier first.before (path ∷ (first.after ++ rest))) in (
+      path,
+      middle r.info.references first.before path first.after place own at,
+      record {
+        before = earlier ++ first.before;
+        after = first.after ++ rest;
+        parts = parts;
+        others = All-append (Contains known) earlier first.before all first.others;
+        is = first.is;
+      },
+    )
 
 -- the references of one more registration are known
 pub closed_more :
@@ -128,17 +135,17 @@ closed_more known rs i r references all lt is same more =
 pub closed_all : (known : List (List ℕ)) (rs : List Registration) (n : ℕ) → length rs ≤ n → All (Contains known) (references_of (take n rs)) → All (Contains known) (references_of rs)
 closed_all known rs n long all = subst (λ l. All (Contains known) (references_of l)) (take_all n rs long) all
 
--- the path behind the new ones is known
-pub known_behind :
+-- the path of the registration behind the new ones is the first that is known
+first_known :
     (known : List (List ℕ)) (rs : List Registration) (count : ℕ) (r : Registration) →
     IsNewFront known (paths_of rs) count →
     count < length rs →
-    r ≡ get_or rs count r →
+    slice_get rs count ≡ Some r →
     IsFirst (IsUnknown known) (Contains known) (paths_of rs) r.path
-known_behind known rs count r front lt is =
+first_known known rs count r front lt read =
     let paths = paths_of rs in
     let path = r.path in
-    let at : get_or paths count path ≡ path = path_at rs count r path lt is in
+    let at : get_or paths count path ≡ path = path_at rs count r path lt (sym (get_or_from_slice_get rs count r r read)) in
     let within : count < length paths = omega (arith, path_count rs) in
     let some : slice_get paths count ≡ Some path = slice_get-get_or paths count path within ∙ ap Some at in
     record {
@@ -148,6 +155,17 @@ known_behind known rs count r front lt is =
       others = front.new;
       is = MatchOption-at_some (Unit {0}) (Contains known) path some front.next;
     }
+
+-- the path behind the new ones is known
+pub known_behind :
+    (known : List (List ℕ)) (rs : List Registration) (count : ℕ) →
+    IsNewFront known (paths_of rs) count →
+    count < length rs →
+    (r : Registration) × (slice_get rs count ≡ Some r) × IsFirst (IsUnknown known) (Contains known) (paths_of rs) r.path
+known_behind known rs count front lt = elim (slice_get_cases rs count).1 [
+  | inl (r, within, read, at) ↦ (r, read, first_known known rs count r front lt read)
+  | inr (long, none) ↦ absurd (omega arith)
+]
 
 -- where none is behind the new ones, all are new
 pub all_new : (known : List (List ℕ)) (rs : List Registration) (count : ℕ) → IsNewFront known (paths_of rs) count → length rs ≤ count → AreUnknown known (paths_of rs)

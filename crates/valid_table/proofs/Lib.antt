@@ -1,6 +1,7 @@
 pub mod AddedEntries
 pub mod AddedRows
 pub mod BadLineLaws
+pub mod Blamed
 pub mod CheckedEntries
 pub mod CheckedJournal
 pub mod CheckedLines

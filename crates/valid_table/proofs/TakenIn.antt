@@ -1,18 +1,15 @@
 -- Registrations that are taken in behind known ones.
-use Rattle.std.proofs.Common.{◌≡◌, ◌⊎◌, ◌≤◌, ℕ, List, [], ◌∷◌, ◌++◌, length, nat_eq, refl, sym, subst, ⊎_elim, arith}
-use Rattle.std.specs.Prelude.{All, Contains, Err}
+use Rattle.std.proofs.Common.{◌≡◌, ◌⊎◌, ◌≤◌, ℕ, List, [], ◌∷◌, ◌++◌, length, nat_eq, refl, sym, subst, arith}
+use Rattle.std.specs.Prelude.{All, Contains}
 use Rattle.std.specs.Cmp.Lexicographic.{pointwise}
 use Rattle.std.specs.List.{IsDistinct}
 use Rattle.std.proofs.lemmas.List.Elements.{All-append, Contains-append_cases, Contains-append_right}
 use Rattle.nix_names.specs.Rising.{IsRising}
 use Rattle.nix_names.proofs.RisingLists.{distinct_from_rising}
-use Rattle.valid_table.specs.Adding.{AreClosed, AreNew, IsFaultOf, IsObstacle, IsTaking}
+use Rattle.valid_table.specs.Adding.{AreClosed, AreNew}
 use Rattle.valid_table.specs.Entries.{paths_of}
 use Rattle.valid_table.specs.Valid.{AreReferencesValid, IsOnce, IsValid, references_of}
 use Rattle.valid_table.specs.declared.entry.Registration.{Registration}
-use Rattle.valid_table.specs.declared.fault.TableFault.{TableFault}
-use Rattle.valid_table.specs.declared.obstacle.Obstacle.{Obstacle}
-use Rattle.valid_table.specs.declared.obstacle.Obstacle.TheVariants as obstacle
 use Rattle.valid_table.proofs.JournalLists.{paths_of-append, references_of-append, valid_more}
 use Rattle.valid_table.proofs.PathLists.{distinct_append}
 
@@ -38,20 +35,6 @@ valid_cases known some path valid =
 pub valid_by_some : (known some : List Registration) (path : List ℕ) → IsValid some path → IsValid (known ++ some) path
 valid_by_some known some path valid =
     subst (λ paths. Contains paths path) (sym (paths_of-append known some)) (Contains-append_right (paths_of known) (paths_of some) path valid)
-
--- what stands against registrations is what is answered
-pub taking_refused :
-    (known some : List Registration) (taken same : Type 0) (o : Obstacle) (fault : TableFault) →
-    IsObstacle known some o →
-    IsFaultOf o fault →
-    same →
-    IsTaking known some taken same (Err fault)
-taking_refused known some taken same (obstacle.AlreadyValid path) fault stands told kept =
-    let Is : TableFault → Type 0 = λ f. IsTaking known some taken same (Err f) in
-    ⊎_elim (λ e. subst Is (sym e) (stands, kept)) (λ e. subst Is (sym e) kept) told
-taking_refused known some taken same (obstacle.Unclosed path) fault stands told kept =
-    let Is : TableFault → Type 0 = λ f. IsTaking known some taken same (Err f) in
-    ⊎_elim (λ e. subst Is (sym e) (stands.0, stands.1, kept)) (λ e. subst Is (sym e) kept) told
 
 -- a list that isn't empty has an element
 pub some_elements : {X : Type 0} (xs : List X) → (xs ≡ [] → ⊥) → 1 ≤ length xs

@@ -1,5 +1,5 @@
 -- What it means that an entry is taken in: into a table, or at the end of a journal.
-use Rattle.std.specs.Prelude.{◌≡◌, ◌++◌, ◌⊎◌, ⊤, ℕ, List, [], ◌∷◌, All, Result, Ok, Err}
+use Rattle.std.specs.Prelude.{◌≡◌, ◌++◌, ⊤, ℕ, List, [], ◌∷◌, All, Result, Ok, Err}
 use Rattle.valid_table.specs.Entries.{paths_of, registered, registered_by}
 use Rattle.valid_table.specs.Firsts.{IsFirst}
 use Rattle.valid_table.specs.Valid.{IsNotValid, IsValid, references_of}
@@ -31,25 +31,23 @@ abbrev pub IsObstacle : (known some : List Registration) → Obstacle → Type 0
 IsObstacle known some (obstacle.AlreadyValid path) = IsFirstValid known some path.now
 IsObstacle known some (obstacle.Unclosed path) = AreNew known some × IsFirstUnclosed known some path.now
 
--- an obstacle is told as a fault, where its path can be copied
-abbrev pub IsFaultOf : Obstacle → TableFault → Type 0
-IsFaultOf (obstacle.AlreadyValid path) fault = (fault ≡ AlreadyValid path.now) ⊎ (fault ≡ NoMemory)
-IsFaultOf (obstacle.Unclosed path) fault = (fault ≡ Unclosed path.now) ⊎ (fault ≡ NoMemory)
-
--- What is answered where some registrations are to be taken in behind known ones: they are, or nothing changes.
+-- What is answered where some registrations are to be taken in behind known ones: they are, or nothing changes. Memory is
+-- refused only where nothing stands against them.
 abbrev pub IsTaking : (known some : List Registration) (taken same : Type 0) → Result ⊤ TableFault → Type 0
 IsTaking known some taken same (Ok _) = AreNew known some × AreClosed known some × taken
 IsTaking known some taken same (Err (AlreadyValid path)) = IsFirstValid known some path × same
 IsTaking known some taken same (Err (Unclosed path)) = AreNew known some × IsFirstUnclosed known some path × same
-IsTaking known some taken same (Err NoMemory) = same
+IsTaking known some taken same (Err NoMemory) = AreNew known some × AreClosed known some × same
 IsTaking known some taken same (Err other) = ⊥
 
 -- what is answered where an entry is to be added to a list of entries, and the list behind that
 abbrev pub IsAdding : (old new : List Entry) → Entry → Result ⊤ TableFault → Type 0
 IsAdding old new entry result = IsTaking (registered old) (registered_by entry) (new ≡ old ++ entry ∷ []) (new ≡ old) result
 
--- what is answered where an entry is to be registered behind known registrations, and the registrations behind that
+-- What is answered where a lent entry is to be registered behind known registrations, and the registrations behind that. A
+-- fault copies the path that it names, so want of memory may stand in its place.
 abbrev pub IsRegistering : (old new : List Registration) → Entry → Result ⊤ TableFault → Type 0
+IsRegistering old new entry (Err NoMemory) = new ≡ old
 IsRegistering old new entry result = IsTaking old (registered_by entry) (new ≡ old ++ registered_by entry) (new ≡ old) result
 
 -- none of the paths that an entry registers is valid

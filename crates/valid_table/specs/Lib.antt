@@ -1,5 +1,6 @@
 pub mod Adding
 pub mod BadLines
+pub mod Blames
 pub mod Checking
 pub mod Closing
 pub mod Closure

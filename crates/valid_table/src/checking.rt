@@ -44,8 +44,12 @@ fn check_entry(
 ) -> Result<usize, TableFault>
     requires few { line + length (entry_lines entry.now) < 2 ^ 64 }
     requires once { IsOnce (registrations_of rows.old.entries) }
-    ensures checked { IsEntryCheck (paths_of (registrations_of rows.old.entries)) (paths_of (registrations_of rows.old.entries ++ registered_by entry.now)) (entry_lines entry.now) line result }
-    ensures added { OnOk result (registrations_of rows.new.entries ≡ registrations_of rows.old.entries ++ registered_by entry.now) }
+    ensures checked { IsEntryCheck (paths_of (registrations_of rows.old.entries))
+        (paths_of (registrations_of rows.old.entries ++ registered_by entry.now))
+        (entry_lines entry.now) line result }
+    ensures added { OnOk result
+        (registrations_of rows.new.entries
+        ≡ registrations_of rows.old.entries ++ registered_by entry.now) }
     ensures unique { OnOk result (IsOnce (registrations_of rows.new.entries)) }
 {
     let registrations = entry.registrations();
@@ -75,7 +79,8 @@ fn check_lines(
 ) -> Result<usize, TableFault>
     requires few { line + length (flat_map output_lines registrations.now) < 2 ^ 64 }
     requires rising { IsRising (paths_of registrations.now) }
-    ensures { IsLineCheck (paths_of (registrations_of rows.now.entries ++ registrations.now)) registrations.now new line result }
+    ensures { IsLineCheck (paths_of (registrations_of rows.now.entries ++ registrations.now))
+        registrations.now new line result }
 {
     for (place, registration) in registrations.iter().enumerate() {
         if place == new {

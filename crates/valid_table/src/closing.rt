@@ -33,8 +33,10 @@ fn root_rows(
     roots: &[StorePath],
 ) -> Result<IndexSet<usize>, TableFault>
     ensures valid { OnOk result (All (IsValid (registrations_of rows.now.entries)) roots.now) }
-    ensures added { IfOk result (λ found. AddsRows (registrations_of rows.now.entries) [] roots.now found.keys) }
-    ensures err { IfErr result (λ e. IsClosing (registrations_of rows.now.entries) roots.now (Err e)) }
+    ensures added { IfOk result
+        (λ found. AddsRows (registrations_of rows.now.entries) [] roots.now found.keys) }
+    ensures err { IfErr result
+        (λ e. IsClosing (registrations_of rows.now.entries) roots.now (Err e)) }
 {
     let mut found = IndexSet::new(alloc);
     for root in roots {
@@ -53,7 +55,9 @@ fn follow_all(
 ) -> Result<(), AllocFailed<usize>>
     requires once { IsOnce (registrations_of rows.now.entries) }
     requires rows { AreRows (registrations_of rows.now.entries) found.old.keys }
-    ensures { OnOk result (IsFollowed (registrations_of rows.now.entries) found.old.keys found.new.keys (length found.new.keys)) }
+    ensures { OnOk result
+        (IsFollowed (registrations_of rows.now.entries) found.old.keys found.new.keys
+        (length found.new.keys)) }
 {
     let mut next = 0;
     while next < found.len() {
@@ -71,7 +75,8 @@ fn add_rows(
     found: &mut IndexSet<usize>,
 ) -> Result<(), AllocFailed<usize>>
     requires { AreRows (registrations_of rows.now.entries) found.old.keys }
-    ensures { OnOk result (AddsRows (registrations_of rows.now.entries) found.old.keys paths.now found.new.keys) }
+    ensures { OnOk result
+        (AddsRows (registrations_of rows.now.entries) found.old.keys paths.now found.new.keys) }
 {
     for path in paths {
         if let Some(row) = row_of(rows, path) {
@@ -83,7 +88,8 @@ fn add_rows(
 
 // The row of a path, if it is valid.
 fn row_of(rows: &IndexMap<StorePath, Record>, path: &StorePath) -> Option<usize>
-    ensures { MatchOption result (IsValid (registrations_of rows.now.entries) path.now → ⊥) (IsRowOf (registrations_of rows.now.entries) path.now) }
+    ensures { MatchOption result (IsValid (registrations_of rows.now.entries) path.now → ⊥)
+        (IsRowOf (registrations_of rows.now.entries) path.now) }
 {
     rows.get_index_of(path)
 }
@@ -97,7 +103,9 @@ fn sorted_paths(
     requires once { IsOnce (registrations_of rows.now.entries) }
     requires rows { AreRows (registrations_of rows.now.entries) found.now.keys }
     ensures rising { IfOk result (λ paths. IsRising paths.items) }
-    ensures same { IfOk result (λ paths. HaveSame paths.items (paths_at (registrations_of rows.now.entries) found.now.keys)) }
+    ensures same { IfOk result
+        (λ paths. HaveSame paths.items
+        (paths_at (registrations_of rows.now.entries) found.now.keys)) }
     ensures err { IfErr result (λ e. e ≡ TableFault.NoMemory) }
 {
     let texts = rows.keys();

@@ -1,40 +1,45 @@
 //! What stands against registrations, found by look-ups in the rows of a table.
 ghost use Rattle.std.specs.Prelude.{◌++◌, ◌↔◌, All, IsTrue, MatchOption};
 ghost use Rattle.nix_names.specs.Rising.{IsRising};
-ghost use Rattle.valid_table.specs.Adding.{AreClosed, AreNew, IsFirstUnclosed, IsObstacle};
+ghost use Rattle.valid_table.specs.Adding.{AreClosed, AreNew};
+ghost use Rattle.valid_table.specs.Blames.{IsBlamed, IsUnclosedAt};
 ghost use Rattle.valid_table.specs.Entering.{IsFirstUnknownAt, IsNewFront};
 ghost use Rattle.valid_table.specs.Entries.{paths_of};
 ghost use Rattle.valid_table.specs.Tables.{registrations_of};
 ghost use Rattle.valid_table.specs.Valid.{IsValid};
 
 use crate::entry::{Record, Registration};
-use crate::obstacle::Obstacle;
+use crate::obstacle::Blame;
 use crate::rows::has_row;
 use indexmap::IndexMap;
 use nix_names::StorePath;
 
-// What stands against registrations, if anything: the first path that has a row, or else the first
-// reference that neither has one nor is registered here.
-pub(crate) fn obstacle<'a>(
+// Which registration stands against their being taken in, if any: the first whose path has a row,
+// or else the first with a reference that neither has one nor is registered here.
+pub(crate) fn blame(
     rows: &IndexMap<StorePath, Record>,
-    registrations: &'a [Registration],
-) -> Option<Obstacle<'a>>
+    registrations: &[Registration],
+) -> Option<Blame>
     requires { IsRising (paths_of registrations.now) }
-    ensures { MatchOption result (AreNew (registrations_of rows.now.entries) registrations.now × AreClosed (registrations_of rows.now.entries) registrations.now) (IsObstacle (registrations_of rows.now.entries) registrations.now) }
+    ensures { MatchOption result
+        (AreNew (registrations_of rows.now.entries) registrations.now
+        × AreClosed (registrations_of rows.now.entries) registrations.now)
+        (IsBlamed (registrations_of rows.now.entries) registrations.now) }
 {
-    let count = new_front(rows, registrations);
-    if let Some(registration) = registrations.get(count) {
-        return Some(Obstacle::AlreadyValid(&registration.path));
+    let registration = new_front(rows, registrations);
+    if registration < registrations.len() {
+        return Some(Blame {
+            registration,
+            reference: None,
+        });
     }
-    match first_unclosed(rows, registrations) {
-        Some(path) => Some(Obstacle::Unclosed(path)),
-        None => None,
-    }
+    first_unclosed(rows, registrations)
 }
 
 // How many first registrations have paths without a row.
 pub(crate) fn new_front(rows: &IndexMap<StorePath, Record>, registrations: &[Registration]) -> usize
-    ensures { IsNewFront (paths_of (registrations_of rows.now.entries)) (paths_of registrations.now) result }
+    ensures { IsNewFront (paths_of (registrations_of rows.now.entries)) (paths_of registrations.now)
+        result }
 {
     for (count, registration) in registrations.iter().enumerate() {
         if has_row(rows, &registration.path) {
@@ -45,17 +50,21 @@ pub(crate) fn new_front(rows: &IndexMap<StorePath, Record>, registrations: &[Reg
 }
 
 // The first reference of registrations that neither has a row nor is registered here.
-fn first_unclosed<'a>(
+fn first_unclosed(
     rows: &IndexMap<StorePath, Record>,
-    registrations: &'a [Registration],
-) -> Option<&'a StorePath>
+    registrations: &[Registration],
+) -> Option<Blame>
     requires { IsRising (paths_of registrations.now) }
-    ensures { MatchOption result (AreClosed (registrations_of rows.now.entries) registrations.now) (λ path. IsFirstUnclosed (registrations_of rows.now.entries) registrations.now path.now) }
+    ensures { MatchOption result (AreClosed (registrations_of rows.now.entries) registrations.now)
+        (IsUnclosedAt (registrations_of rows.now.entries) registrations.now) }
 {
-    for registration in registrations {
+    for (place, registration) in registrations.iter().enumerate() {
         let references = registration.info.references();
-        if let Some(place) = first_unknown(rows, registrations, references) {
-            return Some(&references[place]);
+        if let Some(reference) = first_unknown(rows, registrations, references) {
+            return Some(Blame {
+                registration: place,
+                reference: Some(reference),
+            });
         }
     }
     None
@@ -68,7 +77,10 @@ pub(crate) fn first_unknown(
     paths: &[StorePath],
 ) -> Option<usize>
     requires { IsRising (paths_of registrations.now) }
-    ensures { MatchOption result (All (IsValid (registrations_of rows.now.entries ++ registrations.now)) paths.now) (IsFirstUnknownAt (paths_of (registrations_of rows.now.entries ++ registrations.now)) paths.now) }
+    ensures { MatchOption result
+        (All (IsValid (registrations_of rows.now.entries ++ registrations.now)) paths.now)
+        (IsFirstUnknownAt (paths_of (registrations_of rows.now.entries ++ registrations.now))
+        paths.now) }
 {
     for (place, path) in paths.iter().enumerate() {
         if !is_known(rows, registrations, path) {
@@ -85,7 +97,8 @@ fn is_known(
     path: &StorePath,
 ) -> bool
     requires { IsRising (paths_of registrations.now) }
-    ensures { IsTrue result ↔ IsValid (registrations_of rows.now.entries ++ registrations.now) path.now }
+    ensures { IsTrue result
+        ↔ IsValid (registrations_of rows.now.entries ++ registrations.now) path.now }
 {
     has_row(rows, path) || is_registered(registrations, path)
 }

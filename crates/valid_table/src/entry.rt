@@ -1,5 +1,5 @@
 //! Entries of a journal: paths that were added, and outputs that were built.
-ghost use Rattle.std.specs.Prelude.{◌≡◌, ◌≢◌, ◌↔◌, [], List, IfOk, IfErr, IsOk, IsTrue, MatchOption};
+ghost use Rattle.std.specs.Prelude.{◌≡◌, ◌≢◌, ◌<◌, ◌↔◌, [], List, IfOk, IfErr, IsOk, IsTrue, MatchOption, Some, length, slice_get};
 ghost use Rattle.std.specs.Arc.{arc_slice_items};
 ghost use Rattle.std.specs.Option.{option_map_or};
 ghost use Rattle.nix_names.specs.Rising.{IsRising};
@@ -30,7 +30,8 @@ impl Model for Record {
 
     ghost Value = { PathInfo };
 
-    ghost view = { λ r. record { references = option_map_or arc_slice_items r.references []; digest = r.digest } };
+    ghost view = { λ r. record
+        { references = option_map_or arc_slice_items r.references []; digest = r.digest } };
 
     ghost invariant = { λ r. IsRising (option_map_or arc_slice_items r.references []) };
 }
@@ -105,7 +106,8 @@ impl Registration {
     }
 }
 
-/// The outputs of one derivation: at least one, strictly rising by path. A contract sees their list.
+/// The outputs of one derivation: at least one, strictly rising by path. A contract sees their
+/// list.
 #[derive(Debug, Drop)]
 pub struct Outputs {
     registrations: Vec<Registration>,
@@ -120,7 +122,8 @@ impl Model for Outputs {
 
     ghost view = { λ o. o.registrations.items };
 
-    ghost invariant = { λ o. (o.registrations.items ≢ []) × IsRising (map (λ (r : Registration). r.path) o.registrations.items) };
+    ghost invariant = { λ o. (o.registrations.items ≢ [])
+        × IsRising (map (λ (r : Registration). r.path) o.registrations.items) };
 }
 
 impl Outputs {
@@ -136,7 +139,8 @@ impl Outputs {
     /// The outputs with these paths and records, in whatever order they come: none where there are
     /// none, or where a path comes twice. Sorts them in place, and takes no memory.
     pub fn sorted(mut registrations: Vec<Registration>) -> Option<Outputs>
-        ensures { MatchOption result ((registrations.items ≢ []) × IsOnce registrations.items → ⊥) (IsSortedOf registrations.items) }
+        ensures { MatchOption result ((registrations.items ≢ []) × IsOnce registrations.items → ⊥)
+            (IsSortedOf registrations.items) }
     {
         if registrations.is_empty() {
             return None;
@@ -196,6 +200,17 @@ impl Entry {
         match self {
             Entry::Add(registration) => slice::from_ref(registration),
             Entry::Done(_, outputs) => outputs.as_slice(),
+        }
+    }
+
+    // The registration at a place, taken out.
+    pub(crate) fn into_registration(self, place: usize) -> Registration
+        requires { place < length (registered_by self) }
+        ensures { slice_get (registered_by self) place ≡ Some result }
+    {
+        match self {
+            Entry::Add(registration) => registration,
+            Entry::Done(_, outputs) => outputs.into_registrations().swap_remove(place),
         }
     }
 

@@ -2,6 +2,7 @@
 ghost use Rattle.std.specs.Prelude.{◌≡◌};
 ghost use Rattle.valid_table.specs.Faults.{number_of, outlet_number_of};
 
+use crate::reference::Reference;
 use nix_names::StorePath;
 use std::alloc::{AllocError, AllocFailed};
 use thiserror::Error;
@@ -32,7 +33,7 @@ pub enum TableFault {
     TooLong,
     /// This path, to which an entry refers, is neither valid nor registered by the entry.
     #[error("a reference is not valid")]
-    Unclosed(StorePath),
+    Unclosed(Reference),
     /// This path, which an entry registers, is valid already.
     #[error("a path is valid already")]
     AlreadyValid(StorePath),

@@ -11,6 +11,7 @@ ghost use Rattle.valid_table.specs.declared.entry.Entry.TheVariants.{Add, Done};
 use crate::checking::check_entries;
 use crate::entry::{Entry, Outputs, Record, Registration};
 use crate::fault::TableFault;
+use crate::obstacle::fault_of;
 use crate::table::Table;
 use nix_names::StorePath;
 use std::alloc::Global;
@@ -36,9 +37,13 @@ impl Model for Journal {
 
     ghost Value = { JournalValue };
 
-    ghost view = { λ j. record { entries = j.entries.items; room = min j.table.room (vec_capacity j.entries - length j.entries.items) } };
+    ghost view = { λ j. record {
+      entries = j.entries.items;
+      room = min j.table.room (vec_capacity j.entries - length j.entries.items);
+    } };
 
-    ghost invariant = { λ j. IsJournal j.entries.items × (j.table.registrations ≡ registered j.entries.items) };
+    ghost invariant = { λ j. IsJournal j.entries.items
+        × (j.table.registrations ≡ registered j.entries.items) };
 }
 
 impl Journal {
@@ -89,11 +94,12 @@ impl Journal {
     }
 
     /// Adds a path with its record. In this order: `AlreadyValid` with the path where it is valid,
-    /// `Unclosed` with the first reference that is neither valid nor the path itself. `NoMemory`
-    /// may come in the place of either. A fault leaves the entries as they were. Costs one look-up
-    /// by hash for each reference, and two for the path.
+    /// `Unclosed` with the first reference that is neither valid nor the path itself; `NoMemory`
+    /// only where it is neither. A fault leaves the entries as they were. Costs one look-up by hash
+    /// for each reference, and two for the path.
     pub fn add(&mut self, path: StorePath, info: Record) -> Result<(), TableFault>
-        ensures adding { IsAdding self.old.entries self.new.entries (Add (record { path = path; info = info })) result }
+        ensures adding { IsAdding self.old.entries self.new.entries
+            (Add (record { path = path; info = info })) result }
         ensures room { self.old.room ≤ self.new.room + 1 }
     {
         self.add_entry(Entry::Add(Registration { path, info }))
@@ -101,9 +107,9 @@ impl Journal {
 
     /// Adds the outputs of a derivation that was built; its path ends in `.drv`. In this order:
     /// `AlreadyValid` with the first output that is valid, `Unclosed` with the first reference
-    /// that is neither valid nor an output. `NoMemory` may come in the place of either. A fault
-    /// leaves the entries as they were. Costs one look-up by hash for each reference and two for
-    /// each output, and a binary search among the outputs for each reference that is not valid.
+    /// that is neither valid nor an output; `NoMemory` only where it is neither. A fault leaves the
+    /// entries as they were. Costs one look-up by hash for each reference and two for each output,
+    /// and a binary search among the outputs for each reference that is not valid.
     pub fn append(&mut self, deriver: StorePath, outputs: Outputs) -> Result<(), TableFault>
         requires { IsDrvPath deriver }
         ensures adding { IsAdding self.old.entries self.new.entries (Done deriver outputs) result }
@@ -130,8 +136,8 @@ impl Journal {
         self.table.register_reserved(copy);
     }
 
-    /// The same journal again. Answers `NoMemory` where memory is refused, and no other fault. Costs
-    /// one look-up by hash for each registered path.
+    /// The same journal again. Answers `NoMemory` where memory is refused, and no other fault.
+    /// Costs one look-up by hash for each registered path.
     pub fn copy(&self, alloc: Global) -> Result<Journal, TableFault>
         ensures ok { IfOk result (λ journal. journal.entries ≡ self.now.entries) }
         ensures err { IfErr result (λ e. e ≡ TableFault.NoMemory) }
@@ -162,8 +168,9 @@ impl Journal {
         ensures room { self.old.room ≤ self.new.room + length (registered_by entry) }
     {
         let alloc = *self.entries.allocator();
-        if let Some(obstacle) = self.table.obstacle(&entry) {
-            return Err(obstacle.fault(alloc));
+        if let Some(blame) = self.table.blame(&entry) {
+            let registration = entry.into_registration(blame.registration);
+            return Err(fault_of(registration, blame.reference));
         }
         let copy = entry.copy(alloc)?;
         self.reserve(entry.registrations().len())?;

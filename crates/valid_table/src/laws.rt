@@ -1,4 +1,5 @@
-//! Laws over the definitions that contracts cite, each on the contract of a function that does nothing.
+//! Laws over the definitions that contracts cite, each on the contract of a function that does
+//! nothing.
 ghost use Rattle.valid_table.specs.BadLines.{BadLineIsOne, TextsHaveNoBadLine};
 ghost use Rattle.valid_table.specs.Closure.{ClosureIsOne, ClosureStays};
 ghost use Rattle.valid_table.specs.Equality.{EqualEntriesAreSame};
@@ -30,8 +31,8 @@ pub fn text_has_one_list()
     ensures { TextHasOneList }
 {}
 
-/// The text of a journal of a store folder, of at most 67108864 bytes, is read as just that journal,
-/// want of memory apart.
+/// The text of a journal of a store folder, of at most 67108864 bytes, is read as just that
+/// journal, want of memory apart.
 pub fn journal_texts_are_read()
     ensures { JournalTextsAreRead }
 {}

@@ -3,8 +3,9 @@
 //! | Module | What is in it |
 //! |---|---|
 //! | `entry`, `entry_eq` | entries of a journal, and when they are equal |
+//! | `reference` | one reference of a record |
 //! | `journal` | journals: their entries, one more |
-//! | `lines`, `reading`, `writing` | a journal's text: one line, the whole read, the whole written |
+//! | `lines`, `reading`, `writing` | a journal's text: one line, all of it read, all written |
 //! | `entering`, `obstacle` | what stands against an entry |
 //! | `checking` | entries whose text was read, line by line |
 //! | `rows`, `table` | the rows of valid paths, and the table of them |
@@ -29,6 +30,7 @@ mod merging;
 mod obstacle;
 mod outlet;
 mod reading;
+mod reference;
 mod rows;
 mod table;
 mod writing;
@@ -40,4 +42,5 @@ pub use list_outlet::ListOutlet;
 pub use merging::union;
 pub use obstacle::Obstacle;
 pub use outlet::Outlet;
+pub use reference::Reference;
 pub use table::Table;

@@ -22,7 +22,8 @@ const JOURNAL: &[u8] = b"realiser-journal ";
 
 /// The bytes before the first one that equals `byte`, and those behind it.
 pub(crate) fn cut(byte: u8, bytes: &[u8]) -> Option<(&[u8], &[u8])>
-    ensures { MatchOption result (All (λ b. b ≢ byte) bytes.now) (λ x. All (λ b. b ≢ byte) x.0.now × (bytes.now ≡ x.0.now ++ byte ∷ x.1.now)) }
+    ensures { MatchOption result (All (λ b. b ≢ byte) bytes.now)
+        (λ x. All (λ b. b ≢ byte) x.0.now × (bytes.now ≡ x.0.now ++ byte ∷ x.1.now)) }
 {
     let at = memchr(byte, bytes)?;
     Some((&bytes[..at], &bytes[at + 1..]))
@@ -30,7 +31,8 @@ pub(crate) fn cut(byte: u8, bytes: &[u8]) -> Option<(&[u8], &[u8])>
 
 /// The bytes behind a letter and a space, where the bytes begin with them.
 pub(crate) fn behind_letter(letter: u8, bytes: &[u8]) -> Option<&[u8]>
-    ensures { MatchOption result (IsNoLine letter bytes.now) (λ rest. bytes.now ≡ letter ∷ 32 ∷ rest.now) }
+    ensures { MatchOption result (IsNoLine letter bytes.now)
+        (λ rest. bytes.now ≡ letter ∷ 32 ∷ rest.now) }
 {
     match bytes {
         [first, b' ', rest @ ..] if *first == letter => Some(rest),
@@ -45,7 +47,9 @@ pub(crate) fn path_of(
     text: &[u8],
 ) -> Result<Option<StorePath>, AllocError>
     ensures is_dir { IsStoreDir dir.now }
-    ensures path { IfOk result (λ found. MatchOption found (IsPathOf dir.now text.now → ⊥) (λ path. (path ≡ text.now) × IsPathOf dir.now text.now)) }
+    ensures path { IfOk result
+        (λ found. MatchOption found (IsPathOf dir.now text.now → ⊥)
+        (λ path. (path ≡ text.now) × IsPathOf dir.now text.now)) }
 {
     // Its contract says that a folder's text has neither spaces nor newlines.
     let _ = dir.text();
@@ -59,7 +63,9 @@ pub(crate) fn path_of(
 /// The digest whose text the bytes are, if they are one's: a dash for none, or 64 lower-case
 /// hexadecimal digits.
 pub(crate) fn digest_of(text: &[u8]) -> Option<Option<[u8; 32]>>
-    ensures { MatchOption result ((digest : Option (List ℕ)) → IsDigest digest → text.now ≢ digest_text digest) (λ digest. IsDigest digest × (text.now ≡ digest_text digest)) }
+    ensures { MatchOption result
+        ((digest : Option (List ℕ)) → IsDigest digest → text.now ≢ digest_text digest)
+        (λ digest. IsDigest digest × (text.now ≡ digest_text digest)) }
 {
     if text == b"-".as_slice() {
         return Some(None);
@@ -89,7 +95,10 @@ pub(crate) fn path_line<'a>(
     dir: &StoreDir,
     bytes: &'a [u8],
 ) -> Result<Option<(StorePath, &'a [u8])>, AllocError>
-    ensures { IfOk result (λ found. MatchOption found ((path rest : List ℕ) → IsPathLine dir.now bytes.now path rest → ⊥) (λ x. IsPathLine dir.now bytes.now x.0 x.1.now)) }
+    ensures { IfOk result
+        (λ found. MatchOption found
+        ((path rest : List ℕ) → IsPathLine dir.now bytes.now path rest → ⊥)
+        (λ x. IsPathLine dir.now bytes.now x.0 x.1.now)) }
 {
     let Some((line, rest)) = cut(b'\n', bytes) else {
         return Ok(None);
@@ -106,7 +115,10 @@ pub(crate) fn deriver_line<'a>(
     dir: &StoreDir,
     bytes: &'a [u8],
 ) -> Result<Option<(StorePath, &'a [u8])>, AllocError>
-    ensures { IfOk result (λ found. MatchOption found ((path rest : List ℕ) → IsDeriverLine dir.now bytes.now path rest → ⊥) (λ x. IsDeriverLine dir.now bytes.now x.0 x.1.now)) }
+    ensures { IfOk result
+        (λ found. MatchOption found
+        ((path rest : List ℕ) → IsDeriverLine dir.now bytes.now path rest → ⊥)
+        (λ x. IsDeriverLine dir.now bytes.now x.0 x.1.now)) }
 {
     let Some((path, rest)) = path_line(alloc, dir, bytes)? else {
         return Ok(None);
@@ -127,7 +139,11 @@ pub(crate) fn fields_line<'a>(
     dir: &StoreDir,
     bytes: &'a [u8],
 ) -> Result<Option<(StorePath, Option<[u8; 32]>, &'a [u8])>, AllocError>
-    ensures { IfOk result (λ found. MatchOption found ((path : List ℕ) (digest : Option (List ℕ)) (rest : List ℕ) → IsFieldsLine dir.now bytes.now path digest rest → ⊥) (λ x. IsFieldsLine dir.now bytes.now x.0 x.1 x.2.now)) }
+    ensures { IfOk result
+        (λ found. MatchOption found
+        ((path : List ℕ) (digest : Option (List ℕ)) (rest : List ℕ)
+        → IsFieldsLine dir.now bytes.now path digest rest → ⊥)
+        (λ x. IsFieldsLine dir.now bytes.now x.0 x.1 x.2.now)) }
 {
     let Some((text, fields)) = cut(b' ', bytes) else {
         return Ok(None);
@@ -168,7 +184,9 @@ pub(crate) fn is_other_version(bytes: &[u8]) -> bool
 
 /// Whether the bytes are decimal digits, and not `1` alone.
 fn is_other_number(bytes: &[u8]) -> bool
-    ensures { IsTrue result ↔ ((bytes.now ≢ []) × All (λ b. IsTrue (is_ascii_digit b)) bytes.now × (bytes.now ≢ codes "1")) }
+    ensures { IsTrue result
+        ↔ ((bytes.now ≢ []) × All (λ b. IsTrue (is_ascii_digit b)) bytes.now
+        × (bytes.now ≢ codes "1")) }
 {
     !bytes.is_empty() && bytes != b"1".as_slice() && bytes.iter().all(|b| b.is_ascii_digit())
 }

@@ -23,7 +23,10 @@ impl Model for ListOutlet {
 
     ghost Value = { Outgoing };
 
-    ghost view = { λ outlet. record { shown = take outlet.shown outlet.entries.items; pending = drop outlet.shown outlet.entries.items } };
+    ghost view = { λ outlet. record {
+      shown = take outlet.shown outlet.entries.items;
+      pending = drop outlet.shown outlet.entries.items;
+    } };
 
     ghost invariant = { λ outlet. outlet.shown ≤ length outlet.entries.items };
 }
@@ -82,8 +85,10 @@ impl Outlet for ListOutlet {
     /// Shows what waits. Never fails.
     fn publish(&mut self) -> Result<(), OutletFault>
         ensures always { IsOk result }
-        ensures ok { OnOk result ((self.new.shown ≡ self.old.shown ++ self.old.pending) × (self.new.pending ≡ [])) }
-        ensures err { OnErr result ((self.new.shown ≡ self.old.shown) × (self.new.pending ≡ self.old.pending)) }
+        ensures ok { OnOk result
+            ((self.new.shown ≡ self.old.shown ++ self.old.pending) × (self.new.pending ≡ [])) }
+        ensures err { OnErr result
+            ((self.new.shown ≡ self.old.shown) × (self.new.pending ≡ self.old.pending)) }
     {
         self.shown = self.entries.len();
         Ok(())

@@ -38,7 +38,8 @@ fn least<'a>(
     left: &'a [StorePath],
     right: &'a [StorePath],
 ) -> Option<(&'a StorePath, &'a [StorePath], &'a [StorePath])>
-    ensures { MatchOption result ((left.now ≡ []) × (right.now ≡ [])) (λ x. IsLeast left.now right.now x.0.now x.1.now x.2.now) }
+    ensures { MatchOption result ((left.now ≡ []) × (right.now ≡ []))
+        (λ x. IsLeast left.now right.now x.0.now x.1.now x.2.now) }
 {
     match (left, right) {
         ([], []) => None,

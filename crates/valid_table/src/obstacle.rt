@@ -1,10 +1,11 @@
-//! What stands against an entry.
-ghost use Rattle.valid_table.specs.Adding.{IsFaultOf};
+//! What stands against an entry, and the fault that tells it.
+ghost use Rattle.std.specs.Prelude.{◌<◌, IfSome, length};
+ghost use Rattle.valid_table.specs.Blames.{IsFaultOf, IsObstacleOf};
 
-use crate::entry::copy_path;
+use crate::entry::Registration;
 use crate::fault::TableFault;
+use crate::reference::Reference;
 use nix_names::StorePath;
-use std::alloc::Global;
 
 /// Why an entry can't be taken in. Lends the path that is to blame.
 #[derive(Clone, Copy, Debug)]
@@ -15,20 +16,33 @@ pub enum Obstacle<'a> {
     Unclosed(&'a StorePath),
 }
 
-impl Obstacle<'_> {
-    /// The fault of the same name, with a copy of the path; or `NoMemory`, where it can't be copied.
-    pub fn fault(self, alloc: Global) -> TableFault
-        ensures { IsFaultOf self.entry result }
-    {
-        match self {
-            Obstacle::AlreadyValid(path) => match copy_path(alloc, path) {
-                Ok(path) => TableFault::AlreadyValid(path),
-                Err(fault) => fault,
-            },
-            Obstacle::Unclosed(path) => match copy_path(alloc, path) {
-                Ok(path) => TableFault::Unclosed(path),
-                Err(fault) => fault,
-            },
-        }
+// Which registration of an entry is to blame and, where it is for one of its references, for which.
+#[derive(Clone, Copy, Debug)]
+pub(crate) struct Blame {
+    // The registration's place among those of the entry.
+    pub registration: usize,
+    // The reference's place in the registration's record; none where the path is valid already.
+    pub reference: Option<usize>,
+}
+
+// The obstacle of the registration that is to blame.
+pub(crate) fn obstacle_of(registration: &Registration, reference: Option<usize>) -> Obstacle<'_>
+    requires { IfSome reference (λ place. place < length registration.now.info.references) }
+    ensures { IsObstacleOf registration.now reference result }
+{
+    match reference {
+        None => Obstacle::AlreadyValid(&registration.path),
+        Some(place) => Obstacle::Unclosed(&registration.info.references()[place]),
+    }
+}
+
+// The fault of the registration that is to blame, whose path or record is moved into it.
+pub(crate) fn fault_of(registration: Registration, reference: Option<usize>) -> TableFault
+    requires { IfSome reference (λ place. place < length registration.info.references) }
+    ensures { IsFaultOf registration reference result }
+{
+    match reference {
+        None => TableFault::AlreadyValid(registration.path),
+        Some(place) => TableFault::Unclosed(Reference::new(registration.info, place)),
     }
 }

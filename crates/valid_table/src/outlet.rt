@@ -29,7 +29,8 @@ pub trait Outlet {
     /// be registered before or by the entry itself. `NoMemory`, the only fault, changes nothing.
     fn append(&mut self, entry: Entry) -> Result<(), OutletFault>
         requires new { IsNew (shown self.old ++ pending self.old) entry }
-        requires closed { All (IsValidWith (shown self.old ++ pending self.old) entry) (references_of (registered_by entry)) }
+        requires closed { All (IsValidWith (shown self.old ++ pending self.old) entry)
+            (references_of (registered_by entry)) }
         ensures same { shown self.new ≡ shown self.old }
         ensures ok { OnOk result (pending self.new ≡ pending self.old ++ entry ∷ []) }
         ensures err { OnErr result (pending self.new ≡ pending self.old) }
@@ -37,8 +38,10 @@ pub trait Outlet {
 
     /// Shows what waits. A fault changes nothing.
     fn publish(&mut self) -> Result<(), OutletFault>
-        ensures ok { OnOk result ((shown self.new ≡ shown self.old ++ pending self.old) × (pending self.new ≡ [])) }
-        ensures err { OnErr result ((shown self.new ≡ shown self.old) × (pending self.new ≡ pending self.old)) };
+        ensures ok { OnOk result
+            ((shown self.new ≡ shown self.old ++ pending self.old) × (pending self.new ≡ [])) }
+        ensures err { OnErr result
+            ((shown self.new ≡ shown self.old) × (pending self.new ≡ pending self.old)) };
 
     /// What names the list that is shown.
     fn tell(&self) -> Self::Told

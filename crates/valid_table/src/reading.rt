@@ -27,15 +27,15 @@ impl Journal {
     /// The journal whose text the bytes are; of no bytes, the journal without entries.
     ///
     /// Answers the first of these that holds: `TooLong` for more than 67,108,864 bytes,
-    /// `WrongVersion` where the first line is that of another version, `BadLine` with the first line
-    /// that has no line's form, stands where it may not, breaks an order or lacks its newline, and
-    /// then the least line of `NotClosed`, which refers to a path that neither an earlier entry nor
-    /// its own registers, and `Twice`, which registers a path that an earlier entry registered.
+    /// `WrongVersion` where the first line is that of another version, `BadLine` with the first
+    /// line that has no line's form, stands where it may not, breaks an order or lacks its newline,
+    /// and then the least line of `NotClosed`, which refers to a path that neither an earlier entry
+    /// nor its own registers, and `Twice`, which registers a path that an earlier entry registered.
     /// `NoMemory` may come in place of the last three. Lines are counted from 1.
     ///
-    /// Passes over the bytes once, and once more over their newlines where a line is bad. Costs a copy
-    /// of each path, one more of each that is registered, and one look-up by hash for each path that
-    /// is registered or referred to.
+    /// Passes over the bytes once, and once more over their newlines where a line is bad. Costs a
+    /// copy of each path, one more of each that is registered, and one look-up by hash for each
+    /// path that is registered or referred to.
     pub fn read(alloc: Global, dir: &StoreDir, bytes: &[u8]) -> Result<Journal, TableFault>
         ensures { IsReading dir.now bytes.now (answered result) }
     {
@@ -99,7 +99,9 @@ fn references_of<'a>(
     bytes: &'a [u8],
 ) -> Result<(Vec<StorePath>, &'a [u8]), Stop>
     ensures ok { IfOk result (λ x. HasReferences dir.now bytes.now x.0.items x.1.now) }
-    ensures left { IfErr result (StopsWhere (λ left. (output : Option (List ℕ)) → Stops dir.now (Within output None) bytes.now left)) }
+    ensures left { IfErr result
+        (StopsWhere
+        (λ left. (output : Option (List ℕ)) → Stops dir.now (Within output None) bytes.now left)) }
 {
     let mut references = Vec::new(alloc);
     let mut rest = bytes;
@@ -126,8 +128,11 @@ fn registration_of<'a>(
     before: Option<&StorePath>,
     bytes: &'a [u8],
 ) -> Result<Option<(Registration, &'a [u8])>, Stop>
-    ensures ok { IfOk result (λ found. MatchOption found (IsNoLine letter bytes.now) (λ x. HasRegistration dir.now letter (option_copied before.entry) bytes.now x.0 x.1.now)) }
-    ensures left { IfErr result (StopsWhere (StopsInRegistration dir.now letter (option_copied before.entry) bytes.now)) }
+    ensures ok { IfOk result
+        (λ found. MatchOption found (IsNoLine letter bytes.now)
+        (λ x. HasRegistration dir.now letter (option_copied before.entry) bytes.now x.0 x.1.now)) }
+    ensures left { IfErr result
+        (StopsWhere (StopsInRegistration dir.now letter (option_copied before.entry) bytes.now)) }
 {
     let Some(fields) = behind_letter(letter, bytes) else {
         return Ok(None);
@@ -182,8 +187,12 @@ fn done_of<'a>(
     dir: &StoreDir,
     bytes: &'a [u8],
 ) -> Result<Option<(Entry, &'a [u8])>, Stop>
-    ensures ok { IfOk result (λ found. MatchOption found (IsNoLine 68 bytes.now) (λ x. HasEntry dir.now bytes.now x.0 x.1.now)) }
-    ensures left { IfErr result (StopsWhere (λ left. (from : Place) → HasToBegin from bytes.now → Stops dir.now from bytes.now left)) }
+    ensures ok { IfOk result
+        (λ found. MatchOption found (IsNoLine 68 bytes.now)
+        (λ x. HasEntry dir.now bytes.now x.0 x.1.now)) }
+    ensures left { IfErr result
+        (StopsWhere
+        (λ left. (from : Place) → HasToBegin from bytes.now → Stops dir.now from bytes.now left)) }
 {
     let Some(fields) = behind_letter(b'D', bytes) else {
         return Ok(None);
@@ -199,7 +208,9 @@ fn done_of<'a>(
 fn entry_of<'a>(alloc: Global, dir: &StoreDir, bytes: &'a [u8]) -> Result<(Entry, &'a [u8]), Stop>
     requires { bytes.now ≢ [] }
     ensures ok { IfOk result (λ x. HasEntry dir.now bytes.now x.0 x.1.now) }
-    ensures left { IfErr result (StopsWhere (λ left. (from : Place) → HasToBegin from bytes.now → Stops dir.now from bytes.now left)) }
+    ensures left { IfErr result
+        (StopsWhere
+        (λ left. (from : Place) → HasToBegin from bytes.now → Stops dir.now from bytes.now left)) }
 {
     if let Some((added, rest)) = registration_of(alloc, dir, b'A', None, bytes)? {
         return Ok((Entry::Add(added), rest));

@@ -25,7 +25,9 @@ pub(crate) fn add_rows(
     registrations: &[Registration],
 ) -> Result<(), TableFault>
     requires once { IsOnce (registrations_of rows.old.entries ++ registrations.now) }
-    ensures ok { OnOk result (registrations_of rows.new.entries ≡ registrations_of rows.old.entries ++ registrations.now) }
+    ensures ok { OnOk result
+        (registrations_of rows.new.entries
+        ≡ registrations_of rows.old.entries ++ registrations.now) }
     ensures err { IfErr result (λ e. e ≡ TableFault.NoMemory) }
 {
     for registration in registrations {
@@ -40,7 +42,8 @@ pub(crate) fn add_rows(
 pub(crate) fn push_entry(rows: &mut IndexMap<StorePath, Record>, entry: Entry)
     requires room { length (registered_by entry) ≤ spare rows.old }
     requires once { IsOnce (registrations_of rows.old.entries ++ registered_by entry) }
-    ensures rows { registrations_of rows.new.entries ≡ registrations_of rows.old.entries ++ registered_by entry }
+    ensures rows { registrations_of rows.new.entries
+        ≡ registrations_of rows.old.entries ++ registered_by entry }
     ensures room { spare rows.old ≤ spare rows.new + length (registered_by entry) }
 {
     match entry {
@@ -53,7 +56,8 @@ pub(crate) fn push_entry(rows: &mut IndexMap<StorePath, Record>, entry: Entry)
 fn push_rows(rows: &mut IndexMap<StorePath, Record>, registrations: Vec<Registration>)
     requires room { length registrations.items ≤ spare rows.old }
     requires once { IsOnce (registrations_of rows.old.entries ++ registrations.items) }
-    ensures rows { registrations_of rows.new.entries ≡ registrations_of rows.old.entries ++ registrations.items }
+    ensures rows { registrations_of rows.new.entries
+        ≡ registrations_of rows.old.entries ++ registrations.items }
     ensures room { spare rows.old ≤ spare rows.new + length registrations.items }
 {
     for registration in registrations {
@@ -65,7 +69,8 @@ fn push_rows(rows: &mut IndexMap<StorePath, Record>, registrations: Vec<Registra
 fn push_row(rows: &mut IndexMap<StorePath, Record>, registration: Registration)
     requires room { 0 < spare rows.old }
     requires new { IsNotValid (registrations_of rows.old.entries) registration.path }
-    ensures rows { registrations_of rows.new.entries ≡ registrations_of rows.old.entries ++ registration ∷ [] }
+    ensures rows { registrations_of rows.new.entries
+        ≡ registrations_of rows.old.entries ++ registration ∷ [] }
     ensures room { spare rows.old ≤ spare rows.new + 1 }
 {
     let Registration { path, info } = registration;

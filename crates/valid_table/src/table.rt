@@ -1,17 +1,18 @@
 //! The table of valid paths.
 ghost use Rattle.std.specs.Prelude.{◌≡◌, ◌≤◌, ◌+◌, ◌++◌, ◌↔◌, [], IfErr, IfOk, IsOk, IsTrue, MatchOption, OnOk, length};
 ghost use Rattle.valid_table.specs.Adding.{AreClosed, AreNew, IsObstacle, IsRegistering};
+ghost use Rattle.valid_table.specs.Blames.{IsBlamed};
 ghost use Rattle.valid_table.specs.Closure.{IsClosing};
 ghost use Rattle.valid_table.specs.Entries.{registered, registered_by};
 ghost use Rattle.valid_table.specs.Tables.{registrations_of};
 ghost use Rattle.valid_table.specs.Valid.{AreReferencesValid, IsClosed, IsOnce, IsValid, Registers};
 
 use crate::closing::close;
-use crate::entering::obstacle;
+use crate::entering::blame;
 use crate::entry::{Entry, Record};
 use crate::fault::TableFault;
 use crate::journal::Journal;
-use crate::obstacle::Obstacle;
+use crate::obstacle::{Blame, Obstacle, fault_of, obstacle_of};
 use crate::rows::{add_rows, has_row, push_entry};
 use indexmap::IndexMap;
 use nix_names::StorePath;
@@ -33,9 +34,11 @@ impl Model for Table {
 
     ghost Value = { TableValue };
 
-    ghost view = { λ t. record { registrations = registrations_of t.rows.entries; room = spare t.rows } };
+    ghost view = { λ t. record
+        { registrations = registrations_of t.rows.entries; room = spare t.rows } };
 
-    ghost invariant = { λ t. IsOnce (registrations_of t.rows.entries) × AreReferencesValid (registrations_of t.rows.entries) };
+    ghost invariant = { λ t. IsOnce (registrations_of t.rows.entries)
+        × AreReferencesValid (registrations_of t.rows.entries) };
 }
 
 impl Table {
@@ -67,7 +70,8 @@ impl Table {
 
     /// The record of a path, where it is valid. Costs one look-up by hash.
     pub fn get(&self, path: &StorePath) -> Option<&Record>
-        ensures { MatchOption result (IsValid self.now.registrations path.now → ⊥) (λ info. Registers self.now.registrations path.now info.now) }
+        ensures { MatchOption result (IsValid self.now.registrations path.now → ⊥)
+            (λ info. Registers self.now.registrations path.now info.now) }
     {
         self.rows.get(path)
     }
@@ -87,9 +91,25 @@ impl Table {
     /// Takes no memory. Costs a look-up by hash for each registration and reference, and a binary
     /// search among the registrations for each reference that is not valid.
     pub fn obstacle<'a>(&self, entry: &'a Entry) -> Option<Obstacle<'a>>
-        ensures { MatchOption result (AreNew self.now.registrations (registered_by entry.now) × AreClosed self.now.registrations (registered_by entry.now)) (IsObstacle self.now.registrations (registered_by entry.now)) }
+        ensures { MatchOption result
+            (AreNew self.now.registrations (registered_by entry.now)
+            × AreClosed self.now.registrations (registered_by entry.now))
+            (IsObstacle self.now.registrations (registered_by entry.now)) }
     {
-        obstacle(&self.rows, entry.registrations())
+        let registrations = entry.registrations();
+        let blame = self.blame(entry)?;
+        let registration = &registrations[blame.registration];
+        Some(obstacle_of(registration, blame.reference))
+    }
+
+    // Which of an entry's registrations stands against it, if any.
+    pub(crate) fn blame(&self, entry: &Entry) -> Option<Blame>
+        ensures { MatchOption result
+            (AreNew self.now.registrations (registered_by entry.now)
+            × AreClosed self.now.registrations (registered_by entry.now))
+            (IsBlamed self.now.registrations (registered_by entry.now)) }
+    {
+        blame(&self.rows, entry.registrations())
     }
 
     /// Makes room for so many more paths. Answers `NoMemory` where memory is refused, and no other
@@ -108,14 +128,17 @@ impl Table {
     /// Registers what an entry registers. In this order: `AlreadyValid` with the first path that is
     /// valid, `Unclosed` with the first reference that is neither valid nor registered by the entry
     /// itself. `NoMemory` may come in the place of either. A fault leaves what is registered as it
-    /// was. Costs as `obstacle` does, and one more look-up by hash and a copy for each registration.
+    /// was. Costs as `obstacle` does, and one more look-up by hash and a copy for each
+    /// registration.
     pub fn register(&mut self, entry: &Entry) -> Result<(), TableFault>
-        ensures registering { IsRegistering self.old.registrations self.new.registrations entry.now result }
+        ensures registering { IsRegistering self.old.registrations self.new.registrations entry.now
+            result }
         ensures room { self.old.room ≤ self.new.room + length (registered_by entry.now) }
     {
         let alloc = *self.rows.allocator();
-        if let Some(obstacle) = self.obstacle(entry) {
-            return Err(obstacle.fault(alloc));
+        if let Some(blame) = self.blame(entry) {
+            let registration = entry.registrations()[blame.registration].copy(alloc)?;
+            return Err(fault_of(registration, blame.reference));
         }
         let copy = entry.copy(alloc)?;
         self.reserve(entry.registrations().len())?;
@@ -129,7 +152,8 @@ impl Table {
         requires room { length (registered_by entry) ≤ self.old.room }
         requires new { AreNew self.old.registrations (registered_by entry) }
         requires closed { AreClosed self.old.registrations (registered_by entry) }
-        ensures registrations { self.new.registrations ≡ self.old.registrations ++ registered_by entry }
+        ensures registrations { self.new.registrations
+            ≡ self.old.registrations ++ registered_by entry }
         ensures room { self.old.room ≤ self.new.room + length (registered_by entry) }
     {
         // Its contract says that the registrations rise.

@@ -57,7 +57,8 @@ fn write_registration(
     registration: &Registration,
     out: &mut Vec<u8>,
 ) -> Result<(), AllocError>
-    ensures { OnOk result (out.new.items ≡ out.old.items ++ registration_text letter registration.now) }
+    ensures { OnOk result
+        (out.new.items ≡ out.old.items ++ registration_text letter registration.now) }
 {
     out.extend_from_slice(&[letter, b' '])?;
     out.extend_from_slice(registration.path.text())?;

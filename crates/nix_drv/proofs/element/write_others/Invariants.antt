@@ -1,7 +1,7 @@
 use Rattle.std.proofs.Common.{◌≡◌, ◌++◌, map, drop}
 use Rattle.nix_drv.specs.Grammar.{text}
-use Rattle.nix_drv.proofs.ListTexts.{others_text}
-use Rattle.nix_drv.proofs.element.write_list.Given as goal
+use Rattle.nix_drv.specs.Listings.{others_text}
+use Rattle.nix_drv.proofs.element.write_others.Given as goal
 
 -- what is written, and the texts of the elements that are left
 abbrev pub invariant-others : goal.invariant-others

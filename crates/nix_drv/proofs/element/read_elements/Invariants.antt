@@ -1,11 +1,10 @@
 use Rattle.std.proofs.Common.{◌≡◌, map, length}
-use Rattle.nix_drv.specs.Listings.{list_read}
 use Rattle.nix_drv.specs.Reading.{before, elements_of, read}
-use Rattle.nix_drv.proofs.element.read_list.Given as goal
+use Rattle.nix_drv.proofs.element.read_elements.Given as goal
 
 -- the elements so far and those of the rest are those of the list
 abbrev pub invariant-items : goal.invariant-items
-invariant-items g l = before (map g.T.Element.value l.items.items) (elements_of (read g.T.Element.form) l.rest) ≡ list_read (read g.T.Element.form) l.bytes
+invariant-items g l = before (map g.T.Element.value l.items.items) (elements_of (read g.T.Element.form) l.rest) ≡ elements_of (read g.T.Element.form) l.bytes
 
 abbrev pub decreases-items : goal.decreases-items
 decreases-items g l = length l.rest

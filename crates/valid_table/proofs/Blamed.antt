@@ -1,0 +1,103 @@
+-- The registration that is to blame, and how that is told.
+use Rattle.std.proofs.Common.{◌≡◌, ℕ, ◌<◌, List, ◌++◌, length, take, get_or, refl, sym, subst, ap, ◌∙◌}
+use Rattle.std.specs.Prelude.{All, Contains, Err, IfSome, MatchOption, Option, Result, Some, None, ⊤, slice_get}
+use Rattle.std.proofs.lemmas.Option.{slice_get-get_or, slice_get_within}
+use Rattle.valid_table.specs.Adding.{AreClosed, AreNew, IsObstacle, IsTaking}
+use Rattle.valid_table.specs.Blames.{IsBlamed, IsBlamedFor, IsFaultOf, IsObstacleOf, IsUnclosedAt}
+use Rattle.valid_table.specs.Entering.{IsFirstUnknownAt}
+use Rattle.valid_table.specs.Entries.{paths_of}
+use Rattle.valid_table.specs.Valid.{references_of}
+use Rattle.valid_table.specs.declared.entry.Registration.{Registration}
+use Rattle.valid_table.specs.declared.fault.TableFault.{TableFault}
+use Rattle.valid_table.specs.declared.fault.TableFault.TheVariants.{NoMemory, Unclosed, AlreadyValid}
+use Rattle.valid_table.specs.declared.obstacle.Blame.{Blame}
+use Rattle.valid_table.specs.declared.obstacle.Obstacle.{Obstacle}
+use Rattle.valid_table.specs.declared.obstacle.Obstacle.TheVariants as obstacle
+use Rattle.valid_table.proofs.EnteredPaths.{unclosed_here}
+
+-- what is read twice at one place is the same
+same_read : {X : Type 0} (xs : List X) (i : ℕ) (x y : X) → slice_get xs i ≡ Some x → slice_get xs i ≡ Some y → x ≡ y
+same_read xs i x y one two = let same : Some x ≡ Some y = sym one ∙ two in cc
+
+-- the places of the first unclosed reference of registrations whose first ones have none
+pub unclosed_at :
+    (known some : List Registration) (i : ℕ) (r : Registration) (references : List (List ℕ)) (place : ℕ) →
+    All (Contains (paths_of (known ++ some))) (references_of (take i some)) →
+    i < length some →
+    r ≡ get_or some i r →
+    references ≡ r.info.references →
+    IsFirstUnknownAt (paths_of (known ++ some)) references place →
+    IsUnclosedAt known some (record { registration = i; reference = Some place })
+unclosed_at known some i r references place all lt is same first =
+    let here = unclosed_here (paths_of (known ++ some)) some i r references place all lt is same first in
+    (r, place, here.0, slice_get-get_or some i r lt ∙ ap Some (sym is), refl, here.1, here.2)
+
+-- who has it is to blame, where all paths are new
+pub blamed_for_reference : (known some : List Registration) (blame : Blame) → AreNew known some → IsUnclosedAt known some blame → IsBlamed known some blame
+blamed_for_reference known some blame new (r, place, path, at, told, read, first) =
+    (r, at, subst (IsBlamedFor known some r) (sym told) (path, read, new, first))
+
+-- what is answered where all paths are new
+pub blamed_or_closed :
+    (known some : List Registration) (o : Option Blame) →
+    AreNew known some →
+    MatchOption o (AreClosed known some) (IsUnclosedAt known some) →
+    MatchOption o (AreNew known some × AreClosed known some) (IsBlamed known some)
+blamed_or_closed known some None new closed = (new, closed)
+blamed_or_closed known some (Some blame) new at = blamed_for_reference known some blame new at
+
+-- who is to blame is one of them
+pub blamed_within : (known some : List Registration) (blame : Blame) → IsBlamed known some blame → blame.registration < length some
+blamed_within known some blame (r, at, blamed) = slice_get_within some blame.registration r at
+
+-- and is who is read at the place
+pub blamed_read :
+    (known some : List Registration) (blame : Blame) (r : Registration) →
+    IsBlamed known some blame →
+    slice_get some blame.registration ≡ Some r →
+    IsBlamedFor known some r blame.reference
+blamed_read known some blame r (one, at, blamed) read =
+    subst (λ (x : Registration). IsBlamedFor known some x blame.reference) (same_read some blame.registration one r at read) blamed
+
+-- by an index too
+pub blamed_index :
+    (known some : List Registration) (blame : Blame) (r : Registration) →
+    IsBlamed known some blame →
+    r ≡ get_or some blame.registration r →
+    IsBlamedFor known some r blame.reference
+blamed_index known some blame r blamed is =
+    blamed_read known some blame r blamed (slice_get-get_or some blame.registration r (blamed_within known some blame blamed) ∙ ap Some (sym is))
+
+-- the reference that is blamed is one of the registration's
+pub place_within : (known some : List Registration) (r : Registration) (reference : Option ℕ) → IsBlamedFor known some r reference → IfSome reference (λ place. place < length r.info.references)
+place_within known some r None blamed = tt
+place_within known some r (Some place) (path, read, new, first) = slice_get_within r.info.references place path read
+
+-- the obstacle of who is to blame stands against all
+pub obstacle_stands : (known some : List Registration) (r : Registration) (reference : Option ℕ) (o : Obstacle) → IsBlamedFor known some r reference → IsObstacleOf r reference o → IsObstacle known some o
+obstacle_stands known some r None (obstacle.AlreadyValid path) blamed told = rw told blamed
+obstacle_stands known some r (Some place) (obstacle.Unclosed path) (first, read, new, is) told =
+    rw (same_read r.info.references place path.now first told read) (new, is)
+obstacle_stands known some r reference o blamed told = absurd told
+
+-- and the fault is what is answered
+pub taking_refused :
+    (known some : List Registration) (taken same : Type 0) (r : Registration) (reference : Option ℕ) (fault : TableFault) →
+    IsBlamedFor known some r reference →
+    IsFaultOf r reference fault →
+    same →
+    IsTaking known some taken same (Err fault)
+taking_refused known some taken same r None (AlreadyValid path) blamed told kept = rw told (blamed, kept)
+taking_refused known some taken same r (Some place) (Unclosed path) (first, read, new, is) told kept =
+    rw (same_read r.info.references place path first told read) (new, is, kept)
+taking_refused known some taken same r reference fault blamed told kept = absurd told
+
+-- memory was refused, where nothing stands against them
+pub taking_no_memory :
+    (known some : List Registration) (taken same : Type 0) (result : Result ⊤ TableFault) →
+    AreNew known some →
+    AreClosed known some →
+    result ≡ Err NoMemory →
+    same →
+    IsTaking known some taken same result
+taking_no_memory known some taken same result new closed is kept = subst (IsTaking known some taken same) (sym is) (new, closed, kept)

@@ -1,0 +1,50 @@
+//! One reference of a record.
+ghost use Rattle.std.specs.Prelude.{◌≡◌, ◌<◌, Some, length, slice_get};
+ghost use Rattle.nix_names.specs.StorePaths.{IsStorePath};
+
+use crate::entry::Record;
+use nix_names::StorePath;
+use std::marker::Model;
+
+/// A path to which a record refers, told by its place in the record's list, which it shares. A
+/// contract sees the path.
+#[derive(Debug, Drop)]
+pub struct Reference {
+    info: Record,
+    place: usize,
+}
+
+impl Model for Reference {
+    ghost use Rattle.std.specs.Prelude.{ℕ, List, [], ◌<◌, get_or, length};
+
+    ghost Value = { List ℕ };
+
+    ghost view = { λ r. get_or r.info.references r.place [] };
+
+    ghost invariant = { λ r. r.place < length r.info.references };
+}
+
+impl Reference {
+    // The reference of a record at a place.
+    pub(crate) fn new(info: Record, place: usize) -> Reference
+        requires { place < length info.references }
+        ensures { slice_get info.references place ≡ Some result }
+    {
+        Reference { info, place }
+    }
+
+    /// The path.
+    pub fn path(&self) -> &StorePath
+        ensures { result.now ≡ self.now }
+    {
+        &self.info.references()[self.place]
+    }
+
+    /// The path's text.
+    pub fn text(&self) -> &[u8]
+        ensures value { result.now ≡ self.now }
+        ensures is_path { IsStorePath self.now }
+    {
+        self.path().text()
+    }
+}
