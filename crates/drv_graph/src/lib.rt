@@ -27,6 +27,8 @@ mod load;
 #[cfg(test)]
 mod load_tests;
 mod modulo;
+#[cfg(test)]
+mod modulo_tests;
 mod node;
 mod outputs;
 mod paths;

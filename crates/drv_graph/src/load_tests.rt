@@ -3,11 +3,17 @@ use crate::kind_of::digits_of;
 use crate::{GraphFault, NodeFault, Plan};
 use files::*;
 use nix_drv::{DrvFault, ListSource, ListedFile, text_path};
+use nix_files::NIX_FILES;
 use nix_names::{StoreDir, StorePath, make_path, parse_path};
+use output_files::OUTPUT_FILES;
 use std::alloc::{AllocError, Global};
 use std::test::*;
 
 mod files;
+mod nix_files;
+mod output_files;
+mod outputs;
+mod plans;
 
 fn push_file(
     alloc: Global,
@@ -20,12 +26,19 @@ fn push_file(
     Ok(())
 }
 
+fn push_files(alloc: Global, files: &mut Vec<ListedFile>, more: &[File]) -> Result<(), AllocError> {
+    for file in more {
+        let bytes = Vec::from_slice(alloc, file.text)?;
+        push_file(alloc, files, file.path, bytes)?;
+    }
+    Ok(())
+}
+
 fn all_files(alloc: Global) -> Result<Vec<ListedFile>, AllocError> {
     let mut files = Vec::new(alloc);
-    for file in &FILES {
-        let bytes = Vec::from_slice(alloc, file.text)?;
-        push_file(alloc, &mut files, file.path, bytes)?;
-    }
+    push_files(alloc, &mut files, &FILES)?;
+    push_files(alloc, &mut files, &NIX_FILES)?;
+    push_files(alloc, &mut files, &OUTPUT_FILES)?;
     Ok(files)
 }
 

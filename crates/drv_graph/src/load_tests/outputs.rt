@@ -1,0 +1,353 @@
+//! Tests of outputs: those that are right, and what is wrong with others.
+use super::files::*;
+use super::nix_files::*;
+use super::output_files::*;
+use super::{is_blamed, load_all};
+use crate::{GraphFault, Kind, Method, NodeFault, OutputFault, Plan};
+use nix_names::StorePath;
+use std::test::*;
+
+// The SHA-256 of no bytes.
+const NOTHING_DIGEST: [u8; 32] = [
+    0xe3, 0xb0, 0xc4, 0x42, 0x98, 0xfc, 0x1c, 0x14, 0x9a, 0xfb, 0xf4, 0xc8, 0x99, 0x6f, 0xb9, 0x24,
+    0x27, 0xae, 0x41, 0xe4, 0x64, 0x9b, 0x93, 0x4c, 0xa4, 0x95, 0x99, 0x1b, 0x78, 0x52, 0xb8, 0x55,
+];
+
+// A root, and what its plan tells of its outputs.
+struct SoundRow {
+    root: &'static [u8],
+    kind: Kind,
+    outputs: &'static [&'static [u8]],
+}
+
+static SOUND_ROWS: [SoundRow; 18] = [
+    SoundRow {
+        root: BOTH,
+        kind: Kind::Addressed,
+        outputs: &[b"/nix/store/psr3lwb6shrxjh80mgb8wyam48szb03a-both"],
+    },
+    SoundRow {
+        root: UNICODE,
+        kind: Kind::Addressed,
+        outputs: &[b"/nix/store/9wpq4q8q5r3ir0wgnsxw6x3l2c7a6ix8-unicode"],
+    },
+    SoundRow {
+        root: USER,
+        kind: Kind::Addressed,
+        outputs: &[b"/nix/store/1kafa76430j2szm2x8gb36yj7cvqlsrk-user-2.0"],
+    },
+    SoundRow {
+        root: SPLIT,
+        kind: Kind::Addressed,
+        outputs: &[
+            b"/nix/store/5x8rvkfcnyxqvapsqn49rqnf6lwzjx48-split-dev",
+            b"/nix/store/ksxd1j7m4biszsfc1ymn8lzb1y16r4ma-split-doc",
+            b"/nix/store/slm9w9qq4fqgmkf2pxk13nz5vqv0ljdf-split",
+        ],
+    },
+    SoundRow {
+        root: SRC,
+        kind: Kind::Fixed(Method::Flat, NOTHING_DIGEST),
+        outputs: &[b"/nix/store/2qgpd47jrm1g5pyj4s1dacj3hnkrfzvw-src"],
+    },
+    SoundRow {
+        root: GREET,
+        kind: Kind::Addressed,
+        outputs: &[b"/nix/store/i0439xxk79knfdnk3nffhknwdbw7fv5y-greet"],
+    },
+    SoundRow {
+        root: ESCAPES,
+        kind: Kind::Addressed,
+        outputs: &[b"/nix/store/gm30713gyj2f7w11mvpbq8s9iifykcsw-escapes"],
+    },
+    SoundRow {
+        root: KEYS,
+        kind: Kind::Addressed,
+        outputs: &[b"/nix/store/qfylabx7p485z1bqnwyjcrm1i443ipk7-keys"],
+    },
+    SoundRow {
+        root: MANY,
+        kind: Kind::Addressed,
+        outputs: &[b"/nix/store/7qp2g35dmjxk6gzqq8y787d3rkacr01n-many"],
+    },
+    SoundRow {
+        root: NUMBERS,
+        kind: Kind::Addressed,
+        outputs: &[b"/nix/store/bjffjz5d2scb5lykss573k6g5y3aj977-numbers"],
+    },
+    SoundRow {
+        root: SRC_TREE,
+        kind: Kind::Fixed(Method::Recursive, NOTHING_DIGEST),
+        outputs: &[b"/nix/store/cj32lk1sjkasmn43z3pqbq9q8v9bjmzp-src-tree"],
+    },
+    SoundRow {
+        root: WITH_SOURCES,
+        kind: Kind::Addressed,
+        outputs: &[b"/nix/store/59mj31wa1k1w5r9iv9zggwfqxs36cpwh-with-sources-1.0"],
+    },
+    SoundRow {
+        root: ONLY_NAME,
+        kind: Kind::Addressed,
+        outputs: &[b"/nix/store/c52bg9hs4qnp1x7s9bbv44lmgyhgyqpi-x"],
+    },
+    SoundRow {
+        root: TREE,
+        kind: Kind::Fixed(Method::Recursive, NOTHING_DIGEST),
+        outputs: &[b"/nix/store/brxav88rzrya6bhi20qbzdb13b9f9sj5-src"],
+    },
+    SoundRow {
+        root: FLAT,
+        kind: Kind::Fixed(Method::Flat, NOTHING_DIGEST),
+        outputs: &[b"/nix/store/jafr3l9gcgc9kss6avik01b7k153scmh-flat"],
+    },
+    SoundRow {
+        root: TWO,
+        kind: Kind::Addressed,
+        outputs: &[
+            b"/nix/store/x4fh82gyy8cdjpa7mwnkq08bj017nvh6-two-dev",
+            b"/nix/store/dbni28bm1knshnznsbcy2kxy31pvcvjv-two",
+        ],
+    },
+    SoundRow {
+        root: LONG_OUT,
+        kind: Kind::Addressed,
+        outputs: &[
+            b"/nix/store/02bdqbn4nhm8b5brckqnid3v9gdqw84d-nnnnnnnnnnnnnnnnnnnnnnnnnnnnnnnnnnnnnnnnnnnnnnnnnnnnnnnnnnnnnnnnnnnnnnnnnnnnnnnnnnnnnnnnnnnnnnnnnnnnnnnnnnnnnnnnnnnnnnnnnnnnnnnnnnnnnnnnnnnnnnnnnnnnnnnnnnnnnnnnnnnnnnnnnnnnnnnnnnnnnnnnnnnnnnnnnnnnnnnnnnnnnnn",
+        ],
+    },
+    SoundRow {
+        root: LONG_DEV,
+        kind: Kind::Addressed,
+        outputs: &[
+            b"/nix/store/59qgff4795gmk0q2rkxvvwbz3yl9bgwv-nnnnnnnnnnnnnnnnnnnnnnnnnnnnnnnnnnnnnnnnnnnnnnnnnnnnnnnnnnnnnnnnnnnnnnnnnnnnnnnnnnnnnnnnnnnnnnnnnnnnnnnnnnnnnnnnnnnnnnnnnnnnnnnnnnnnnnnnnnnnnnnnnnnnnnnnnnnnnnnnnnnnnnnnnnnnnnnnnnnnnnnnnnnnnnnnnnnnnnnnnnnnnnn-dev",
+        ],
+    },
+];
+
+// Whether these are the texts of the paths.
+fn are_texts(paths: &[StorePath], texts: &[&[u8]]) -> bool {
+    for (place, path) in paths.iter().enumerate() {
+        let Some(text) = texts.get(place) else {
+            return false;
+        };
+        if path.text() != *text {
+            return false;
+        }
+    }
+    paths.len() == texts.len()
+}
+
+// Whether a plan tells this of the row's root.
+fn has_outputs(plan: &Plan, row: &SoundRow) -> bool {
+    for number in 0..plan.len() {
+        if plan.path(number).text() == row.root {
+            return plan.kind(number) == row.kind
+                && are_texts(plan.output_paths(number), row.outputs);
+        }
+    }
+    false
+}
+
+#[test]
+fn outputs_that_are_right(rt: HostRuntime) -> Result<(), Fail> {
+    for row in &SOUND_ROWS {
+        let answer = load_all(rt.alloc(), &[row.root])?;
+        let plan = answer.ok().ok_or("the root has a plan")?;
+        assert!(rt; has_outputs(&plan, row));
+    }
+    Ok(())
+}
+
+// The path of a derivation, and what is wrong with its outputs: the fault's number, the output that
+// it names, and the path.
+struct OutputRow {
+    label: &'static str,
+    at: &'static [u8],
+    number: u8,
+    output: &'static [u8],
+    path: &'static [u8],
+}
+
+static OUTPUT_ROWS: [OutputRow; 21] = [
+    OutputRow {
+        label: "a method that is none",
+        at: MD5,
+        number: 28,
+        output: b"out",
+        path: b"",
+    },
+    OutputRow {
+        label: "a method of Nix that is none here",
+        at: OLD,
+        number: 28,
+        output: b"out",
+        path: b"",
+    },
+    OutputRow {
+        label: "an upper-case digit",
+        at: UPPER,
+        number: 28,
+        output: b"out",
+        path: b"",
+    },
+    OutputRow {
+        label: "63 digits",
+        at: SHORT,
+        number: 28,
+        output: b"out",
+        path: b"",
+    },
+    OutputRow {
+        label: "no digits",
+        at: NO_HASH,
+        number: 28,
+        output: b"out",
+        path: b"",
+    },
+    OutputRow {
+        label: "digits without a method",
+        at: NO_ALGO,
+        number: 28,
+        output: b"out",
+        path: b"",
+    },
+    OutputRow {
+        label: "mixed outputs",
+        at: MIXED,
+        number: 24,
+        output: b"",
+        path: b"",
+    },
+    OutputRow {
+        label: "two fixed outputs",
+        at: TWO_FIXED,
+        number: 24,
+        output: b"",
+        path: b"",
+    },
+    OutputRow {
+        label: "a fixed output that is not out",
+        at: NOT_OUT,
+        number: 24,
+        output: b"",
+        path: b"",
+    },
+    OutputRow {
+        label: "mixed outputs before a method",
+        at: MIXED_MD5,
+        number: 24,
+        output: b"",
+        path: b"",
+    },
+    OutputRow {
+        label: "an entry",
+        at: OUT_ENTRY,
+        number: 27,
+        output: b"out",
+        path: b"",
+    },
+    OutputRow {
+        label: "the path of another output in an entry",
+        at: DEV_ENTRY,
+        number: 27,
+        output: b"dev",
+        path: b"",
+    },
+    OutputRow {
+        label: "the first of two entries",
+        at: BOTH_ENTRIES,
+        number: 27,
+        output: b"dev",
+        path: b"",
+    },
+    OutputRow {
+        label: "the path of another output",
+        at: DEV_PATH,
+        number: 23,
+        output: b"dev",
+        path: b"/nix/store/x4fh82gyy8cdjpa7mwnkq08bj017nvh6-two-dev",
+    },
+    OutputRow {
+        label: "a path before an entry",
+        at: OUT_PATH,
+        number: 23,
+        output: b"out",
+        path: b"/nix/store/dbni28bm1knshnznsbcy2kxy31pvcvjv-two",
+    },
+    OutputRow {
+        label: "a draft",
+        at: DRAFT,
+        number: 23,
+        output: b"out",
+        path: b"/nix/store/27qq6x1lxy2k17ln0a099qm5ym8zf30b-greet",
+    },
+    OutputRow {
+        label: "a name that is too long before a use",
+        at: LONG_DEVS,
+        number: 6,
+        output: b"",
+        path: b"",
+    },
+    OutputRow {
+        label: "an output without a name",
+        at: NO_NAME,
+        number: 6,
+        output: b"",
+        path: b"",
+    },
+    OutputRow {
+        label: "a method before a use",
+        at: MD5_ASKING,
+        number: 28,
+        output: b"out",
+        path: b"",
+    },
+    OutputRow {
+        label: "a use before a path",
+        at: PATH_ASKING,
+        number: 25,
+        output: b"doc",
+        path: LEAF,
+    },
+    OutputRow {
+        label: "the first of two uses",
+        at: ASKING_TWO,
+        number: 25,
+        output: b"doc",
+        path: RIGHT,
+    },
+];
+
+// Whether a fault names this output and this path; of those that name none, whether there is none.
+fn names(fault: &OutputFault, output: &[u8], path: &[u8]) -> bool {
+    match fault {
+        OutputFault::UnknownMethod(name) | OutputFault::EnvMismatch(name) => {
+            name.as_slice() == output && path.is_empty()
+        }
+        OutputFault::UnknownOutput(input, name) => {
+            name.as_slice() == output && input.text() == path
+        }
+        OutputFault::OutputMismatch(name, expected) => {
+            name.as_slice() == output && expected.text() == path
+        }
+        _ => output.is_empty() && path.is_empty(),
+    }
+}
+
+// Whether loading found a fault of outputs that names this output and this path.
+fn is_named(answer: &Result<Plan, GraphFault>, output: &[u8], path: &[u8]) -> bool {
+    match answer {
+        Err(GraphFault::At(_, NodeFault::Outputs(fault))) => names(fault, output, path),
+        _ => false,
+    }
+}
+
+#[test]
+fn outputs_that_are_wrong(rt: HostRuntime) -> Result<(), Fail> {
+    for row in &OUTPUT_ROWS {
+        let answer = load_all(rt.alloc(), &[row.at])?;
+        assert!(rt; is_blamed(&answer, row.at, row.number), "{}", row.label);
+        assert!(rt; is_named(&answer, row.output, row.path), "{}", row.label);
+    }
+    Ok(())
+}

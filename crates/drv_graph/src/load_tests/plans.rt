@@ -1,0 +1,89 @@
+//! Tests of plans that are copied and compared.
+use super::files::*;
+use super::load_all;
+use crate::Plan;
+use std::alloc::Global;
+use std::test::*;
+
+fn plan_of(alloc: Global, roots: &[&[u8]]) -> Result<Plan, Fail> {
+    let answer = load_all(alloc, roots)?;
+    Ok(answer.ok().ok_or("the roots have a plan")?)
+}
+
+// Roots, and others that have the same plan or another one.
+struct PairRow {
+    label: &'static str,
+    roots: &'static [&'static [u8]],
+    others: &'static [&'static [u8]],
+    is_same: bool,
+}
+
+static PAIR_ROWS: [PairRow; 8] = [
+    PairRow {
+        label: "the same roots",
+        roots: &[BOTH, TOP],
+        others: &[BOTH, TOP],
+        is_same: true,
+    },
+    PairRow {
+        label: "no roots",
+        roots: &[],
+        others: &[],
+        is_same: true,
+    },
+    PairRow {
+        label: "a root that repeats",
+        roots: &[LEFT, LEAF, LEFT],
+        others: &[LEFT, LEAF],
+        is_same: true,
+    },
+    PairRow {
+        label: "other roots in the same nodes",
+        roots: &[TOP],
+        others: &[TOP, LEAF],
+        is_same: false,
+    },
+    PairRow {
+        label: "roots in another order",
+        roots: &[TOP, LEAF],
+        others: &[TOP, RIGHT],
+        is_same: false,
+    },
+    PairRow {
+        label: "nodes in another order",
+        roots: &[LEFT, RIGHT],
+        others: &[RIGHT, LEFT],
+        is_same: false,
+    },
+    PairRow {
+        label: "more nodes",
+        roots: &[LEAF],
+        others: &[LEAF, LEFT],
+        is_same: false,
+    },
+    PairRow {
+        label: "derivations that differ by their builders alone",
+        roots: &[LEAF],
+        others: &[TWIN],
+        is_same: false,
+    },
+];
+
+#[test]
+fn plans_that_are_equal(rt: HostRuntime) -> Result<(), Fail> {
+    for row in &PAIR_ROWS {
+        let plan = plan_of(rt.alloc(), row.roots)?;
+        let other = plan_of(rt.alloc(), row.others)?;
+        assert!(rt; (plan == other) == row.is_same, "{}", row.label);
+    }
+    Ok(())
+}
+
+#[test]
+fn copy_is_equal(rt: HostRuntime) -> Result<(), Fail> {
+    let plan = plan_of(rt.alloc(), &[BOTH, TOP])?;
+    let copy = plan.copy(rt.alloc()).ok().ok_or("memory is ample")?;
+    assert!(rt; copy == plan);
+    assert_eq!(rt; copy.len(), 10);
+    Ok(())
+}
