@@ -35,7 +35,8 @@ use Rattle.sched_core.proofs.Places.{contains_at, element_at, place_of}
 -- ---- lists
 
 -- what is in a list of lists put together is in one of them
-pub part_with : {A B : Type 0} (f : A → List B) (xs : List A) (y : B) → Contains (flat_map f xs) y → (x : A) × Contains xs x × Contains (f x) y
+pub part_with : {A B : Type 0} (f : A → List B) (xs : List A) (y : B) → Contains (flat_map f xs) y
+    → (x : A) × Contains xs x × Contains (f x) y
 part_with f [] y has = absurd (Contains-nothing y has)
 part_with f (z ∷ zs) y has =
     ⊎_elim
@@ -46,21 +47,25 @@ part_with f (z ∷ zs) y has =
 -- different texts, each among others, are no more than those
 no_more_than : (xs ys : List (List ℕ)) → AreDistinct xs → ((x : List ℕ) → Contains xs x → Contains ys x) → length xs ≤ length ys
 no_more_than xs ys distinct among =
-    length-le_from_is_member nat_list_eq_equiv xs ys distinct (λ x is. (is_member-Decides bytes_decides ys x).1 (among x ((is_member-Decides bytes_decides xs x).0 is)))
+    length-le_from_is_member nat_list_eq_equiv xs ys distinct
+    (λ x is. (is_member-Decides bytes_decides ys x).1 (among x ((is_member-Decides bytes_decides xs x).0 is)))
 
 -- ---- what is registered
 
-reached_is_valid : (registrations : List Registration) (from to : List ℕ) (steps : List (List ℕ)) → Leads registrations from to steps → IsValid registrations to
+reached_is_valid : (registrations : List Registration) (from to : List ℕ) (steps : List (List ℕ)) → Leads registrations from to steps
+    → IsValid registrations to
 reached_is_valid registrations from to [] leads = subst (IsValid registrations) leads.1 leads.0
 reached_is_valid registrations from to (next ∷ steps) leads = reached_is_valid registrations next to steps leads.1
 
 -- an entry registers each output
-pub output_registered : (node : Node) (infos : List PathInfo) (outputs : List Registration) (entry : Entry) (is : IsEntryOf node infos entry)
+pub output_registered : (node : Node) (infos : List PathInfo) (outputs : List Registration) (entry : Entry)
+    (is : IsEntryOf node infos entry)
     → length infos ≡ length (output_paths node.drv) → (path : List ℕ) → Contains (output_paths node.drv) path → IsValid is.outputs path
 output_registered node infos outputs entry is count path has =
     let at = place_of (output_paths node.drv) path has in
     let info = element_at infos at.0 (omega (arith, count, slice_get_within (output_paths node.drv) at.0 path at.1)) in
-    Contains-map (λ (r : Registration). r.path) is.outputs (record { path = path; info = info.0 }) ((is.each path info.0).1 (at.0, at.1, info.1))
+    Contains-map (λ (r : Registration). r.path) is.outputs (record { path = path; info = info.0 })
+    ((is.each path info.0).1 (at.0, at.1, info.1))
 
 -- and nothing else
 pub registered_output : (node : Node) (infos : List PathInfo) (entry : Entry) (is : IsEntryOf node infos entry) (r : Registration)
@@ -70,12 +75,14 @@ registered_output node infos entry is r has =
     (contains_at (output_paths node.drv) at.0 r.path at.1, contains_at infos at.0 r.info at.2)
 
 -- as many records as outputs
-pub records_for_paths : (run : Run) (entries : List Entry) (node : Node) (infos : List PathInfo) → IsAllowed run entries node infos → length infos ≡ length (output_paths node.drv)
+pub records_for_paths : (run : Run) (entries : List Entry) (node : Node) (infos : List PathInfo) → IsAllowed run entries node infos
+    → length infos ≡ length (output_paths node.drv)
 records_for_paths run entries node infos allowed = allowed.count ∙ sym (length-map node.drv.outputs (λ (o : Output). o.path))
 
 -- ---- what a journal and an outlet ask
 
-module _ (run : Run) (entries : List Entry) (node : Node) (infos : List PathInfo) (entry : Entry) (allowed : IsAllowed run entries node infos) (is : IsEntryOf node infos entry) where
+module _ (run : Run) (entries : List Entry) (node : Node) (infos : List PathInfo) (entry : Entry)
+    (allowed : IsAllowed run entries node infos) (is : IsEntryOf node infos entry) where
   new_outputs : AreNew (registered entries) is.outputs
   new_outputs = all_from_contains (IsNotValid (registered entries)) (paths_of is.outputs) (λ path there valid.
       let r = contains_source (λ (x : Registration). x.path) is.outputs path there in
@@ -87,8 +94,10 @@ module _ (run : Run) (entries : List Entry) (node : Node) (infos : List PathInfo
       let part = part_with (λ (r : Registration). r.info.references) is.outputs path there in
       let own = registered_output node infos entry is part.0 part.1 in
       ⊎_elim
-      (λ reached. still_valid (registered entries) is.outputs path (reached_is_valid (registered entries) reached.0 path reached.2.0 reached.2.1))
-      (λ output. valid_by_some (registered entries) is.outputs path (output_registered node infos is.outputs entry is (records_for_paths run entries node infos allowed) path output))
+      (λ reached. still_valid (registered entries) is.outputs path
+      (reached_is_valid (registered entries) reached.0 path reached.2.0 reached.2.1))
+      (λ output. valid_by_some (registered entries) is.outputs path
+      (output_registered node infos is.outputs entry is (records_for_paths run entries node infos allowed) path output))
       (allowed.permitted part.0.info path own.1 part.2))
 
   -- none of its paths is valid before
@@ -107,23 +116,31 @@ module _ (run : Run) (entries : List Entry) (node : Node) (infos : List PathInfo
   pub done_is_journal : IsJournal entries → IsDrvPath node.path → IsJournal (entries ++ entry ∷ [])
   done_is_journal journal named =
       subst (λ (e : Entry). IsJournal (entries ++ e ∷ [])) (sym is.is_done)
-      (journal_push entries (Done node.path is.outputs) journal named closed_outputs (once_more (registered entries) is.outputs journal.once is.rising new_outputs))
+      (journal_push entries (Done node.path is.outputs) journal named closed_outputs
+      (once_more (registered entries) is.outputs journal.once is.rising new_outputs))
 
   -- it registers as many paths as there are outputs, where no two outputs have one
   pub done_counts : AreDistinct (output_paths node.drv) → length (registered_by entry) ≡ length node.drv.outputs
   done_counts distinct =
       let path_in : Registration → List ℕ = λ r. r.path in
-      let few = no_more_than (paths_of is.outputs) (output_paths node.drv) (distinct_from_rising (paths_of is.outputs) is.rising) (λ path there.
+      let few = no_more_than (paths_of is.outputs) (output_paths node.drv) (distinct_from_rising (paths_of is.outputs) is.rising)
+      (λ path there.
       let r = contains_source path_in is.outputs path there in
       subst (Contains (output_paths node.drv)) r.2 (registered_output node infos entry is r.0 r.1).0) in
-      let many = no_more_than (output_paths node.drv) (paths_of is.outputs) distinct (output_registered node infos is.outputs entry is (records_for_paths run entries node infos allowed)) in
+      let many = no_more_than (output_paths node.drv) (paths_of is.outputs) distinct
+      (output_registered node infos is.outputs entry is (records_for_paths run entries node infos allowed)) in
       ap (λ (e : Entry). length (registered_by e)) is.is_done
       ∙ omega (arith, few, many, length-map is.outputs path_in, length-map node.drv.outputs (λ (o : Output). o.path))
 
 -- no two outputs of a plan's derivation have one path
-pub outputs_differ : (graph : Graph) (d : ℕ) (node : Node) → IsSound graph → slice_get graph.nodes d ≡ Some node → AreDistinct (output_paths node.drv)
-outputs_differ graph d node sound at = All-contains (λ (n : Node). AreDistinct (output_paths_of n.drv)) graph.nodes node sound.own_outputs (contains_from_get graph.nodes d node at)
+pub outputs_differ : (graph : Graph) (d : ℕ) (node : Node) → IsSound graph → slice_get graph.nodes d ≡ Some node
+    → AreDistinct (output_paths node.drv)
+outputs_differ graph d node sound at =
+    All-contains (λ (n : Node). AreDistinct (output_paths_of n.drv)) graph.nodes node sound.own_outputs
+    (contains_from_get graph.nodes d node at)
 
 -- and it stands at a derivation's file
 pub node_is_named : (graph : Graph) (d : ℕ) (node : Node) → IsSound graph → slice_get graph.nodes d ≡ Some node → IsDrvPath node.path
-node_is_named graph d node sound at = All-contains (λ (n : Node). IsDrvPath n.path) graph.nodes node sound.named (contains_from_get graph.nodes d node at)
+node_is_named graph d node sound at =
+    All-contains (λ (n : Node). IsDrvPath n.path) graph.nodes node sound.named
+    (contains_from_get graph.nodes d node at)
