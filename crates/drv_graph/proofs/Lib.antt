@@ -23,3 +23,6 @@ pub mod Loaded
 pub mod Kept
 pub mod Going
 pub mod Copies
+pub mod EmptyPlaces
+pub mod FilledDrafts
+pub mod FillAnswers
