@@ -34,8 +34,8 @@ struct Target {
 /// The derivation of a draft under a name, and the path of its text in the folder. The draft's
 /// empty output paths, and the empty values under outputs' names in its environment, become the
 /// paths that are expected; nothing else is changed. In this order: `Name` where the name, or it
-/// with `.drv` behind it, is none; `Draft` with `BadReference` for the first input or source that is
-/// no path of the folder; the faults of `Plan::load` with the draft's inputs as roots; `Draft` with
+/// with `.drv` behind it, is none; `Draft` with `BadReference` for the first input or source that
+/// is no path of the folder; the faults of `Plan::load` of its inputs as roots; `Draft` with
 /// the first fault of its outputs, where a value that is neither empty nor the expected path is
 /// `OutputMismatch` or `EnvMismatch`; `Draft` with `TooLong` where the filled text has more than
 /// 4,194,304 bytes. Beside the plan of its inputs and the check of its outputs, the draft is copied
