@@ -25,3 +25,6 @@ pub mod Kept
 pub mod Going
 pub mod Copies
 pub mod EqualPlans
+pub mod EmptyPlaces
+pub mod FilledDrafts
+pub mod FillAnswers

@@ -2,6 +2,8 @@ pub mod Checking
 pub mod Expected
 pub mod Faults
 pub mod Filling
+pub mod FillSteps
+pub mod Placing
 pub mod Kinds
 pub mod Loading
 pub mod Modulo

@@ -45,10 +45,6 @@ text_path_of output = output.path.items
 abbrev pub drvs_of : List Node → List Drv
 drvs_of nodes = map (λ (n : Node). n.drv) nodes
 
--- a hash is the modulo hash of a derivation, by its kind
-abbrev pub HasKnownHash : List Node → Drv → (hash : List ℕ) → Type 0
-HasKnownHash nodes drv hash = (kind : Kind) × HasKind drv kind × HasHash nodes drv kind hash
-
 -- A derivation of a plan is the same as another, with all that is kept beside it.
 pub record IsSameNode (node copy : PlanNode) : Type 0 where
   pub path : copy.path ≡ node.path

@@ -105,7 +105,7 @@ fn output_fault_at(alloc: Global, path: &StorePath, fault: OutputFault) -> Graph
 }
 
 // The derivations with these numbers, as inputs of another one.
-fn used_inputs<'a>(
+pub(crate) fn used_inputs<'a>(
     alloc: Global,
     kept: &'a [PlanNode],
     numbers: &[usize],

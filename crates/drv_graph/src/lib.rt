@@ -12,6 +12,8 @@
 //! | `expected` | the paths that outputs must have |
 //! | `values` | whether the paths in a text are those |
 //! | `outputs` | what is wrong with a derivation's outputs |
+//! | `fill` | drafts, filled |
+//! | `placing` | paths in a draft's empty places |
 //! | `paths` | store paths copied, parsed and blamed |
 //! | `laws` | laws over the definitions that contracts cite |
 //! | `fault` | why derivations make no plan |
@@ -19,6 +21,7 @@
 
 mod expected;
 mod fault;
+mod fill;
 mod found;
 mod kind_of;
 mod kinds;
@@ -32,12 +35,14 @@ mod modulo_tests;
 mod node;
 mod outputs;
 mod paths;
+mod placing;
 mod plan;
 mod plan_eq;
 mod values;
 mod walk;
 
 pub use fault::{GraphFault, NodeFault, OutputFault};
+pub use fill::fill_outputs;
 pub use kinds::{Kind, Method};
 pub use modulo::modulo_text;
 pub use plan::Plan;

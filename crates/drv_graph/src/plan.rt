@@ -7,7 +7,7 @@ ghost use Rattle.drv_graph.specs.Kinds.{HasKind};
 ghost use Rattle.drv_graph.specs.Loading.{IsLoading};
 ghost use Rattle.drv_graph.specs.Nodes.{inputs_of, paths_of};
 ghost use Rattle.drv_graph.specs.Plans.{AreNumbers};
-ghost use Rattle.drv_graph.specs.PlanNodes.{HasKnownHash, drvs_of, output_paths_of};
+ghost use Rattle.drv_graph.specs.PlanNodes.{AreKept, drvs_of, nodes_of, output_paths_of};
 ghost use Rattle.drv_graph.specs.SoundGraphs.{IsSound};
 
 use crate::fault::GraphFault;
@@ -144,12 +144,12 @@ impl Plan {
         &self.nodes[number].sources
     }
 
-    // The hash by which the derivation with this number stands in its users' texts.
-    pub(crate) fn modulo_hash(&self, number: usize) -> [u8; 32]
-        requires { number < length self.now.nodes }
-        ensures { IfSome (slice_get self.now.nodes number) (λ node. HasKnownHash self.now.nodes node.drv result) }
+    // The derivations, and what is kept beside each.
+    pub(crate) fn nodes(&self) -> &[PlanNode]
+        ensures nodes { nodes_of result.now ≡ self.now.nodes }
+        ensures kept { AreKept result.now }
     {
-        self.nodes[number].hash
+        &self.nodes
     }
 
     /// The numbers of the roots, in their order, each once.

@@ -43,8 +43,14 @@ pub fn check_text(
     Ok(drv)
 }
 
-// The paths that a derivation refers to, as references of its text: rising, each once.
-fn references(alloc: Global, dir: &StoreDir, drv: &Derivation) -> Result<Vec<StorePath>, DrvFault>
+/// The paths of a derivation's inputs and sources, as references of its text: rising, each once.
+/// `BadReference` with the first that is no path of the folder. Costs one copy of the paths and one
+/// sort.
+pub fn references(
+    alloc: Global,
+    dir: &StoreDir,
+    drv: &Derivation,
+) -> Result<Vec<StorePath>, DrvFault>
     ensures ok { IfOk result
         (λ refs. All (IsPathOf dir.now) (paths_of drv.now)
         × IsReferencesOf (paths_of drv.now) refs.items) }

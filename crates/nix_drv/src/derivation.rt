@@ -148,7 +148,8 @@ impl Derivation {
 
     /// The parts, in order.
     pub fn parts(&self) -> &Parts
-        ensures { drv_of result.now ≡ self.now }
+        ensures parts { drv_of result.now ≡ self.now }
+        ensures in_order { InOrder derivation_form (drv_value self.now) }
     {
         &self.parts
     }

@@ -22,4 +22,4 @@ returns c =
     (subst (λ (inputs : List Input). IsUnited inputs (map input_of c.as_slice-inputs.result.now)) given
     (subst (λ (items : List InputStruct). IsUnited (map input_of c.in_ok-replaced.replaced.items) (map input_of items)) (sym c.as_slice-inputs.ensures.value) c.in_ok-united.ensures))
     (sym (ap (λ (b : Bool). if b then masked c.args.drv.now else c.args.drv.now) c.if-mask.false))
-    (subst (λ (d : Drv). IfOk c.text_with_inputs.result (λ text. IsLooseText (with_inputs d (map input_of c.as_slice-inputs.result.now)) text.items)) c.parts.ensures c.text_with_inputs.ensures)
+    (subst (λ (d : Drv). IfOk c.text_with_inputs.result (λ text. IsLooseText (with_inputs d (map input_of c.as_slice-inputs.result.now)) text.items)) c.parts.ensures.parts c.text_with_inputs.ensures)

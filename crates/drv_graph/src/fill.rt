@@ -1,0 +1,189 @@
+//! Drafts of derivations, in which the paths of outputs may be left out.
+ghost use Rattle.std.specs.Prelude.{◌≡◌, ◌≤◌, IfErr, IfOk, All, length};
+ghost use Rattle.nix_names.specs.Rising.{IsRising};
+ghost use Rattle.nix_names.specs.StorePaths.{IsPathOf};
+ghost use Rattle.nix_drv.specs.Derivation.{IsDrvText};
+ghost use Rattle.nix_drv.specs.Outcome.{max_len};
+ghost use Rattle.nix_drv.specs.OwnPath.{paths_of};
+ghost use Rattle.nix_drv.specs.References.{IsReferencesOf};
+ghost use Rattle.nix_drv.specs.Sources.{GivesSame};
+ghost use Rattle.drv_graph.specs.Filling.{AreNames, IsFilling, file_name};
+ghost use Rattle.drv_graph.specs.FillSteps.{AreDraftPaths, AreOutputsRefused, IsFillRefused, IsFilledBehind, IsNameRefused, IsStrayRefused, IsTarget, IsTargetRefused, IsTextPath, IsTextRefused};
+ghost use Rattle.drv_graph.specs.Loading.{IsLoading};
+ghost use Rattle.drv_graph.specs.Nodes.{inputs_of};
+ghost use Rattle.drv_graph.specs.Plans.{AreNumbers};
+ghost use Rattle.drv_graph.specs.UsedInputs.{drvs_of, hashes_of, paths_of as used_paths_of};
+
+use crate::fault::{GraphFault, NodeFault, OutputFault};
+use crate::found::used_inputs;
+use crate::outputs::{UsedInput, expected_outputs};
+use crate::paths::input_paths;
+use crate::placing::place;
+use crate::plan::Plan;
+use nix_drv::{Derivation, DrvFault, DrvSource, MAX_LEN, references, text_path, write};
+use nix_names::{StoreDir, StorePath, is_name};
+use std::alloc::Global;
+
+// The file of a filled derivation: its name, and the references of its text.
+#[derive(Debug, Drop)]
+struct Target {
+    file: Vec<u8>,
+    refs: Vec<StorePath>,
+}
+
+/// The derivation of a draft under a name, and the path of its text in the folder. The draft's
+/// empty output paths, and the empty values under outputs' names in its environment, become the
+/// paths that are expected; nothing else is changed. In this order: `Name` where the name, or it
+/// with `.drv` behind it, is none; `Draft` with `BadReference` for the first input or source that
+/// is no path of the folder; the faults of `Plan::load` of its inputs as roots; `Draft` with
+/// the first fault of its outputs, where a value that is neither empty nor the expected path is
+/// `OutputMismatch` or `EnvMismatch`; `Draft` with `TooLong` where the filled text has more than
+/// 4,194,304 bytes. Beside the plan of its inputs and the check of its outputs, the draft is copied
+/// once, and its filled text is written and digested once.
+pub fn fill_outputs<S: DrvSource>(
+    alloc: Global,
+    source: &mut S,
+    dir: &StoreDir,
+    name: &[u8],
+    draft: &Derivation,
+) -> Result<(Derivation, StorePath), GraphFault>
+    ensures keeps { GivesSame (S.gives source.old) (S.gives source.new) }
+    ensures counts { S.failures source.old ≤ S.failures source.new }
+    ensures filling { IsFilling dir.now (S.gives source.old) name.now draft.now result }
+{
+    let target = target_of(alloc, dir, name, draft)?;
+    let plan = load_inputs(alloc, source, dir, draft)?;
+    let filled = fill(alloc, dir, name, draft, &plan)?;
+    let path = own_path(alloc, dir, &target, &filled)?;
+    Ok((filled, path))
+}
+
+// The file of the draft under a name, when it is filled.
+fn target_of(
+    alloc: Global,
+    dir: &StoreDir,
+    name: &[u8],
+    draft: &Derivation,
+) -> Result<Target, GraphFault>
+    ensures ok { IfOk result (IsTarget dir.now name.now draft.now) }
+    ensures err { IfErr result (IsTargetRefused dir.now name.now draft.now) }
+{
+    let file = file_name(alloc, name)?;
+    let refs = draft_references(alloc, dir, draft)?;
+    Ok(Target { file, refs })
+}
+
+// The name of the file of the derivation with this name. `Name` where one of the two is none.
+fn file_name(alloc: Global, name: &[u8]) -> Result<Vec<u8>, GraphFault>
+    ensures ok { IfOk result (λ file. AreNames name.now × (file.items ≡ file_name name.now)) }
+    ensures err { IfErr result (IsNameRefused name.now) }
+{
+    let mut file = Vec::from_slice(alloc, name)?;
+    file.extend_from_slice(b".drv")?;
+    if is_name(name) && is_name(&file) {
+        Ok(file)
+    } else {
+        Err(GraphFault::Name)
+    }
+}
+
+// The references of the draft's text.
+fn draft_references(
+    alloc: Global,
+    dir: &StoreDir,
+    draft: &Derivation,
+) -> Result<Vec<StorePath>, GraphFault>
+    ensures ok { IfOk result (λ refs. All (IsPathOf dir.now) (paths_of draft.now) × IsReferencesOf (paths_of draft.now) refs.items) }
+    ensures err { IfErr result (IsStrayRefused dir.now (paths_of draft.now)) }
+{
+    match references(alloc, dir, draft) {
+        Ok(refs) => Ok(refs),
+        Err(DrvFault::NoMemory) => Err(GraphFault::NoMemory),
+        Err(fault) => Err(GraphFault::Draft(NodeFault::Text(fault))),
+    }
+}
+
+// The plan of the draft's inputs.
+fn load_inputs<S: DrvSource>(
+    alloc: Global,
+    source: &mut S,
+    dir: &StoreDir,
+    draft: &Derivation,
+) -> Result<Plan, GraphFault>
+    ensures keeps { GivesSame (S.gives source.old) (S.gives source.new) }
+    ensures counts { S.failures source.old ≤ S.failures source.new }
+    ensures loading { IsLoading dir.now (S.gives source.old) (inputs_of draft.now) result }
+    ensures numbers { IfOk result (λ plan. AreNumbers plan.nodes plan.roots (inputs_of draft.now)) }
+{
+    let inputs = input_paths(alloc, dir, &draft.parts().inputs)?;
+    Plan::load(alloc, source, dir, &inputs)
+}
+
+// The draft with its outputs' expected paths in its empty places, by the plan of its inputs.
+fn fill(
+    alloc: Global,
+    dir: &StoreDir,
+    name: &[u8],
+    draft: &Derivation,
+    plan: &Plan,
+) -> Result<Derivation, GraphFault>
+    requires { AreNumbers plan.now.nodes plan.now.roots (inputs_of draft.now) }
+    ensures ok { IfOk result (IsFilledBehind dir.now name.now plan.now.nodes draft.now) }
+    ensures err { IfErr result (IsFillRefused dir.now name.now plan.now.nodes draft.now) }
+{
+    let used = used_inputs(alloc, plan.nodes(), plan.roots())?;
+    let paths = draft_paths(alloc, dir, name, draft, &used)?;
+    Ok(place(alloc, draft, &paths)?)
+}
+
+// The expected paths of the draft's outputs, or what is wrong with them first.
+fn draft_paths(
+    alloc: Global,
+    dir: &StoreDir,
+    name: &[u8],
+    draft: &Derivation,
+    used: &[UsedInput],
+) -> Result<Vec<StorePath>, GraphFault>
+    requires { used_paths_of used.now ≡ inputs_of draft.now }
+    ensures ok { IfOk result (λ paths. AreDraftPaths dir.now name.now draft.now (drvs_of used.now) (hashes_of used.now) paths.items) }
+    ensures err { IfErr result (AreOutputsRefused dir.now name.now draft.now (drvs_of used.now) (hashes_of used.now)) }
+{
+    match expected_outputs(alloc, dir, name, draft, used, true) {
+        Ok((_, paths)) => Ok(paths),
+        Err(OutputFault::NoMemory) => Err(GraphFault::NoMemory),
+        Err(fault) => Err(GraphFault::Draft(NodeFault::Outputs(fault))),
+    }
+}
+
+// The path of the text of a filled derivation.
+fn own_path(
+    alloc: Global,
+    dir: &StoreDir,
+    target: &Target,
+    filled: &Derivation,
+) -> Result<StorePath, GraphFault>
+    requires { IsRising target.now.refs.items }
+    ensures ok { IfOk result (IsTextPath dir.now target.now.file.items target.now.refs.items filled.now) }
+    ensures err { IfErr result (IsTextRefused filled.now) }
+{
+    let text = filled_text(alloc, filled)?;
+    // The name of the file was tested, so only memory can be refused.
+    match text_path(alloc, dir, &target.file, &text, &target.refs) {
+        Ok(path) => Ok(path),
+        Err(_) => Err(GraphFault::NoMemory),
+    }
+}
+
+// The text of a filled derivation, within the limit.
+fn filled_text(alloc: Global, filled: &Derivation) -> Result<Vec<u8>, GraphFault>
+    ensures ok { IfOk result (λ text. IsDrvText filled.now text.items × (length text.items ≤ max_len)) }
+    ensures err { IfErr result (IsTextRefused filled.now) }
+{
+    let Ok(text) = write(alloc, filled) else {
+        return Err(GraphFault::NoMemory);
+    };
+    if text.len() > MAX_LEN {
+        return Err(GraphFault::Draft(NodeFault::Text(DrvFault::TooLong)));
+    }
+    Ok(text)
+}
