@@ -40,10 +40,16 @@ fn number(answer: Result<(), TableFault>) -> u8 {
     }
 }
 
-// X, and Y which refers to it.
-fn two_paths(alloc: Global) -> Result<Journal, Fail> {
+// X, which refers to nothing.
+fn one_path(alloc: Global) -> Result<Journal, Fail> {
     let mut journal = Journal::new(alloc);
     journal.add(path(alloc, X)?, record(alloc, None)?)?;
+    Ok(journal)
+}
+
+// X, and Y which refers to it.
+fn two_paths(alloc: Global) -> Result<Journal, Fail> {
+    let mut journal = one_path(alloc)?;
     add(&mut journal, referring(alloc, Y, X)?)?;
     Ok(journal)
 }

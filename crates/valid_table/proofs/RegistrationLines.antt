@@ -3,19 +3,25 @@ use Rattle.std.proofs.Common.{◌≡◌, ℕ, List, ◌∷◌, ◌++◌, length,
 use Rattle.std.proofs.lemmas.List.{append_assoc}
 use Rattle.valid_table.specs.LineTexts.{fields_text, references_text}
 use Rattle.valid_table.specs.PathInfos.{PathInfo}
-use Rattle.valid_table.specs.Readers.{HasReferences, HasRegistration, IsFieldsLine, StopsInRegistration}
+use Rattle.valid_table.specs.Readers.{HasNoFields, HasReferences, HasRegistration, IsFieldsLine, StopsInRegistration}
 use Rattle.valid_table.specs.Steps.{IsAbove}
 use Rattle.valid_table.proofs.LineTexts.{two_fields}
 
--- a path that isn't above the one before it stops
-pub low_registration : (dir : List ℕ) (letter : ℕ) (before : Option (List ℕ)) (bytes fields path : List ℕ) (digest : Option (List ℕ)) (rest : List ℕ) → bytes ≡ letter ∷ 32 ∷ fields
-    → IsFieldsLine dir fields path digest rest → (IsAbove before path → ⊥) → StopsInRegistration dir letter before bytes (length bytes)
-low_registration dir letter before bytes fields path digest rest begins line low = inl (record {
-  fields = fields;
-  begins = begins;
-  is_left = refl;
-  bad = λ other sum more above is. low (subst (IsAbove before) (two_fields dir fields other sum more path digest rest is line).0 above);
-})
+-- a path that isn't above the one before it is not the one of a line that is wanted
+pub low_fields : (dir : List ℕ) (before : Option (List ℕ)) (fields path : List ℕ) (digest : Option (List ℕ)) (rest : List ℕ)
+    → IsFieldsLine dir fields path digest rest → (IsAbove before path → ⊥) → HasNoFields dir before fields
+low_fields dir before fields path digest rest line low = λ other sum more above is.
+    low (subst (IsAbove before) (two_fields dir fields other sum more path digest rest is line).0 above)
+
+-- nor is one where no line with a path and a digest stands
+pub no_fields : (dir : List ℕ) (before : Option (List ℕ)) (fields : List ℕ)
+    → ((path : List ℕ) (digest : Option (List ℕ)) (rest : List ℕ) → IsFieldsLine dir fields path digest rest → ⊥) → HasNoFields dir before fields
+no_fields dir before fields none = λ path digest rest above is. none path digest rest is
+
+-- reading stops there
+pub bad_fields : (dir : List ℕ) (letter : ℕ) (before : Option (List ℕ)) (bytes fields : List ℕ) → bytes ≡ letter ∷ 32 ∷ fields
+    → HasNoFields dir before fields → StopsInRegistration dir letter before bytes (length bytes)
+bad_fields dir letter before bytes fields begins none = inl (record { fields = fields; begins = begins; is_left = refl; bad = none })
 
 -- the text of a line with fields, of the references behind it and of the rest
 joined : (letter : ℕ) (bytes fields path : List ℕ) (digest : Option (List ℕ)) (behind rest : List ℕ) (references : List (List ℕ)) → bytes ≡ letter ∷ 32 ∷ fields → fields ≡ fields_text path digest ++ behind

@@ -57,12 +57,16 @@ pub record HasRegistration (dir : List ℕ) (letter : ℕ) (before : Option (Lis
   pub above : IsAbove before r.path
   pub ends : IsNoLine 82 rest
 
+-- no line with a path above the one before it and a digest stands there
+abbrev pub HasNoFields : List ℕ → Option (List ℕ) → List ℕ → Type 0
+HasNoFields dir before bytes = (path : List ℕ) (digest : Option (List ℕ)) (rest : List ℕ) → IsAbove before path → IsFieldsLine dir bytes path digest rest → ⊥
+
 -- a line with this letter is bad
 pub record IsBadFields (dir : List ℕ) (letter : ℕ) (before : Option (List ℕ)) (bytes : List ℕ) (left : ℕ) : Type 0 where
   pub fields : List ℕ
   pub begins : bytes ≡ letter ∷ 32 ∷ fields
   pub is_left : length bytes ≡ left
-  pub bad : (path : List ℕ) (digest : Option (List ℕ)) (rest : List ℕ) → IsAbove before path → IsFieldsLine dir fields path digest rest → ⊥
+  pub bad : HasNoFields dir before fields
 
 -- a line with this letter is good, and one behind it, of its references, is bad
 pub record HasBadReference (dir : List ℕ) (letter : ℕ) (before : Option (List ℕ)) (bytes : List ℕ) (left : ℕ) : Type 0 where

@@ -5,7 +5,7 @@ ghost use Rattle.std.specs.Option.{option_copied};
 ghost use Rattle.nix_names.specs.Names.{IsStoreDir};
 ghost use Rattle.valid_table.specs.BadLines.{BeginsOutput};
 ghost use Rattle.valid_table.specs.Entries.{paths_of};
-ghost use Rattle.valid_table.specs.Readers.{HasEntry, HasOutputs, HasReferences, HasRegistration, HasToBegin, IsNoLine, StopsInRegistration, StopsWhere};
+ghost use Rattle.valid_table.specs.Readers.{HasEntry, HasNoFields, HasOutputs, HasReferences, HasRegistration, HasToBegin, IsFieldsLine, IsNoLine, StopsInRegistration, StopsWhere};
 ghost use Rattle.valid_table.specs.Reading.{IsReading, answered};
 ghost use Rattle.valid_table.specs.Steps.{IsAbove, Place, Opened, Start, Stops, Within};
 ghost use Rattle.valid_table.specs.Texts.{IsText};
@@ -118,6 +118,49 @@ fn references_of<'a>(
     Ok((references, rest))
 }
 
+/// The record with a digest and with the references at the head of the bytes, and what is behind
+/// their lines.
+fn record_of<'a>(
+    alloc: Global,
+    dir: &StoreDir,
+    digest: Option<[u8; 32]>,
+    bytes: &'a [u8],
+) -> Result<(Record, &'a [u8]), Stop>
+    ensures references { IfOk result
+        (λ x. HasReferences dir.now bytes.now x.0.references x.1.now) }
+    ensures digest { IfOk result (λ x. x.0.digest ≡ digest) }
+    ensures left { IfErr result
+        (StopsWhere
+        (λ left. (output : Option (List ℕ)) → Stops dir.now (Within output None) bytes.now left)) }
+{
+    let (references, rest) = references_of(alloc, dir, bytes)?;
+    let info = Record::new(references, digest)?;
+    Ok((info, rest))
+}
+
+/// The path, greater than the one before it, and the digest at the head of the bytes, and what is
+/// behind their line. None where no such line is there.
+fn fields_above<'a>(
+    alloc: Global,
+    dir: &StoreDir,
+    before: Option<&StorePath>,
+    bytes: &'a [u8],
+) -> Result<Option<(StorePath, Option<[u8; 32]>, &'a [u8])>, AllocError>
+    ensures { IfOk result
+        (λ found. MatchOption found (HasNoFields dir.now (option_copied before.entry) bytes.now)
+        (λ x. IsAbove (option_copied before.entry) x.0
+        × IsFieldsLine dir.now bytes.now x.0 x.1 x.2.now)) }
+{
+    let Some((path, digest, rest)) = fields_line(alloc, dir, bytes)? else {
+        return Ok(None);
+    };
+    if is_above(before, &path) {
+        Ok(Some((path, digest, rest)))
+    } else {
+        Ok(None)
+    }
+}
+
 /// The path that is registered at the head of the bytes, by a line with this letter, and what is
 /// behind its references. None where no such line begins there. The path has to be greater than the
 /// one before it.
@@ -137,14 +180,10 @@ fn registration_of<'a>(
     let Some(fields) = behind_letter(letter, bytes) else {
         return Ok(None);
     };
-    let Some((path, digest, rest)) = fields_line(alloc, dir, fields)? else {
+    let Some((path, digest, rest)) = fields_above(alloc, dir, before, fields)? else {
         return Err(Stop::Left(bytes.len()));
     };
-    if !is_above(before, &path) {
-        return Err(Stop::Left(bytes.len()));
-    }
-    let (references, rest) = references_of(alloc, dir, rest)?;
-    let info = Record::new(references, digest)?;
+    let (info, rest) = record_of(alloc, dir, digest, rest)?;
     Ok(Some((Registration { path, info }, rest)))
 }
 

@@ -1,6 +1,6 @@
 //! Writing a journal's text.
-ghost use Rattle.std.specs.Prelude.{◌≡◌, ◌++◌, IfOk, IfErr, OnOk};
-ghost use Rattle.valid_table.specs.LineTexts.{lines_text, path_line, registration_text};
+ghost use Rattle.std.specs.Prelude.{◌≡◌, ◌++◌, ◌∷◌, IfOk, IfErr, OnOk};
+ghost use Rattle.valid_table.specs.LineTexts.{fields_text, lines_text, path_line, registration_text};
 ghost use Rattle.valid_table.specs.Texts.{digest_text, entry_lines, text};
 
 use crate::entry::{Entry, Outputs, Record, Registration};
@@ -60,15 +60,29 @@ fn write_registration(
     ensures { OnOk result
         (out.new.items ≡ out.old.items ++ registration_text letter registration.now) }
 {
-    out.extend_from_slice(&[letter, b' '])?;
-    out.extend_from_slice(registration.path.text())?;
-    out.extend_from_slice(b" ")?;
-    write_digest(registration.info.digest(), out)?;
-    out.extend_from_slice(b"\n")?;
+    write_fields(letter, registration, out)?;
     'references: for reference in registration.info.references() {
         write_path(b'R', reference, out)?;
     }
     Ok(())
+}
+
+/// Adds the line with this letter, the path that is registered and its digest.
+fn write_fields(
+    letter: u8,
+    registration: &Registration,
+    out: &mut Vec<u8>,
+) -> Result<(), AllocError>
+    ensures { OnOk result
+        (out.new.items
+        ≡ out.old.items
+        ++ letter ∷ 32 ∷ fields_text registration.now.path registration.now.info.digest) }
+{
+    out.extend_from_slice(&[letter, b' '])?;
+    out.extend_from_slice(registration.path.text())?;
+    out.extend_from_slice(b" ")?;
+    write_digest(registration.info.digest(), out)?;
+    out.extend_from_slice(b"\n")
 }
 
 /// Adds a line with this letter and a path.
