@@ -5,20 +5,24 @@ use Rattle.nix_names.specs.StorePaths.{IsPathOf, name_of}
 use Rattle.nix_drv.specs.Checked.{IsFoundAt}
 use Rattle.nix_drv.specs.Derivation.{Drv, IsDrvText}
 use Rattle.nix_drv.specs.Outcome.{max_len}
-use Rattle.nix_drv.specs.OwnPath.{paths_of, text_path}
+use Rattle.nix_drv.specs.OwnPath.{IsOwnPath, paths_of, text_path}
 use Rattle.nix_drv.specs.References.{IsReferencesOf}
 
 -- the text path with the references of a text is its own path
-pub found_at : (dir path bytes name : List ℕ) (drv : Drv) (refs lent : List (List ℕ)) (own : List ℕ) → name ≡ name_of path → is_drv_name name ≡ true → length bytes ≤ max_len → IsDrvText drv bytes → All (IsPathOf dir) (paths_of drv) → IsReferencesOf (paths_of drv) refs → lent ≡ refs → own ≡ text_path dir name bytes lent → IsFoundAt dir path bytes drv own
-found_at dir path bytes name drv refs lent own named is_drv within is_text good is_refs same is_own = record {
+pub own_path_of : (dir name bytes : List ℕ) (drv : Drv) (refs lent : List (List ℕ)) (own : List ℕ) → IsReferencesOf (paths_of drv) refs → lent ≡ refs → own ≡ text_path dir name bytes lent → IsOwnPath dir name drv bytes own
+own_path_of dir name bytes drv refs lent own is_refs same is_own = record {
+  refs = refs;
+  rising = is_refs.rising;
+  same = is_refs.same;
+  is_path = is_own ∙ ap (λ (r : List (List ℕ)). text_path dir name bytes r) same;
+}
+
+-- a text that was read is found at its own path
+pub found_at : (dir path bytes name : List ℕ) (drv : Drv) (own : List ℕ) → name ≡ name_of path → is_drv_name name ≡ true → length bytes ≤ max_len → IsDrvText drv bytes → All (IsPathOf dir) (paths_of drv) → IsOwnPath dir name drv bytes own → IsFoundAt dir path bytes drv own
+found_at dir path bytes name drv own named is_drv within is_text good is_own = record {
   read = record { named = subst (λ (n : List ℕ). is_drv_name n ≡ true) named is_drv; within = within; is_text = is_text };
   in_store = good;
-  own_path = record {
-    refs = refs;
-    rising = is_refs.rising;
-    same = is_refs.same;
-    is_path = is_own ∙ ap (λ (n : List ℕ). text_path dir n bytes lent) named ∙ ap (λ (r : List (List ℕ)). text_path dir (name_of path) bytes r) same;
-  };
+  own_path = subst (λ (n : List ℕ). IsOwnPath dir n drv bytes own) named is_own;
 }
 
 -- what is found at its own path stands there

@@ -1,9 +1,10 @@
 //! Whether a derivation stands at its own path.
-ghost use Rattle.std.specs.Prelude.{◌≡◌, ◌++◌, [], ◌∷◌, map, All, IfOk, IfErr, OnOk};
+ghost use Rattle.std.specs.Prelude.{◌≡◌, ◌++◌, [], ◌∷◌, map, All, IfOk, IfErr, IsTrue, OnOk};
+ghost use Rattle.nix_names.specs.Names.{is_name};
 ghost use Rattle.nix_names.specs.StorePaths.{IsPathOf};
 ghost use Rattle.nix_drv.specs.Checked.{IsCheck};
 ghost use Rattle.nix_drv.specs.Order.{key as key_of};
-ghost use Rattle.nix_drv.specs.OwnPath.{paths_of};
+ghost use Rattle.nix_drv.specs.OwnPath.{IsOwnPath, paths_of};
 ghost use Rattle.nix_drv.specs.References.{IsReferencesOf, IsStrayFault};
 
 use crate::derivation::Derivation;
@@ -32,15 +33,33 @@ pub fn check_text(
         return Err(DrvFault::NotADrvName);
     }
     let drv = read(alloc, bytes)?;
-    let refs = references(alloc, dir, &drv)?;
-    // The name of a path is a name, so only memory can be refused.
-    let Ok(own) = text_path(alloc, dir, name, bytes, &refs) else {
-        return Err(DrvFault::NoMemory);
-    };
+    let own = own_path(alloc, dir, name, bytes, &drv)?;
     if own != *path {
         return Err(DrvFault::TextPathMismatch(own));
     }
     Ok(drv)
+}
+
+// The path in the folder at which a derivation's text stands, under a name.
+fn own_path(
+    alloc: Global,
+    dir: &StoreDir,
+    name: &[u8],
+    bytes: &[u8],
+    drv: &Derivation,
+) -> Result<StorePath, DrvFault>
+    requires { IsTrue (is_name name.now) }
+    ensures ok { IfOk result
+        (λ own. All (IsPathOf dir.now) (paths_of drv.now)
+        × IsOwnPath dir.now name.now drv.now bytes.now own) }
+    ensures err { IfErr result (IsStrayFault dir.now (paths_of drv.now)) }
+{
+    let refs = references(alloc, dir, drv)?;
+    match text_path(alloc, dir, name, bytes, &refs) {
+        Ok(own) => Ok(own),
+        // Under a name only memory can be refused.
+        Err(_) => Err(DrvFault::NoMemory),
+    }
 }
 
 /// The paths of a derivation's inputs and sources, as references of its text: rising, each once.

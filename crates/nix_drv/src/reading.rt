@@ -1,8 +1,8 @@
 //! Reading a derivation from its text.
 
-ghost use Rattle.std.specs.Prelude.{◌≡◌};
+ghost use Rattle.std.specs.Prelude.{◌≡◌, false};
 ghost use Rattle.nix_drv.specs.Grammar.{Str};
-ghost use Rattle.nix_drv.specs.Reading.{escape_at, byte_at, fixed_at, read};
+ghost use Rattle.nix_drv.specs.Reading.{bytes_at, escape_at, byte_at, fixed_at, read};
 ghost use Rattle.nix_drv.specs.Stops.{Gives};
 ghost use Rattle.nix_drv.specs.Outcome.{IsReading};
 
@@ -63,7 +63,15 @@ fn byte_of(bytes: &[u8]) -> Result<(Option<u8>, &[u8]), Stop>
 pub(crate) fn str_of(alloc: Global, bytes: &[u8]) -> Result<(Vec<u8>, &[u8]), Stop>
     ensures { Gives (λ x. (x.0.items, x.1.now)) result (read Str bytes.now) }
 {
-    let mut rest = fixed_of(bytes, b"\"")?;
+    let rest = fixed_of(bytes, b"\"")?;
+    spelled_of(alloc, rest)
+}
+
+// The bytes that are spelled up to a string's last quote, and those behind it.
+fn spelled_of(alloc: Global, bytes: &[u8]) -> Result<(Vec<u8>, &[u8]), Stop>
+    ensures { Gives (λ x. (x.0.items, x.1.now)) result (bytes_at false bytes.now) }
+{
+    let mut rest = bytes;
     let mut value = Vec::new(alloc);
     'bytes: loop {
         let (run, special) = rest.split_at(plain_len(rest));

@@ -1,13 +1,12 @@
 use Rattle.std.proofs.Common.{◌≡◌, ℕ, false, Option, Ok, ap, ◌∙◌}
 use Rattle.std.proofs.lemmas.Result.{err_from_is_err_and}
-use Rattle.nix_drv.specs.Grammar.{Str}
-use Rattle.nix_drv.specs.Reading.{before, bytes_at, read}
+use Rattle.nix_drv.specs.Reading.{before, bytes_at}
 use Rattle.nix_drv.proofs.Runs.{run_read, byte_fails, byte_more, byte_none}
-use Rattle.nix_drv.proofs.reading.str_of.Goals as goal
+use Rattle.nix_drv.proofs.reading.spelled_of.Goals as goal
 
 pub returns-in_err-byte : goal.returns-in_err-byte
 returns-in_err-byte c =
-    let total = read Str c.args.bytes.now in
+    let total = bytes_at false c.args.bytes.now in
     let so_far = run_read c.bytes.value.items c.bytes.rest.now c.plain_len.result total c.plain_len.ensures.within c.plain_len.ensures.plain c.bytes.invariant in
     let here : before c.extend_from_slice.new.self.items (bytes_at false c.split_at.result.1.now) ≡ total =
     rw (c.in_ok-extend_from_slice.ensures.items, c.split_at.ensures.front, c.split_at.ensures.back) so_far in
@@ -16,7 +15,7 @@ returns-in_err-byte c =
 
 pub bytes-preserved : goal.bytes-preserved
 bytes-preserved c =
-    let total = read Str c.args.bytes.now in
+    let total = bytes_at false c.args.bytes.now in
     let so_far = run_read c.bytes.value.items c.bytes.rest.now c.plain_len.result total c.plain_len.ensures.within c.plain_len.ensures.plain c.bytes.invariant in
     let here : before c.extend_from_slice.new.self.items (bytes_at false c.split_at.result.1.now) ≡ total =
     rw (c.in_ok-extend_from_slice.ensures.items, c.split_at.ensures.front, c.split_at.ensures.back) so_far in
@@ -26,7 +25,7 @@ bytes-preserved c =
 
 pub returns-in-None-default : goal.returns-in-None-default
 returns-in-None-default c =
-    let total = read Str c.args.bytes.now in
+    let total = bytes_at false c.args.bytes.now in
     let so_far = run_read c.bytes.value.items c.bytes.rest.now c.plain_len.result total c.plain_len.ensures.within c.plain_len.ensures.plain c.bytes.invariant in
     let here : before c.extend_from_slice.new.self.items (bytes_at false c.split_at.result.1.now) ≡ total =
     rw (c.in_ok-extend_from_slice.ensures.items, c.split_at.ensures.front, c.split_at.ensures.back) so_far in

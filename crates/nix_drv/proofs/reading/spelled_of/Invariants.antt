@@ -1,11 +1,10 @@
 use Rattle.std.proofs.Common.{◌≡◌, false, length}
-use Rattle.nix_drv.specs.Grammar.{Str}
-use Rattle.nix_drv.specs.Reading.{before, bytes_at, read}
-use Rattle.nix_drv.proofs.reading.str_of.Given as goal
+use Rattle.nix_drv.specs.Reading.{before, bytes_at}
+use Rattle.nix_drv.proofs.reading.spelled_of.Given as goal
 
 -- the bytes so far and those of the rest are those of the string
 abbrev pub invariant-bytes : goal.invariant-bytes
-invariant-bytes l = before l.value.items (bytes_at false l.rest) ≡ read Str l.bytes
+invariant-bytes l = before l.value.items (bytes_at false l.rest) ≡ bytes_at false l.bytes
 
 abbrev pub decreases-bytes : goal.decreases-bytes
 decreases-bytes l = length l.rest
