@@ -14,6 +14,8 @@
 mod checked;
 mod cycle;
 mod done_entry;
+#[cfg(test)]
+mod done_entry_tests;
 mod fault;
 mod job;
 pub mod laws;
