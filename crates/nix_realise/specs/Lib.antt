@@ -1,8 +1,11 @@
+pub mod AddedDrv
 pub mod AddedText
 pub mod CheckLines
+pub mod DrvEndings
 pub mod Endings
 pub mod FaultWords
 pub mod Folders
+pub mod GraphWords
 pub mod JournalFiles
 pub mod Registering
 pub mod Stops

@@ -4,13 +4,16 @@ use Rattle.std.specs.Io.KnownBytes.{Appends}
 use Rattle.clap.specs.declared.error.kind.ErrorKind.{ErrorKind}
 use Rattle.clap.specs.declared.error.kind.ErrorKind.TheVariants.{DisplayHelp, DisplayVersion}
 use Rattle.clap.specs.declared.error.kind.ErrorKind.TheVariants.{OutOfMemory}
+use Rattle.drv_graph.specs.Faults.{node_number_of}
 use Rattle.nix_names.specs.Names.{IsStoreDir}
 use Rattle.valid_table.specs.Faults.{number_of as table_number_of}
 use Rattle.valid_table.specs.declared.fault.TableFault.{TableFault}
 use Rattle.valid_table.specs.declared.fault.TableFault.TheVariants as table
 use Rattle.nix_realise.specs.FaultWords.{table_fault_words}
+use Rattle.nix_realise.specs.GraphWords.{node_fault_words}
 use Rattle.nix_realise.specs.declared.stop.Stop.{Stop}
 use Rattle.nix_realise.specs.declared.stop.Stop.TheVariants.{BadStoreDir, Unreadable, TooLong}
+use Rattle.nix_realise.specs.declared.stop.Stop.TheVariants.{BadDraft, BadDrv}
 use Rattle.nix_realise.specs.declared.stop.Stop.TheVariants.{BadName, JournalUnreadable, BadJournal}
 use Rattle.nix_realise.specs.declared.stop.Stop.TheVariants.{NotWritten, JournalNotWritten}
 use Rattle.nix_realise.specs.declared.stop.Stop.TheVariants.{NoMemory, Unwritable}
@@ -29,6 +32,8 @@ number_of (TooLong file) = 12
 number_of (Unreadable file) = 20
 number_of JournalUnreadable = 20
 number_of (BadJournal fault) = table_number_of fault
+number_of (BadDraft file fault) = node_number_of fault
+number_of (BadDrv path fault) = node_number_of fault
 number_of (NotWritten path) = 74
 number_of JournalNotWritten = 74
 number_of Unwritable = 74
@@ -38,7 +43,9 @@ abbrev pub blamed_of : Stop → List ℕ
 blamed_of (BadStoreDir dir) = dir.now
 blamed_of (Unreadable file) = file.now
 blamed_of (TooLong file) = file.now
+blamed_of (BadDraft file fault) = file.now
 blamed_of (BadName name) = name.now
+blamed_of (BadDrv path fault) = path
 blamed_of JournalUnreadable = codes "journal"
 blamed_of (BadJournal fault) = codes "journal"
 blamed_of (NotWritten path) = path
@@ -51,7 +58,9 @@ abbrev pub stop_fault_words : Stop → List ℕ
 stop_fault_words (BadStoreDir dir) = codes "BadStoreDir"
 stop_fault_words (Unreadable file) = codes "Unreadable"
 stop_fault_words (TooLong file) = codes "TooLong"
+stop_fault_words (BadDraft file fault) = node_fault_words fault
 stop_fault_words (BadName name) = codes "BadName"
+stop_fault_words (BadDrv path fault) = node_fault_words fault
 stop_fault_words JournalUnreadable = codes "Unreadable"
 stop_fault_words (BadJournal fault) = table_fault_words fault
 stop_fault_words (NotWritten path) = codes "Unwritable"
@@ -70,7 +79,9 @@ abbrev pub status_of : Stop → ℕ
 status_of (BadStoreDir dir) = 2
 status_of (Unreadable file) = 2
 status_of (TooLong file) = 2
+status_of (BadDraft file fault) = 2
 status_of (BadName name) = 2
+status_of (BadDrv path fault) = 2
 status_of (BadJournal fault) = 2
 status_of JournalUnreadable = 3
 status_of (NotWritten path) = 3

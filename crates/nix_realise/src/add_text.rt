@@ -1,5 +1,5 @@
 //! The subcommand `add-text`.
-ghost use Rattle.std.specs.Prelude.{◌≡◌, ◌⊎◌, IfErr, OnOk};
+ghost use Rattle.std.specs.Prelude.{◌≡◌, ◌⊎◌, IfErr, IfOk, OnOk};
 ghost use Rattle.std.specs.Io.KnownBytes.{Appends};
 ghost use Rattle.nix_realise.specs.Endings.{Ends, IsWriteFault, path_line};
 
@@ -36,8 +36,8 @@ pub fn add_text<'a, R: Files + AllocGlobal, O: Write>(
     Ok(0)
 }
 
-// Prints the line of a path.
-fn print_path<O: Write>(path: &StorePath, out: &mut O) -> io::Result<()>
+/// Prints the line of a path.
+pub fn print_path<O: Write>(path: &StorePath, out: &mut O) -> io::Result<()>
     ensures { OnOk result (Appends (O.contents out.old) (O.contents out.new) (path_line path.now)) }
 {
     out.write_all(path.text())?;
@@ -64,16 +64,17 @@ fn write_files<'a, R: Files + AllocGlobal>(
     write_journal(rt, request, &journal)
 }
 
-// Writes a text at its path.
-fn write_text<'a, R: Files + AllocGlobal>(
+/// Writes a text at its path, in place of what is there, and hands the path back.
+pub fn write_text<'a, R: Files + AllocGlobal>(
     rt: &R,
     path: StorePath,
     bytes: &[u8],
-) -> Result<(), Stop<'a>>
-    ensures { IfErr result (λ stop. (stop ≡ Stop.NoMemory) ⊎ (stop ≡ Stop.NotWritten path)) }
+) -> Result<StorePath, Stop<'a>>
+    ensures ok { IfOk result (λ same. same ≡ path) }
+    ensures err { IfErr result (λ stop. (stop ≡ Stop.NoMemory) ⊎ (stop ≡ Stop.NotWritten path)) }
 {
     match file_path(&path).and_then(|file| write_whole(rt, file, bytes)) {
-        Ok(()) => Ok(()),
+        Ok(()) => Ok(path),
         Err(error) if is_no_memory(&error) => Err(Stop::NoMemory),
         Err(_) => Err(Stop::NotWritten(path)),
     }

@@ -7,6 +7,7 @@ ghost use Rattle.nix_realise.specs.FaultWords.{drv_fault_words, name_fault_words
 ghost use Rattle.nix_realise.specs.FaultWords.{table_fault_words, with_value};
 ghost use Rattle.nix_realise.specs.Stops.{stop_fault_words, stop_line};
 
+use crate::graph_words::write_node_fault;
 use crate::stop::Stop;
 use itoa::Buffer;
 use nix_drv::{DrvFault, write_string};
@@ -74,7 +75,9 @@ pub fn write_stop_fault(stop: &Stop<'_>, out: &mut Vec<u8>) -> Result<(), AllocE
         Stop::BadStoreDir(_) => write_name(b"BadStoreDir", out),
         Stop::Unreadable(_) => write_name(b"Unreadable", out),
         Stop::TooLong(_) => write_name(b"TooLong", out),
+        Stop::BadDraft(_, fault) => write_node_fault(fault, out),
         Stop::BadName(_) => write_name(b"BadName", out),
+        Stop::BadDrv(_, fault) => write_node_fault(fault, out),
         Stop::JournalUnreadable => write_name(b"Unreadable", out),
         Stop::BadJournal(fault) => write_table_fault(fault, out),
         Stop::NotWritten(_) => write_name(b"Unwritable", out),
@@ -96,8 +99,8 @@ pub fn stop_line(alloc: Global, stop: &Stop<'_>) -> Result<Vec<u8>, AllocError>
     Ok(line)
 }
 
-// Adds a name alone.
-fn write_name(name: &[u8], out: &mut Vec<u8>) -> Result<(), AllocError>
+/// Adds a name alone.
+pub fn write_name(name: &[u8], out: &mut Vec<u8>) -> Result<(), AllocError>
     ensures { OnOk result (out.new.items ≡ out.old.items ++ name.now) }
 {
     out.extend_from_slice(name)
@@ -110,8 +113,8 @@ fn write_with_number(name: &[u8], number: usize, out: &mut Vec<u8>) -> Result<()
     write_with_value(name, Buffer::new().format(number).as_bytes(), out)
 }
 
-// Adds a name, and a value in parentheses.
-fn write_with_value(name: &[u8], value: &[u8], out: &mut Vec<u8>) -> Result<(), AllocError>
+/// Adds a name, and a value in parentheses.
+pub fn write_with_value(name: &[u8], value: &[u8], out: &mut Vec<u8>) -> Result<(), AllocError>
     ensures { OnOk result (out.new.items ≡ out.old.items ++ with_value name.now value.now) }
 {
     out.extend_from_slice(name)?;
@@ -120,8 +123,8 @@ fn write_with_value(name: &[u8], value: &[u8], out: &mut Vec<u8>) -> Result<(), 
     out.extend_from_slice(b")")
 }
 
-// Adds a name, and in parentheses a text as the derivations' language spells it.
-fn write_with_string(name: &[u8], text: &[u8], out: &mut Vec<u8>) -> Result<(), AllocError>
+/// Adds a name, and in parentheses a text as the derivations' language spells it.
+pub fn write_with_string(name: &[u8], text: &[u8], out: &mut Vec<u8>) -> Result<(), AllocError>
     ensures { OnOk result
         (out.new.items ≡ out.old.items ++ with_value name.now (string_text text.now)) }
 {

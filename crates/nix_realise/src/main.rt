@@ -9,21 +9,26 @@
 //! | `folder` | derivations read from the files of a folder |
 //! | `whole_file` | a file that is written whole or not at all |
 //! | `journal_file` | the journal file: its path, read and written |
-//! | `stop`, `fault_words` | why a run ends without its report; the words of faults |
+//! | `stop` | why a run ends without its report |
+//! | `fault_words`, `graph_words` | the words of faults |
 //! | `verdict`, `check` | what `check` says of one word; its lines |
 //! | `added_text`, `add_text` | what `add-text` makes of a text; the subcommand |
+//! | `added_drv`, `add_drv` | what `add-drv` makes of a draft; the subcommand |
 //! | `printing`, `run` | what is printed; one run of the program |
 #![tactic(auto)]
 
 ghost use Rattle.std.specs.Prelude.{◌≡◌, IfOk, map, string_bytes};
 ghost use Rattle.nix_realise.specs.Stops.{IsStatus};
 
+mod add_drv;
 mod add_text;
+mod added_drv;
 mod added_text;
 mod check;
 mod fault_words;
 mod files;
 mod folder;
+mod graph_words;
 mod journal_file;
 mod options;
 mod printing;

@@ -7,6 +7,8 @@ pub enum Request<'a> {
     Check(CheckRequest<'a>),
     /// `add-text`: a file's bytes are put into the store.
     AddText(AddTextRequest<'a>),
+    /// `add-drv`: a draft is filled and put into the store.
+    AddDrv(AddDrvRequest<'a>),
 }
 
 /// The words of `check`.
@@ -28,5 +30,16 @@ pub struct AddTextRequest<'a> {
     /// The name that the text gets in the store.
     pub name: &'a str,
     /// The path of the file whose bytes are the text.
+    pub file: &'a str,
+}
+
+/// The words of `add-drv`.
+#[derive(Debug, Drop)]
+pub struct AddDrvRequest<'a> {
+    /// The store folder, as it was given.
+    pub store_dir: &'a str,
+    /// The name of the derivation.
+    pub name: &'a str,
+    /// The path of the file whose bytes are the draft.
     pub file: &'a str,
 }

@@ -7,6 +7,7 @@ ghost use Rattle.nix_realise.specs.CheckLines.{IsReport};
 ghost use Rattle.nix_realise.specs.Folders.{may_give};
 ghost use Rattle.nix_realise.specs.Stops.{IsStatus, IsStopOf, IsTold, IsUsageStatus};
 
+use crate::add_drv::add_drv;
 use crate::add_text::add_text;
 use crate::check::check_lines;
 use crate::fault_words::stop_line;
@@ -53,6 +54,7 @@ fn run_request<R: Files + AllocGlobal, O: Write, E: Write>(
     let outcome = match request {
         Request::Check(request) => check(rt, request, out),
         Request::AddText(request) => add_text(rt, request, out),
+        Request::AddDrv(request) => add_drv(rt, request, out),
     };
     match outcome {
         Ok(status) => status,

@@ -2,6 +2,7 @@
 ghost use Rattle.std.specs.Prelude.{◌≡◌};
 ghost use Rattle.nix_realise.specs.Stops.{blamed_of, number_of, status_of};
 
+use drv_graph::NodeFault;
 use nix_names::StorePath;
 use std::alloc::AllocError;
 use valid_table::TableFault;
@@ -15,8 +16,12 @@ pub enum Stop<'a> {
     Unreadable(&'a str),
     /// The file with this path, as it was given, has more than 4,194,304 bytes.
     TooLong(&'a str),
+    /// The file with this path, as it was given, is no draft that can be filled.
+    BadDraft(&'a str, NodeFault),
     /// This text, given as a name, is none.
     BadName(&'a str),
+    /// The derivation at this path, which a draft reaches, is refused.
+    BadDrv(StorePath, NodeFault),
     /// The journal file is there and cannot be read.
     JournalUnreadable,
     /// The journal file's bytes are no journal.
@@ -43,6 +48,7 @@ impl Stop<'_> {
             Stop::TooLong(_) => 12,
             Stop::Unreadable(_) | Stop::JournalUnreadable => 20,
             Stop::BadJournal(fault) => fault.number(),
+            Stop::BadDraft(_, fault) | Stop::BadDrv(_, fault) => fault.number(),
             Stop::NotWritten(_) | Stop::JournalNotWritten | Stop::Unwritable => 74,
         }
     }
@@ -55,7 +61,9 @@ impl Stop<'_> {
             Stop::BadStoreDir(_)
             | Stop::Unreadable(_)
             | Stop::TooLong(_)
+            | Stop::BadDraft(..)
             | Stop::BadName(_)
+            | Stop::BadDrv(..)
             | Stop::BadJournal(_) => 2,
             Stop::JournalUnreadable
             | Stop::NotWritten(_)
@@ -73,8 +81,9 @@ impl Stop<'_> {
             Stop::BadStoreDir(word)
             | Stop::Unreadable(word)
             | Stop::TooLong(word)
+            | Stop::BadDraft(word, _)
             | Stop::BadName(word) => word.as_bytes(),
-            Stop::NotWritten(path) => path.text(),
+            Stop::BadDrv(path, _) | Stop::NotWritten(path) => path.text(),
             Stop::JournalUnreadable | Stop::BadJournal(_) | Stop::JournalNotWritten => b"journal",
             Stop::NoMemory | Stop::Unwritable => b"run",
         }

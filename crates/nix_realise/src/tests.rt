@@ -1,5 +1,6 @@
 //! Tests of what no clause says: printed texts, statuses, files on disk, refused writes.
 mod added_texts;
+mod drvs;
 mod files;
 mod journals;
 mod lines;

@@ -2,7 +2,7 @@
 ghost use Rattle.std.specs.Prelude.{◌≡◌, IfOk, [], codes, map, option_map, unwrap_or};
 ghost use Rattle.clap.specs.Words.{first_value, found_of, kind_of, matched_of, raw_values};
 
-use crate::options::{AddTextRequest, CheckRequest, Request};
+use crate::options::{AddDrvRequest, AddTextRequest, CheckRequest, Request};
 use clap::error::ErrorKind;
 use clap::{Arg, ArgAction, ArgMatches, Command, Error};
 use std::alloc::{AllocError, Global};
@@ -23,6 +23,8 @@ const FILE: &str = "FILE";
 const CHECK: &str = "check";
 
 const ADD_TEXT: &str = "add-text";
+
+const ADD_DRV: &str = "add-drv";
 
 const DEFAULT_STORE_DIR: &str = "/nix/store";
 
@@ -45,6 +47,7 @@ fn subcommand_request<'a>(
     match name {
         CHECK => Ok(Request::Check(check_request(alloc, found)?)),
         ADD_TEXT => Ok(Request::AddText(add_text_request(found))),
+        ADD_DRV => Ok(Request::AddDrv(add_drv_request(found))),
         _ => Err(no_subcommand(alloc)?),
     }
 }
@@ -98,6 +101,22 @@ fn add_text_request<'a>(found: &ArgMatches<'a>) -> AddTextRequest<'a>
     }
 }
 
+// What the matches of `add-drv` say.
+fn add_drv_request<'a>(found: &ArgMatches<'a>) -> AddDrvRequest<'a>
+    ensures store_dir { result.store_dir.now
+        ≡ unwrap_or (first_value (found_of found.now) (codes "store-dir")) (codes "/nix/store") }
+    ensures name { result.name.now
+        ≡ unwrap_or (first_value (found_of found.now) (codes "NAME")) [] }
+    ensures file { result.file.now
+        ≡ unwrap_or (first_value (found_of found.now) (codes "FILE")) [] }
+{
+    AddDrvRequest {
+        store_dir: store_dir_of(found),
+        name: found.get_str(NAME).unwrap_or(""),
+        file: found.get_str(FILE).unwrap_or(""),
+    }
+}
+
 // The store folder that the matches give, or the usual one.
 fn store_dir_of<'a>(found: &ArgMatches<'a>) -> &'a str
     ensures { result.now
@@ -110,10 +129,11 @@ fn store_dir_of<'a>(found: &ArgMatches<'a>) -> &'a str
 fn command<'a>(alloc: Global) -> Result<Command<'a>, AllocError> {
     Command::new(alloc, "nix_realise")
         .version(VERSION)
-        .about("Checks store derivations and adds texts to a store")
+        .about("Checks store derivations, and adds texts and derivations to a store")
         .subcommand_required(true)
         .subcommand(check_command(alloc)?)?
-        .subcommand(add_text_command(alloc)?)
+        .subcommand(add_text_command(alloc)?)?
+        .subcommand(add_drv_command(alloc)?)
 }
 
 // The subcommand `check`.
@@ -143,6 +163,23 @@ fn add_text_command<'a>(alloc: Global) -> Result<Command<'a>, AllocError> {
         .arg(
             Arg::new(alloc, FILE)
                 .help("The file whose bytes are the text")
+                .required(true),
+        )
+}
+
+// The subcommand `add-drv`.
+fn add_drv_command<'a>(alloc: Global) -> Result<Command<'a>, AllocError> {
+    Command::new(alloc, ADD_DRV)
+        .about("Fills the outputs of a draft, writes the derivation and prints its path")
+        .arg(store_dir(alloc))?
+        .arg(
+            Arg::new(alloc, NAME)
+                .help("The name of the derivation")
+                .required(true),
+        )?
+        .arg(
+            Arg::new(alloc, FILE)
+                .help("The file whose bytes are the draft")
                 .required(true),
         )
 }

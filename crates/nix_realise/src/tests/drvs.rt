@@ -1,0 +1,155 @@
+//! `add-drv` over files on disk.
+use super::store::{Store, has, has_written};
+use super::{NOTHING, Outcome, new_folder, run_words};
+use nix_drv::text_path;
+use nix_names::{StoreDir, StorePath, make_path};
+use sha2::{Digest, Sha256};
+use std::alloc::Global;
+use std::rt::{Env, Files};
+use std::test::Fail;
+use std::{fs, io, process, str};
+
+// The text of a draft that greets, with the path of its output, if it has one.
+fn greet<R: AllocGlobal>(rt: &R, output: &str) -> io::Result<String> {
+    let build = r#""x86_64-linux","/bin/sh",["-c","echo hello > $out"]"#;
+    Ok(format!(in rt.alloc();
+        r#"Derive([("out","{output}","","")],[],[],{build},[("out","{output}")])"#
+    )?)
+}
+
+// A store folder beside the draft that greets.
+fn with_draft<R: Env + Files + AllocGlobal>(
+    rt: &R,
+    process: u32,
+    test: &str,
+) -> Result<Store, Fail> {
+    let draft = greet(rt, "")?;
+    Store::new(
+        rt,
+        new_folder(rt, process, test)?,
+        "greet",
+        draft.as_bytes(),
+    )
+}
+
+// Runs `add-drv` in a folder.
+fn add_drv<R: Files + AllocGlobal>(rt: &R, words: [&str; 3]) -> Outcome {
+    let [dir, name, file] = words;
+    run_words(
+        rt,
+        &["nix_realise", "add-drv", "--store-dir", dir, name, file],
+    )
+}
+
+// A store path as text.
+fn spelled(alloc: Global, path: &StorePath) -> Result<String, Fail> {
+    Ok(String::from_str(alloc, str::from_utf8(path.text())?)?)
+}
+
+// The path of the greeting derivation's output in a folder.
+fn output_of<R: AllocGlobal>(rt: &R, folder: &str) -> Result<String, Fail> {
+    let dir = StoreDir::new(rt.alloc(), folder.as_bytes())?;
+    let digest = Sha256::digest(greet(rt, "")?.as_bytes());
+    let path = make_path(rt.alloc(), b"output:out", &digest, &dir, b"greet")?;
+    spelled(rt.alloc(), &path)
+}
+
+// The text of the greeting derivation in a folder, and the path of its file: by the rules alone,
+// since the folder is another one in each run.
+fn filled<R: AllocGlobal>(rt: &R, folder: &str) -> Result<(String, String), Fail> {
+    let alloc = rt.alloc();
+    let dir = StoreDir::new(alloc, folder.as_bytes())?;
+    let text = greet(rt, output_of(rt, folder)?.as_str())?;
+    let path = text_path(alloc, &dir, b"greet.drv", text.as_bytes(), &[])?;
+    Ok((text, spelled(alloc, &path)?))
+}
+
+// The draft's file is written and its path printed; what was there is replaced.
+#[test]
+fn greet_draft(rt: HostRuntime) -> Result<(), Fail> {
+    let store = with_draft(&rt, process::id(rt.process()), "greet-draft")?;
+    let (text, path) = filled(&rt, store.folder.as_str())?;
+    fs::write(&rt, path.as_str(), b"old")?;
+    let line = format!(in rt.alloc(); "{path}\n")?;
+    let ran = add_drv(&rt, [&store.folder, "greet", &store.file]);
+    assert!(rt; has_written(&ran, line.as_str(), "", 0));
+    assert!(rt; has(&rt, path.as_str(), text.as_str())?);
+    assert!(rt; store.held(&rt, 2)?);
+    Ok(())
+}
+
+// In a folder that is none the file can't be written, and its path isn't printed. The path is what
+// a program of another language made of the rules.
+#[test]
+fn greet_in_no_folder(rt: HostRuntime) -> Result<(), Fail> {
+    let store = with_draft(&rt, process::id(rt.process()), "greet-nowhere")?;
+    let ran = add_drv(&rt, ["/dev/null", "greet", &store.file]);
+    let err = "nix_realise: /dev/null/1dq9i59l54x3zwd3623y4cfk8bv9m56s-greet.drv: Unwritable\n";
+    assert!(rt; has_written(&ran, "", err, 3));
+    assert!(rt; store.held(&rt, 1)?);
+    Ok(())
+}
+
+// Whether a run on these words is refused by this fault, found in the word.
+fn refuses<R: Files + AllocGlobal>(
+    rt: &R,
+    words: [&str; 3],
+    word: &str,
+    fault: &str,
+) -> io::Result<bool> {
+    let err = format!(in rt.alloc(); "nix_realise: {word}: {fault}\n")?;
+    Ok(has_written(&add_drv(rt, words), "", err.as_str(), 2))
+}
+
+// The folder is looked at before the file, the file and its text before the name.
+#[test]
+fn refused_words(rt: HostRuntime) -> Result<(), Fail> {
+    let store = with_draft(&rt, process::id(rt.process()), "no-draft")?;
+    let (folder, file) = (store.folder.as_str(), store.file.as_str());
+    let cut = store.at(&rt, "cut")?;
+    fs::write(&rt, cut.as_str(), b"Derive(")?;
+    for (dir, name, file, word, fault) in [
+        ("store", ".", "/dev/null/x", "store", "BadStoreDir"),
+        (folder, ".", "/dev/null/x", "/dev/null/x", "Unreadable"),
+        (folder, ".", cut.as_str(), cut.as_str(), "Syntax(7)"),
+        (folder, ".", file, ".", "BadName"),
+    ] {
+        assert!(rt;
+            refuses(&rt, [dir, name, file], word, fault)?,
+            "at {word}: {fault}"
+        );
+    }
+    assert!(rt; store.held(&rt, 2)?);
+    Ok(())
+}
+
+// Whether a draft with this text is refused by this fault, found in the word or in the file.
+fn is_refused<R: Files + AllocGlobal>(
+    rt: &R,
+    store: &Store,
+    text: &[u8],
+    word: &str,
+    fault: &str,
+) -> io::Result<bool> {
+    fs::write(rt, store.file.as_str(), text)?;
+    refuses(rt, [&store.folder, "greet", &store.file], word, fault)
+}
+
+// Faults of the draft itself are found in its file, those of its inputs at their paths.
+#[test]
+fn refused_drafts(rt: HostRuntime) -> Result<(), Fail> {
+    let store = with_draft(&rt, process::id(rt.process()), "bad-draft")?;
+    let file = store.file.as_str();
+    assert!(rt; is_refused(&rt, &store, NOTHING, file, "MixedOutputs")?);
+    let other = greet(&rt, "x")?;
+    let (_, path) = filled(&rt, store.folder.as_str())?;
+    let output = output_of(&rt, store.folder.as_str())?;
+    let fault = format!(in rt.alloc(); "OutputMismatch(\"out\", {output})")?;
+    assert!(rt; is_refused(&rt, &store, other.as_bytes(), file, fault.as_str())?);
+    let user = format!(in rt.alloc();
+        r#"Derive([("out","","","")],[("{path}",["out"])],[],"","",[],[])"#
+    )?;
+    assert!(rt; is_refused(&rt, &store, user.as_bytes(), path.as_str(), "Unreadable")?);
+    assert!(rt; store.held(&rt, 1)?);
+    Ok(())
+}
