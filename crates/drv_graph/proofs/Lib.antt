@@ -2,6 +2,7 @@ pub mod Loops
 pub mod OneText
 pub mod KindAnswers
 pub mod OneHashes
+pub mod EqualPlans
 pub mod Uniting
 pub mod Masking
 pub mod Checks
@@ -24,7 +25,6 @@ pub mod Loaded
 pub mod Kept
 pub mod Going
 pub mod Copies
-pub mod EqualPlans
 pub mod EmptyPlaces
 pub mod FilledDrafts
 pub mod FillAnswers

@@ -1,4 +1,5 @@
 pub mod Checking
+pub mod Equality
 pub mod Expected
 pub mod Faults
 pub mod Filling
@@ -17,4 +18,3 @@ pub mod Uniting
 pub mod ExpectedPaths
 pub mod GraphLaws
 pub mod Walks
-pub mod Equality

@@ -52,7 +52,8 @@ impl PlanNode {
     }
 }
 
-// Derivations are equal by their paths and their texts: what is kept beside those follows from them.
+// Derivations are equal by their paths and texts; in a plan, what is kept beside those follows from
+// them.
 impl PartialEq for PlanNode {
     ghost use Rattle.std.specs.Cmp.{partial_equiv_from_equiv};
     ghost use Rattle.drv_graph.specs.Equality.{nodes_equal, nodes_equal_laws};

@@ -29,7 +29,8 @@ outputs_decide a b =
 inputs_decide : (a b : Input) → Decides (same_input a b) (a ≡ b)
 inputs_decide a b =
     also (same_input a b)
-    (both (pointwise nat_eq a.path b.path) (pointwise (pointwise nat_eq) a.names b.names) (bytes_decides a.path b.path) (pointwise_decides bytes_decides a.names b.names))
+    (both (pointwise nat_eq a.path b.path) (pointwise (pointwise nat_eq) a.names b.names)
+    (bytes_decides a.path b.path) (pointwise_decides bytes_decides a.names b.names))
     (λ p j. record { path = p.0 j; names = p.1 j })
     (λ e. (ap (λ (i : Input). i.path) e, ap (λ (i : Input). i.names) e))
 
@@ -43,25 +44,30 @@ entries_decide a b =
 paths_decide : (a b : Drv) → Decides (same_paths a b) (((a.outputs ≡ b.outputs) × (a.inputs ≡ b.inputs)) × (a.sources ≡ b.sources))
 paths_decide a b =
     both (pointwise same_output a.outputs b.outputs && pointwise same_input a.inputs b.inputs) (pointwise (pointwise nat_eq) a.sources b.sources)
-    (both (pointwise same_output a.outputs b.outputs) (pointwise same_input a.inputs b.inputs) (pointwise_decides outputs_decide a.outputs b.outputs) (pointwise_decides inputs_decide a.inputs b.inputs))
+    (both (pointwise same_output a.outputs b.outputs) (pointwise same_input a.inputs b.inputs)
+    (pointwise_decides outputs_decide a.outputs b.outputs) (pointwise_decides inputs_decide a.inputs b.inputs))
     (pointwise_decides bytes_decides a.sources b.sources)
 
 build_decide : (a b : Drv) → Decides (same_build a b) ((((a.system ≡ b.system) × (a.builder ≡ b.builder)) × (a.args ≡ b.args)) × (a.env ≡ b.env))
 build_decide a b =
     both (same_program a b && pointwise (pointwise nat_eq) a.args b.args) (pointwise same_entry a.env b.env)
     (both (same_program a b) (pointwise (pointwise nat_eq) a.args b.args)
-    (both (pointwise nat_eq a.system b.system) (pointwise nat_eq a.builder b.builder) (bytes_decides a.system b.system) (bytes_decides a.builder b.builder))
+    (both (pointwise nat_eq a.system b.system) (pointwise nat_eq a.builder b.builder)
+    (bytes_decides a.system b.system) (bytes_decides a.builder b.builder))
     (pointwise_decides bytes_decides a.args b.args))
     (pointwise_decides entries_decide a.env b.env)
 
 pub drvs_decide : (a b : Drv) → Decides (same_drv a b) (a ≡ b)
 drvs_decide a b =
     also (same_drv a b) (both (same_paths a b) (same_build a b) (paths_decide a b) (build_decide a b))
-    (λ p j. record { outputs = p.0.0.0 j; inputs = p.0.0.1 j; sources = p.0.1 j; system = p.1.0.0.0 j; builder = p.1.0.0.1 j; args = p.1.0.1 j; env = p.1.1 j })
-    (λ e. (((ap (λ (d : Drv). d.outputs) e, ap (λ (d : Drv). d.inputs) e), ap (λ (d : Drv). d.sources) e), (((ap (λ (d : Drv). d.system) e, ap (λ (d : Drv). d.builder) e), ap (λ (d : Drv). d.args) e), ap (λ (d : Drv). d.env) e)))
+    (λ p j. record { outputs = p.0.0.0 j; inputs = p.0.0.1 j; sources = p.0.1 j;
+      system = p.1.0.0.0 j; builder = p.1.0.0.1 j; args = p.1.0.1 j; env = p.1.1 j })
+    (λ e. (((ap (λ (d : Drv). d.outputs) e, ap (λ (d : Drv). d.inputs) e), ap (λ (d : Drv). d.sources) e),
+      (((ap (λ (d : Drv). d.system) e, ap (λ (d : Drv). d.builder) e), ap (λ (d : Drv). d.args) e), ap (λ (d : Drv). d.env) e)))
 
 -- lists are equal as they are seen
-pub seen_alike : {A B : Type 0} (same : B → B → Bool) (view : A → B) (xs ys : List A) (seen others : List B) (r : Bool) → map view xs ≡ seen → map view ys ≡ others → r ≡ pointwise (λ a b. same (view a) (view b)) xs ys → r ≡ pointwise same seen others
+pub seen_alike : {A B : Type 0} (same : B → B → Bool) (view : A → B) (xs ys : List A) (seen others : List B) (r : Bool)
+    → map view xs ≡ seen → map view ys ≡ others → r ≡ pointwise (λ a b. same (view a) (view b)) xs ys → r ≡ pointwise same seen others
 seen_alike same view xs ys seen others r first second is =
     is ∙ sym (pointwise-map view same xs ys) ∙ ap (λ l. pointwise same l (map view ys)) first ∙ ap (λ l. pointwise same seen l) second
 

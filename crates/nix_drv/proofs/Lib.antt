@@ -11,6 +11,7 @@ pub mod Rising
 pub mod Runs
 pub mod Spellings
 pub mod Derivations
+pub mod EqualDerivations
 pub mod ListTexts
 pub mod FormTexts
 pub mod FormReadings
@@ -24,4 +25,3 @@ pub mod OwnPathLaws
 pub mod Fronts
 pub mod OneAnswer
 pub mod Places
-pub mod EqualDerivations

@@ -24,7 +24,8 @@ same_entry a b = pointwise nat_eq a.key b.key && pointwise nat_eq a.value b.valu
 -- of derivations, by their outputs, inputs and sources, and by how they are built
 abbrev pub same_paths : Drv → Drv → Bool
 same_paths a b =
-    (pointwise same_output a.outputs b.outputs && pointwise same_input a.inputs b.inputs) && pointwise (pointwise nat_eq) a.sources b.sources
+    (pointwise same_output a.outputs b.outputs && pointwise same_input a.inputs b.inputs)
+    && pointwise (pointwise nat_eq) a.sources b.sources
 
 abbrev pub same_program : Drv → Drv → Bool
 same_program a b = pointwise nat_eq a.system b.system && pointwise nat_eq a.builder b.builder
@@ -64,7 +65,8 @@ same_entry_laws =
 pub same_drv_laws : IsEquivalence same_drv
 same_drv_laws =
     and_equiv
-    (and_equiv (and_equiv (on_equiv (λ (d : Drv). d.outputs) (lists_equiv same_output_laws)) (on_equiv (λ (d : Drv). d.inputs) (lists_equiv same_input_laws)))
+    (and_equiv
+    (and_equiv (on_equiv (λ (d : Drv). d.outputs) (lists_equiv same_output_laws)) (on_equiv (λ (d : Drv). d.inputs) (lists_equiv same_input_laws)))
     (on_equiv (λ (d : Drv). d.sources) (lists_equiv nat_list_eq_equiv)))
     (and_equiv
     (and_equiv (and_equiv (on_equiv (λ (d : Drv). d.system) nat_list_eq_equiv) (on_equiv (λ (d : Drv). d.builder) nat_list_eq_equiv))

@@ -3,6 +3,7 @@ pub mod Grammar
 pub mod Order
 pub mod Laws
 pub mod Derivation
+pub mod Equality
 pub mod Parts
 pub mod Reading
 pub mod Passing
@@ -17,4 +18,3 @@ pub mod References
 pub mod Sources
 pub mod ListedFiles
 pub mod Places
-pub mod Equality

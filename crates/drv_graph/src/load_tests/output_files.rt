@@ -1,5 +1,5 @@
-//! Files of the tests of outputs. Their paths, and those of their outputs, were computed apart, with
-//! Python's hashlib.
+//! Files of the tests of outputs. Their paths, and those of their outputs, were computed apart,
+//! with Python's hashlib.
 use super::files::File;
 
 /// Its output is fixed by `r:sha256`, with the digest of nothing.
