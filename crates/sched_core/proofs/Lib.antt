@@ -3,9 +3,12 @@ pub mod Histories
 pub mod Linkages
 pub mod OneVerdict
 pub mod Places
+pub mod PlanInputs
 pub mod Registering
 pub mod Registrable
 pub mod Seeds
+pub mod OwnStandings
 pub mod StateLaws
 pub mod Verdicts
 pub mod Walks
+pub mod Wanting

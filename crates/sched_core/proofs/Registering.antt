@@ -1,9 +1,8 @@
 -- What the Done events of a legal history register: its entries stay a journal, and each Done is allowed.
-use Rattle.std.proofs.Common.{◌≡◌, ◌⊎◌, inl, inr, ℕ, zero, suc, ◌+◌, ◌-◌, ◌<◌, ◌≤◌, Bool, true, false, List, [], ◌∷◌, ◌++◌, length, get_or, nat_eq, Option, Some, None, refl, sym, ap, ◌∙◌, subst, ⊎_elim, arith, length-append, append_assoc, map}
-use Rattle.std.specs.Prelude.{All, Contains, flat_map, slice_get}
+use Rattle.std.proofs.Common.{◌≡◌, ℕ, zero, suc, ◌-◌, ◌<◌, ◌≤◌, false, List, [], ◌∷◌, ◌++◌, length, get_or, nat_eq, Some, refl, sym, ap, ◌∙◌, subst, ⊎_elim, arith, length-append, append_assoc, map}
+use Rattle.std.specs.Prelude.{Contains, flat_map, slice_get}
 use Rattle.std.specs.Cmp.Lexicographic.{pointwise}
 use Rattle.std.specs.List.{IsDistinct}
-use Rattle.std.proofs.Math.Nat.{eq-or-lt_of_le}
 use Rattle.std.proofs.Math.Seq.{get_or-append_right}
 use Rattle.std.proofs.lemmas.Bool.{cases_Bool, cases_lt}
 use Rattle.std.proofs.lemmas.List.{get_or_append_left, append-nil, length-map, map-append}
@@ -13,19 +12,18 @@ use Rattle.nix_names.proofs.RisingLists.{Contains-cons_cases, Contains-first, Co
 use Rattle.nix_names.specs.StorePaths.{IsDrvPath}
 use Rattle.nix_drv.specs.Derivation.{Output}
 use Rattle.drv_graph.specs.Nodes.{Node}
-use Rattle.valid_table.specs.Closure.{Leads, Reaches}
-use Rattle.valid_table.specs.Entries.{paths_of, registered, registered_by}
+use Rattle.valid_table.specs.Closure.{Leads}
+use Rattle.valid_table.specs.Entries.{paths_of, registered}
 use Rattle.valid_table.specs.PathInfos.{PathInfo}
-use Rattle.valid_table.specs.Valid.{HasDrvPath, IsJournal, IsOnce, IsValid, references_of}
+use Rattle.valid_table.specs.Valid.{IsJournal, IsValid, references_of}
 use Rattle.valid_table.specs.declared.entry.Entry.{Entry}
 use Rattle.valid_table.specs.declared.entry.Entry.TheVariants.{Done as Built}
 use Rattle.valid_table.specs.declared.entry.Registration.{Registration}
 use Rattle.valid_table.proofs.AddedEntries.{journal_push}
-use Rattle.sched_core.specs.Headline.{AreDrvPaths, DonesAreAllowed, EntriesAreJournal, WasDone}
-use Rattle.sched_core.specs.Jobs.{output_paths, seeds_of}
-use Rattle.sched_core.specs.Legal.{IsAllowed, IsEntryOf, IsLegal, MayRefer, legal_opening, legal_begin, legal_done, legal_fail, begins, ended}
+use Rattle.sched_core.specs.Headline.{DonesAreAllowed, EntriesAreJournal, WasDone}
+use Rattle.sched_core.specs.Jobs.{output_paths}
+use Rattle.sched_core.specs.Legal.{IsAllowed, IsEntryOf, legal_opening, legal_begin, legal_done, legal_fail, begins, ended}
 use Rattle.sched_core.specs.Runs.{History, Run}
-use Rattle.sched_core.specs.declared.reason.Event.{Event}
 use Rattle.sched_core.specs.declared.reason.Event.TheVariants.{Begin, Done as Finish, Fail}
 
 -- ---- lists

@@ -1,39 +1,37 @@
 -- The seeds of a derivation that has begun are valid.
-use Rattle.std.proofs.Common.{◌≡◌, ◌⊎◌, inl, inr, ℕ, zero, suc, ◌+◌, ◌<◌, ◌≤◌, ◌&&◌, Bool, true, false, List, [], ◌∷◌, ◌++◌, length, Option, Some, None, refl, sym, ap, ◌∙◌, subst, ⊎_elim, arith, append_assoc, append-nil, map}
-use Rattle.std.specs.Prelude.{Contains, slice_get, cond, not, nat_lt, ◌==◌, if◌then◌else◌, filter, find, flat_map}
+use Rattle.std.proofs.Common.{◌≡◌, ◌⊎◌, inl, inr, ℕ, suc, ◌+◌, ◌&&◌, Bool, true, false, List, [], ◌∷◌, ◌++◌, length, Option, Some, None, refl, sym, ap, ◌∙◌, subst, ⊎_elim, arith, append_assoc, append-nil}
+use Rattle.std.specs.Prelude.{Contains, slice_get, cond, not, nat_lt, if◌then◌else◌, filter, find, flat_map}
 use Rattle.std.specs.List.{list_all, list_any, position, position_or_len, slice_index_or}
 use Rattle.std.proofs.Math.Dec.{T, eqb}
 use Rattle.std.proofs.Math.Facts.{eqb_yes}
-use Rattle.std.proofs.lemmas.Bool.{cases_Bool, cases_lt, ltb-false}
+use Rattle.std.proofs.lemmas.Bool.{cases_lt, ltb-false}
 use Rattle.std.proofs.lemmas.Grind.{flat_map-append}
 use Rattle.std.proofs.lemmas.List.{get_or_past}
 use Rattle.std.proofs.lemmas.List.Sums.{fails_before_first}
-use Rattle.std.proofs.lemmas.List.Elements.{Contains-append_cases, Contains-append_left}
+use Rattle.std.proofs.lemmas.List.Elements.{Contains-append_cases}
 use Rattle.nix_names.specs.Names.{same_bytes}
-use Rattle.nix_drv.specs.Derivation.{Drv, Input, Output}
+use Rattle.nix_drv.specs.Derivation.{Input, Output}
 use Rattle.drv_graph.specs.Nodes.{Node, inputs_of, paths_of as node_paths}
 use Rattle.valid_table.specs.Entries.{paths_of, registered, registered_by}
-use Rattle.valid_table.specs.PathInfos.{PathInfo}
 use Rattle.valid_table.specs.Valid.{IsValid}
 use Rattle.valid_table.specs.declared.entry.Entry.{Entry}
 use Rattle.valid_table.specs.declared.entry.Registration.{Registration}
 use Rattle.valid_table.proofs.AddedEntries.{registered_push}
 use Rattle.valid_table.proofs.ClosureLaws.{leads_before, leads_behind}
-use Rattle.std.specs.Cmp.Lexicographic.{pointwise}
 use Rattle.std.proofs.lemmas.Map.Views.{Contains-from_any}
 use Rattle.nix_names.proofs.RisingLists.{Contains-cons_cases, Contains-first, Contains-later, Contains-nothing, equal_from_eq}
 use Rattle.sched_core.specs.Headline.{PermittedStays, SeedsAreValid}
-use Rattle.sched_core.specs.Jobs.{named_outputs, output_paths, paths_named, paths_of_found, seeds_of}
+use Rattle.sched_core.specs.Jobs.{named_outputs, output_paths, paths_of_found, seeds_of}
 use Rattle.sched_core.specs.Legal.{IsLegal, legal_opening, legal_begin, legal_done, legal_fail, begins}
 use Rattle.sched_core.specs.Runs.{History, Run, by_cause, cause_at, input_numbers, inputs_at, is_unsupported, is_valid, or_else, own_cause, rows_of, standing_at, standing_of, state_in}
-use Rattle.sched_core.specs.States.{Phase, Idle, Begun, Ended, Broken, Rows, by_first, by_inputs, by_phase, by_standing, is_bad, is_good, later, phase_by, phase_of, state, states, table}
+use Rattle.sched_core.specs.States.{Phase, Idle, Begun, Ended, Broken, by_first, by_inputs, by_phase, by_standing, is_bad, is_good, later, phase_by, phase_of, state, states, table}
 use Rattle.sched_core.specs.declared.reason.Event.{Event}
 use Rattle.sched_core.specs.declared.reason.Event.TheVariants.{Begin, Done as Finish, Fail}
 use Rattle.sched_core.specs.declared.reason.Refusal.{Refusal}
 use Rattle.sched_core.specs.declared.reason.Refusal.TheVariants.{MissingSource, PartlyValid, Unsupported, WrongSystem}
 use Rattle.sched_core.specs.declared.reason.State.{State}
 use Rattle.sched_core.specs.declared.reason.State.TheVariants.{Ready, Blocked}
-use Rattle.sched_core.proofs.Registering.{Contains-got, Contains-mapped, from_mapped, output_registered, part_with, records_for_paths, valid_with_last, valid_with_more}
+use Rattle.sched_core.proofs.Registering.{Contains-mapped, from_mapped, output_registered, part_with, records_for_paths, valid_with_last, valid_with_more}
 use Rattle.sched_core.proofs.StateLaws.{length_states, state_at}
 use Rattle.sched_core.specs.declared.standing.Standing.{Standing}
 use Rattle.sched_core.specs.declared.standing.Standing.TheVariants.{AllValid, Hindered, Free}

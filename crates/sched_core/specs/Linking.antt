@@ -4,7 +4,7 @@ use Rattle.std.specs.Cmp.Lexicographic.{pointwise}
 use Rattle.std.specs.Global.{Vec}
 use Rattle.std.specs.List.{IsDistinct}
 use Rattle.valid_table.specs.PathInfos.{PathInfo}
-use Rattle.sched_core.specs.Walking.{AreInner, IsLinked}
+use Rattle.sched_core.specs.Walking.{IsLinked}
 use Rattle.sched_core.specs.declared.job.JobOutput.{JobOutput}
 
 -- the paths of some outputs

@@ -6,6 +6,8 @@
 //! | `verdict`, `checked` | the verdict on an answer, and the records that it gives |
 //! | `cycle`, `links`, `walk` | whether outputs refer to each other in a cycle |
 //! | `reason`, `standing` | why a derivation was not built, where it stands, its state, and events |
+//! | `standings` | where the derivations of a plan stand by themselves |
+//! | `wanted` | which derivations of a plan are wanted |
 //! | `fault` | why a call of a book refuses |
 //! | `laws` | laws over the definitions that contracts cite |
 #![tactic(auto)]
@@ -18,10 +20,12 @@ pub mod laws;
 mod links;
 mod reason;
 mod standing;
+mod standings;
 mod verdict;
 #[cfg(test)]
 mod verdict_tests;
 mod walk;
+mod wanted;
 
 pub use checked::Checked;
 pub use fault::BookFault;
