@@ -1,11 +1,13 @@
 pub mod Cycles
 pub mod Histories
+pub mod JobParts
 pub mod Linkages
 pub mod OneVerdict
 pub mod Places
 pub mod PlanInputs
 pub mod Registering
 pub mod Registrable
+pub mod SeedParts
 pub mod Seeds
 pub mod OwnStandings
 pub mod StateLaws

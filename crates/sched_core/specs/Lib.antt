@@ -5,6 +5,7 @@ pub mod Legal
 pub mod Linking
 pub mod Numbers
 pub mod Runs
+pub mod Seeding
 pub mod States
 pub mod VerdictLaws
 pub mod Verdicts

@@ -6,6 +6,7 @@
 //! | `verdict`, `checked` | the verdict on an answer, and the records that it gives |
 //! | `cycle`, `links`, `walk` | whether outputs refer to each other in a cycle |
 //! | `reason`, `standing` | why a derivation was not built, where it stands, its state, and events |
+//! | `job_of`, `seeds_of` | the job of a derivation, and the paths that it is built from |
 //! | `standings` | where the derivations of a plan stand by themselves |
 //! | `wanted` | which derivations of a plan are wanted |
 //! | `fault` | why a call of a book refuses |
@@ -16,9 +17,11 @@ mod checked;
 mod cycle;
 mod fault;
 mod job;
+mod job_of;
 pub mod laws;
 mod links;
 mod reason;
+mod seeds_of;
 mod standing;
 mod standings;
 mod verdict;

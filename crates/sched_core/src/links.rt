@@ -58,7 +58,7 @@ fn each_once(alloc: Global, outputs: &[JobOutput]) -> Result<IndexSet<StorePath>
 }
 
 // The same path again.
-fn copy_path(alloc: Global, path: &StorePath) -> Result<StorePath, AllocError>
+pub(crate) fn copy_path(alloc: Global, path: &StorePath) -> Result<StorePath, AllocError>
     ensures { IfOk result (λ copy. copy ≡ path.now) }
 {
     match path.copy(alloc) {
