@@ -9,3 +9,4 @@ pub mod Seeds
 pub mod StateLaws
 pub mod Verdicts
 pub mod Walks
+pub mod Wordings

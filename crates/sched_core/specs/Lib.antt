@@ -4,8 +4,10 @@ pub mod Jobs
 pub mod Legal
 pub mod Linking
 pub mod Numbers
+pub mod Reports
 pub mod Runs
 pub mod States
 pub mod VerdictLaws
 pub mod Verdicts
 pub mod Walking
+pub mod Words

@@ -6,6 +6,7 @@
 //! | `verdict`, `checked` | the verdict on an answer, and the records that it gives |
 //! | `cycle`, `links`, `walk` | whether outputs refer to each other in a cycle |
 //! | `reason`, `standing` | why a derivation was not built, where it stands, its state, and events |
+//! | `report`, `words` | the report of a run, and the words for why a derivation was not built |
 //! | `fault` | why a call of a book refuses |
 //! | `laws` | laws over the definitions that contracts cite |
 #![tactic(auto)]
@@ -22,6 +23,7 @@ mod verdict;
 #[cfg(test)]
 mod verdict_tests;
 mod walk;
+mod words;
 
 pub use checked::Checked;
 pub use fault::BookFault;
