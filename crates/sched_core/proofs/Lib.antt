@@ -1,12 +1,15 @@
+pub mod Coursed
 pub mod Cycles
 pub mod Histories
 pub mod Linkages
 pub mod OneVerdict
 pub mod Places
+pub mod PlanInputs
 pub mod Registering
 pub mod Registrable
 pub mod Seeds
 pub mod StateLaws
+pub mod Tabled
 pub mod Verdicts
 pub mod Walks
 pub mod Wordings

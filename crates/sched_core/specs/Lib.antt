@@ -1,4 +1,5 @@
 pub mod Courses
+pub mod Coursing
 pub mod Headline
 pub mod Jobs
 pub mod Legal
