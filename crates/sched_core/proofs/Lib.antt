@@ -2,11 +2,13 @@ pub mod Coursed
 pub mod Cycles
 pub mod Histories
 pub mod Linkages
+pub mod OneReport
 pub mod OneVerdict
 pub mod Places
 pub mod PlanInputs
 pub mod Registering
 pub mod Registrable
+pub mod Reported
 pub mod Seeds
 pub mod StateLaws
 pub mod Tabled

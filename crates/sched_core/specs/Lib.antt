@@ -5,6 +5,7 @@ pub mod Jobs
 pub mod Legal
 pub mod Linking
 pub mod Numbers
+pub mod Reporting
 pub mod Reports
 pub mod Runs
 pub mod States

@@ -6,6 +6,7 @@ use Rattle.drv_graph.specs.Nodes.{Node, paths_of}
 use Rattle.drv_graph.specs.Plans.{Graph}
 use Rattle.sched_core.specs.Courses.{Course, course_state}
 use Rattle.sched_core.specs.Jobs.{output_paths}
+use Rattle.sched_core.specs.Runs.{History, IsWanted, Run, state_in}
 use Rattle.sched_core.specs.States.{is_good}
 use Rattle.sched_core.specs.Words.{reason_words, refusal_words}
 use Rattle.sched_core.specs.declared.reason.State.{State}
@@ -59,10 +60,6 @@ pub record IsReport (graph : Graph) (is_wanted : ℕ → Type 0) (state : ℕ �
   pub by_path : AreByPath graph.nodes is_wanted wanted
   pub is_text : text ≡ flat_map (line_at graph.nodes state) wanted ++ flat_map (outputs_at graph.nodes state) graph.roots
 
--- there is one report
-abbrev pub ReportIsOne : Type 0
-ReportIsOne = (graph : Graph) (is_wanted : ℕ → Type 0) (state : ℕ → State) (a b : List ℕ) → IsReport graph is_wanted state a → IsReport graph is_wanted state b → a ≡ b
-
 -- a derivation of a course is wanted
 abbrev pub IsWantedIn : Course → ℕ → Type 0
 IsWantedIn course d = (d < length course.graph.nodes) × (slice_index_or course.wanted d false ≡ true)
@@ -70,3 +67,11 @@ IsWantedIn course d = (d < length course.graph.nodes) × (slice_index_or course.
 -- the text is the report of a course
 abbrev pub IsReportOf : Course → List ℕ → Type 0
 IsReportOf course text = IsReport course.graph (IsWantedIn course) (course_state course) text
+
+-- the text is the report of a run with this history
+abbrev pub IsReportIn : Run → History → List ℕ → Type 0
+IsReportIn run history text = IsReport run.graph (IsWanted run history.opening) (state_in run history) text
+
+-- there is one report
+abbrev pub ReportIsOne : Type 0
+ReportIsOne = (run : Run) (history : History) (a b : List ℕ) → IsReportIn run history a → IsReportIn run history b → a ≡ b

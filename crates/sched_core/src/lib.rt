@@ -20,6 +20,7 @@ mod job;
 pub mod laws;
 mod links;
 mod reason;
+mod report;
 mod standing;
 mod states;
 mod verdict;
