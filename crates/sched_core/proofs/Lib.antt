@@ -9,6 +9,7 @@ pub mod PlanInputs
 pub mod Registering
 pub mod Registrable
 pub mod Reported
+pub mod RunReports
 pub mod Seeds
 pub mod StateLaws
 pub mod Tabled
