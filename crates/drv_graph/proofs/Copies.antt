@@ -32,6 +32,7 @@ same_kept nodes x y same right = record {
   has_kind = subst (λ k. HasKind y.drv k) (sym same.kind) (subst (λ d. HasKind d x.kind) (sym same.drv) right.has_kind);
   has_hash = subst (λ h. HasHash nodes y.drv y.kind h) (sym same.hash) (subst (λ k. HasHash nodes y.drv k x.hash) (sym same.kind) (subst (λ d. HasHash nodes d x.kind x.hash) (sym same.drv) right.has_hash));
   outputs = same.outputs ∙ right.outputs ∙ ap (λ d. output_paths_of d) (sym same.drv);
+  sources = same.sources ∙ right.sources ∙ ap (λ d. d.sources) (sym same.drv);
 }
 
 all_kept : (nodes : List Node) (xs ys : List PlanNode) → AllZip IsSameNode xs ys → All (IsKept nodes) xs → All (IsKept nodes) ys

@@ -78,6 +78,7 @@ kept_grows nodes more kept right = record {
   has_kind = right.has_kind;
   has_hash = hash_grows nodes more kept.drv kept.kind kept.hash right.has_hash;
   outputs = right.outputs;
+  sources = right.sources;
 }
   where
     hash_grows : (ns ms : List Node) (drv : Drv) (kind : Kind) (hash : List ℕ) → HasHash ns drv kind hash → HasHash (ns ++ ms) drv kind hash
@@ -133,32 +134,33 @@ found_right dir kept after one owners outputs right distinct lawful is_kept new 
 
 -- a derivation is left
 pub leaving_kept :
-    (dir : List ℕ) (before after : Found) (visit : Visit) (kind : Kind) (hash : List ℕ) (outputs : Vec (List ℕ)) (given : List PlanNode) (entered : List (List ℕ)) (owners : List ℕ → Option ℕ) (result : Result ⊤ GraphFault) →
+    (dir : List ℕ) (before after : Found) (visit : Visit) (kind : Kind) (hash : List ℕ) (outputs sources : Vec (List ℕ)) (given : List PlanNode) (entered : List (List ℕ)) (owners : List ℕ → Option ℕ) (result : Result ⊤ GraphFault) →
     IsFound dir before →
     IsVisit (nodes_of before.nodes.items) visit →
     HasAllNumbers visit →
     (Contains (paths_of (nodes_of before.nodes.items)) visit.path → ⊥) →
     MayAnswer dir (nodes_of before.nodes.items) (visited visit) (Ok kind) × HasHash (nodes_of before.nodes.items) visit.drv kind hash →
     outputs.items ≡ output_paths_of visit.drv →
+    sources.items ≡ visit.drv.sources →
     given ≡ before.nodes.items →
     entered ≡ outputs.items →
     AreOwners owners (outputs_of given) entered × AreAlone (outputs_of given) entered →
-    OnOk result (after.nodes.items ≡ before.nodes.items ++ kept_visit visit kind hash outputs ∷ []) →
+    OnOk result (after.nodes.items ≡ before.nodes.items ++ kept_visit visit kind hash outputs sources ∷ []) →
     OnOk result (owned after.owners ≡ owners) →
     OnOk result (SetsEntry (marked before.marks) (marked after.marks) visit.path (Some (length before.nodes.items))) →
     OnOk result (length (keys after.marks) ≡ length (keys before.marks)) →
     IfErr result (λ fault. fault ≡ NoMemory) →
     IsLeaving dir before after visit result
-leaving_kept dir before after visit kind hash outputs given entered owners (Err fault) found is all new right are same own owning grown owners_same marks count err = subst (λ f. IsLeavingFault dir before.nodes.items visit f) (sym err) tt
-leaving_kept dir before after visit kind hash outputs given entered owners (Ok made) found is all new right are same own owning grown owners_same marks count err =
+leaving_kept dir before after visit kind hash outputs sources given entered owners (Err fault) found is all new right are lent same own owning grown owners_same marks count err = subst (λ f. IsLeavingFault dir before.nodes.items visit f) (sym err) tt
+leaving_kept dir before after visit kind hash outputs sources given entered owners (Ok made) found is all new right are lent same own owning grown owners_same marks count err =
     let kept = before.nodes.items in
-    let one : PlanNode = kept_visit visit kind hash outputs in
+    let one : PlanNode = kept_visit visit kind hash outputs sources in
     let numbers = all_numbers (nodes_of kept) visit is all in
-    let is_kept : IsKept (nodes_of kept) (kept_visit visit kind hash outputs) = record { numbers = numbers; has_kind = right.0.check.0.has_kind; has_hash = right.1; outputs = are } in
+    let is_kept : IsKept (nodes_of kept) (kept_visit visit kind hash outputs sources) = record { numbers = numbers; has_kind = right.0.check.0.has_kind; has_hash = right.1; outputs = are; sources = lent } in
     let entered_right = subst (λ k. AreOwners owners (outputs_of k) entered × AreAlone (outputs_of k) entered) same owning in
     record {
-      nodes = ap nodes_of grown ∙ map_push node_of kept (kept_visit visit kind hash outputs);
-      found = found_right dir kept after (kept_visit visit kind hash outputs) owners entered found.kept found.distinct found.lawful is_kept new right.0 (own ∙ are) entered_right.0 entered_right.1 grown owners_same;
+      nodes = ap nodes_of grown ∙ map_push node_of kept (kept_visit visit kind hash outputs sources);
+      found = found_right dir kept after (kept_visit visit kind hash outputs sources) owners entered found.kept found.distinct found.lawful is_kept new right.0 (own ∙ are) entered_right.0 entered_right.1 grown owners_same;
       marks = marks;
       count = count;
     }

@@ -19,6 +19,7 @@ pub mod WalkEnds
 pub mod WalkSteps
 pub mod Roots
 pub mod SameSources
+pub mod OwnOutputs
 pub mod Loaded
 pub mod Kept
 pub mod Going

@@ -19,6 +19,7 @@ use Rattle.drv_graph.specs.Walks.{AreMarks, AreOwners, IsEmptyFound, IsFound, Is
 use Rattle.drv_graph.specs.declared.found.Found.{Found}
 use Rattle.drv_graph.proofs.Marks.{marks_none}
 use Rattle.drv_graph.proofs.Numbers.{numbers_grow, numbers_within}
+use Rattle.drv_graph.proofs.OwnOutputs.{all_named, all_own_outputs}
 use Rattle.drv_graph.proofs.Owners.{owners_none}
 use Rattle.drv_graph.proofs.PathLists.{contains_none, take_at}
 use Rattle.drv_graph.proofs.PlanOrder.{left_append, plan_reached, plan_whole}
@@ -114,5 +115,7 @@ sound_found dir gives roots found numbers all = (
     distinct = all.walked.right.distinct;
     roots_within = numbers_within (nodes_of found.nodes.items) numbers (each_once roots) all.are_numbers;
     roots_once = all.once;
+    named = all_named dir gives (nodes_of found.nodes.items) all.walked.given;
+    own_outputs = all_own_outputs dir gives (nodes_of found.nodes.items) all.walked.right.lawful all.walked.given;
   },
 )

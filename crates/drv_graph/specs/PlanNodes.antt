@@ -31,6 +31,7 @@ pub record IsKept (nodes : List Node) (kept : PlanNode) : Type 0 where
   pub has_kind : HasKind kept.drv kept.kind
   pub has_hash : HasHash nodes kept.drv kept.kind kept.hash
   pub outputs : kept.outputs.items ≡ output_paths_of kept.drv
+  pub sources : kept.sources.items ≡ kept.drv.sources
 
 -- each derivation of a plan has what is kept beside it right
 abbrev pub AreKept : List PlanNode → Type 0
@@ -56,3 +57,4 @@ pub record IsSameNode (node copy : PlanNode) : Type 0 where
   pub hash : copy.hash ≡ node.hash
   pub inputs : copy.inputs.items ≡ node.inputs.items
   pub outputs : copy.outputs.items ≡ node.outputs.items
+  pub sources : copy.sources.items ≡ node.sources.items

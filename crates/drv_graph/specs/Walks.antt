@@ -74,8 +74,9 @@ pub record IsVisit (nodes : List Node) (visit : Visit) : Type 0 where
   pub numbers : AreNumbers nodes visit.numbers.items (take (length visit.numbers.items) (inputs_of visit.drv))
 
 -- an open derivation as it is kept when it is left
-abbrev pub kept_visit : Visit → Kind → (hash : List ℕ) → (outputs : Vec (List ℕ)) → PlanNode
-kept_visit visit kind hash outputs = record { path = visit.path; drv = visit.drv; kind = kind; hash = hash; inputs = visit.numbers; outputs = outputs }
+abbrev pub kept_visit : Visit → Kind → (hash : List ℕ) → (outputs sources : Vec (List ℕ)) → PlanNode
+kept_visit visit kind hash outputs sources =
+    record { path = visit.path; drv = visit.drv; kind = kind; hash = hash; inputs = visit.numbers; outputs = outputs; sources = sources }
 
 -- What was left is right.
 pub record IsFound (dir : List ℕ) (found : Found) : Type 0 where

@@ -12,7 +12,7 @@ use crate::fault::{GraphFault, NodeFault, OutputFault};
 use crate::kinds::Kind;
 use crate::node::PlanNode;
 use crate::outputs::{UsedInput, check_outputs, modulo_hash};
-use crate::paths::{copy_path, fault_at, output_paths};
+use crate::paths::{copy_path, fault_at, output_paths, source_paths};
 use indexmap::IndexMap;
 use nix_drv::Derivation;
 use nix_names::{StoreDir, StorePath};
@@ -61,6 +61,7 @@ pub(crate) fn leave(
 {
     let (kind, hash) = check_visit(alloc, dir, &found.nodes, &visit)?;
     let outputs = output_paths(alloc, dir, visit.drv.outputs())?;
+    let sources = source_paths(alloc, dir, visit.drv.sources())?;
     own(
         alloc,
         &found.nodes,
@@ -68,7 +69,7 @@ pub(crate) fn leave(
         &visit.path,
         &outputs,
     )?;
-    keep(alloc, found, visit, kind, hash, outputs)
+    keep(alloc, found, visit, kind, hash, outputs, sources)
 }
 
 // The kind of the outputs and the modulo hash of an open derivation whose inputs were all left.
@@ -172,9 +173,10 @@ fn keep(
     kind: Kind,
     hash: [u8; 32],
     outputs: Vec<StorePath>,
+    sources: Vec<StorePath>,
 ) -> Result<(), GraphFault>
     requires { marked found.old.marks visit.path ≡ Some None }
-    ensures nodes { OnOk result (found.new.nodes.items ≡ found.old.nodes.items ++ kept_visit visit kind hash outputs ∷ []) }
+    ensures nodes { OnOk result (found.new.nodes.items ≡ found.old.nodes.items ++ kept_visit visit kind hash outputs sources ∷ []) }
     ensures owners { OnOk result (found.new.owners ≡ found.old.owners) }
     ensures marks { OnOk result (SetsEntry (marked found.old.marks) (marked found.new.marks) visit.path (Some (length found.old.nodes.items))) }
     ensures count { OnOk result (length (keys found.new.marks) ≡ length (keys found.old.marks)) }
@@ -195,6 +197,7 @@ fn keep(
         hash,
         inputs: numbers,
         outputs,
+        sources,
     })?;
     Ok(())
 }

@@ -23,6 +23,8 @@ pub(crate) struct PlanNode {
     pub(crate) inputs: Vec<usize>,
     // The paths of its outputs, in its text's order.
     pub(crate) outputs: Vec<StorePath>,
+    // The paths of its sources, in its text's order.
+    pub(crate) sources: Vec<StorePath>,
 }
 
 impl PlanNode {
@@ -35,6 +37,7 @@ impl PlanNode {
         let drv = copy_drv(alloc, &self.drv)?;
         let inputs = Vec::from_slice(alloc, &self.inputs)?;
         let outputs = copy_paths(alloc, &self.outputs)?;
+        let sources = copy_paths(alloc, &self.sources)?;
         Ok(PlanNode {
             path,
             drv,
@@ -42,6 +45,7 @@ impl PlanNode {
             hash: self.hash,
             inputs,
             outputs,
+            sources,
         })
     }
 }

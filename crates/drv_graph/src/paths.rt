@@ -1,6 +1,6 @@
 //! Store paths: copied, parsed where they were checked before, and blamed.
 ghost use Rattle.std.specs.Prelude.{◌≡◌, IfErr, IfOk, map, take};
-ghost use Rattle.nix_drv.specs.Parts.{path_of};
+ghost use Rattle.nix_drv.specs.Parts.{bytes_of, path_of};
 ghost use Rattle.drv_graph.specs.PlanNodes.{text_path_of};
 ghost use Rattle.drv_graph.specs.Walks.{IsFaultAt};
 
@@ -70,6 +70,22 @@ pub(crate) fn output_paths(
     let mut paths = Vec::with_capacity(alloc, outputs.len())?;
     for output in outputs {
         paths.push(known_path(alloc, dir, &output.path)?)?;
+    }
+    Ok(paths)
+}
+
+// The paths of sources.
+pub(crate) fn source_paths(
+    alloc: Global,
+    dir: &StoreDir,
+    sources: &[Vec<u8>],
+) -> Result<Vec<StorePath>, GraphFault>
+    ensures ok { IfOk result (λ paths. paths.items ≡ map bytes_of sources.now) }
+    ensures err { IfErr result (λ fault. fault ≡ GraphFault.NoMemory) }
+{
+    let mut paths = Vec::with_capacity(alloc, sources.len())?;
+    for source in sources {
+        paths.push(known_path(alloc, dir, source)?)?;
     }
     Ok(paths)
 }

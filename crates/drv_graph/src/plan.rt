@@ -107,6 +107,7 @@ impl Plan {
         requires { number < length self.now.nodes }
         ensures numbers { IfSome (slice_get self.now.nodes number) (λ node. AreNumbers self.now.nodes result.now (inputs_of node.drv)) }
         ensures smaller { All (λ input. input < number) result.now }
+        ensures sound { IsSound self.now }
     {
         &self.nodes[number].inputs
     }
@@ -125,6 +126,14 @@ impl Plan {
         ensures { IfSome (slice_get self.now.nodes number) (λ node. result.now ≡ output_paths_of node.drv) }
     {
         &self.nodes[number].outputs
+    }
+
+    /// The paths of the sources of the derivation with this number, in its text's order.
+    pub fn sources(&self, number: usize) -> &[StorePath]
+        requires { number < length self.now.nodes }
+        ensures { IfSome (slice_get self.now.nodes number) (λ node. result.now ≡ node.drv.sources) }
+    {
+        &self.nodes[number].sources
     }
 
     // The hash by which the derivation with this number stands in its users' texts.

@@ -1,26 +1,24 @@
 -- The links among outputs, by the places of their paths.
-use Rattle.std.proofs.Common.{◌≡◌, ◌≢◌, ◌∙◌, ◌⊎◌, inl, inr, ⊎_elim, ℕ, zero, suc, ◌+◌, ◌<◌, ◌≤◌, Bool, true, false, cond, List, [], ◌∷◌, ◌++◌, length, map, take, get_or, nat_eq, position, is_some, Option, Some, None, MatchOption, refl, sym, ap, subst, arith}
+use Rattle.std.proofs.Common.{◌≡◌, ◌∙◌, ◌⊎◌, inl, inr, ⊎_elim, ℕ, ◌+◌, ◌<◌, ◌≤◌, Bool, true, false, cond, List, [], ◌∷◌, ◌++◌, length, take, get_or, nat_eq, position, is_some, Option, Some, None, MatchOption, refl, sym, ap, subst, arith}
 use Rattle.std.specs.Prelude.{Contains}
 use Rattle.std.specs.Cmp.Lexicographic.{nat_list_eq_equiv, pointwise}
 use Rattle.std.specs.Global.{Vec}
 use Rattle.std.specs.List.{IsDistinct, list_any, slice_get}
-use Rattle.std.specs.Option.{option_map}
 use Rattle.std.proofs.Math.ListN.{set, length-set}
 use Rattle.std.proofs.Math.Nat.{eq-or-lt_of_le}
 use Rattle.std.proofs.lemmas.Bool.{false≢true}
-use Rattle.std.proofs.lemmas.List.{map-append, take_all, take_more}
+use Rattle.std.proofs.lemmas.List.{take_all, take_more}
 use Rattle.std.proofs.lemmas.List.Elements.{Contains-append_left, Contains-push, Contains-push_cases}
 use Rattle.std.proofs.lemmas.List.Quantifiers.{position-Some}
 use Rattle.std.proofs.lemmas.Map.Keys.{apart_from_distinct}
 use Rattle.std.proofs.lemmas.Map.Views.{list_any-from_Contains}
-use Rattle.std.proofs.lemmas.Option.{get_or_from_slice_get, slice_get-get_or, slice_get-map, slice_get_read, slice_get_within}
+use Rattle.std.proofs.lemmas.Option.{get_or_from_slice_get, slice_get-get_or, slice_get_within}
 use Rattle.indexmap.specs.IndexSet.{insert_key}
 use Rattle.indexmap.proofs.CallerLemmas.{Contains-insert_key}
 use Rattle.nix_names.proofs.RisingLists.{equal_from_eq, unequal_from_eq}
 use Rattle.valid_table.specs.PathInfos.{PathInfo}
-use Rattle.sched_core.specs.Linking.{AddsLinks, AreEachOnce, AreLinks, HaveLinks, HaveNoLinks, MayLink, paths_of_outputs}
+use Rattle.sched_core.specs.Linking.{AddsLinks, AreEachOnce, AreLinks, HaveLinks, HaveNoLinks, MayLink}
 use Rattle.sched_core.specs.Walking.{AreInner, IsLinked}
-use Rattle.sched_core.specs.declared.job.JobOutput.{JobOutput}
 use Rattle.sched_core.proofs.Places.{contains_at, either_side, get_push_cases, same_element, set_cases, set_other, set_same}
 
 -- ---- places of distinct paths
@@ -63,17 +61,18 @@ insert_keeps keys key path has = by (list_any (pointwise nat_eq key) keys)
     by true = has
     by false = Contains-append_left keys (key ∷ []) path has
 
+pub taken_more : (paths : List (List ℕ)) (i : ℕ) (path : List ℕ) → i < length paths → path ≡ get_or paths i path → take (i + 1) paths ≡ take i paths ++ path ∷ []
+taken_more paths i path below at = take_more paths i path below ∙ ap (λ (p : List ℕ). take i paths ++ p ∷ []) (sym at)
+
 pub once_none : (keys : List (List ℕ)) → keys ≡ [] → IsDistinct (pointwise nat_eq) keys → AreEachOnce [] keys
 once_none keys is distinct = record { distinct = distinct; same = λ path. (λ has. subst (λ (l : List (List ℕ)). Contains l path) is has, λ has. absurd (omega (arith, has.1))) }
 
-pub once_more : (outputs : List JobOutput) (i : ℕ) (output : JobOutput) (copy : List ℕ) (keys new : List (List ℕ))
-    → i < length outputs → output ≡ get_or outputs i output → copy ≡ output.path → AreEachOnce (paths_of_outputs (take i outputs)) keys
-    → new ≡ insert_key (pointwise nat_eq) keys copy → IsDistinct (pointwise nat_eq) new → AreEachOnce (paths_of_outputs (take (i + 1) outputs)) new
+pub once_more : (outputs : List (List ℕ)) (i : ℕ) (output copy : List ℕ) (keys new : List (List ℕ))
+    → i < length outputs → output ≡ get_or outputs i output → copy ≡ output → AreEachOnce (take i outputs) keys
+    → new ≡ insert_key (pointwise nat_eq) keys copy → IsDistinct (pointwise nat_eq) new → AreEachOnce (take (i + 1) outputs) new
 once_more outputs i output copy keys new below is same before new_is distinct =
-    let old = paths_of_outputs (take i outputs) in
-    let more : paths_of_outputs (take (i + 1) outputs) ≡ old ++ copy ∷ [] =
-    ap paths_of_outputs (take_more outputs i output below) ∙ map-append (λ (o : JobOutput). o.path) (take i outputs) (get_or outputs i output ∷ [])
-    ∙ ap (λ (o : JobOutput). old ++ o.path ∷ []) (sym is) ∙ ap (λ (p : List ℕ). old ++ p ∷ []) (sym same) in
+    let old = take i outputs in
+    let more : take (i + 1) outputs ≡ old ++ copy ∷ [] = taken_more outputs i copy below (same ∙ is ∙ ap (get_or outputs i) (sym same)) in
     record {
       distinct = distinct;
       same = λ path. (
@@ -90,8 +89,8 @@ once_more outputs i output copy keys new below is same before new_is distinct =
       );
     }
 
-pub once_all : (outputs : List JobOutput) (i : ℕ) (keys : List (List ℕ)) → length outputs ≤ i → AreEachOnce (paths_of_outputs (take i outputs)) keys → AreEachOnce (paths_of_outputs outputs) keys
-once_all outputs i keys all once = subst (λ (l : List JobOutput). AreEachOnce (paths_of_outputs l) keys) (take_all i outputs all) once
+pub once_all : (outputs : List (List ℕ)) (i : ℕ) (keys : List (List ℕ)) → length outputs ≤ i → AreEachOnce (take i outputs) keys → AreEachOnce outputs keys
+once_all outputs i keys all once = subst (λ (l : List (List ℕ)). AreEachOnce l keys) (take_all i outputs all) once
 
 -- ---- links of one output
 
@@ -128,9 +127,6 @@ adds_no_place keys references path old before prior none n = (
 )
 
 -- one more path of a list
-pub taken_more : (paths : List (List ℕ)) (i : ℕ) (path : List ℕ) → i < length paths → path ≡ get_or paths i path → take (i + 1) paths ≡ take i paths ++ path ∷ []
-taken_more paths i path below at = take_more paths i path below ∙ ap (λ (p : List ℕ). take i paths ++ p ∷ []) (sym at)
-
 -- ---- links of all outputs
 
 pub links_none : (paths : List (List ℕ)) (infos : List PathInfo) (keys : List (List ℕ)) (links : List (Vec ℕ)) → length links ≡ length keys → HaveNoLinks links → AreLinks paths infos keys 0 links
@@ -189,15 +185,6 @@ links_more paths infos keys count links after path info place own new once was p
         (new, subst (λ k. slice_get (set links place new) k ≡ Some new) (sym is_place) (set_same links place own new own_at), there))
         (λ less. linked_set links place own new from to own_at (λ k earlier. (adds k).1 (inl earlier)) (was.whole from to a b at at' (n, info', omega arith, here, has, refers)))
         (eq-or-lt_of_le {n = n} {m = count} (omega arith))
-
--- the path of an output at hand
-pub path_read : (outputs : List JobOutput) (n : ℕ) (output : JobOutput) → n < length outputs → output ≡ get_or outputs n output → slice_get (paths_of_outputs outputs) n ≡ Some output.path
-path_read outputs n output below is =
-    slice_get-map (λ (o : JobOutput). o.path) outputs n ∙ ap (option_map (λ (o : JobOutput). o.path)) (slice_get_read outputs (length outputs) n output refl below is)
-
--- each output's path is a key
-pub path_is_key : (outputs : List JobOutput) (keys : List (List ℕ)) (n : ℕ) (output : JobOutput) → AreEachOnce (paths_of_outputs outputs) keys → n < length outputs → output ≡ get_or outputs n output → Contains keys output.path
-path_is_key outputs keys n output once below is = (once.same output.path).1 (contains_at (paths_of_outputs outputs) n output.path (path_read outputs n output below is))
 
 pub links_all : (paths : List (List ℕ)) (infos : List PathInfo) (keys : List (List ℕ)) (count : ℕ) (links : List (Vec ℕ)) → length infos ≤ count → AreEachOnce paths keys → AreLinks paths infos keys count links → HaveLinks paths infos links
 links_all paths infos keys count links all once was = record {

@@ -1,39 +1,41 @@
 -- The seeds of a derivation that has begun are valid.
-use Rattle.std.proofs.Common.{◌≡◌, ◌⊎◌, inl, inr, ℕ, zero, suc, ◌+◌, ◌<◌, ◌≤◌, ◌&&◌, Bool, true, false, List, [], ◌∷◌, ◌++◌, length, Option, Some, None, refl, sym, ap, ◌∙◌, subst, ⊎_elim, arith, append_assoc, append-nil, map}
-use Rattle.std.specs.Prelude.{Contains, slice_get, cond, not, nat_lt, ◌==◌, if◌then◌else◌, filter, find, flat_map}
+use Rattle.std.proofs.Common.{◌≡◌, ◌⊎◌, inl, inr, ℕ, suc, ◌+◌, ◌&&◌, Bool, true, false, List, [], ◌∷◌, ◌++◌, length, Option, Some, None, refl, sym, ap, ◌∙◌, subst, ⊎_elim, arith, append_assoc, append-nil}
+use Rattle.std.specs.Prelude.{Contains, slice_get, cond, not, nat_lt, if◌then◌else◌, filter, find, flat_map}
 use Rattle.std.specs.List.{list_all, list_any, position, position_or_len, slice_index_or}
 use Rattle.std.proofs.Math.Dec.{T, eqb}
 use Rattle.std.proofs.Math.Facts.{eqb_yes}
-use Rattle.std.proofs.lemmas.Bool.{cases_Bool, cases_lt, ltb-false}
+use Rattle.std.proofs.lemmas.Bool.{cases_lt, ltb-false}
 use Rattle.std.proofs.lemmas.Grind.{flat_map-append}
 use Rattle.std.proofs.lemmas.List.{get_or_past}
 use Rattle.std.proofs.lemmas.List.Sums.{fails_before_first}
-use Rattle.std.proofs.lemmas.List.Elements.{Contains-append_cases, Contains-append_left}
+use Rattle.std.proofs.lemmas.List.Elements.{Contains-append_cases}
 use Rattle.nix_names.specs.Names.{same_bytes}
-use Rattle.nix_drv.specs.Derivation.{Drv, Input, Output}
+use Rattle.nix_drv.specs.Derivation.{Input, Output}
 use Rattle.drv_graph.specs.Nodes.{Node, inputs_of, paths_of as node_paths}
 use Rattle.valid_table.specs.Entries.{paths_of, registered, registered_by}
-use Rattle.valid_table.specs.PathInfos.{PathInfo}
 use Rattle.valid_table.specs.Valid.{IsValid}
 use Rattle.valid_table.specs.declared.entry.Entry.{Entry}
 use Rattle.valid_table.specs.declared.entry.Registration.{Registration}
+use Rattle.drv_graph.proofs.PathLists.{contains_source}
 use Rattle.valid_table.proofs.AddedEntries.{registered_push}
+use Rattle.valid_table.proofs.AddedRows.{Contains-map}
+use Rattle.valid_table.proofs.JournalLists.{still_valid}
+use Rattle.valid_table.proofs.TakenIn.{valid_by_some}
 use Rattle.valid_table.proofs.ClosureLaws.{leads_before, leads_behind}
-use Rattle.std.specs.Cmp.Lexicographic.{pointwise}
 use Rattle.std.proofs.lemmas.Map.Views.{Contains-from_any}
 use Rattle.nix_names.proofs.RisingLists.{Contains-cons_cases, Contains-first, Contains-later, Contains-nothing, equal_from_eq}
 use Rattle.sched_core.specs.Headline.{PermittedStays, SeedsAreValid}
-use Rattle.sched_core.specs.Jobs.{named_outputs, output_paths, paths_named, paths_of_found, seeds_of}
+use Rattle.sched_core.specs.Jobs.{named_outputs, output_paths, paths_of_found, seeds_of}
 use Rattle.sched_core.specs.Legal.{IsLegal, legal_opening, legal_begin, legal_done, legal_fail, begins}
 use Rattle.sched_core.specs.Runs.{History, Run, by_cause, cause_at, input_numbers, inputs_at, is_unsupported, is_valid, or_else, own_cause, rows_of, standing_at, standing_of, state_in}
-use Rattle.sched_core.specs.States.{Phase, Idle, Begun, Ended, Broken, Rows, by_first, by_inputs, by_phase, by_standing, is_bad, is_good, later, phase_by, phase_of, state, states, table}
+use Rattle.sched_core.specs.States.{Phase, Idle, Begun, Ended, Broken, by_first, by_inputs, by_phase, by_standing, is_bad, is_good, later, phase_by, phase_of, state, states, table}
 use Rattle.sched_core.specs.declared.reason.Event.{Event}
 use Rattle.sched_core.specs.declared.reason.Event.TheVariants.{Begin, Done as Finish, Fail}
 use Rattle.sched_core.specs.declared.reason.Refusal.{Refusal}
 use Rattle.sched_core.specs.declared.reason.Refusal.TheVariants.{MissingSource, PartlyValid, Unsupported, WrongSystem}
 use Rattle.sched_core.specs.declared.reason.State.{State}
 use Rattle.sched_core.specs.declared.reason.State.TheVariants.{Ready, Blocked}
-use Rattle.sched_core.proofs.Registering.{Contains-got, Contains-mapped, from_mapped, output_registered, part_with, records_for_paths, valid_with_last, valid_with_more}
+use Rattle.sched_core.proofs.Dones.{output_registered, part_with, records_for_paths}
 use Rattle.sched_core.proofs.StateLaws.{length_states, state_at}
 use Rattle.sched_core.specs.declared.standing.Standing.{Standing}
 use Rattle.sched_core.specs.declared.standing.Standing.TheVariants.{AllValid, Hindered, Free}
@@ -74,7 +76,7 @@ same_number a b e = eqb_yes (subst T (sym e) tt)
 
 valid_behind : (entries : List Entry) (entry : Entry) (path : List ℕ) → IsValid (registered entries) path → IsValid (registered (entries ++ entry ∷ [])) path
 valid_behind entries entry path valid =
-    subst (λ (rs : List Registration). IsValid rs path) (sym (registered_push entries entry)) (valid_with_more (registered entries) (registered_by entry) path valid)
+    subst (λ (rs : List Registration). IsValid rs path) (sym (registered_push entries entry)) (still_valid (registered entries) (registered_by entry) path valid)
 
 -- the outputs of a derivation that was built are valid
 pub ended_is_valid : (run : Run) (history : History) → IsLegal run history → (d : ℕ) (node : Node) → slice_get run.graph.nodes d ≡ Some node
@@ -95,7 +97,7 @@ ended_is_valid run _ (legal_done history e lease own infos entry legal phase is_
     let own_has : Contains (output_paths own.drv) path = subst (λ (n : Node). Contains (output_paths n.drv) path) (sym node_is) has in
     let there = output_registered own infos is_entry.outputs entry is_entry (records_for_paths run history.entries own infos allowed) path own_has in
     subst (λ (rs : List Registration). IsValid rs path) (sym (registered_push history.entries entry))
-    (valid_with_last (registered history.entries) (registered_by entry) path
+    (valid_by_some (registered history.entries) (registered_by entry) path
     (subst (λ (x : Entry). IsValid (registered_by x) path) (sym is_entry.is_done) there)))
     (λ before. valid_behind history.entries entry path (ended_is_valid run history legal d node is_node before path has))
     (ended_by_done (eqb e d) (phase_of history.events d) (sym (phase_push history.events (Finish e lease) d) ∙ ended))
@@ -116,7 +118,7 @@ opening_stays_valid run history legal path is =
     let whole : registered history.entries ≡ registered history.opening ++ registered more.0 =
     ap registered more.1 ∙ flat_map-append registered_by history.opening more.0 in
     subst (λ (rs : List Registration). IsValid rs path) (sym whole)
-    (valid_with_more (registered history.opening) (registered more.0) path (Contains-from_any equal_from_eq path (paths_of (registered history.opening)) is))
+    (still_valid (registered history.opening) (registered more.0) path (Contains-from_any equal_from_eq path (paths_of (registered history.opening)) is))
 
 -- ---- what it takes to be ready
 
@@ -219,7 +221,7 @@ one_more : (k : ℕ) → suc k ≡ 1 + k
 one_more k = omega arith
 
 -- the first node at a path is the node with the path's number
-found_by_number : (nodes : List Node) (path : List ℕ) → find (λ (n : Node). same_bytes path n.path) nodes ≡ slice_get nodes (position_or_len (same_bytes path) (node_paths nodes))
+pub found_by_number : (nodes : List Node) (path : List ℕ) → find (λ (n : Node). same_bytes path n.path) nodes ≡ slice_get nodes (position_or_len (same_bytes path) (node_paths nodes))
 found_by_number [] path = refl
 found_by_number (n ∷ ns) path = by (same_bytes path n.path) (found_by_number ns path)
   where
@@ -249,9 +251,9 @@ named_at nodes input path has =
     by (Some node) e =
         let there = subst (λ (o : Option Node). Contains (paths_of_found input.names o) path) e has in
         let kept = filter (λ (o : Output). list_any (same_bytes o.name) input.names) node.drv.outputs in
-        let output = from_mapped (λ (o : Output). o.path) kept path there in
+        let output = contains_source (λ (o : Output). o.path) kept path there in
         let among = filtered (λ (o : Output). list_any (same_bytes o.name) input.names) node.drv.outputs output.0 output.1 in
-        (node, refl, subst (Contains (output_paths node.drv)) output.2 (Contains-mapped (λ (o : Output). o.path) node.drv.outputs output.0 among))
+        (node, refl, subst (Contains (output_paths node.drv)) output.2 (Contains-map (λ (o : Output). o.path) node.drv.outputs output.0 among))
 
 blocked_is_not_good : (s : State) → s ≡ Blocked → is_good s ≡ true → ⊥
 blocked_is_not_good s is good = let clash : false ≡ true = sym (ap is_good is) ∙ good in cc
@@ -283,8 +285,8 @@ seeds_at run history legal d ready node is_node path has =
     let i = position_or_len (same_bytes input.path) (node_paths nodes) in
     let at = named_at nodes input path part.2 in
     let listed : Contains (input_numbers nodes node.drv) i =
-    Contains-mapped (λ (p : List ℕ). position_or_len (same_bytes p) (node_paths nodes)) (inputs_of node.drv) input.path
-    (Contains-mapped (λ (x : Input). x.path) node.drv.inputs input part.1) in
+    Contains-map (λ (p : List ℕ). position_or_len (same_bytes p) (node_paths nodes)) (inputs_of node.drv) input.path
+    (Contains-map (λ (x : Input). x.path) node.drv.inputs input part.1) in
     let is_input : Contains (rows.inputs d) i = subst (λ (o : Option Node). Contains (inputs_at nodes o) i) (sym is_node) listed in
     let well = list_all_has (λ j. is_good (f j)) (rows.inputs d) i good is_input in
     ⊎_elim

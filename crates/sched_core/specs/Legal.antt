@@ -1,5 +1,5 @@
 -- *Legal*: which histories a run may have (this product's own; the closure invariant is that of Dolstra's thesis, section 5.5).
-use Rattle.std.specs.Prelude.{◌≡◌, ◌↔◌, ◌⊎◌, ◌<◌, ◌++◌, Bool, true, false, ℕ, Some, List, [], ◌∷◌, length, map, count_by, slice_get, Contains}
+use Rattle.std.specs.Prelude.{◌≡◌, ◌↔◌, ◌⊎◌, ◌<◌, ◌++◌, Bool, true, false, ℕ, Some, List, [], ◌∷◌, length, count_by, slice_get, Contains}
 use Rattle.nix_names.specs.Rising.{IsRising}
 use Rattle.drv_graph.specs.Kinds.{HasKind}
 use Rattle.drv_graph.specs.Nodes.{Node}
@@ -59,12 +59,16 @@ pub record IsEntryOf (node : Node) (infos : List PathInfo) (entry : Entry) : Typ
       → Contains outputs (record { path = path; info = info })
       ↔ ((n : ℕ) × (slice_get (output_paths node.drv) n ≡ Some path) × (slice_get infos n ≡ Some info))
 
+-- each reference in some records is permitted to a derivation of the run, behind some entries
+abbrev pub ArePermittedTo : Run → List Entry → Node → List PathInfo → Type 0
+ArePermittedTo run entries node infos = (info : PathInfo) (path : List ℕ) → Contains infos info → Contains info.references path
+    → MayRefer (registered entries) (seeds_of run.graph.nodes node.drv) (output_paths node.drv) path
+
 -- What a Done of a derivation may register behind some entries.
 pub record IsAllowed (run : Run) (entries : List Entry) (node : Node) (infos : List PathInfo) : Type 0 where
   pub count : length infos ≡ length node.drv.outputs
   pub new : (path : List ℕ) → Contains (output_paths node.drv) path → IsValid (registered entries) path → ⊥
-  pub permitted : (info : PathInfo) (path : List ℕ) → Contains infos info → Contains info.references path
-      → MayRefer (registered entries) (seeds_of run.graph.nodes node.drv) (output_paths node.drv) path
+  pub permitted : ArePermittedTo run entries node infos
   pub fixed : (method : Method) (digest : List ℕ) → HasKind node.drv (Fixed method digest) → (info : PathInfo) → Contains infos info → info.digest ≡ Some digest
   pub acyclic : IsCyclic (output_paths node.drv) infos → ⊥
 

@@ -1,15 +1,10 @@
--- The links among a job's outputs, between the places of their paths in a list without repetition. Places count from 0.
-use Rattle.std.specs.Prelude.{◌≡◌, ◌↔◌, ◌⊎◌, ◌<◌, ℕ, List, Some, Contains, length, map, nat_eq, slice_get}
+-- The links among outputs, between the places of their paths in a list without repetition. Places count from 0.
+use Rattle.std.specs.Prelude.{◌≡◌, ◌↔◌, ◌⊎◌, ◌<◌, ℕ, List, Some, Contains, length, nat_eq, slice_get}
 use Rattle.std.specs.Cmp.Lexicographic.{pointwise}
 use Rattle.std.specs.Global.{Vec}
 use Rattle.std.specs.List.{IsDistinct}
 use Rattle.valid_table.specs.PathInfos.{PathInfo}
-use Rattle.sched_core.specs.Walking.{AreInner, IsLinked}
-use Rattle.sched_core.specs.declared.job.JobOutput.{JobOutput}
-
--- the paths of some outputs
-abbrev pub paths_of_outputs : List JobOutput → List (List ℕ)
-paths_of_outputs outputs = map (λ (o : JobOutput). o.path) outputs
+use Rattle.sched_core.specs.Walking.{IsLinked}
 
 -- Some paths, each once.
 pub record AreEachOnce (paths keys : List (List ℕ)) : Type 0 where

@@ -1,23 +1,22 @@
-//! The links among a job's outputs, by numbers.
+//! The links among outputs, by numbers.
 ghost use Rattle.std.specs.Prelude.{◌≡◌, IfOk, MatchOption, OnOk, Contains, Some, length, nat_eq, slice_get, take};
 ghost use Rattle.std.specs.Cmp.Lexicographic.{pointwise};
 ghost use Rattle.std.specs.List.{IsDistinct};
-ghost use Rattle.sched_core.specs.Linking.{AddsLinks, AreEachOnce, HaveLinks, HaveNoLinks, paths_of_outputs};
+ghost use Rattle.sched_core.specs.Linking.{AddsLinks, AreEachOnce, HaveLinks, HaveNoLinks};
 
-use crate::job::JobOutput;
 use indexmap::IndexSet;
 use nix_names::StorePath;
 use std::alloc::{AllocError, AllocFailed, Global};
 use valid_table::Record;
 
-// For each different path of the outputs, the places of those that its outputs refer to.
+// For each different one of the outputs' paths, the places of those that its outputs refer to.
 pub(crate) fn links_among(
     alloc: Global,
-    outputs: &[JobOutput],
+    outputs: &[StorePath],
     records: &[Record],
 ) -> Result<Vec<Vec<usize>>, AllocError>
     requires { length records.now ≡ length outputs.now }
-    ensures { IfOk result (λ links. HaveLinks (paths_of_outputs outputs.now) records.now links.items) }
+    ensures { IfOk result (λ links. HaveLinks outputs.now records.now links.items) }
 {
     let paths = each_once(alloc, outputs)?;
     let mut links = no_links(alloc, paths.len())?;
@@ -28,18 +27,18 @@ pub(crate) fn links_among(
 // Adds the links of each output, by its record.
 fn fill_links(
     paths: &IndexSet<StorePath>,
-    outputs: &[JobOutput],
+    outputs: &[StorePath],
     records: &[Record],
     links: &mut Vec<Vec<usize>>,
 ) -> Result<(), AllocFailed<usize>>
     requires same { length records.now ≡ length outputs.now }
-    requires once { AreEachOnce (paths_of_outputs outputs.now) paths.now.keys }
+    requires once { AreEachOnce outputs.now paths.now.keys }
     requires count { length links.old.items ≡ length paths.now.keys }
     requires none { HaveNoLinks links.old.items }
-    ensures { OnOk result (HaveLinks (paths_of_outputs outputs.now) records.now links.new.items) }
+    ensures { OnOk result (HaveLinks outputs.now records.now links.new.items) }
 {
     for (n, record) in records.iter().enumerate() {
-        if let Some(from) = place_of(paths, &outputs[n].path) {
+        if let Some(from) = place_of(paths, &outputs[n]) {
             add_links(paths, record.references(), &mut links[from])?;
         }
     }
@@ -47,18 +46,18 @@ fn fill_links(
 }
 
 // The paths of the outputs, each once.
-fn each_once(alloc: Global, outputs: &[JobOutput]) -> Result<IndexSet<StorePath>, AllocError>
-    ensures { IfOk result (λ paths. AreEachOnce (paths_of_outputs outputs.now) paths.keys) }
+fn each_once(alloc: Global, outputs: &[StorePath]) -> Result<IndexSet<StorePath>, AllocError>
+    ensures { IfOk result (λ paths. AreEachOnce outputs.now paths.keys) }
 {
     let mut paths = IndexSet::new(alloc);
     for output in outputs {
-        paths.insert(copy_path(alloc, &output.path)?)?;
+        paths.insert(copy_path(alloc, output)?)?;
     }
     Ok(paths)
 }
 
 // The same path again.
-fn copy_path(alloc: Global, path: &StorePath) -> Result<StorePath, AllocError>
+pub(crate) fn copy_path(alloc: Global, path: &StorePath) -> Result<StorePath, AllocError>
     ensures { IfOk result (λ copy. copy ≡ path.now) }
 {
     match path.copy(alloc) {

@@ -1,19 +1,21 @@
 //! The verdict on what a builder left behind.
-ghost use Rattle.std.specs.Prelude.{◌≡◌, ◌⊎◌, ℕ, List, Ok, Err, pos, Some, IfOk, IfErr, MatchResult, OnOk};
+ghost use Rattle.std.specs.Prelude.{◌≡◌, ◌⊎◌, ◌↔◌, ℕ, List, Ok, Err, pos, Some, IfOk, IfErr, IsTrue, MatchResult, OnOk, length, map};
 ghost use Rattle.nix_names.specs.Rising.{IsRising};
 ghost use Rattle.ref_scan.specs.Trees.{joined};
 ghost use Rattle.sha2.specs.Sha256.{sha256};
-ghost use Rattle.sched_core.specs.Verdicts.{AreRecords, IsExamining, IsRecordOf, IsTaken, IsThere, IsTreeFault, IsVerdict, digest_of};
+ghost use Rattle.sched_core.specs.declared.job.JobOutput.{JobOutput};
+ghost use Rattle.sched_core.specs.Verdicts.{AreRecords, IsCyclic, IsExamining, IsRecordOf, IsTaken, IsThere, IsTreeFault, IsVerdict, digest_of, outputs_of};
 
 use crate::checked::Checked;
 use crate::cycle::is_cyclic;
-use crate::job::{Answer, Job};
+use crate::job::{Answer, Job, JobOutput};
+use crate::links::copy_path;
 use crate::reason::Reason;
 use drv_graph::Kind;
 use nix_names::StorePath;
 use ref_scan::{Tree, scan};
 use sha2::{Digest, Sha256};
-use std::alloc::Global;
+use std::alloc::{AllocError, Global};
 use valid_table::Record;
 
 /// The verdict on what the builder of a job left behind, where the outputs may refer to these
@@ -39,10 +41,30 @@ pub fn examine(
 {
     check_complete(job, &answer)?;
     let records = records_of(alloc, job, permitted, &answer)?;
-    if is_cyclic(alloc, &job.outputs, &records)? {
+    if refer_in_cycle(alloc, job, &records)? {
         return Err(Reason::OutputCycle);
     }
     Ok(Checked::new(records))
+}
+
+// Whether two different outputs of the job lead to each other, by these records.
+fn refer_in_cycle(alloc: Global, job: &Job, records: &[Record]) -> Result<bool, AllocError>
+    requires { length records.now ≡ length job.now.outputs.items }
+    ensures { IfOk result (λ cyclic. IsTrue cyclic ↔ IsCyclic (outputs_of job.now) records.now) }
+{
+    let paths = paths_of(alloc, &job.outputs)?;
+    is_cyclic(alloc, &paths, records)
+}
+
+// The outputs' paths, in their order.
+fn paths_of(alloc: Global, outputs: &[JobOutput]) -> Result<Vec<StorePath>, AllocError>
+    ensures { IfOk result (λ paths. paths.items ≡ map (λ (o : JobOutput). o.path) outputs.now) }
+{
+    let mut paths = Vec::with_capacity(alloc, outputs.len())?;
+    for output in outputs {
+        paths.push(copy_path(alloc, &output.path)?)?;
+    }
+    Ok(paths)
 }
 
 // Whether the builder ended well and left something at each output's path.

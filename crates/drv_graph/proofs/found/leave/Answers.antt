@@ -13,7 +13,8 @@ returns-in_err-own c =
 
 pub returns : goal.returns
 returns c =
-    leaving_kept c.args.dir.now c.args.found.now c.keep.new.found c.args.visit c.in_ok-kind.kind c.in_ok-kind.hash c.in_ok-outputs.outputs c.deref-2.result.now c.deref-3.result.now (owned c.own.new.owners) c.keep.result c.requires.found c.requires.visit c.requires.walked c.requires.is_new
+    leaving_kept c.args.dir.now c.args.found.now c.keep.new.found c.args.visit c.in_ok-kind.kind c.in_ok-kind.hash c.in_ok-outputs.outputs c.in_ok-sources.sources c.deref-2.result.now c.deref-3.result.now (owned c.own.new.owners) c.keep.result c.requires.found c.requires.visit c.requires.walked c.requires.is_new
     (checking_right c.args.dir.now c.args.found.now.nodes.items c.deref.result.now c.args.visit c.in_ok-kind.kind c.in_ok-kind.hash c.deref.ensures.value c.in_ok-kind.ensures)
     (outputs_are c.outputs.result.now c.args.visit.drv c.in_ok-outputs.outputs.items c.outputs.ensures c.in_ok-outputs.ensures.ok)
+    (c.in_ok-sources.ensures.ok ∙ c.sources.ensures)
     c.deref-2.ensures.value c.deref-3.ensures.value c.in_ok-own.ensures c.keep.ensures.nodes (on_ok_weaker c.keep.result (λ same. ap owned same) c.keep.ensures.owners) c.keep.ensures.marks c.keep.ensures.count c.keep.ensures.err

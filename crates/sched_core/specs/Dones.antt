@@ -1,0 +1,45 @@
+-- The entry of a derivation that was built, in any run over a plan.
+use Rattle.std.specs.Prelude.{◌≡◌, ◌⊎◌, ⊤, ℕ, Some, List, All, length, map, slice_get}
+use Rattle.drv_graph.specs.Nodes.{Node}
+use Rattle.drv_graph.specs.Plans.{Graph}
+use Rattle.drv_graph.specs.declared.kinds.Kind.{Kind}
+use Rattle.drv_graph.specs.declared.kinds.Kind.TheVariants.{Addressed, Fixed}
+use Rattle.valid_table.specs.PathInfos.{PathInfo}
+use Rattle.valid_table.specs.Valid.{IsNotValid}
+use Rattle.valid_table.specs.declared.entry.Entry.{Entry}
+use Rattle.valid_table.specs.declared.entry.Registration.{Registration}
+use Rattle.sched_core.specs.Legal.{ArePermittedTo, IsAllowed, IsEntryOf}
+use Rattle.sched_core.specs.Runs.{Run}
+use Rattle.sched_core.specs.Verdicts.{IsCyclic}
+use Rattle.sched_core.specs.declared.fault.BookFault.{BookFault}
+use Rattle.sched_core.specs.declared.fault.BookFault.TheVariants.{NoMemory, NotLawful}
+
+-- records have the digest that outputs of this kind declare, if they do
+abbrev pub HaveDigest : Kind → List PathInfo → Type 0
+HaveDigest Addressed infos = ⊤
+HaveDigest (Fixed method digest) infos = All (λ (info : PathInfo). info.digest ≡ Some digest) infos
+
+-- Records with which outputs of a kind at some paths may be registered behind known registrations, if their references are permitted.
+pub record AreLawful (known : List Registration) (kind : Kind) (paths : List (List ℕ)) (infos : List PathInfo) : Type 0 where
+  pub count : length infos ≡ length paths
+  pub new : All (IsNotValid known) paths
+  pub fixed : HaveDigest kind infos
+  pub acyclic : IsCyclic paths infos → ⊥
+
+-- the records of registrations alone
+abbrev pub infos_of : List Registration → List PathInfo
+infos_of registrations = map (λ (r : Registration). r.info) registrations
+
+-- an entry is that of the derivation with this number, with these records, and allowed behind some entries if the references are permitted
+abbrev pub IsDoneEntry : Graph → (d : ℕ) → List Entry → List PathInfo → Entry → Type 0
+IsDoneEntry graph d entries infos entry = (run : Run) (node : Node) → run.graph ≡ graph → slice_get run.graph.nodes d ≡ Some node
+    → IsEntryOf node infos entry × (ArePermittedTo run entries node infos → IsAllowed run entries node infos)
+
+-- the derivation with this number may not be registered with these records behind some entries
+abbrev pub IsUnlawful : Graph → (d : ℕ) → List Entry → List PathInfo → Type 0
+IsUnlawful graph d entries infos = (run : Run) (node : Node) → run.graph ≡ graph → slice_get run.graph.nodes d ≡ Some node
+    → IsAllowed run entries node infos → ⊥
+
+-- why there is no entry of the derivation with this number
+abbrev pub IsDoneFault : Graph → (d : ℕ) → List Entry → List PathInfo → BookFault → Type 0
+IsDoneFault graph d entries infos fault = (fault ≡ NoMemory) ⊎ ((fault ≡ NotLawful) × IsUnlawful graph d entries infos)

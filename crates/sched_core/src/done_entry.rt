@@ -1,0 +1,120 @@
+//! The entry of a derivation that was built.
+ghost use Rattle.std.specs.Prelude.{◌≡◌, ◌<◌, ◌↔◌, All, IfErr, IfOk, IsTrue, length, map};
+ghost use Rattle.valid_table.specs.Entries.{paths_of, registered};
+ghost use Rattle.valid_table.specs.PathInfos.{PathInfo};
+ghost use Rattle.valid_table.specs.Valid.{HasDrvPath, IsNotValid};
+ghost use Rattle.valid_table.specs.declared.entry.Registration.{Registration};
+ghost use Rattle.sched_core.specs.Dones.{AreLawful, HaveDigest, IsDoneEntry, IsDoneFault, infos_of};
+
+use crate::checked::Checked;
+use crate::cycle::is_cyclic;
+use crate::fault::BookFault;
+use crate::links::copy_path;
+use drv_graph::{Kind, Plan};
+use nix_names::StorePath;
+use std::alloc::{AllocError, Global};
+use valid_table::{Entry, Journal, Outputs, Record, Registration};
+
+// The entry that registers the outputs of the derivation with this number with these records, behind
+// the journal's entries; whether their references are permitted isn't tested. `NotLawful` where there
+// isn't one record for each output, an output is valid, a fixed output hasn't its declared digest, or
+// two outputs lead to each other; `NoMemory` may come in its place. Costs a look-up by hash for each
+// output and for each reference, and a sort of the outputs.
+pub(crate) fn done_entry(
+    alloc: Global,
+    plan: &Plan,
+    d: usize,
+    checked: &Checked,
+    journal: &Journal,
+) -> Result<Entry, BookFault>
+    requires { d < length plan.now.nodes }
+    ensures ok { IfOk result (IsDoneEntry plan.now d journal.now.entries checked.now) }
+    ensures derived { IfOk result HasDrvPath }
+    ensures err { IfErr result (IsDoneFault plan.now d journal.now.entries checked.now) }
+{
+    let paths = plan.output_paths(d);
+    let records = checked.records();
+    if !is_lawful(alloc, plan.kind(d), paths, records, journal)? {
+        return Err(BookFault::NotLawful);
+    }
+    let registrations = registrations_of(alloc, paths, records)?;
+    // Its contract says that a derivation's outputs have different paths.
+    let _ = plan.len();
+    let Some(outputs) = Outputs::sorted(registrations) else {
+        unreachable!()
+    };
+    Ok(Entry::Done(copy_path(alloc, plan.path(d))?, outputs))
+}
+
+// Whether outputs of this kind at these paths may be registered with these records behind a journal's
+// entries, if the records' references are permitted.
+fn is_lawful(
+    alloc: Global,
+    kind: Kind,
+    paths: &[StorePath],
+    records: &[Record],
+    journal: &Journal,
+) -> Result<bool, AllocError>
+    ensures { IfOk result (λ lawful. IsTrue lawful ↔ AreLawful (registered journal.now.entries) kind paths.now records.now) }
+{
+    if records.len() != paths.len() || !are_new(journal, paths) || !have_digest(kind, records) {
+        return Ok(false);
+    }
+    Ok(!is_cyclic(alloc, paths, records)?)
+}
+
+// Whether none of the paths is valid by a journal.
+fn are_new(journal: &Journal, paths: &[StorePath]) -> bool
+    ensures { IsTrue result ↔ All (IsNotValid (registered journal.now.entries)) paths.now }
+{
+    for path in paths {
+        if journal.registers(path) {
+            return false;
+        }
+    }
+    true
+}
+
+// Whether the records have the digest that outputs of this kind declare, if they do.
+fn have_digest(kind: Kind, records: &[Record]) -> bool
+    ensures { IsTrue result ↔ HaveDigest kind records.now }
+{
+    match kind {
+        Kind::Addressed => true,
+        Kind::Fixed(_, digest) => records.iter().all(|record| record.digest() == Some(digest)),
+    }
+}
+
+// The paths with their records, beside each other.
+fn registrations_of(
+    alloc: Global,
+    paths: &[StorePath],
+    records: &[Record],
+) -> Result<Vec<Registration>, BookFault>
+    requires { length records.now ≡ length paths.now }
+    ensures paths { IfOk result (λ all. paths_of all.items ≡ paths.now) }
+    ensures infos { IfOk result (λ all. infos_of all.items ≡ records.now) }
+    ensures err { IfErr result (λ fault. fault ≡ BookFault.NoMemory) }
+{
+    let mut registrations = Vec::with_capacity(alloc, paths.len())?;
+    for n in 0..paths.len() {
+        registrations.push(registration_of(alloc, &paths[n], &records[n])?)?;
+    }
+    Ok(registrations)
+}
+
+// A path with its record.
+fn registration_of(
+    alloc: Global,
+    path: &StorePath,
+    info: &Record,
+) -> Result<Registration, BookFault>
+    ensures ok { IfOk result (λ r. r ≡ record { path = path.now; info = info.now }) }
+    ensures err { IfErr result (λ fault. fault ≡ BookFault.NoMemory) }
+{
+    let path = copy_path(alloc, path)?;
+    match info.copy(alloc) {
+        Ok(info) => Ok(Registration { path, info }),
+        Err(_) => Err(BookFault::NoMemory),
+    }
+}
