@@ -1,13 +1,12 @@
 -- How a lease ends.
-use Rattle.std.proofs.Common.{◌≡◌, ◌⊎◌, inl, inr, ◌++◌, ◌∷◌, [], ℕ, List, ap, refl, subst, sym, ◌∙◌}
-use Rattle.std.specs.Prelude.{Contains}
+use Rattle.std.proofs.Common.{◌≡◌, ◌++◌, ◌∷◌, [], ℕ, List, ap, refl, subst, ◌∙◌}
 use Rattle.valid_table.specs.Adding.{AreClosed, AreNew}
 use Rattle.valid_table.specs.Entries.{registered, registered_by}
 use Rattle.valid_table.specs.PathInfos.{PathInfo}
 use Rattle.valid_table.specs.declared.entry.Entry.{Entry}
 use Rattle.sched_core.specs.Books.{IsBooksLease, IsDone, IsFinishing, IsNotAllowed, Ledger, MayAllRefer}
 use Rattle.sched_core.specs.Dones.{IsDoneEntry, IsUnlawful}
-use Rattle.sched_core.specs.Jobs.{output_paths, seeds_of}
+use Rattle.sched_core.specs.Jobs.{output_paths}
 use Rattle.sched_core.specs.Legal.{ArePermittedTo, MayRefer, ended}
 use Rattle.sched_core.specs.Runs.{History, Run}
 use Rattle.sched_core.specs.declared.job.Job.{Job}

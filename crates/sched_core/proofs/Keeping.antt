@@ -1,6 +1,6 @@
 -- What is kept of a run, and that it is kept behind each event.
-use Rattle.std.proofs.Common.{◌≡◌, ◌≢◌, ◌⊎◌, inl, inr, ℕ, zero, suc, ◌+◌, ◌*◌, ◌<◌, ◌≤◌, Bool, true, false, List, [], ◌∷◌, ◌++◌, length, Option, Some, None, refl, sym, ap, ◌∙◌, subst, ⊎_elim, arith, take}
-use Rattle.std.specs.Prelude.{IsTrue, MatchOption, ◌==◌, ◌↔◌, if◌then◌else◌, slice_get, slice_set}
+use Rattle.std.proofs.Common.{◌≡◌, ◌≢◌, ℕ, zero, suc, ◌+◌, ◌*◌, ◌<◌, ◌≤◌, Bool, true, false, List, [], ◌∷◌, ◌++◌, length, Option, Some, None, refl, sym, ap, ◌∙◌, subst, ⊎_elim, arith, take}
+use Rattle.std.specs.Prelude.{IsTrue, MatchOption, ◌==◌, ◌↔◌, if◌then◌else◌, slice_set}
 use Rattle.std.specs.List.{slice_index_or, sum_by}
 use Rattle.std.proofs.Math.Dec.{T, eqb}
 use Rattle.std.proofs.Math.Facts.{eqb_yes}
@@ -18,15 +18,15 @@ use Rattle.valid_table.specs.declared.entry.Entry.{Entry}
 use Rattle.sched_core.specs.Booking.{IsKept, events_left, history_of, run_over}
 use Rattle.sched_core.specs.Books.{CanBegin, IsDone, IsRunSettled}
 use Rattle.sched_core.specs.Courses.{AreStandings, AreWanted, Course, HasBegun, IsNext, IsOpen, IsSettled, course_rows, course_state}
-use Rattle.sched_core.specs.Legal.{IsLegal, legal_begin, legal_opening, legal_done, legal_fail, begins, begun, is_begin}
+use Rattle.sched_core.specs.Legal.{IsLegal, legal_begin, legal_opening, legal_done, legal_fail, begins, is_begin}
 use Rattle.sched_core.specs.Reports.{IsReportIn, IsReportOf}
 use Rattle.sched_core.specs.Runs.{History, Run, rows_of, standing_at, state_in}
-use Rattle.sched_core.specs.States.{Phase, Idle, Begun, Ended, Broken, Rows, by_first, by_inputs, by_phase, by_standing, later, phase_by, phase_of, state, states, table}
+use Rattle.sched_core.specs.States.{Phase, Idle, Begun, Ended, Broken, Rows, by_first, by_phase, by_standing, later, phase_by, phase_of, state, states, table}
 use Rattle.sched_core.specs.declared.reason.Event.{Event}
 use Rattle.sched_core.specs.declared.reason.Event.TheVariants.{Begin, Done as Finish, Fail}
 use Rattle.sched_core.specs.declared.reason.Reason.{Reason}
 use Rattle.sched_core.specs.declared.reason.State.{State}
-use Rattle.sched_core.specs.declared.reason.State.TheVariants.{Blocked, Building, Ready}
+use Rattle.sched_core.specs.declared.reason.State.TheVariants.{Blocked, Building}
 use Rattle.sched_core.specs.declared.standing.Standing.{Standing}
 use Rattle.sched_core.specs.declared.standing.Standing.TheVariants.{AllValid, Hindered, Free}
 use Rattle.sched_core.proofs.Histories.{ready_is_idle}

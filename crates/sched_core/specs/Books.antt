@@ -1,5 +1,5 @@
 -- *Book*: what a run keeps, and what each call on it does (this product's own).
-use Rattle.std.specs.Prelude.{◌≡◌, ◌⊎◌, ◌<◌, ◌++◌, ℕ, Option, Some, List, [], ◌∷◌, length, slice_get, Contains, MatchOption, Result, Ok, Err}
+use Rattle.std.specs.Prelude.{◌≡◌, ◌<◌, ◌++◌, ℕ, Option, Some, List, [], ◌∷◌, length, slice_get, Contains}
 use Rattle.drv_graph.specs.Nodes.{Node}
 use Rattle.valid_table.specs.Entries.{registered}
 use Rattle.valid_table.specs.PathInfos.{PathInfo}
