@@ -24,7 +24,10 @@ pub(crate) fn job_of(alloc: Global, plan: &Plan, d: usize) -> Result<Job, BookFa
     let outputs = outputs_of(alloc, drv.outputs(), plan.output_paths(d))?;
     let seeds = seeds_of(alloc, plan, d)?;
     let Parts {
-        builder, args, env, ..
+        builder,
+        args,
+        env,
+        ..
     } = drv.parts().copy(alloc)?;
     Ok(Job {
         derivation: d,
