@@ -1,4 +1,4 @@
-use Rattle.std.proofs.Common.{◌≡◌, ◌∙◌, [], ◌∷◌, ◌++◌, ap, arith, get_or, inl, inr, refl, sym}
+use Rattle.std.proofs.Common.{◌∙◌, [], ◌∷◌, ◌++◌, ap, arith, inl, inr, sym}
 use Rattle.nix_drv.specs.declared.derivation.Output.{Output}
 use Rattle.std.proofs.lemmas.Option.{get_or_from_slice_get}
 use Rattle.sched_core.proofs.SeedParts.{adds_all, adds_none, output_seen, paths_count_is, read_at}
@@ -14,9 +14,12 @@ loop-n-preserved c =
     c.index-outputs-n.result c.deref.result.now c.uses.result c.outputs-outputs.ensures c.requires.paths c.loop-n-test.true c.index-outputs-n.is (c.deref.ensures.value ∙ ap (λ (o : Output). o.name.items) (sym c.index-outputs-n.is)) c.uses.ensures
     (elim c.if-uses.branch [
       | then-uses+in_ok-path+in_ok-push w ↦
-          inl (w.if-uses.true, ap (λ v. v.items) w.seeds-is ∙ w.in_ok-push.ensures.items
-          ∙ ap (λ p. c.loop-n.seeds.items ++ p ∷ [])
-          (w.in_ok-path.ensures ∙ sym (get_or_from_slice_get c.args.paths.now c.loop-n.n w.index-paths-n.result [] (read_at c.args.paths.now c.loop-n.n w.index-paths-n.result c.loop-n-test.true w.index-paths-n.is))))
+          inl (
+            w.if-uses.true,
+            ap (λ v. v.items) w.seeds-is ∙ w.in_ok-push.ensures.items
+                ∙ ap (λ p. c.loop-n.seeds.items ++ p ∷ [])
+                (w.in_ok-path.ensures ∙ sym (get_or_from_slice_get c.args.paths.now c.loop-n.n w.index-paths-n.result [] (read_at c.args.paths.now c.loop-n.n w.index-paths-n.result c.loop-n-test.true w.index-paths-n.is))),
+          )
       | else-uses w ↦ inr (w.if-uses.false, ap (λ v. v.items) w.seeds-is)
     ])
     c.loop-n.invariant

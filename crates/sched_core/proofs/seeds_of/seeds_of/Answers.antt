@@ -1,4 +1,3 @@
-use Rattle.std.proofs.Common.{◌<◌, length}
 use Rattle.std.proofs.lemmas.Option.{slice_get-get_or}
 use Rattle.sched_core.proofs.SeedParts.{all_seeds, input_added, input_within}
 use Rattle.sched_core.proofs.seeds_of.seeds_of.Goals as goal

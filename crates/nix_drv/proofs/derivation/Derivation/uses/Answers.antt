@@ -1,4 +1,4 @@
-use Rattle.std.proofs.Common.{◌≡◌, ◌∙◌, None, Some, ap, map, rules, subst, sym}
+use Rattle.std.proofs.Common.{◌≡◌, None, Some, map, rules, subst, sym}
 use Rattle.std.specs.Cmp.Lexicographic.{slice_cmp}
 use Rattle.std.specs.Ordering.{nat_cmp}
 use Rattle.nix_names.specs.Rising.{IsRising}
