@@ -11,6 +11,7 @@ pub mod Numbers
 pub mod Reporting
 pub mod Reports
 pub mod Runs
+pub mod SameJobs
 pub mod Seeding
 pub mod States
 pub mod VerdictLaws

@@ -8,11 +8,13 @@ ghost use Rattle.sched_core.specs.Runs.{state_in};
 ghost use Rattle.sched_core.specs.declared.fault.BookFault.TheVariants.{ForeignLease, NoMemory, NoView};
 ghost use Rattle.sched_core.specs.declared.reason.Reason.TheVariants.{OutOfMemory};
 
+use crate::checked::Checked;
 use crate::fault::BookFault;
 use crate::lease::Lease;
-use crate::progress::Progress;
-use crate::reason::{Event, State};
+use crate::progress::{Prepared, Progress};
+use crate::reason::{Event, Reason, State};
 use drv_graph::Plan;
+use nix_names::StorePath;
 use std::alloc::Global;
 use std::marker::Model;
 use valid_table::{Journal, Outlet};
@@ -90,6 +92,79 @@ impl<O: Outlet> Book<O> {
         Ok(Some(Lease::new(job, number, self.outlet.tell())))
     }
 
+    /// Ends a lease by registering what was built, with just these records, by an entry that waits in
+    /// the outlet. Each reference in them must be permitted to the lease's job behind the journal's
+    /// entries, if the lease is the book's.
+    ///
+    /// `ForeignLease` exactly where the lease isn't the book's; `NotLawful` only where it is and the
+    /// derivation may not be registered so: there isn't one record for each output, an output is
+    /// valid, a fixed output hasn't its declared digest, or two outputs lead to each other; `NoMemory`
+    /// where memory is refused. A fault leaves the book as it was, and hands back lease and records.
+    /// Compares the lease's job with the plan's derivation, asks the journal for each output and
+    /// reference, and copies each record twice.
+    pub fn finish(
+        &mut self,
+        lease: Lease<O::Told>,
+        checked: Checked,
+    ) -> Result<(), (BookFault, Lease<O::Told>, Checked)>
+        requires { IsBooksLease self.old.run self.old.history lease.job lease.number → MayAllRefer self.old.history.entries lease.job checked }
+        ensures ok { OnOk result (IsFinishing self.old self.new lease.job lease.number checked) }
+        ensures fault { IfErr result (λ e. IsFinishFault self.old lease.job lease.number checked e.0) }
+        ensures back { IfErr result (λ e. (e.1 ≡ lease) × (e.2 ≡ checked)) }
+        ensures same { OnErr result (self.new ≡ self.old) }
+    {
+        match self.register(&lease, &checked) {
+            Ok(()) => {
+                lease.give_up();
+                Ok(())
+            }
+            Err(fault) => Err((fault, lease, checked)),
+        }
+    }
+
+    /// Ends a lease by noting that building its derivation failed, for this reason. Where the lease
+    /// isn't the book's, and only there, it comes back, and the book stays. Compares the lease's job
+    /// with the plan's derivation, and takes no memory.
+    pub fn fail(&mut self, lease: Lease<O::Told>, reason: Reason) -> Result<(), Lease<O::Told>>
+        ensures ok { OnOk result (IsFailing self.old self.new lease.job lease.number reason) }
+        ensures foreign { OnErr result (IsBooksLease self.old.run self.old.history lease.job lease.number → ⊥) }
+        ensures back { IfErr result (λ e. e ≡ lease) }
+        ensures same { OnErr result (self.new ≡ self.old) }
+    {
+        let number = lease.number();
+        if !self.progress.has_given(lease.job(), number) {
+            return Err(lease);
+        }
+        self.progress.fail(lease.job().derivation, number, reason);
+        lease.give_up();
+        Ok(())
+    }
+
+    /// Ends a lease as `fail` does, since memory was refused to whoever builds its derivation.
+    pub fn abandon(&mut self, lease: Lease<O::Told>) -> Result<(), Lease<O::Told>>
+        ensures ok { OnOk result (IsFailing self.old self.new lease.job lease.number OutOfMemory) }
+        ensures foreign { OnErr result (IsBooksLease self.old.run self.old.history lease.job lease.number → ⊥) }
+        ensures back { IfErr result (λ e. e ≡ lease) }
+        ensures same { OnErr result (self.new ≡ self.old) }
+    {
+        self.fail(lease, Reason::OutOfMemory)
+    }
+
+    /// The paths to which the outputs of a lease's job may refer, strictly rising: what its seeds lead
+    /// to in the journal, and its own outputs. `ForeignLease` exactly where the lease isn't the
+    /// book's, else `NoMemory` where memory is refused; no other fault. Costs the closure of the
+    /// seeds, and a copy of each path.
+    pub fn permitted(&self, lease: &Lease<O::Told>) -> Result<Vec<StorePath>, BookFault>
+        ensures lease { OnOk result (IsBooksLease self.now.run self.now.history lease.now.job lease.now.number) }
+        ensures ok { IfOk result (λ paths. ArePermittedPaths self.now.history.entries lease.now.job paths.items) }
+        ensures err { IfErr result (λ fault. ((fault ≡ ForeignLease) × (IsBooksLease self.now.run self.now.history lease.now.job lease.now.number → ⊥)) ⊎ ((fault ≡ NoMemory) × IsBooksLease self.now.run self.now.history lease.now.job lease.now.number)) }
+    {
+        if !self.progress.has_given(lease.job(), lease.number()) {
+            return Err(BookFault::ForeignLease);
+        }
+        self.progress.permitted(lease.job())
+    }
+
     /// The state of the derivation with this number.
     pub fn state(&self, d: usize) -> State
         requires { d < length self.now.run.graph.nodes }
@@ -165,5 +240,23 @@ impl<O: Outlet> Book<O> {
             outlet,
         } = self;
         outlet.close();
+    }
+
+    // Registers what was built under a lease, or leaves all as it was.
+    fn register(&mut self, lease: &Lease<O::Told>, checked: &Checked) -> Result<(), BookFault>
+        requires { IsBooksLease self.old.run self.old.history lease.now.job lease.now.number → MayAllRefer self.old.history.entries lease.now.job checked.now }
+        ensures ok { OnOk result (IsFinishing self.old self.new lease.now.job lease.now.number checked.now) }
+        ensures fault { IfErr result (IsFinishFault self.old lease.now.job lease.now.number checked.now) }
+        ensures same { OnErr result (self.new ≡ self.old) }
+    {
+        let job = lease.job();
+        if !self.progress.has_given(job, lease.number()) {
+            return Err(BookFault::ForeignLease);
+        }
+        let d = job.derivation;
+        let Prepared { entry, copy, shown } = self.progress.prepare(d, checked)?;
+        self.outlet.append(shown)?;
+        self.progress.finish(d, lease.number(), entry, copy);
+        Ok(())
     }
 }

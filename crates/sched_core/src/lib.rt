@@ -26,6 +26,7 @@ mod done_entry;
 #[cfg(test)]
 mod done_entry_tests;
 mod fault;
+mod is_job;
 mod job;
 mod job_of;
 pub mod laws;

@@ -16,6 +16,7 @@ use crate::checked::Checked;
 use crate::course::Course;
 use crate::done_entry::done_entry;
 use crate::fault::BookFault;
+use crate::is_job::is_job;
 use crate::job::Job;
 use crate::job_of::job_of;
 use crate::permitted::permitted;
@@ -178,6 +179,15 @@ impl Progress {
         let _ = plan.len();
         let outputs = plan.output_paths(job.derivation);
         permitted(alloc, &self.journal, &job.seeds, outputs)
+    }
+
+    // Whether a lease with this job and this number was given and not ended. Costs a comparison of
+    // the job with the plan's derivation, and takes no memory.
+    pub(crate) fn has_given(&self, job: &Job, number: u64) -> bool
+        ensures { IsTrue result ↔ IsBooksLease self.now.run self.now.history job.now number }
+    {
+        let d = job.derivation;
+        self.is_building(d, number) && is_job(self.course.plan(), d, job)
     }
 
     // Whether a derivation has begun under the lease with this number and not ended.
