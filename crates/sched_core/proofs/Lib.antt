@@ -26,3 +26,4 @@ pub mod Verdicts
 pub mod Walks
 pub mod Wanting
 pub mod Wordings
+pub mod Followed

@@ -58,7 +58,7 @@ told_named false names name (there, back) = by (list_any (same_bytes name) names
 abbrev pub first_named : (names : List (List ℕ)) → List Output → ℕ → List (List ℕ)
 first_named names outputs n = map (λ (o : Output). o.path) (filter (λ (o : Output). list_any (same_bytes o.name) names) (take n outputs))
 
-first_more : (names : List (List ℕ)) (outputs : List Output) (n : ℕ) (output : Output) (told : Bool) → slice_get outputs n ≡ Some output → list_any (same_bytes output.name) names ≡ told
+pub first_more : (names : List (List ℕ)) (outputs : List Output) (n : ℕ) (output : Output) (told : Bool) → slice_get outputs n ≡ Some output → list_any (same_bytes output.name) names ≡ told
     → first_named names outputs (n + 1) ≡ first_named names outputs n ++ map (λ (o : Output). o.path) (cond told (output ∷ []) [])
 first_more names outputs n output told at is =
     let test = λ (o : Output). list_any (same_bytes o.name) names in
@@ -67,15 +67,15 @@ first_more names outputs n output told at is =
     ∙ ap (map path) (filter-append test (take n outputs) (output ∷ []) ∙ ap (λ b. filter test (take n outputs) ++ cond b (output ∷ []) []) is)
     ∙ map-append path (filter test (take n outputs)) (cond told (output ∷ []) [])
 
-output_at : (lent : List OutputStruct) (used : Drv) (n : ℕ) (output : OutputStruct) → map output_of lent ≡ used.outputs → slice_get lent n ≡ Some output → slice_get used.outputs n ≡ Some (output_of output)
+pub output_at : (lent : List OutputStruct) (used : Drv) (n : ℕ) (output : OutputStruct) → map output_of lent ≡ used.outputs → slice_get lent n ≡ Some output → slice_get used.outputs n ≡ Some (output_of output)
 output_at lent used n output view at = ap (λ (l : List Output). slice_get l n) (sym view) ∙ slice_get-map output_of lent n ∙ ap (option_map output_of) at
 
-path_at : (paths : List (List ℕ)) (used : Drv) (n : ℕ) (path : List ℕ) (output : Output) → paths ≡ output_paths_of used → slice_get paths n ≡ Some path → slice_get used.outputs n ≡ Some output → path ≡ output.path
+pub path_at : (paths : List (List ℕ)) (used : Drv) (n : ℕ) (path : List ℕ) (output : Output) → paths ≡ output_paths_of used → slice_get paths n ≡ Some path → slice_get used.outputs n ≡ Some output → path ≡ output.path
 path_at paths used n path output are at is =
     let both : Some path ≡ Some output.path = sym at ∙ ap (λ l. slice_get l n) are ∙ slice_get-map (λ (o : Output). o.path) used.outputs n ∙ ap (option_map (λ (o : Output). o.path)) is in
     cc
 
-at_input : (inputs : List Input) (place : ℕ) (input : Input) (told : Bool) (name : List ℕ) → slice_get inputs place ≡ Some input
+pub at_input : (inputs : List Input) (place : ℕ) (input : Input) (told : Bool) (name : List ℕ) → slice_get inputs place ≡ Some input
     → IfSome (slice_get inputs place) (λ used. IsTrue told ↔ Contains used.names name) → list_any (same_bytes name) input.names ≡ told
 at_input inputs place input told name at told_is =
     told_named told input.names name (subst (λ (o : Option Input). IfSome o (λ used. IsTrue told ↔ Contains used.names name)) at told_is)
@@ -161,6 +161,10 @@ used_named nodes node numbers place number input used once are at_number at_inpu
     by : (o : Option Node) → slice_get nodes number ≡ o → paths_of_found input.names o ≡ paths_named input.names used
     by None is = let clash : None ≡ Some used = sym (slice_get-map (λ (n : Node). n.drv) nodes number ∙ ap (option_map (λ (n : Node). n.drv)) is) ∙ at_used in absurd cc
     by (Some other) is = ap (paths_named input.names) (sym (drv_is nodes number used other is at_used))
+
+-- the seeds of the sources and the first inputs, so many, of a node
+abbrev pub first_seeds : (nodes : List Node) → Node → (count : ℕ) → List (List ℕ)
+first_seeds nodes node count = node.drv.sources ++ flat_map (named_outputs nodes) (take count node.drv.inputs)
 
 -- The seeds of the sources and the first inputs, so many, of the derivation with a number.
 abbrev pub AreFirstSeeds : (nodes : List Node) → (d : ℕ) → (seeds : List (List ℕ)) → (count : ℕ) → Type 0

@@ -3,6 +3,7 @@ pub mod Books
 pub mod Courses
 pub mod Coursing
 pub mod Dones
+pub mod Following
 pub mod Headline
 pub mod Jobs
 pub mod Legal

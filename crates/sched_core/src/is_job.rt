@@ -4,6 +4,7 @@ ghost use Rattle.nix_drv.specs.Parts.{bytes_of, entry_of};
 ghost use Rattle.sched_core.specs.Jobs.{IsJob, seeds_of};
 ghost use Rattle.sched_core.specs.SameJobs.{HasRecipe, MakesAt};
 
+use crate::has_seeds::has_seeds;
 use crate::job::{Job, JobOutput};
 use drv_graph::{Kind, Plan};
 use nix_drv::{Derivation, EnvEntry, Output};
@@ -101,12 +102,4 @@ fn same_kind(left: Kind, right: Kind) -> bool
     ensures { IsTrue result ↔ (left ≡ right) }
 {
     left == right
-}
-
-// Whether these are the seeds of the derivation with this number. Takes no memory.
-pub(crate) fn has_seeds(plan: &Plan, d: usize, seeds: &[StorePath]) -> bool
-    requires { d < length plan.now.nodes }
-    ensures { IfSome (slice_get plan.now.nodes d) (λ node. IsTrue result ↔ (seeds.now ≡ seeds_of plan.now.nodes node.drv)) }
-{
-    unreachable!()
 }

@@ -11,6 +11,7 @@
 //! | `reason`, `standing` | why a derivation was not built, where it stands, its state, and events |
 //! | `course`, `states` | where each derivation of a plan stands |
 //! | `job_of`, `seeds_of` | the job of a derivation, and the paths that it is built from |
+//! | `is_job`, `has_seeds` | whether a job is that of a derivation |
 //! | `standings` | where the derivations of a plan stand by themselves |
 //! | `wanted` | which derivations of a plan are wanted |
 //! | `report`, `words` | the report of a run, and the words for why a derivation was not built |
@@ -26,6 +27,7 @@ mod done_entry;
 #[cfg(test)]
 mod done_entry_tests;
 mod fault;
+mod has_seeds;
 mod is_job;
 mod job;
 mod job_of;
