@@ -116,6 +116,7 @@ impl Plan {
         requires { number < length self.now.nodes }
         ensures numbers { IfSome (slice_get self.now.nodes number) (λ node. AreNumbers self.now.nodes result.now (inputs_of node.drv)) }
         ensures smaller { All (λ input. input < number) result.now }
+        ensures sound { IsSound self.now }
     {
         &self.nodes[number].inputs
     }

@@ -1,26 +1,30 @@
 -- What a binary search finds among keys that rise; those of a derivation do.
-use Rattle.std.proofs.Common.{◌≡◌, ℕ, ◌+◌, ◌<◌, List, [], ◌∷◌, length, map, get_or, Some, None, sym, ap, subst, ◌∙◌, inl, inr, arith}
+use Rattle.std.proofs.Common.{◌≡◌, ◌↔◌, ℕ, zero, suc, ◌+◌, ◌<◌, true, false, List, [], ◌∷◌, length, map, get_or, Option, Some, None, IfSome, IsTrue, refl, sym, ap, subst, ◌∙◌, inl, inr, arith}
+use Rattle.std.specs.Prelude.{Contains}
 use Rattle.std.specs.Cmp.Lexicographic.{bytes_decides, slice_cmp, texts_ties}
 use Rattle.std.specs.Fn.{AlwaysReturns, Called, ReturnsEach}
-use Rattle.std.specs.List.{HoldsAt}
+use Rattle.std.specs.List.{HoldsAt, slice_get}
 use Rattle.std.specs.List.Sorted.{IsNonDecreasingBy, IsPartitionPoint, IsSortedBy}
+use Rattle.std.specs.Option.{option_map}
 use Rattle.std.specs.Ordering.{is_eq, is_lt, nat_cmp, ordering_index, ordering_reverse}
 use Rattle.std.specs.declared.cmp.Ordering.TheVariants.{Less, Equal, Greater}
-use Rattle.std.proofs.lemmas.Bool.{cases_lt}
+use Rattle.std.proofs.lemmas.Bool.{cases_lt, false≢true}
 use Rattle.std.proofs.lemmas.Cmp.{nat_list_cmp_total, tied_itself}
 use Rattle.std.proofs.lemmas.List.{get_or-map, length-map}
 use Rattle.std.proofs.lemmas.List.Sorted.{searchable_from_sorted}
 use Rattle.std.proofs.lemmas.Map.Keys.{Less-from_sorted}
-use Rattle.std.proofs.lemmas.Option.{slice_get-get_or}
+use Rattle.std.proofs.lemmas.Option.{get_or_from_slice_get, slice_get-get_or, slice_get-map, slice_get_read, slice_get_within}
 use Rattle.std.proofs.lemmas.Simd.{map-map}
 use denote.Param.Members.{Mut}
 use Rattle.nix_names.specs.Rising.{IsRising}
 use Rattle.nix_names.proofs.RisingLists.{sorted_from_rising}
-use Rattle.nix_drv.specs.Derivation.{Drv, EnvEntry, Output, derivation_form, drv_value, entry_form, entry_value, output_form, output_value}
-use Rattle.nix_drv.specs.Order.{InOrder, KeysRise, key}
-use Rattle.nix_drv.specs.Parts.{drv_of, entry_of, output_of}
+use Rattle.nix_drv.specs.Derivation.{Drv, EnvEntry, Input, Output, derivation_form, drv_value, entry_form, entry_value, input_form, input_value, output_form, output_value}
+use Rattle.nix_drv.specs.Grammar.{Str}
+use Rattle.nix_drv.specs.Order.{Each, InOrder, KeysRise, key}
+use Rattle.nix_drv.specs.Parts.{drv_of, entry_of, input_of, output_of}
 use Rattle.nix_drv.specs.Places.{IsPlaceOf, env_keys, output_names}
 use Rattle.nix_drv.specs.declared.derivation.EnvEntry.{EnvEntry as EnvEntryStruct}
+use Rattle.nix_drv.specs.declared.derivation.Input.{Input as InputStruct}
 use Rattle.nix_drv.specs.declared.derivation.Output.{Output as OutputStruct}
 use Rattle.nix_drv.specs.declared.derivation.Parts.{Parts}
 use Rattle.nix_drv.proofs.Rising.{order_means_rising}
@@ -109,3 +113,47 @@ outputs_rise_here parts drv view ordered = subst (λ (d : Drv). IsRising (output
 
 pub env_rises_here : (parts : Parts) (drv : Drv) → drv_of parts ≡ drv → InOrder derivation_form (drv_value (drv_of parts)) → IsRising (env_keys drv)
 env_rises_here parts drv view ordered = subst (λ (d : Drv). IsRising (env_keys d)) view (env_rises (drv_of parts) ordered)
+
+-- what holds of each element holds of one
+each_at : {A : Type 0} (P : A → Type 0) (vs : List A) (k : ℕ) (v : A) → Each P vs → slice_get vs k ≡ Some v → P v
+each_at P [] k v all at = absurd cc
+each_at P (w ∷ ws) zero v all at = let same : w ≡ v = cc in subst P same all.0
+each_at P (w ∷ ws) (suc k) v all at = each_at P ws k v all.1 at
+
+map_itself : (names : List (List ℕ)) → map (key Str) names ≡ names
+map_itself [] = refl
+map_itself (n ∷ ns) = ap (λ (l : List (List ℕ)). n ∷ l) (map_itself ns)
+
+-- the names of an input rise
+pub names_rise : (drv : Drv) (k : ℕ) (input : Input) → InOrder derivation_form (drv_value drv) → slice_get drv.inputs k ≡ Some input → IsRising input.names
+unfolding KeysRise
+names_rise drv k input ordered at =
+    let each = ((order_means_rising derivation_form (drv_value drv)).0 ordered).1.1.1.0.1 in
+    let there : slice_get (map input_value drv.inputs) k ≡ Some (input_value input) = slice_get-map input_value drv.inputs k ∙ ap (option_map input_value) at in
+    let rises = each_at (KeysRise input_form) (map input_value drv.inputs) k (input_value input) each there in
+    subst IsRising (map_itself input.names) rises.1.1.1.0.0
+
+-- an input of the derivation, as the parts have it
+pub input_at : (parts : Parts) (drv : Drv) (k : ℕ) (input : InputStruct) → drv_of parts ≡ drv → k < length drv.inputs
+    → input ≡ get_or parts.inputs.items k input → slice_get drv.inputs k ≡ Some (input_of input)
+input_at parts drv k input view low is =
+    let same : map input_of parts.inputs.items ≡ drv.inputs = ap (λ (d : Drv). d.inputs) view in
+    let within : k < length parts.inputs.items = omega (arith, low, ap (length {A = Input}) same, length-map parts.inputs.items input_of) in
+    let here : slice_get parts.inputs.items k ≡ Some input = slice_get_read parts.inputs.items (length parts.inputs.items) k input refl within is in
+    ap (λ (l : List Input). slice_get l k) (sym same) ∙ slice_get-map input_of parts.inputs.items k ∙ ap (option_map input_of) here
+
+pub names_rise_here : (parts : Parts) (drv : Drv) (k : ℕ) (input : Input) → drv_of parts ≡ drv → InOrder derivation_form (drv_value (drv_of parts))
+    → slice_get drv.inputs k ≡ Some input → IsRising input.names
+names_rise_here parts drv k input view ordered at = names_rise drv k input (subst (λ (d : Drv). InOrder derivation_form (drv_value d)) view ordered) at
+
+-- what a search among the names of an input tells
+pub used_found : (inputs : List Input) (k : ℕ) (input : Input) (name : List ℕ) (place : ℕ) → slice_get inputs k ≡ Some input → IsPlaceOf input.names name (Some place)
+    → IfSome (slice_get inputs k) (λ used. IsTrue true ↔ Contains used.names name)
+used_found inputs k input name place at found =
+    subst (λ (o : Option Input). IfSome o (λ used. IsTrue true ↔ Contains used.names name)) (sym at)
+    (λ _. (place, slice_get_within input.names place name found, get_or_from_slice_get input.names place name name found), λ _. refl)
+
+pub used_none : (inputs : List Input) (k : ℕ) (input : Input) (name : List ℕ) → slice_get inputs k ≡ Some input → IsPlaceOf input.names name None
+    → IfSome (slice_get inputs k) (λ used. IsTrue false ↔ Contains used.names name)
+used_none inputs k input name at none =
+    subst (λ (o : Option Input). IfSome o (λ used. IsTrue false ↔ Contains used.names name)) (sym at) (λ told. absurd (false≢true told), λ has. absurd (none has))

@@ -1,6 +1,6 @@
 //! A store derivation.
 
-ghost use Rattle.std.specs.Prelude.{◌≡◌, ◌++◌, IfOk, OnOk, map};
+ghost use Rattle.std.specs.Prelude.{◌≡◌, ◌<◌, ◌↔◌, ◌++◌, Contains, IfOk, IfSome, IsTrue, OnOk, length, map, slice_get};
 ghost use Rattle.std.specs.Cmp.Lexicographic.{slice_cmp};
 ghost use Rattle.std.specs.Ordering.{nat_cmp};
 ghost use Rattle.nix_names.specs.Rising.{IsRising};
@@ -224,6 +224,21 @@ impl Derivation {
         match self.parts.outputs.binary_search_by(by_name) {
             Ok(place) => Some(place),
             Err(_) => None,
+        }
+    }
+
+    /// Whether the input derivation with this number is used by its output with this name. Takes no
+    /// memory, and compares names some log2(n) times, n being the number of that input's names.
+    pub fn uses(&self, input: usize, name: &[u8]) -> bool
+        requires { input < length self.now.inputs }
+        ensures { IfSome (slice_get self.now.inputs input) (λ used. IsTrue result ↔ Contains used.names name.now) }
+    {
+        let by_text = |used: &Vec<u8>| -> Ordering
+            ensures { result ≡ slice_cmp nat_cmp used.now.items name.entry.now }
+        { used.as_slice().cmp(&name) };
+        match self.parts.inputs[input].names.binary_search_by(by_text) {
+            Ok(_) => true,
+            Err(_) => false,
         }
     }
 

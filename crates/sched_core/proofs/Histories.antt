@@ -1,17 +1,17 @@
 -- What holds of every legal history: one Begin for each derivation, one lease for each number.
-use Rattle.std.proofs.Common.{◌≡◌, ◌⊎◌, inl, inr, ℕ, zero, suc, ◌+◌, ◌<◌, ◌≤◌, Bool, true, false, List, [], ◌∷◌, ◌++◌, length, Option, Some, None, refl, sym, ap, ◌∙◌, subst, ⊎_elim, arith}
-use Rattle.std.specs.Prelude.{slice_get, count_by, ◌==◌, if◌then◌else◌}
+use Rattle.std.proofs.Common.{◌≡◌, ◌⊎◌, inl, inr, ℕ, zero, suc, ◌+◌, ◌<◌, ◌≤◌, Bool, true, false, List, [], ◌∷◌, ◌++◌, length, Some, refl, sym, ap, ◌∙◌, subst, ⊎_elim, arith}
+use Rattle.std.specs.Prelude.{slice_get, if◌then◌else◌}
 use Rattle.std.proofs.Math.Dec.{eqb}
 use Rattle.std.proofs.lemmas.List.Sums.{sum_by_push}
 use Rattle.nix_drv.proofs.Fixed.{eqb_same}
 use Rattle.sched_core.specs.declared.reason.Event.{Event}
 use Rattle.sched_core.specs.declared.reason.Event.TheVariants.{Begin, Done as Finish, Fail}
 use Rattle.sched_core.specs.declared.reason.State.{State}
-use Rattle.sched_core.specs.declared.reason.State.TheVariants.{Ready, Building, Done, Failed}
+use Rattle.sched_core.specs.declared.reason.State.TheVariants.{Ready}
 use Rattle.sched_core.specs.Headline.{BeginsOnce, LeasesApart, LeasesBelow}
-use Rattle.sched_core.specs.Legal.{IsLegal, legal_opening, legal_begin, legal_done, legal_fail, begins, is_begin}
-use Rattle.sched_core.specs.Runs.{History, Run, state_in, rows_of}
-use Rattle.sched_core.specs.States.{Phase, Idle, Begun, Ended, Broken, phase_by, phase_of, later, state, table, by_phase, by_standing, by_inputs}
+use Rattle.sched_core.specs.Legal.{legal_opening, legal_begin, legal_done, legal_fail, begins, is_begin}
+use Rattle.sched_core.specs.Runs.{History, Run, state_in}
+use Rattle.sched_core.specs.States.{Phase, Idle, Begun, Ended, Broken, phase_by, phase_of, later, state, table, by_phase}
 
 -- what stands in a list with one element more stood there before, or is that element
 pub at_push : {X : Type 0} (xs : List X) (y x : X) (i : ℕ) → slice_get (xs ++ y ∷ []) i ≡ Some x → (slice_get xs i ≡ Some x) ⊎ ((i ≡ length xs) × (y ≡ x))

@@ -1,11 +1,9 @@
 -- There is one verdict on an answer.
-use Rattle.std.proofs.Common.{◌≡◌, ◌≢◌, ◌∙◌, ◌⊎◌, inl, inr, ⊎_elim, ℕ, zero, suc, ◌+◌, ◌<◌, List, [], ◌∷◌, length, Option, Some, None, refl, sym, ap, subst, arith}
-use Rattle.std.specs.Prelude.{ℤ, pos, Result, Ok, Err, Contains}
+use Rattle.std.proofs.Common.{◌≡◌, ◌≢◌, ◌∙◌, ⊎_elim, ℕ, suc, List, [], ◌∷◌, length, Option, Some, None, refl, sym, ap, subst, arith}
+use Rattle.std.specs.Prelude.{ℤ, pos, Result, Ok, Err}
 use Rattle.std.specs.List.{slice_get}
 use Rattle.drv_graph.specs.declared.kinds.Kind.{Kind}
 use Rattle.nix_names.proofs.RisingLists.{rising_same}
-use Rattle.nix_names.specs.StorePaths.{hash_part_of}
-use Rattle.ref_scan.specs.Scan.{IsFound, Occurs}
 use Rattle.ref_scan.specs.declared.tree.Tree.{Tree}
 use Rattle.valid_table.specs.PathInfos.{PathInfo}
 use Rattle.sched_core.specs.declared.job.Answer.{Answer}

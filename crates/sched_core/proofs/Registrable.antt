@@ -1,8 +1,7 @@
 -- What a verdict on a derivation's job gives.
-use Rattle.std.proofs.Common.{◌≡◌, ◌≢◌, ◌∙◌, inl, inr, ℕ, ◌<◌, Bool, true, false, List, [], ◌∷◌, length, map, nat_eq, Option, Some, None, refl, sym, ap, subst, arith}
-use Rattle.std.specs.Prelude.{All, Ok, Result, Contains, codes}
+use Rattle.std.proofs.Common.{◌≡◌, ◌∙◌, inl, inr, ℕ, ◌<◌, Bool, true, false, List, [], ◌∷◌, length, nat_eq, Option, Some, None, refl, sym, ap, subst, arith}
+use Rattle.std.specs.Prelude.{All, Ok, Result}
 use Rattle.std.specs.Cmp.Lexicographic.{pointwise}
-use Rattle.std.specs.List.{slice_get}
 use Rattle.std.proofs.lemmas.Bool.{cases_lt}
 use Rattle.std.proofs.lemmas.List.{get_or_past, length-map}
 use Rattle.std.proofs.lemmas.Option.{slice_get_within}
@@ -11,21 +10,15 @@ use Rattle.hex.specs.declared.error.FromHexError.{FromHexError}
 use Rattle.hex.proofs.HexLemmas.{decode_of-encode_lower}
 use Rattle.nix_drv.specs.Derivation.{Drv, Output}
 use Rattle.nix_names.proofs.RisingLists.{equal_from_eq, unequal_from_eq}
-use Rattle.drv_graph.specs.Kinds.{HasKind, IsAddressed, IsDigest, IsFixed, algo_of}
+use Rattle.drv_graph.specs.Kinds.{HasKind, IsAddressed, IsDigest, algo_of}
 use Rattle.drv_graph.specs.Nodes.{Node}
-use Rattle.drv_graph.specs.Plans.{Graph}
 use Rattle.drv_graph.specs.declared.kinds.Kind.{Kind}
 use Rattle.drv_graph.specs.declared.kinds.Kind.TheVariants.{Addressed, Fixed}
 use Rattle.drv_graph.specs.declared.kinds.Method.{Method}
 use Rattle.drv_graph.specs.declared.kinds.Method.TheVariants.{Flat, Recursive}
-use Rattle.ref_scan.specs.Trees.{Fits}
 use Rattle.ref_scan.specs.declared.tree.Tree.{Tree}
-use Rattle.valid_table.specs.PathInfos.{PathInfo}
-use Rattle.sched_core.specs.Jobs.{IsJob, output_paths}
 use Rattle.sched_core.specs.VerdictLaws.{AreRegistrable, VerdictsAreRegistrable}
-use Rattle.sched_core.specs.Verdicts.{AreRecords, IsCyclic, IsTaken, IsTreeFault, IsVerdict, digest_of, outputs_of}
-use Rattle.sched_core.specs.declared.job.Answer.{Answer}
-use Rattle.sched_core.specs.declared.job.Job.{Job}
+use Rattle.sched_core.specs.Verdicts.{IsCyclic, IsTreeFault, digest_of}
 use Rattle.sched_core.specs.declared.job.JobOutput.{JobOutput}
 use Rattle.sched_core.specs.declared.reason.Reason.{Reason}
 use Rattle.sched_core.specs.declared.reason.Reason.TheVariants.{HashMismatch, NotFlatFile, TooLarge}

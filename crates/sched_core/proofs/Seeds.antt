@@ -221,7 +221,7 @@ one_more : (k : ℕ) → suc k ≡ 1 + k
 one_more k = omega arith
 
 -- the first node at a path is the node with the path's number
-found_by_number : (nodes : List Node) (path : List ℕ) → find (λ (n : Node). same_bytes path n.path) nodes ≡ slice_get nodes (position_or_len (same_bytes path) (node_paths nodes))
+pub found_by_number : (nodes : List Node) (path : List ℕ) → find (λ (n : Node). same_bytes path n.path) nodes ≡ slice_get nodes (position_or_len (same_bytes path) (node_paths nodes))
 found_by_number [] path = refl
 found_by_number (n ∷ ns) path = by (same_bytes path n.path) (found_by_number ns path)
   where

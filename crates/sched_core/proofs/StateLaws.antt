@@ -1,5 +1,5 @@
 -- The table of states has one solution, and the states are it.
-use Rattle.std.proofs.Common.{◌≡◌, ◌⊎◌, inl, inr, ℕ, zero, suc, ◌+◌, ◌<◌, ◌≤◌, ◌&&◌, Bool, true, false, List, [], ◌∷◌, ◌++◌, length, Option, Some, None, refl, sym, ap, ◌∙◌, subst, ⊎_elim, arith}
+use Rattle.std.proofs.Common.{◌≡◌, ℕ, zero, suc, ◌<◌, List, [], ◌∷◌, ◌++◌, length, refl, sym, ap, ◌∙◌, subst, ⊎_elim, arith}
 use Rattle.std.specs.Prelude.{Contains, find}
 use Rattle.std.specs.List.{list_all, slice_index_or}
 use Rattle.std.proofs.Math.ListN.{get_or-append, length-append}
@@ -8,7 +8,7 @@ use Rattle.std.proofs.Math.Seq.{get_or-append_seam}
 use Rattle.nix_names.proofs.RisingLists.{Contains-first, Contains-later}
 use Rattle.sched_core.specs.declared.reason.State.{State}
 use Rattle.sched_core.specs.declared.reason.State.TheVariants.{Blocked}
-use Rattle.sched_core.specs.States.{InputsFirst, Rows, StatesAgree, StatesAreOne, by_first, by_inputs, by_phase, by_standing, is_bad, is_good, state, states, table}
+use Rattle.sched_core.specs.States.{InputsFirst, Rows, StatesAgree, StatesAreOne, by_phase, by_standing, is_bad, is_good, state, states, table}
 
 -- two ways to give states that agree at each input give the same
 find_same : (f g : ℕ → State) (inputs : List ℕ) → ((i : ℕ) → Contains inputs i → f i ≡ g i) → find (λ i. is_bad (f i)) inputs ≡ find (λ i. is_bad (g i)) inputs

@@ -1,6 +1,6 @@
 -- The verdict on an answer, reason by reason, and that there is one.
-use Rattle.std.proofs.Common.{◌≡◌, ◌≢◌, ◌∙◌, ◌⊎◌, inl, inr, ⊎_elim, ℕ, zero, suc, ◌+◌, ◌<◌, ◌≤◌, List, [], ◌∷◌, ◌++◌, length, Option, Some, None, refl, sym, ap, subst, arith}
-use Rattle.std.specs.Prelude.{pos, Result, Ok, Err, Contains}
+use Rattle.std.proofs.Common.{◌≡◌, ◌∙◌, ◌⊎◌, inl, inr, ⊎_elim, ℕ, suc, ◌+◌, ◌<◌, List, [], ◌∷◌, ◌++◌, length, Some, None, refl, sym, ap, subst, arith}
+use Rattle.std.specs.Prelude.{pos, Ok, Err}
 use Rattle.std.specs.List.{slice_get}
 use Rattle.std.proofs.Math.Nat.{eq-or-lt_of_le}
 use Rattle.drv_graph.specs.declared.kinds.Kind.{Kind}
@@ -12,7 +12,7 @@ use Rattle.sched_core.specs.declared.job.Answer.{Answer}
 use Rattle.sched_core.specs.declared.job.Job.{Job}
 use Rattle.sched_core.specs.declared.reason.Reason.{Reason}
 use Rattle.sched_core.specs.declared.reason.Reason.TheVariants.{ExitStatus, NoStart, MissingOutput, NotFlatFile, HashMismatch, OutputCycle, TooLarge, ReadFault, OutOfMemory, Killed}
-use Rattle.sched_core.specs.Verdicts.{AreRecords, IsCyclic, IsExamining, IsFaulty, IsFirstFault, IsFirstNumber, IsRecordAt, IsRecordOf, IsTaken, IsThere, IsTreeFault, IsVerdict, digest_of, outputs_of, tree_at}
+use Rattle.sched_core.specs.Verdicts.{AreRecords, IsCyclic, IsExamining, IsFaulty, IsFirstFault, IsRecordAt, IsRecordOf, IsTaken, IsThere, IsTreeFault, IsVerdict, digest_of, outputs_of, tree_at}
 use Rattle.sched_core.proofs.Places.{get_push_cases}
 
 -- What is known where the first outputs, so many, were looked at: nothing is missing there.

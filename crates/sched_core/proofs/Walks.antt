@@ -1,5 +1,5 @@
 -- Walks along links: each step keeps what is known, and a walk that ends tells whether there is a round.
-use Rattle.std.proofs.Common.{◌≡◌, ◌≢◌, ◌∙◌, ◌⊎◌, inl, inr, ⊎_elim, ℕ, zero, suc, ◌+◌, ◌-◌, ◌<◌, ◌≤◌, List, [], ◌∷◌, ◌++◌, length, get_or, map, take, Some, None, refl, sym, ap, subst, arith}
+use Rattle.std.proofs.Common.{◌≡◌, ◌≢◌, ◌∙◌, ⊎_elim, ℕ, zero, suc, ◌+◌, ◌-◌, ◌<◌, ◌≤◌, List, [], ◌∷◌, ◌++◌, length, get_or, map, take, Some, refl, sym, ap, subst, arith}
 use Rattle.std.specs.Prelude.{Contains}
 use Rattle.std.specs.Global.{Vec}
 use Rattle.std.specs.List.{slice_get, sum_by}
@@ -9,12 +9,12 @@ use Rattle.std.proofs.lemmas.List.{length-map, take_all, take_more}
 use Rattle.std.proofs.lemmas.List.Elements.{Contains-append_left, Contains-push, Contains-push_cases}
 use Rattle.std.proofs.lemmas.List.Sums.{sum_by-set}
 use Rattle.std.proofs.lemmas.Option.{get_or_from_slice_get, slice_get-get_or, slice_get-map, slice_get_within}
-use Rattle.nix_names.proofs.RisingLists.{Contains-first, Contains-later}
+use Rattle.nix_names.proofs.RisingLists.{Contains-first}
 use Rattle.sched_core.specs.declared.walk.Mark.{Mark}
 use Rattle.sched_core.specs.declared.walk.Mark.TheVariants.{New, Open, Closed}
 use Rattle.sched_core.specs.declared.walk.Node.{Node}
 use Rattle.sched_core.specs.declared.walk.Step.TheVariants.{Enter, Leave, Pass, Return}
-use Rattle.sched_core.specs.Walking.{AreInner, Goes, HaveRound, IsAfter, IsGrounded, IsLinked, IsMet, IsNext, IsStep, IsWalk, KeepsMet, TellsRound, fresh, goes_nowhere, goes_on, grounded, mark_weight, weight}
+use Rattle.sched_core.specs.Walking.{AreInner, Goes, HaveRound, IsAfter, IsGrounded, IsLinked, IsMet, IsNext, IsStep, IsWalk, KeepsMet, fresh, goes_nowhere, goes_on, grounded, mark_weight, weight}
 use Rattle.sched_core.proofs.Places.{contains_at, element_at, get_front, get_last, get_push_cases, place_of, same_element, set_cases}
 
 -- the last link that is left is a link

@@ -10,7 +10,6 @@ use Rattle.valid_table.specs.declared.entry.Registration.{Registration}
 use Rattle.sched_core.specs.Jobs.{seeds_of}
 use Rattle.sched_core.specs.Legal.{IsAllowed, IsEntryOf, IsLegal, MayRefer, begins}
 use Rattle.sched_core.specs.Runs.{History, Run}
-use Rattle.sched_core.specs.declared.reason.Event.{Event}
 use Rattle.sched_core.specs.declared.reason.Event.TheVariants.{Begin, Done as Finish}
 
 -- a derivation begins at most once

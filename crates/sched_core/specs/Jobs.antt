@@ -1,13 +1,12 @@
 -- *Job*: what is to be built for a derivation of a plan, and the paths that it is built from (Nix manual, "Building"; Dolstra's thesis, section 5.5).
-use Rattle.std.specs.Prelude.{◌≡◌, ℕ, Option, Some, None, List, [], ◌∷◌, ◌++◌, map, flat_map, filter, find, slice_get}
+use Rattle.std.specs.Prelude.{◌≡◌, ℕ, Option, Some, None, List, [], ◌++◌, map, flat_map, filter, find, slice_get}
 use Rattle.std.specs.List.{list_any}
 use Rattle.nix_names.specs.Names.{same_bytes}
-use Rattle.nix_drv.specs.Derivation.{Drv, EnvEntry, Input, Output}
+use Rattle.nix_drv.specs.Derivation.{Drv, Input, Output}
 use Rattle.nix_drv.specs.Parts.{bytes_of, entry_of}
 use Rattle.drv_graph.specs.Kinds.{HasKind}
 use Rattle.drv_graph.specs.Nodes.{Node}
 use Rattle.drv_graph.specs.Plans.{Graph}
-use Rattle.drv_graph.specs.declared.kinds.Kind.{Kind}
 use Rattle.sched_core.specs.declared.job.Job.{Job}
 use Rattle.sched_core.specs.declared.job.JobOutput.{JobOutput}
 

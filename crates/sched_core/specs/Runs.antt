@@ -1,5 +1,5 @@
 -- A run over a plan for one system, its history, and which derivations of it are wanted (this product's own; Nix manual, "Building").
-use Rattle.std.specs.Prelude.{◌≡◌, ◌||◌, ◌++◌, not, Bool, ℕ, Option, Some, None, List, [], ◌∷◌, map, codes, nat_eq, slice_get, Contains, if◌then◌else◌}
+use Rattle.std.specs.Prelude.{◌≡◌, ◌||◌, not, Bool, ℕ, Option, Some, None, List, [], ◌∷◌, map, codes, nat_eq, slice_get, Contains, if◌then◌else◌}
 use Rattle.std.specs.List.{list_any, list_all, position, position_or_len, starts_with}
 use Rattle.nix_names.specs.Names.{same_bytes}
 use Rattle.nix_drv.specs.Derivation.{Drv, EnvEntry, Output}
@@ -8,7 +8,7 @@ use Rattle.drv_graph.specs.Plans.{Graph}
 use Rattle.valid_table.specs.Entries.{registered, paths_of as registered_paths}
 use Rattle.valid_table.specs.declared.entry.Entry.{Entry}
 use Rattle.sched_core.specs.Jobs.{output_paths}
-use Rattle.sched_core.specs.States.{Phase, Rows, phase_of, state}
+use Rattle.sched_core.specs.States.{Rows, phase_of, state}
 use Rattle.sched_core.specs.declared.reason.Event.{Event}
 use Rattle.sched_core.specs.declared.reason.Refusal.{Refusal}
 use Rattle.sched_core.specs.declared.reason.Refusal.TheVariants.{WrongSystem, Unsupported, MissingSource, PartlyValid}

@@ -4,7 +4,7 @@ use Rattle.std.specs.Prelude.{◌≡◌, ◌≢◌, ◌⊎◌, ◌<◌, ℕ, pos
 use Rattle.sha2.specs.Sha256.{sha256}
 use Rattle.drv_graph.specs.Plans.{Leads}
 use Rattle.drv_graph.specs.declared.kinds.Kind.{Kind}
-use Rattle.drv_graph.specs.declared.kinds.Kind.TheVariants.{Addressed, Fixed}
+use Rattle.drv_graph.specs.declared.kinds.Kind.TheVariants.{Fixed}
 use Rattle.ref_scan.specs.Scan.{IsFound}
 use Rattle.ref_scan.specs.Trees.{Fits, joined}
 use Rattle.ref_scan.specs.declared.tree.Tree.{Tree, File, Pieces, Dir'}

@@ -56,3 +56,16 @@ impl<T: Drop> From<AllocFailed<T>> for BookFault {
         BookFault::NoMemory
     }
 }
+
+impl From<OutletFault> for BookFault {
+    ghost use Rattle.sched_core.specs.Books.{fault_of};
+
+    ghost from_gives = { λ outlet fault. fault ≡ fault_of outlet };
+
+    fn from(fault: OutletFault) -> Self {
+        match fault {
+            OutletFault::NoMemory => BookFault::NoMemory,
+            OutletFault::NoView => BookFault::NoView,
+        }
+    }
+}

@@ -1,5 +1,6 @@
 //! Laws over the definitions that contracts cite, each on the contract of a function that does nothing.
 ghost use Rattle.sched_core.specs.Headline.{BeginsOnce, DonesAreAllowed, EntriesAreJournal, LeasesApart, LeasesBelow, PermittedStays, SeedsAreValid};
+ghost use Rattle.sched_core.specs.Reports.{ReportIsOne};
 ghost use Rattle.sched_core.specs.States.{StatesAgree, StatesAreOne};
 ghost use Rattle.sched_core.specs.VerdictLaws.{VerdictsAreRegistrable};
 ghost use Rattle.sched_core.specs.Verdicts.{HasOneVerdict};
@@ -49,4 +50,9 @@ pub fn seeds_are_valid()
 /// What a derivation may refer to stays the same while more is registered.
 pub fn permitted_stays()
     ensures { PermittedStays }
+{}
+
+/// There is one report of a run with its history.
+pub fn report_is_one()
+    ensures { ReportIsOne }
 {}

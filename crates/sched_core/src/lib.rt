@@ -3,32 +3,56 @@
 //! | Module | What is in it |
 //! |---|---|
 //! | `job` | what a builder is given, and what it answers |
+//! | `book`, `lease` | the book, and derivations that it gave out to be built |
+//! | `progress`, `permitted` | a run's history, where its derivations stand, and to what outputs may refer |
 //! | `verdict`, `checked` | the verdict on an answer, and the records that it gives |
 //! | `done_entry` | the entry of a derivation that was built |
 //! | `cycle`, `links`, `walk` | whether outputs refer to each other in a cycle |
 //! | `reason`, `standing` | why a derivation was not built, where it stands, its state, and events |
+//! | `course`, `states` | where each derivation of a plan stands |
+//! | `job_of`, `seeds_of` | the job of a derivation, and the paths that it is built from |
+//! | `is_job`, `has_seeds` | whether a job is that of a derivation |
+//! | `standings` | where the derivations of a plan stand by themselves |
+//! | `wanted` | which derivations of a plan are wanted |
+//! | `report`, `words` | the report of a run, and the words for why a derivation was not built |
 //! | `fault` | why a call of a book refuses |
 //! | `laws` | laws over the definitions that contracts cite |
 #![tactic(auto)]
 
+mod book;
 mod checked;
+mod course;
 mod cycle;
 mod done_entry;
 #[cfg(test)]
 mod done_entry_tests;
 mod fault;
+mod has_seeds;
+mod is_job;
 mod job;
+mod job_of;
 pub mod laws;
+mod lease;
 mod links;
+mod permitted;
+mod progress;
 mod reason;
+mod report;
+mod seeds_of;
 mod standing;
+mod standings;
+mod states;
 mod verdict;
 #[cfg(test)]
 mod verdict_tests;
 mod walk;
+mod wanted;
+mod words;
 
+pub use book::Book;
 pub use checked::Checked;
 pub use fault::BookFault;
 pub use job::{Answer, Job, JobOutput};
+pub use lease::Lease;
 pub use reason::{Event, Reason, Refusal, State};
 pub use verdict::examine;

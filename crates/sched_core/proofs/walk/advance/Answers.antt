@@ -1,7 +1,6 @@
-use Rattle.std.proofs.Common.{◌≡◌, ◌≢◌, ◌-◌, ℕ, length, get_or, refl, sym, arith}
+use Rattle.std.proofs.Common.{◌-◌, get_or, refl, sym, arith}
 use Rattle.sched_core.specs.declared.walk.Mark.TheVariants.{New}
 use Rattle.sched_core.specs.declared.walk.Node.{Node}
-use Rattle.sched_core.specs.Walking.{IsNext}
 use Rattle.sched_core.proofs.Walks.{next_of, next_within}
 use Rattle.sched_core.proofs.walk.advance.Goals as goal
 use Rattle.sched_core.proofs.walk.advance.Goals.{then-to-top+in-Closed, else-to-top}

@@ -1,0 +1,5 @@
+use Rattle.sched_core.proofs.OwnStandings.{AreFirst}
+use Rattle.sched_core.proofs.standings.standings_of.Given as goal
+
+abbrev pub invariant-loop-d : goal.invariant-loop-d
+invariant-loop-d l = AreFirst l.system l.journal.entries l.plan.nodes l.standings.items l.d

@@ -1,0 +1,118 @@
+-- *Book*: what a run keeps, and what each call on it does (this product's own).
+use Rattle.std.specs.Prelude.{◌≡◌, ◌<◌, ◌++◌, ℕ, Option, Some, List, [], ◌∷◌, length, slice_get, Contains}
+use Rattle.drv_graph.specs.Nodes.{Node}
+use Rattle.valid_table.specs.Entries.{registered}
+use Rattle.valid_table.specs.PathInfos.{PathInfo}
+use Rattle.valid_table.specs.declared.entry.Entry.{Entry}
+use Rattle.valid_table.specs.declared.fault.OutletFault.{OutletFault}
+use Rattle.valid_table.specs.declared.fault.OutletFault.TheVariants as outlet
+use Rattle.sched_core.specs.Courses.{IsOpen}
+use Rattle.sched_core.specs.Jobs.{IsJob}
+use Rattle.sched_core.specs.Legal.{ArePermitted, IsAllowed, IsEntryOf, MayRefer, begins, begun, ended, failed}
+use Rattle.sched_core.specs.Runs.{History, IsWanted, Run, state_in}
+use Rattle.sched_core.specs.States.{Begun, phase_of}
+use Rattle.sched_core.specs.Verdicts.{outputs_of}
+use Rattle.sched_core.specs.declared.fault.BookFault.{BookFault}
+use Rattle.sched_core.specs.declared.fault.BookFault.TheVariants.{NoMemory, NoView, ForeignLease, NotLawful}
+use Rattle.sched_core.specs.declared.job.Job.{Job}
+use Rattle.sched_core.specs.declared.reason.Reason.{Reason}
+use Rattle.sched_core.specs.declared.reason.State.TheVariants.{Ready}
+
+-- What a book is seen as: a run, its history, the entries that the outlet shows, and those that wait there to be published.
+pub record Ledger : Type 0 where
+  pub run : Run
+  pub history : History
+  pub shown : List Entry
+  pub pending : List Entry
+
+-- What a lease is seen as: its job, its number, and what the outlet told when it was given, until that is handed out.
+pub record Leased (Told : Type 0) : Type 0 where
+  pub job : Job
+  pub number : ℕ
+  pub told : Option Told
+
+-- the history that opens with some entries
+abbrev pub opened : List Entry → History
+opened entries = record { opening = entries; entries = entries; events = [] }
+
+-- A derivation can be begun: it is wanted, and ready.
+pub record CanBegin (run : Run) (history : History) (d : ℕ) : Type 0 where
+  pub within : d < length run.graph.nodes
+  pub wanted : IsWanted run history.opening d
+  pub ready : state_in run history d ≡ Ready
+
+-- no wanted derivation has anything before it
+abbrev pub IsRunSettled : Run → History → Type 0
+IsRunSettled run history = (d : ℕ) → d < length run.graph.nodes → IsWanted run history.opening d → IsOpen (state_in run history d) → ⊥
+
+-- A lease is the book's: its derivation has begun under its number and not ended, and its job is that derivation's.
+pub record IsBooksLease (run : Run) (history : History) (job : Job) (number : ℕ) : Type 0 where
+  pub building : phase_of history.events job.derivation ≡ Begun number
+  pub is_job : IsJob run.graph job.derivation job
+
+-- each reference in some records is permitted to a job behind some entries
+abbrev pub MayAllRefer : List Entry → Job → List PathInfo → Type 0
+MayAllRefer entries job infos = (info : PathInfo) (path : List ℕ) → Contains infos info → Contains info.references path
+    → MayRefer (registered entries) job.seeds.items (outputs_of job) path
+
+-- these are the paths that are permitted to a job behind some entries
+abbrev pub ArePermittedPaths : List Entry → Job → (permitted : List (List ℕ)) → Type 0
+ArePermittedPaths entries job permitted = ArePermitted (registered entries) job.seeds.items (outputs_of job) permitted
+
+-- An entry is that of a derivation with these records, which is allowed behind some entries.
+pub record IsDone (run : Run) (entries : List Entry) (d : ℕ) (infos : List PathInfo) (entry : Entry) : Type 0 where
+  pub node : Node
+  pub is_node : slice_get run.graph.nodes d ≡ Some node
+  pub allowed : IsAllowed run entries node infos
+  pub is_entry : IsEntryOf node infos entry
+
+-- a derivation may not be registered with these records behind some entries
+abbrev pub IsNotAllowed : Run → List Entry → (d : ℕ) → List PathInfo → Type 0
+IsNotAllowed run entries d infos = (node : Node) → slice_get run.graph.nodes d ≡ Some node → IsAllowed run entries node infos → ⊥
+
+-- What was pending may have been published, and nothing else changed.
+pub record IsSameRun (before after : Ledger) : Type 0 where
+  pub run : after.run ≡ before.run
+  pub history : after.history ≡ before.history
+  pub all : after.shown ++ after.pending ≡ before.shown ++ before.pending
+
+-- A derivation that could be begun has begun under a lease; before that all entries were published.
+pub record IsBeginning (before after : Ledger) (job : Job) (number : ℕ) : Type 0 where
+  pub can : CanBegin before.run before.history job.derivation
+  pub numbered : number ≡ begins before.history.events
+  pub is_job : IsJob before.run.graph job.derivation job
+  pub run : after.run ≡ before.run
+  pub history : after.history ≡ begun before.history job.derivation
+  pub shown : after.shown ≡ before.history.entries
+  pub pending : after.pending ≡ []
+
+-- The outputs of a lease's derivation were registered with these records, by an entry that waits to be published.
+pub record IsFinishing (before after : Ledger) (job : Job) (number : ℕ) (infos : List PathInfo) : Type 0 where
+  pub lease : IsBooksLease before.run before.history job number
+  pub entry : Entry
+  pub done : IsDone before.run before.history.entries job.derivation infos entry
+  pub run : after.run ≡ before.run
+  pub history : after.history ≡ ended before.history job.derivation number entry
+  pub shown : after.shown ≡ before.shown
+  pub pending : after.pending ≡ before.pending ++ entry ∷ []
+
+-- why those outputs weren't registered
+abbrev pub IsFinishFault : Ledger → Job → (number : ℕ) → List PathInfo → BookFault → Type 0
+IsFinishFault before job number infos ForeignLease = IsBooksLease before.run before.history job number → ⊥
+IsFinishFault before job number infos NotLawful =
+    IsBooksLease before.run before.history job number × IsNotAllowed before.run before.history.entries job.derivation infos
+IsFinishFault before job number infos NoMemory = IsBooksLease before.run before.history job number
+IsFinishFault before job number infos NoView = ⊥
+
+-- A lease's derivation failed, for a reason.
+pub record IsFailing (before after : Ledger) (job : Job) (number : ℕ) (reason : Reason) : Type 0 where
+  pub lease : IsBooksLease before.run before.history job number
+  pub run : after.run ≡ before.run
+  pub history : after.history ≡ failed before.history job.derivation number reason
+  pub shown : after.shown ≡ before.shown
+  pub pending : after.pending ≡ before.pending
+
+-- an outlet's fault, as a book tells it
+abbrev pub fault_of : OutletFault → BookFault
+fault_of outlet.NoMemory = NoMemory
+fault_of outlet.NoView = NoView

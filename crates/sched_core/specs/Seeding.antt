@@ -1,0 +1,16 @@
+-- The names of outputs, as the code has them.
+use Rattle.std.specs.Prelude.{ℕ, List, map}
+use Rattle.nix_drv.specs.declared.derivation.Output.{Output as OutputStruct}
+use Rattle.sched_core.specs.declared.job.JobOutput.{JobOutput}
+
+-- the names of outputs that are to be made
+abbrev pub named_texts : List JobOutput → List (List ℕ)
+named_texts outputs = map (λ (o : JobOutput). o.name.items) outputs
+
+-- the names of a derivation's outputs
+abbrev pub output_texts : List OutputStruct → List (List ℕ)
+output_texts outputs = map (λ (o : OutputStruct). o.name.items) outputs
+
+-- the paths of some outputs
+abbrev pub paths_of_outputs : List JobOutput → List (List ℕ)
+paths_of_outputs outputs = map (λ (o : JobOutput). o.path) outputs

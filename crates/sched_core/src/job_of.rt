@@ -1,0 +1,59 @@
+//! The job of a derivation of a plan.
+ghost use Rattle.std.specs.Prelude.{◌≡◌, ◌<◌, IfErr, IfOk, length, map};
+ghost use Rattle.sched_core.specs.Jobs.{IsJob};
+ghost use Rattle.sched_core.specs.Seeding.{named_texts, output_texts, paths_of_outputs};
+
+use crate::fault::BookFault;
+use crate::job::{Job, JobOutput};
+use crate::links::copy_path;
+use crate::seeds_of::seeds_of;
+use drv_graph::Plan;
+use nix_drv::{Output, Parts};
+use nix_names::StorePath;
+use std::alloc::{AllocError, Global};
+
+// The job of the derivation with this number. Costs a copy of the derivation's parts, and a look-up by
+// name for each output of its inputs; paths share their texts.
+pub(crate) fn job_of(alloc: Global, plan: &Plan, d: usize) -> Result<Job, BookFault>
+    requires { d < length plan.now.nodes }
+    ensures ok { IfOk result (λ job. IsJob plan.now d job) }
+    ensures err { IfErr result (λ fault. fault ≡ BookFault.NoMemory) }
+{
+    let drv = plan.drv(d);
+    let outputs = outputs_of(alloc, drv.outputs(), plan.output_paths(d))?;
+    let seeds = seeds_of(alloc, plan, d)?;
+    let Parts {
+        builder,
+        args,
+        env,
+        ..
+    } = drv.parts().copy(alloc)?;
+    Ok(Job {
+        derivation: d,
+        builder,
+        args,
+        env,
+        outputs,
+        kind: plan.kind(d),
+        seeds,
+    })
+}
+
+// The outputs that are to be made, with their paths beside them.
+fn outputs_of(
+    alloc: Global,
+    outputs: &[Output],
+    paths: &[StorePath],
+) -> Result<Vec<JobOutput>, AllocError>
+    requires { length paths.now ≡ length outputs.now }
+    ensures names { IfOk result (λ made. named_texts made.items ≡ output_texts outputs.now) }
+    ensures paths { IfOk result (λ made. paths_of_outputs made.items ≡ paths.now) }
+{
+    let mut made = Vec::with_capacity(alloc, paths.len())?;
+    for n in 0..paths.len() {
+        let name = Vec::from_slice(alloc, &outputs[n].name)?;
+        let path = copy_path(alloc, &paths[n])?;
+        made.push(JobOutput { name, path })?;
+    }
+    Ok(made)
+}

@@ -1,0 +1,65 @@
+//! The paths that a derivation is built from.
+ghost use Rattle.std.specs.Prelude.{◌≡◌, ◌<◌, ◌++◌, IfErr, IfOk, IfSome, OnOk, Some, length, slice_get};
+ghost use Rattle.nix_drv.specs.Derivation.{Input};
+ghost use Rattle.drv_graph.specs.PlanNodes.{output_paths_of};
+ghost use Rattle.sched_core.specs.Jobs.{paths_named, seeds_of};
+
+use crate::links::copy_path;
+use drv_graph::Plan;
+use nix_drv::Derivation;
+use nix_names::StorePath;
+use std::alloc::{AllocError, Global};
+
+// The paths that the derivation with this number is built from: its sources, then the outputs that it
+// uses of each of its inputs. Costs a look-up by name for each output of its inputs.
+pub(crate) fn seeds_of(alloc: Global, plan: &Plan, d: usize) -> Result<Vec<StorePath>, AllocError>
+    requires { d < length plan.now.nodes }
+    ensures { IfOk result (λ seeds. IfSome (slice_get plan.now.nodes d) (λ node. seeds.items ≡ seeds_of plan.now.nodes node.drv)) }
+{
+    let mut seeds = Vec::new(alloc);
+    add_paths(alloc, plan.sources(d), &mut seeds)?;
+    let inputs = plan.inputs(d);
+    for place in 0..inputs.len() {
+        let used = plan.drv(inputs[place]);
+        let paths = plan.output_paths(inputs[place]);
+        add_used(alloc, plan.drv(d), place, used, paths, &mut seeds)?;
+    }
+    Ok(seeds)
+}
+
+// Adds some paths.
+fn add_paths(
+    alloc: Global,
+    paths: &[StorePath],
+    seeds: &mut Vec<StorePath>,
+) -> Result<(), AllocError>
+    ensures { OnOk result (seeds.new.items ≡ seeds.old.items ++ paths.now) }
+{
+    for path in paths {
+        seeds.push(copy_path(alloc, path)?)?;
+    }
+    Ok(())
+}
+
+// Adds the paths of the outputs that a derivation uses of its input with this place.
+fn add_used(
+    alloc: Global,
+    drv: &Derivation,
+    place: usize,
+    used: &Derivation,
+    paths: &[StorePath],
+    seeds: &mut Vec<StorePath>,
+) -> Result<(), AllocError>
+    requires place { place < length drv.now.inputs }
+    requires paths { paths.now ≡ output_paths_of used.now }
+    ensures { OnOk result ((input : Input) → slice_get drv.now.inputs place ≡ Some input → seeds.new.items ≡ seeds.old.items ++ paths_named input.names used.now) }
+{
+    let outputs = used.outputs();
+    for n in 0..paths.len() {
+        if drv.uses(place, &outputs[n].name) {
+            let path = copy_path(alloc, &paths[n])?;
+            seeds.push(path)?;
+        }
+    }
+    Ok(())
+}

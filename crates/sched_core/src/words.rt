@@ -1,0 +1,140 @@
+//! The words for why a derivation was not built: a name, and its value in parentheses.
+ghost use Rattle.std.specs.Prelude.{◌≡◌, ◌++◌, OnOk, codes, decimal};
+ghost use Rattle.nix_drv.specs.Strings.{string_text};
+ghost use Rattle.drv_graph.specs.Nodes.{paths_of};
+ghost use Rattle.sched_core.specs.Jobs.{output_paths};
+ghost use Rattle.sched_core.specs.Words.{reason_words, refusal_words, spelled_names, with_text, with_value};
+
+use crate::reason::{Reason, Refusal};
+use drv_graph::Plan;
+use itoa::Buffer;
+use nix_drv::{Derivation, write_string};
+use std::alloc::AllocError;
+
+// Adds why the building of a derivation failed.
+pub(crate) fn write_reason(
+    drv: &Derivation,
+    reason: Reason,
+    out: &mut Vec<u8>,
+) -> Result<(), AllocError>
+    ensures { OnOk result (out.new.items ≡ out.old.items ++ reason_words drv.now reason) }
+{
+    match reason {
+        Reason::ExitStatus(status) => {
+            write_with_value(b"ExitStatus", Buffer::new().format(status).as_bytes(), out)
+        }
+        Reason::NoStart => write_name(b"NoStart", out),
+        Reason::MissingOutput(output) => write_missing_output(drv, output, out),
+        Reason::NotFlatFile => write_name(b"NotFlatFile", out),
+        Reason::HashMismatch => write_name(b"HashMismatch", out),
+        Reason::OutputCycle => write_name(b"OutputCycle", out),
+        Reason::TooLarge => write_name(b"TooLarge", out),
+        Reason::ReadFault => write_name(b"ReadFault", out),
+        Reason::OutOfMemory => write_name(b"OutOfMemory", out),
+        Reason::Killed => write_name(b"Killed", out),
+    }
+}
+
+// Adds why a derivation of a plan is not begun.
+pub(crate) fn write_refusal(
+    plan: &Plan,
+    drv: &Derivation,
+    cause: Refusal,
+    out: &mut Vec<u8>,
+) -> Result<(), AllocError>
+    ensures { OnOk result (out.new.items ≡ out.old.items ++ refusal_words plan.now.nodes drv.now cause) }
+{
+    match cause {
+        Refusal::WrongSystem => write_name(b"WrongSystem", out),
+        Refusal::Unsupported => write_name(b"Unsupported", out),
+        Refusal::MissingSource(source) => write_missing_source(drv, source, out),
+        Refusal::InputNotRealised(input) => write_failed_input(plan, input, out),
+        Refusal::PartlyValid(output) => write_valid_output(drv, output, out),
+    }
+}
+
+// Adds that an output is missing: its name as the derivation's text spells it.
+fn write_missing_output(
+    drv: &Derivation,
+    output: usize,
+    out: &mut Vec<u8>,
+) -> Result<(), AllocError>
+    ensures { OnOk result (out.new.items ≡ out.old.items ++ with_text (codes "MissingOutput") (spelled_names drv.now) output) }
+{
+    match drv.outputs().get(output) {
+        Some(found) => write_with_string(b"MissingOutput", &found.name, out),
+        None => write_with_number(b"MissingOutput", output, out),
+    }
+}
+
+// Adds that a source is missing: its path.
+fn write_missing_source(
+    drv: &Derivation,
+    source: usize,
+    out: &mut Vec<u8>,
+) -> Result<(), AllocError>
+    ensures { OnOk result (out.new.items ≡ out.old.items ++ with_text (codes "MissingSource") drv.now.sources source) }
+{
+    match drv.sources().get(source) {
+        Some(path) => write_with_value(b"MissingSource", path, out),
+        None => write_with_number(b"MissingSource", source, out),
+    }
+}
+
+// Adds that an input failed or is refused: its path.
+fn write_failed_input(plan: &Plan, input: usize, out: &mut Vec<u8>) -> Result<(), AllocError>
+    ensures { OnOk result (out.new.items ≡ out.old.items ++ with_text (codes "InputNotRealised") (paths_of plan.now.nodes) input) }
+{
+    if input < plan.len() {
+        write_with_value(b"InputNotRealised", plan.path(input).text(), out)
+    } else {
+        write_with_number(b"InputNotRealised", input, out)
+    }
+}
+
+// Adds that an output is valid while another isn't: its path.
+fn write_valid_output(drv: &Derivation, output: usize, out: &mut Vec<u8>) -> Result<(), AllocError>
+    ensures { OnOk result (out.new.items ≡ out.old.items ++ with_text (codes "PartlyValid") (output_paths drv.now) output) }
+{
+    match drv.outputs().get(output) {
+        Some(found) => write_with_value(b"PartlyValid", &found.path, out),
+        None => write_with_number(b"PartlyValid", output, out),
+    }
+}
+
+// Adds a name alone.
+fn write_name(name: &[u8], out: &mut Vec<u8>) -> Result<(), AllocError>
+    ensures { OnOk result (out.new.items ≡ out.old.items ++ name.now) }
+{
+    out.extend_from_slice(name)
+}
+
+// Adds a name, and a number in parentheses.
+fn write_with_number(name: &[u8], number: usize, out: &mut Vec<u8>) -> Result<(), AllocError>
+    ensures { OnOk result (out.new.items ≡ out.old.items ++ with_value name.now (decimal number)) }
+{
+    write_with_value(name, Buffer::new().format(number).as_bytes(), out)
+}
+
+// Adds a name, and a value in parentheses.
+fn write_with_value(name: &[u8], value: &[u8], out: &mut Vec<u8>) -> Result<(), AllocError>
+    ensures { OnOk result (out.new.items ≡ out.old.items ++ with_value name.now value.now) }
+{
+    out.extend_from_slice(name)?;
+    out.extend_from_slice(b"(")?;
+    out.extend_from_slice(value)?;
+    out.extend_from_slice(b")")
+}
+
+// Adds a name, and in parentheses a text as the derivations' language spells it.
+fn write_with_string(name: &[u8], text: &[u8], out: &mut Vec<u8>) -> Result<(), AllocError>
+    ensures { OnOk result (out.new.items ≡ out.old.items ++ with_value name.now (string_text text.now)) }
+{
+    out.extend_from_slice(name)?;
+    out.extend_from_slice(b"(")?;
+    // A list refuses a write for want of memory alone.
+    let Ok(()) = write_string(out, text) else {
+        return Err(AllocError);
+    };
+    out.extend_from_slice(b")")
+}
