@@ -182,14 +182,19 @@ fn first_stray_reference(rt: HostRuntime) -> Result<(), Fail> {
     Ok(())
 }
 
+// A file with these bytes at the path of the derivation of nothing.
+fn at_nothing(alloc: Global, bytes: &[u8]) -> Result<ListedFile, Fail> {
+    Ok(ListedFile {
+        path: Vec::from_slice(alloc, NOTHING_PATH)?,
+        bytes: Vec::from_slice(alloc, bytes)?,
+    })
+}
+
 // A source of files with these bytes, all at the path of the derivation of nothing.
 fn source_of(alloc: Global, files: &[&[u8]], failing: &[u64]) -> Result<ListSource, Fail> {
     let mut listed = Vec::new(alloc);
     for bytes in files {
-        listed.push(ListedFile {
-            path: Vec::from_slice(alloc, NOTHING_PATH)?,
-            bytes: Vec::from_slice(alloc, bytes)?,
-        })?;
+        listed.push(at_nothing(alloc, bytes)?)?;
     }
     Ok(ListSource::new(alloc, listed, Vec::from_slice(alloc, failing)?)?)
 }

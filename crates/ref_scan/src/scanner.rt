@@ -1,5 +1,5 @@
 //! The scan of bytes that come in pieces.
-ghost use Rattle.std.specs.Prelude.{◌≡◌, ◌↔◌, ◌++◌, ◌∷◌, [], IfOk, IsTrue, ℕ, List, Contains, Some, length};
+ghost use Rattle.std.specs.Prelude.{◌≡◌, ◌↔◌, ◌++◌, ◌∷◌, [], IfOk, IsTrue, ℕ, List, Contains, None, Some, false, length};
 ghost use Rattle.nix_names.specs.Rising.{IsRising};
 ghost use Rattle.nix_names.specs.StorePaths.{hash_part_of, is_hash_part};
 ghost use Rattle.ref_scan.specs.Feed.{lists_of};
@@ -118,8 +118,10 @@ impl Scanner {
 // Whether a path's hash part has its mark.
 fn is_met(index: &Index, met: &[bool], path: &StorePath) -> bool
     requires { IsIndex index.now.places index.now.sieve.items (length met.now) }
-    ensures { (k : ℕ) → place_at index.now.places (hash_part_of path.now) ≡ Some k
+    ensures met { (k : ℕ) → place_at index.now.places (hash_part_of path.now) ≡ Some k
         → IsTrue result ↔ IsMet met.now k }
+    ensures absent { place_at index.now.places (hash_part_of path.now) ≡ None
+        → result ≡ false }
 {
     match index.place_of(&part_of(path)) {
         Some(place) => met[place],

@@ -23,7 +23,7 @@ loop-path-preserved c =
     let rises = subst IsRising taken (rising_take items (i + 1) (subst IsRising (sym same) scanned.rising)) in
     let has = subst (λ l. Contains l path) same (i, omega arith, sym c.path-item.is) in
     let met = subst (λ m. Scanned c.args.self s.index.places s.index.sieve.items m s.tail.items) (sym c.deref.ensures.value) scanned in
-    let answer = met_of c.args.self s.index.places s.index.sieve.items c.deref.result.now s.tail.items path c.is_met.result met has c.is_met.ensures in
+    let answer = met_of c.args.self s.index.places s.index.sieve.items c.deref.result.now s.tail.items path c.is_met.result met has c.is_met.ensures.met in
     elim c.if-is_met.branch [
       | then-is_met+in_ok-copy_of+in_ok-push w ↦
           rw (w.found-is, w.in_ok-push.ensures.items, w.in_ok-copy_of.ensures, taken)
