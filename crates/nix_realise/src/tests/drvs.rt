@@ -106,12 +106,9 @@ fn refuses<R: Files + AllocGlobal>(
 fn refused_words(rt: HostRuntime) -> Result<(), Fail> {
     let store = with_draft(&rt, process::id(rt.process()), "no-draft")?;
     let (folder, file) = (store.folder.as_str(), store.file.as_str());
-    let cut = store.at(&rt, "cut")?;
-    fs::write(&rt, cut.as_str(), b"Derive(")?;
     for (dir, name, file, word, fault) in [
         ("store", ".", "/dev/null/x", "store", "BadStoreDir"),
         (folder, ".", "/dev/null/x", "/dev/null/x", "Unreadable"),
-        (folder, ".", cut.as_str(), cut.as_str(), "Syntax(7)"),
         (folder, ".", file, ".", "BadName"),
     ] {
         assert!(rt;
@@ -119,7 +116,9 @@ fn refused_words(rt: HostRuntime) -> Result<(), Fail> {
             "at {word}: {fault}"
         );
     }
-    assert!(rt; store.held(&rt, 2)?);
+    fs::write(&rt, file, b"Derive(")?;
+    assert!(rt; refuses(&rt, [folder, ".", file], file, "Syntax(7)")?);
+    assert!(rt; store.held(&rt, 1)?);
     Ok(())
 }
 
