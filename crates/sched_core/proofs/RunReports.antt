@@ -1,12 +1,11 @@
 -- The report of a course is that of its run.
-use Rattle.std.proofs.Common.{◌≡◌, ◌∙◌, ◌⊎◌, inl, inr, ℕ, zero, suc, ◌+◌, ◌<◌, ◌≤◌, true, false, List, [], ◌∷◌, ◌++◌, length, refl, sym, ap, subst, arith}
-use Rattle.std.specs.Prelude.{◌↔◌, Bool, Contains, flat_map}
+use Rattle.std.proofs.Common.{◌≡◌, ◌∙◌, ℕ, zero, suc, ◌<◌, true, false, List, [], ◌∷◌, ◌++◌, length, refl, ap, subst, arith}
+use Rattle.std.specs.Prelude.{◌↔◌, Bool, flat_map}
 use Rattle.std.specs.List.{slice_index_or}
 use Rattle.std.proofs.lemmas.Bool.{false≢true}
-use Rattle.drv_graph.specs.Nodes.{Node}
 use Rattle.drv_graph.specs.Plans.{Graph}
 use Rattle.sched_core.specs.Courses.{AreWanted, Course, course_state}
-use Rattle.sched_core.specs.Reports.{AreByPath, IsReport, IsReportIn, IsReportOf, IsWantedIn, line_at, lines_if_some, line_of, output_lines, outputs_at}
+use Rattle.sched_core.specs.Reports.{IsReport, IsReportIn, IsReportOf, IsWantedIn, line_at, outputs_at}
 use Rattle.sched_core.specs.Runs.{History, IsWanted, Run, state_in}
 use Rattle.sched_core.specs.declared.reason.State.{State}
 
@@ -33,9 +32,9 @@ report_moved graph is_wanted is_wanted' state state' text wanted_same states_sam
   is_text =
       report.is_text
       ∙ ap (λ (lines : List ℕ). lines ++ flat_map (outputs_at graph.nodes state) graph.roots)
-          (same_texts (line_at graph.nodes state) (line_at graph.nodes state') report.wanted (λ d. ap (λ s. line_at graph.nodes (λ _. s) d) (states_same d)))
+      (same_texts (line_at graph.nodes state) (line_at graph.nodes state') report.wanted (λ d. ap (λ s. line_at graph.nodes (λ _. s) d) (states_same d)))
       ∙ ap (λ (lines : List ℕ). flat_map (line_at graph.nodes state') report.wanted ++ lines)
-          (same_texts (outputs_at graph.nodes state) (outputs_at graph.nodes state') graph.roots (λ d. ap (λ s. outputs_at graph.nodes (λ _. s) d) (states_same d)));
+      (same_texts (outputs_at graph.nodes state) (outputs_at graph.nodes state') graph.roots (λ d. ap (λ s. outputs_at graph.nodes (λ _. s) d) (states_same d)));
 }
 
 -- where a course says of each derivation of a run whether it is wanted, and has its state
@@ -45,9 +44,9 @@ report_in run history course text graph_is are_wanted states report =
     subst (λ (graph : Graph). IsReport graph (IsWanted run history.opening) (state_in run history) text) graph_is
     (report_moved course.graph (IsWantedIn course) (IsWanted run history.opening) (course_state course) (state_in run history) text
     (λ d. (
-        λ is. are_wanted.yes d is.1,
-        λ wanted.
-            let chosen = are_wanted.no d wanted in
-            (omega (arith, within course.wanted d chosen, are_wanted.count, ap (λ (graph : Graph). length graph.nodes) graph_is), chosen),
+      λ is. are_wanted.yes d is.1,
+      λ wanted.
+          let chosen = are_wanted.no d wanted in
+          (omega (arith, within course.wanted d chosen, are_wanted.count, ap (λ (graph : Graph). length graph.nodes) graph_is), chosen),
     ))
     states report)
