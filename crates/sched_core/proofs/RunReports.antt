@@ -1,12 +1,11 @@
 -- The report of a course is that of its run.
-use Rattle.std.proofs.Common.{◌≡◌, ◌∙◌, ◌⊎◌, inl, inr, ℕ, zero, suc, ◌+◌, ◌<◌, ◌≤◌, true, false, List, [], ◌∷◌, ◌++◌, length, refl, sym, ap, subst, arith}
-use Rattle.std.specs.Prelude.{◌↔◌, Bool, Contains, flat_map}
+use Rattle.std.proofs.Common.{◌≡◌, ◌∙◌, ℕ, zero, suc, ◌<◌, true, false, List, [], ◌∷◌, ◌++◌, length, refl, ap, subst, arith}
+use Rattle.std.specs.Prelude.{◌↔◌, Bool, flat_map}
 use Rattle.std.specs.List.{slice_index_or}
 use Rattle.std.proofs.lemmas.Bool.{false≢true}
-use Rattle.drv_graph.specs.Nodes.{Node}
 use Rattle.drv_graph.specs.Plans.{Graph}
 use Rattle.sched_core.specs.Courses.{AreWanted, Course, course_state}
-use Rattle.sched_core.specs.Reports.{AreByPath, IsReport, IsReportIn, IsReportOf, IsWantedIn, line_at, lines_if_some, line_of, output_lines, outputs_at}
+use Rattle.sched_core.specs.Reports.{IsReport, IsReportIn, IsReportOf, IsWantedIn, line_at, outputs_at}
 use Rattle.sched_core.specs.Runs.{History, IsWanted, Run, state_in}
 use Rattle.sched_core.specs.declared.reason.State.{State}
 
