@@ -9,8 +9,6 @@ pub(crate) struct File {
 /// Without inputs, as are `APART`, `TWO` and those behind it.
 pub(crate) const BASE: &[u8] = b"/nix/store/xwrdsxnlq6n2qnx61xya715sfa49wkxm-base.drv";
 
-pub(crate) const BASE_OUT: &[u8] = b"/nix/store/i73x2qwb221ly8r0xpzlngmrfjzb9dr1-base";
-
 /// A user of `BASE`, with two outputs.
 pub(crate) const LEFT: &[u8] = b"/nix/store/wf7kqrqhkw4448bgfb32jrkflk1lhzla-left.drv";
 
@@ -42,17 +40,11 @@ pub(crate) const TWO_OUT: &[u8] = b"/nix/store/8q7dp30dcjpjjh6wsac0q6sa6nr84c57-
 /// With the source `SRC`.
 pub(crate) const SOURCED: &[u8] = b"/nix/store/p8aybn13ahfa1kqwybh131bvza4i7sai-sourced.drv";
 
-pub(crate) const SOURCED_OUT: &[u8] = b"/nix/store/bf3gvr9lp9av44m7krgy1wf8l3pprbww-sourced";
-
 /// For another system.
 pub(crate) const FOREIGN: &[u8] = b"/nix/store/l55pa4jc6x77irz0il0lflaw8fj7wqi1-foreign.drv";
 
-pub(crate) const FOREIGN_OUT: &[u8] = b"/nix/store/h3dx8sjvinvh2akkmimrdzs79iinjf3q-foreign";
-
 /// With a builder of the kind that is left out.
 pub(crate) const BUILTIN: &[u8] = b"/nix/store/k0x39cs30b55w0ja2ssc40fa54qrnfbn-builtin.drv";
-
-pub(crate) const BUILTIN_OUT: &[u8] = b"/nix/store/0pgk7hcpwfayn38kajyn25ck5czdbgg2-builtin";
 
 /// With a key that asks for what is left out.
 pub(crate) const KEYED: &[u8] = b"/nix/store/17nfbj4z9rxzqszhbvrhv77c44dpl2x1-keyed.drv";
