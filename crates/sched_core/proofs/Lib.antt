@@ -26,4 +26,5 @@ pub mod Verdicts
 pub mod Walks
 pub mod Wanting
 pub mod Wordings
+pub mod ExaminedRecords
 pub mod Followed

@@ -20,6 +20,8 @@
 #![tactic(auto)]
 
 mod book;
+#[cfg(test)]
+mod book_tests;
 mod checked;
 mod course;
 mod cycle;
