@@ -60,10 +60,19 @@ build_decide a b =
 pub drvs_decide : (a b : Drv) → Decides (same_drv a b) (a ≡ b)
 drvs_decide a b =
     also (same_drv a b) (both (same_paths a b) (same_build a b) (paths_decide a b) (build_decide a b))
-    (λ p j. record { outputs = p.0.0.0 j; inputs = p.0.0.1 j; sources = p.0.1 j;
-      system = p.1.0.0.0 j; builder = p.1.0.0.1 j; args = p.1.0.1 j; env = p.1.1 j })
-    (λ e. (((ap (λ (d : Drv). d.outputs) e, ap (λ (d : Drv). d.inputs) e), ap (λ (d : Drv). d.sources) e),
-      (((ap (λ (d : Drv). d.system) e, ap (λ (d : Drv). d.builder) e), ap (λ (d : Drv). d.args) e), ap (λ (d : Drv). d.env) e)))
+    (λ p j. record {
+      outputs = p.0.0.0 j;
+      inputs = p.0.0.1 j;
+      sources = p.0.1 j;
+      system = p.1.0.0.0 j;
+      builder = p.1.0.0.1 j;
+      args = p.1.0.1 j;
+      env = p.1.1 j;
+    })
+    (λ e. (
+      ((ap (λ (d : Drv). d.outputs) e, ap (λ (d : Drv). d.inputs) e), ap (λ (d : Drv). d.sources) e),
+      (((ap (λ (d : Drv). d.system) e, ap (λ (d : Drv). d.builder) e), ap (λ (d : Drv). d.args) e), ap (λ (d : Drv). d.env) e),
+    ))
 
 -- lists are equal as they are seen
 pub seen_alike : {A B : Type 0} (same : B → B → Bool) (view : A → B) (xs ys : List A) (seen others : List B) (r : Bool)

@@ -100,17 +100,17 @@ job_by_parts graph d job drv kind lent paths told low at number kinds kind_is re
     let both = subst (λ o. IfSome o (λ (n : Node). IsTrue told ↔ (job.seeds.items ≡ seeds_of graph.nodes n.drv))) own.1 seeds in
     let its = subst (λ (x : Drv). HasRecipe x job) same recipe in (
       λ yes. record {
-          node = node;
-          is_node = own.1;
-          derivation = number;
-          builder = its.builder;
-          args = its.args;
-          env = its.env;
-          names = makes.names ∙ names_of lent node.drv (view ∙ ap (λ (x : Drv). x.outputs) same);
-          paths = makes.paths_are ∙ subst (λ o. IfSome o (λ (n : Node). paths ≡ output_paths_of n.drv)) own.1 path;
-          kind = rw kind_is (subst (λ o. IfSome o (λ (n : Node). HasKind n.drv kind)) own.1 kinds);
-          seeds = both.0 yes;
-        },
+        node = node;
+        is_node = own.1;
+        derivation = number;
+        builder = its.builder;
+        args = its.args;
+        env = its.env;
+        names = makes.names ∙ names_of lent node.drv (view ∙ ap (λ (x : Drv). x.outputs) same);
+        paths = makes.paths_are ∙ subst (λ o. IfSome o (λ (n : Node). paths ≡ output_paths_of n.drv)) own.1 path;
+        kind = rw kind_is (subst (λ o. IfSome o (λ (n : Node). HasKind n.drv kind)) own.1 kinds);
+        seeds = both.0 yes;
+      },
       λ is.
           both.1 (subst (λ (n : Node). job.seeds.items ≡ seeds_of graph.nodes n.drv) (same_element graph.nodes d is.node node is.is_node own.1) is.seeds),
     )

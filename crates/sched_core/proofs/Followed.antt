@@ -118,6 +118,7 @@ input_step nodes d drv used numbers place number seeds left next once is_drv are
   where
     one_input : (inputs : List Input) (n : ℕ) (a b : Input) → slice_get inputs n ≡ Some a → slice_get inputs n ≡ Some b → a ≡ b
     one_input inputs n a b is also = let both : Some a ≡ Some b = sym is ∙ also in cc
+
     one_node : (nodes : List Node) (n : ℕ) (a b : Node) → slice_get nodes n ≡ Some a → slice_get nodes n ≡ Some b → a ≡ b
     one_node nodes n a b is also = let both : Some a ≡ Some b = sym is ∙ also in cc
 

@@ -27,7 +27,7 @@ returns-then-not-makes c = (
       (false≢true
       (sym c.if-not-makes.true
       ∙ c.makes.ensures.1
-          (rw c.deref.ensures.value (makes_of c.args.plan.now c.args.d c.args.job.now _ _ _ c.drv-drv.ensures c.outputs.ensures c.output_paths.ensures is)))),
+      (rw c.deref.ensures.value (makes_of c.args.plan.now c.args.d c.args.job.now _ _ _ c.drv-drv.ensures c.outputs.ensures c.output_paths.ensures is)))),
 )
 
 pub returns : goal.returns
