@@ -10,6 +10,7 @@ use std::alloc::{AllocError, Global};
 use std::test::*;
 
 mod files;
+mod filling;
 mod nix_files;
 mod output_files;
 mod outputs;
