@@ -12,8 +12,24 @@ use std::test::*;
 // Derivations that Nix wrote, and others whose paths were computed apart: with several outputs,
 // fixed ones of a file and of a tree, inputs that others share, sources, names at the limits.
 static ROOTS: [&[u8]; 18] = [
-    BOTH, UNICODE, USER, SPLIT, SRC, GREET, ESCAPES, KEYS, MANY, NUMBERS, SRC_TREE, WITH_SOURCES,
-    ONLY_NAME, TREE, FLAT, TWO, LONG_OUT, LONG_DEV,
+    BOTH,
+    UNICODE,
+    USER,
+    SPLIT,
+    SRC,
+    GREET,
+    ESCAPES,
+    KEYS,
+    MANY,
+    NUMBERS,
+    SRC_TREE,
+    WITH_SOURCES,
+    ONLY_NAME,
+    TREE,
+    FLAT,
+    TWO,
+    LONG_OUT,
+    LONG_DEV,
 ];
 
 fn plan_of(alloc: Global, root: &[u8]) -> Result<Plan, Fail> {
@@ -63,6 +79,29 @@ fn are_filled_again(alloc: Global, plan: &Plan) -> Result<bool, Fail> {
         }
     }
     Ok(true)
+}
+
+// The number of the fault of filling a draft without inputs under a name of so many bytes, or 0.
+fn number_under(alloc: Global, length: usize) -> Result<u8, Fail> {
+    let plan = plan_of(alloc, UNICODE)?;
+    if plan.len() == 0 {
+        return Ok(0);
+    }
+    let draft = draft_of(alloc, plan.drv(0))?;
+    let name = vec![in alloc; b'n'; length]?;
+    let dir = StoreDir::new(alloc, b"/nix/store")?;
+    match fill_outputs(alloc, &mut all_but(alloc, &[])?, &dir, &name, &draft) {
+        Ok(_) => Ok(0),
+        Err(fault) => Ok(fault.number()),
+    }
+}
+
+#[test]
+fn longest_name_of_a_draft(rt: HostRuntime) -> Result<(), Fail> {
+    for (length, number) in [(0, 6), (1, 0), (207, 0), (208, 6)] {
+        assert_eq!(rt; number_under(rt.alloc(), length)?, number, "{length} bytes");
+    }
+    Ok(())
 }
 
 #[test]
