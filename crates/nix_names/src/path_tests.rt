@@ -143,7 +143,7 @@ fn copies_outlive_their_path(rt: HostRuntime) -> Result<(), Fail> {
     drop(path);
     assert_eq!(rt; copy.text(), EMPTY);
     assert_eq!(rt; copy.name(), b"empty".as_slice());
-    assert_eq!(rt; size_of::<StorePath>(), 16);
+    assert_eq!(rt; size_of::<StorePath>(), 8);
     Ok(())
 }
 
