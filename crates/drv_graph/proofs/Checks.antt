@@ -33,7 +33,8 @@ use Rattle.drv_graph.proofs.OneText.{one_path}
 
 -- ---- kind, names and uses
 
-pub kind_is_sound : (name : List ℕ) (drv : Drv) (used : List Drv) (fault : OutputFault) → IsKindFault drv fault → IsSoundCheck name drv used (Err fault)
+pub kind_is_sound : (name : List ℕ) (drv : Drv) (used : List Drv) (fault : OutputFault)
+    → IsKindFault drv fault → IsSoundCheck name drv used (Err fault)
 kind_is_sound name drv used NoMemory h = tt
 kind_is_sound name drv used MixedOutputs h = h
 kind_is_sound name drv used (UnknownMethod output) h = h
@@ -42,29 +43,42 @@ kind_is_sound name drv used (UnknownOutput input output) h = absurd h
 kind_is_sound name drv used (OutputMismatch output expected) h = h
 kind_is_sound name drv used (EnvMismatch output) h = h
 
-pub name_is_sound : (name : List ℕ) (drv : Drv) (used : List Drv) (kind : Kind) (outputs : List Output) (fault : OutputFault) → HasKind drv kind → outputs ≡ drv.outputs
+pub name_is_sound : (name : List ℕ) (drv : Drv) (used : List Drv) (kind : Kind)
+    (outputs : List Output) (fault : OutputFault) → HasKind drv kind → outputs ≡ drv.outputs
     → IsNameFault name outputs fault → IsSoundCheck name drv used (Err fault)
 name_is_sound name drv used kind outputs NoMemory is same h = tt
-name_is_sound name drv used kind outputs BadName is same h = (kind, is, subst (λ (os : List Output). IsNameFault name os BadName) same h)
+name_is_sound name drv used kind outputs BadName is same h =
+    (kind, is, subst (λ (os : List Output). IsNameFault name os BadName) same h)
 name_is_sound name drv used kind outputs MixedOutputs is same h = absurd h
 name_is_sound name drv used kind outputs (UnknownMethod output) is same h = absurd h
 name_is_sound name drv used kind outputs (UnknownOutput input output) is same h = absurd h
 name_is_sound name drv used kind outputs (OutputMismatch output expected) is same h = h
 name_is_sound name drv used kind outputs (EnvMismatch output) is same h = h
 
-pub use_is_sound : (name : List ℕ) (drv : Drv) (used : List Drv) (kind : Kind) (outputs : List Output) (inputs : List Input) (fault : OutputFault) → HasKind drv kind → outputs ≡ drv.outputs
-    → All (IsWellNamed name) outputs → inputs ≡ drv.inputs → IsUseFault (uses inputs used) fault → IsSoundCheck name drv used (Err fault)
+pub use_is_sound : (name : List ℕ) (drv : Drv) (used : List Drv) (kind : Kind)
+    (outputs : List Output) (inputs : List Input) (fault : OutputFault) → HasKind drv kind → outputs
+    ≡ drv.outputs
+    → All (IsWellNamed name) outputs → inputs ≡ drv.inputs → IsUseFault (uses inputs used) fault
+    → IsSoundCheck name drv used (Err fault)
 use_is_sound name drv used kind outputs inputs NoMemory is same named here h = tt
-use_is_sound name drv used kind outputs inputs (UnknownOutput input output) is same named here h =
-    (kind, is, subst (λ (os : List Output). All (IsWellNamed name) os) same named, subst (λ (is : List Input). IsUseFault (uses is used) (UnknownOutput input output)) here h)
+use_is_sound name drv used kind outputs inputs (UnknownOutput input output) is same named here h = (
+  kind,
+  is,
+  subst (λ (os : List Output). All (IsWellNamed name) os) same named,
+  subst (λ (is : List Input). IsUseFault (uses is used) (UnknownOutput input output)) here h,
+)
 use_is_sound name drv used kind outputs inputs MixedOutputs is same named here h = absurd h
-use_is_sound name drv used kind outputs inputs (UnknownMethod output) is same named here h = absurd h
+use_is_sound name drv used kind outputs inputs (UnknownMethod output) is same named here h =
+    absurd h
 use_is_sound name drv used kind outputs inputs BadName is same named here h = absurd h
-use_is_sound name drv used kind outputs inputs (OutputMismatch output expected) is same named here h = h
+use_is_sound name drv used kind outputs inputs (OutputMismatch output expected) is same named here
+    h = h
 use_is_sound name drv used kind outputs inputs (EnvMismatch output) is same named here h = h
 
-pub all_sound : (name : List ℕ) (drv : Drv) (used : List Drv) (kind : Kind) (outputs : List Output) (inputs : List Input) → HasKind drv kind → outputs ≡ drv.outputs
-    → All (IsWellNamed name) outputs → inputs ≡ drv.inputs → All IsKnownUse (uses inputs used) → AreSound name drv used kind
+pub all_sound : (name : List ℕ) (drv : Drv) (used : List Drv) (kind : Kind) (outputs : List Output)
+    (inputs : List Input) → HasKind drv kind → outputs ≡ drv.outputs
+    → All (IsWellNamed name) outputs → inputs ≡ drv.inputs → All IsKnownUse (uses inputs used)
+    → AreSound name drv used kind
 all_sound name drv used kind outputs inputs is same named here known = record {
   has_kind = is;
   named = subst (λ (os : List Output). All (IsWellNamed name) os) same named;
@@ -72,7 +86,8 @@ all_sound name drv used kind outputs inputs is same named here known = record {
 }
 
 -- what isn't sound is what the check answers
-pub sound_is_checked : (in_draft : Bool) (dir name : List ℕ) (drv : Drv) (used : List Drv) (hashes : List (List ℕ)) (fault : OutputFault) → IsSoundCheck name drv used (Err fault)
+pub sound_is_checked : (in_draft : Bool) (dir name : List ℕ) (drv : Drv) (used : List Drv)
+    (hashes : List (List ℕ)) (fault : OutputFault) → IsSoundCheck name drv used (Err fault)
     → IsOutputsCheck (FitsIn in_draft) dir name drv used hashes (Err fault)
 sound_is_checked in_draft dir name drv used hashes NoMemory h = tt
 sound_is_checked in_draft dir name drv used hashes MixedOutputs h = h
@@ -84,7 +99,9 @@ sound_is_checked in_draft dir name drv used hashes (EnvMismatch output) h = absu
 
 -- ---- uses
 
-pub unknown_use : (all : List Use) (u : Use) (fault : OutputFault) → IsFirst (λ (other : Use). IsKnownUse other → ⊥) all u → IsUnknownOutput u.input u.output fault → IsUseFault all fault
+pub unknown_use : (all : List Use) (u : Use) (fault : OutputFault)
+    → IsFirst (λ (other : Use). IsKnownUse other → ⊥) all u → IsUnknownOutput u.input u.output fault
+    → IsUseFault all fault
 unknown_use all u (UnknownOutput input output) first h = (u, first, h.0, h.1)
 unknown_use all u NoMemory first h = absurd h
 unknown_use all u MixedOutputs first h = h
@@ -93,7 +110,8 @@ unknown_use all u BadName first h = h
 unknown_use all u (OutputMismatch output expected) first h = h
 unknown_use all u (EnvMismatch output) first h = h
 
-first_within : (before middle after : List Use) (u : Use) → All IsKnownUse before → IsFirst (λ (other : Use). IsKnownUse other → ⊥) middle u
+first_within : (before middle after : List Use) (u : Use) → All IsKnownUse before
+    → IsFirst (λ (other : Use). IsKnownUse other → ⊥) middle u
     → IsFirst (λ (other : Use). IsKnownUse other → ⊥) (before ++ (middle ++ after)) u
 first_within before middle after u known first = record {
   before = before ++ first.before;
@@ -103,38 +121,62 @@ first_within before middle after u known first = record {
       ∙ ap (λ (m : List Use). before ++ m) (append_assoc first.before (u ∷ first.after) after)
       ∙ sym (append_assoc before first.before ((u ∷ first.after) ++ after));
   holds = first.holds;
-  none = All-append (λ (other : Use). (IsKnownUse other → ⊥) → ⊥) before first.before (λ k d below h. h (known k d below)) first.none;
+  none = All-append (λ (other : Use). (IsKnownUse other → ⊥) → ⊥) before first.before
+      (λ k d below h. h (known k d below)) first.none;
 }
 
 -- ---- values
 
 -- one pair more fits
-pub fit_more : (Fits : Output → List ℕ → Type 0) (outputs : List Output) (paths : List (List ℕ)) (i : ℕ) (o : Output) (path : List ℕ)
-    → slice_get outputs i ≡ Some o → slice_get paths i ≡ Some path → FitBefore Fits outputs paths i → Fits o path → FitBefore Fits outputs paths (i + 1)
+pub fit_more : (Fits : Output → List ℕ → Type 0) (outputs : List Output) (paths : List (List ℕ))
+    (i : ℕ) (o : Output) (path : List ℕ)
+    → slice_get outputs i ≡ Some o → slice_get paths i ≡ Some path → FitBefore Fits outputs paths i
+    → Fits o path → FitBefore Fits outputs paths (i + 1)
 fit_more Fits outputs paths i o path at_o at_path before here k p q below at_p at_q =
     elim (cases_lt k i) [
       | inl earlier ↦ before k p q earlier at_p at_q
       | inr not_earlier ↦
           let last : k ≡ i = omega arith in
-          let same_o : o ≡ p = same_Some o p (sym at_o ∙ ap (λ (n : ℕ). slice_get outputs n) (sym last) ∙ at_p) in
-          let same_path : path ≡ q = same_Some path q (sym at_path ∙ ap (λ (n : ℕ). slice_get paths n) (sym last) ∙ at_q) in
-          subst (λ (r : List ℕ). Fits p r) same_path (subst (λ (x : Output). Fits x path) same_o here)
+          let same_o : o
+          ≡ p = same_Some o p (sym at_o ∙ ap (λ (n : ℕ). slice_get outputs n) (sym last) ∙ at_p)
+          in
+          let same_path : path ≡ q = same_Some path q
+          (sym at_path ∙ ap (λ (n : ℕ). slice_get paths n) (sym last) ∙ at_q) in
+          subst (λ (r : List ℕ). Fits p r) same_path
+          (subst (λ (x : Output). Fits x path) same_o here)
     ]
 
-pub mismatch : (in_draft : Bool) (outputs : List Output) (paths : List (List ℕ)) (i : ℕ) (o : Output) (path : List ℕ) (fault : OutputFault)
-    → slice_get outputs i ≡ Some o → slice_get paths i ≡ Some path → FitBefore (PathFits in_draft) outputs paths i → (PathFits in_draft o path → ⊥)
+pub mismatch : (in_draft : Bool) (outputs : List Output) (paths : List (List ℕ)) (i : ℕ)
+    (o : Output) (path : List ℕ) (fault : OutputFault)
+    → slice_get outputs i ≡ Some o → slice_get paths i ≡ Some path
+    → FitBefore (PathFits in_draft) outputs paths i → (PathFits in_draft o path → ⊥)
     → IsMismatch o.name path fault → IsPathFault in_draft outputs paths fault
-mismatch in_draft outputs paths i o path (OutputMismatch output expected) at_o at_path before wrong h =
-    (o, record { place = i; is_output = at_o; is_path = at_path ∙ ap (λ (p : List ℕ). Some p) (sym h.1); wrong = subst (λ (p : List ℕ). PathFits in_draft o p → ⊥) (sym h.1) wrong; before = before }, h.0)
+mismatch in_draft outputs paths i o path (OutputMismatch output expected) at_o at_path before wrong
+    h = (
+      o,
+      record {
+        place = i;
+        is_output = at_o;
+        is_path = at_path ∙ ap (λ (p : List ℕ). Some p) (sym h.1);
+        wrong = subst (λ (p : List ℕ). PathFits in_draft o p → ⊥) (sym h.1) wrong;
+        before = before;
+      },
+      h.0,
+    )
 mismatch in_draft outputs paths i o path NoMemory at_o at_path before wrong h = tt
 mismatch in_draft outputs paths i o path MixedOutputs at_o at_path before wrong h = h
 mismatch in_draft outputs paths i o path (UnknownMethod output) at_o at_path before wrong h = h
 mismatch in_draft outputs paths i o path BadName at_o at_path before wrong h = h
-mismatch in_draft outputs paths i o path (UnknownOutput input output) at_o at_path before wrong h = h
+mismatch in_draft outputs paths i o path (UnknownOutput input output) at_o at_path before wrong h =
+    h
 mismatch in_draft outputs paths i o path (EnvMismatch output) at_o at_path before wrong h = h
 
-pub path_is_value : (in_draft : Bool) (drv : Drv) (outputs : List Output) (paths : List (List ℕ)) (fault : OutputFault) → outputs ≡ drv.outputs → IsPathFault in_draft outputs paths fault → IsValueFault in_draft drv paths fault
-path_is_value in_draft drv outputs paths (OutputMismatch output expected) same h = subst (λ (os : List Output). IsPathFault in_draft os paths (OutputMismatch output expected)) same h
+pub path_is_value : (in_draft : Bool) (drv : Drv) (outputs : List Output) (paths : List (List ℕ))
+    (fault : OutputFault) → outputs ≡ drv.outputs → IsPathFault in_draft outputs paths fault
+    → IsValueFault in_draft drv paths fault
+path_is_value in_draft drv outputs paths (OutputMismatch output expected) same h =
+    subst (λ (os : List Output). IsPathFault in_draft os paths (OutputMismatch output expected))
+    same h
 path_is_value in_draft drv outputs paths NoMemory same h = tt
 path_is_value in_draft drv outputs paths MixedOutputs same h = h
 path_is_value in_draft drv outputs paths (UnknownMethod output) same h = h
@@ -142,7 +184,8 @@ path_is_value in_draft drv outputs paths BadName same h = h
 path_is_value in_draft drv outputs paths (UnknownOutput input output) same h = h
 path_is_value in_draft drv outputs paths (EnvMismatch output) same h = absurd h
 
-pub env_is_value : (in_draft : Bool) (drv : Drv) (paths : List (List ℕ)) (fault : OutputFault) → FitBefore (PathFits in_draft) drv.outputs paths (length drv.outputs)
+pub env_is_value : (in_draft : Bool) (drv : Drv) (paths : List (List ℕ)) (fault : OutputFault)
+    → FitBefore (PathFits in_draft) drv.outputs paths (length drv.outputs)
     → IsEnvFault in_draft drv.env drv.outputs paths fault → IsValueFault in_draft drv paths fault
 env_is_value in_draft drv paths (EnvMismatch output) fit h = (fit, h)
 env_is_value in_draft drv paths NoMemory fit h = tt
@@ -154,32 +197,42 @@ env_is_value in_draft drv paths (OutputMismatch output expected) fit h = absurd 
 
 -- ---- all of them
 
-module _ (in_draft : Bool) (dir name : List ℕ) (kind : Kind) (drv : Drv) (hashes : List (List ℕ)) (paths : List (List ℕ)) (expected : AreExpected dir name kind drv hashes paths) where
+module _ (in_draft : Bool) (dir name : List ℕ) (kind : Kind) (drv : Drv) (hashes : List (List ℕ))
+    (paths : List (List ℕ)) (expected : AreExpected dir name kind drv hashes paths) where
   abbrev Expected : Output → List ℕ → Type 0
   Expected = IsExpected dir name kind drv hashes
 
   -- the expected path of an output at a place is the one beside it
-  at_place : (k : ℕ) (o : Output) → slice_get drv.outputs k ≡ Some o → (path : List ℕ) × (slice_get paths k ≡ Some path) × Expected o path
+  at_place : (k : ℕ) (o : Output) → slice_get drv.outputs k ≡ Some o → (path : List ℕ)
+      × (slice_get paths k ≡ Some path) × Expected o path
   at_place k o at = beside Expected drv.outputs paths k o expected at
 
-  pub paths_fit : FitBefore (PathFits in_draft) drv.outputs paths (length drv.outputs) → PathsFit (FitsIn in_draft) Expected drv
+  pub paths_fit : FitBefore (PathFits in_draft) drv.outputs paths (length drv.outputs)
+      → PathsFit (FitsIn in_draft) Expected drv
   paths_fit fit k d below =
       let at = slice_get-get_or drv.outputs k d below in
       let found = at_place k (get_or drv.outputs k d) at in
       (found.0, found.2, fit k (get_or drv.outputs k d) found.0 below at found.1)
 
-  no_other : (k : ℕ) (o : Output) → slice_get drv.outputs k ≡ Some o → FitBefore (EntriesFit in_draft drv.env) drv.outputs paths (k + 1) → HasOtherEntry (FitsIn in_draft) Expected drv o → ⊥
+  no_other : (k : ℕ) (o : Output) → slice_get drv.outputs k ≡ Some o
+      → FitBefore (EntriesFit in_draft drv.env) drv.outputs paths (k + 1)
+      → HasOtherEntry (FitsIn in_draft) Expected drv o → ⊥
   no_other k o at fit (entry, path, has, key, is, misfit) =
       let found = at_place k o at in
       let one : path ≡ found.0 = one_path dir name kind drv hashes o path found.0 is found.2 in
-      fit k o found.0 (omega arith) at found.1 (entry, has, key, subst (λ (p : List ℕ). FitsIn in_draft entry.value p → ⊥) one misfit)
+      fit k o found.0 (omega arith) at found.1
+      (entry, has, key, subst (λ (p : List ℕ). FitsIn in_draft entry.value p → ⊥) one misfit)
 
-  pub entries_fit : FitBefore (EntriesFit in_draft drv.env) drv.outputs paths (length drv.outputs) → All (λ o. HasOtherEntry (FitsIn in_draft) Expected drv o → ⊥) drv.outputs
+  pub entries_fit : FitBefore (EntriesFit in_draft drv.env) drv.outputs paths (length drv.outputs)
+      → All (λ o. HasOtherEntry (FitsIn in_draft) Expected drv o → ⊥) drv.outputs
   entries_fit fit k d below =
-      no_other k (get_or drv.outputs k d) (slice_get-get_or drv.outputs k d below) (λ j o path before. fit j o path (omega (arith, before)))
+      no_other k (get_or drv.outputs k d) (slice_get-get_or drv.outputs k d below)
+      (λ j o path before. fit j o path (omega (arith, before)))
 
-  pub first_mismatch : (o : Output) (path : List ℕ) → IsFirstPair (PathFits in_draft) (λ p q. PathFits in_draft p q → ⊥) drv.outputs paths o path
-      → IsFirst (λ (p : Output). (q : List ℕ) × Expected p q × (FitsIn in_draft p.path q → ⊥)) drv.outputs o × Expected o path
+  pub first_mismatch : (o : Output) (path : List ℕ)
+      → IsFirstPair (PathFits in_draft) (λ p q. PathFits in_draft p q → ⊥) drv.outputs paths o path
+      → IsFirst (λ (p : Output). (q : List ℕ) × Expected p q × (FitsIn in_draft p.path q → ⊥))
+      drv.outputs o × Expected o path
   first_mismatch o path pair =
       let found = at_place pair.place o pair.is_output in
       let one : found.0 ≡ path = same_Some found.0 path (sym found.1 ∙ pair.is_path) in
@@ -190,15 +243,24 @@ module _ (in_draft : Bool) (dir name : List ℕ) (kind : Kind) (drv : Drv) (hash
           parts = split_get drv.outputs pair.place o pair.is_output;
           holds = (path, here, pair.wrong);
           none = λ k d below (q, is, misfit).
-              let at = slice_get-take drv.outputs pair.place k (get_or (take pair.place drv.outputs) k d) (slice_get-get_or (take pair.place drv.outputs) k d below) in
+              let at = slice_get-take drv.outputs pair.place k
+              (get_or (take pair.place drv.outputs) k d)
+              (slice_get-get_or (take pair.place drv.outputs) k d below) in
               let beside_it = at_place k (get_or (take pair.place drv.outputs) k d) at.1 in
-              let same : q ≡ beside_it.0 = one_path dir name kind drv hashes (get_or (take pair.place drv.outputs) k d) q beside_it.0 is beside_it.2 in
-              misfit (subst (λ (r : List ℕ). FitsIn in_draft (get_or (take pair.place drv.outputs) k d).path r) (sym same) (pair.before k (get_or (take pair.place drv.outputs) k d) beside_it.0 at.0 at.1 beside_it.1));
+              let same : q ≡ beside_it.0 = one_path dir name kind drv hashes
+              (get_or (take pair.place drv.outputs) k d) q beside_it.0 is beside_it.2 in
+              misfit (subst
+              (λ (r : List ℕ). FitsIn in_draft (get_or (take pair.place drv.outputs) k d).path
+              r) (sym same)
+              (pair.before k (get_or (take pair.place drv.outputs) k d) beside_it.0 at.0 at.1
+              beside_it.1));
         },
         here,
       )
 
-  pub first_other : (o : Output) (path : List ℕ) → IsFirstPair (EntriesFit in_draft drv.env) (λ p q. HasMisfit in_draft drv.env p.name q) drv.outputs paths o path
+  pub first_other : (o : Output) (path : List ℕ)
+      → IsFirstPair (EntriesFit in_draft drv.env) (λ p q. HasMisfit in_draft drv.env p.name q)
+      drv.outputs paths o path
       → IsFirst (HasOtherEntry (FitsIn in_draft) Expected drv) drv.outputs o
   first_other o path pair =
       let found = at_place pair.place o pair.is_output in
@@ -210,16 +272,21 @@ module _ (in_draft : Bool) (dir name : List ℕ) (kind : Kind) (drv : Drv) (hash
         parts = split_get drv.outputs pair.place o pair.is_output;
         holds = (pair.wrong.0, path, pair.wrong.1, pair.wrong.2, here, pair.wrong.3);
         none = λ k d below.
-            let at = slice_get-take drv.outputs pair.place k (get_or (take pair.place drv.outputs) k d) (slice_get-get_or (take pair.place drv.outputs) k d below) in
-            no_other k (get_or (take pair.place drv.outputs) k d) at.1 (λ j p q before. pair.before j p q (omega (arith, before, at.0)));
+            let at = slice_get-take drv.outputs pair.place k
+            (get_or (take pair.place drv.outputs) k d)
+            (slice_get-get_or (take pair.place drv.outputs) k d below) in
+            no_other k (get_or (take pair.place drv.outputs) k d) at.1
+            (λ j p q before. pair.before j p q (omega (arith, before, at.0)));
       }
 
   -- what is wrong with the values is what the check answers
-  pub value_is_checked : (used : List Drv) (fault : OutputFault) → AreSound name drv used kind → IsValueFault in_draft drv paths fault
+  pub value_is_checked : (used : List Drv) (fault : OutputFault) → AreSound name drv used kind
+      → IsValueFault in_draft drv paths fault
       → IsOutputsCheck (FitsIn in_draft) dir name drv used hashes (Err fault)
   value_is_checked used (OutputMismatch output path) sound (o, pair, is) =
       let first = first_mismatch o path pair in (kind, sound, (o, first.0, first.1, is))
-  value_is_checked used (EnvMismatch output) sound (fit, (o, path, pair, is)) = (kind, sound, paths_fit fit, (o, first_other o path pair, is))
+  value_is_checked used (EnvMismatch output) sound (fit, (o, path, pair, is)) =
+      (kind, sound, paths_fit fit, (o, first_other o path pair, is))
   value_is_checked used NoMemory sound h = tt
   value_is_checked used MixedOutputs sound h = absurd h
   value_is_checked used (UnknownMethod output) sound h = absurd h
@@ -227,8 +294,10 @@ module _ (in_draft : Bool) (dir name : List ℕ) (kind : Kind) (drv : Drv) (hash
   value_is_checked used (UnknownOutput input output) sound h = absurd h
 
   -- a check that finds nothing
-  pub all_right : (used : List Drv) → AreSound name drv used kind → FitBefore (PathFits in_draft) drv.outputs paths (length drv.outputs)
-      → FitBefore (EntriesFit in_draft drv.env) drv.outputs paths (length drv.outputs) → IsOutputsCheck (FitsIn in_draft) dir name drv used hashes (Ok kind)
+  pub all_right : (used : List Drv) → AreSound name drv used kind
+      → FitBefore (PathFits in_draft) drv.outputs paths (length drv.outputs)
+      → FitBefore (EntriesFit in_draft drv.env) drv.outputs paths (length drv.outputs)
+      → IsOutputsCheck (FitsIn in_draft) dir name drv used hashes (Ok kind)
   all_right used sound fit entries = (sound, paths_fit fit, entries_fit entries)
 
 -- what holds anyway holds where a call succeeds
@@ -236,51 +305,79 @@ pub on_ok : {T E : Type 0} (P : Type 0) (answer : Result T E) → P → IfOk ans
 on_ok P (Ok value) holds = holds
 on_ok P (Err fault) holds = tt
 
-pub addressed_from : (dir name inner : List ℕ) (drv : Drv) (hashes : List (List ℕ)) (outputs : List Output) (answer : Result (Vec (List ℕ) Global) AllocError) → IsMaskedDigest drv hashes inner → outputs ≡ drv.outputs
-    → IfOk answer (λ paths. paths.items ≡ map (output_path dir name inner) outputs) → IfOk answer (λ paths. AreExpected dir name Addressed drv hashes paths.items)
+pub addressed_from : (dir name inner : List ℕ) (drv : Drv) (hashes : List (List ℕ))
+    (outputs : List Output) (answer : Result (Vec (List ℕ) Global) AllocError)
+    → IsMaskedDigest drv hashes inner → outputs ≡ drv.outputs
+    → IfOk answer (λ paths. paths.items ≡ map (output_path dir name inner) outputs)
+    → IfOk answer (λ paths. AreExpected dir name Addressed drv hashes paths.items)
 addressed_from dir name inner drv hashes outputs (Err refused) digest same are = tt
 addressed_from dir name inner drv hashes outputs (Ok paths) digest same are =
-    zipped_from_map (IsExpected dir name Addressed drv hashes) (output_path dir name inner) drv.outputs paths.items
+    zipped_from_map (IsExpected dir name Addressed drv hashes) (output_path dir name inner)
+    drv.outputs paths.items
     (are ∙ ap (map (output_path dir name inner)) same)
-    (λ o. (digest.bytes, digest.is_text, ap (λ (d : List ℕ). store_path (codes "output:" ++ o.name) d dir (path_name name o.name)) digest.is_digest))
+    (λ o. (
+      digest.bytes,
+      digest.is_text,
+      ap (λ (d : List ℕ). store_path (codes "output:" ++ o.name) d dir (path_name name o.name))
+          digest.is_digest,
+    ))
 
 -- ---- uses of several inputs
 
-pub uses_split : (inputs : List Input) (drvs : List Drv) (i : ℕ) (x : Input) (d : Drv) → slice_get inputs i ≡ Some x → slice_get drvs i ≡ Some d
-    → (after : List Use) × (uses inputs drvs ≡ uses (take i inputs) (take i drvs) ++ (uses_of x.path d x.names ++ after))
+pub uses_split : (inputs : List Input) (drvs : List Drv) (i : ℕ) (x : Input) (d : Drv)
+    → slice_get inputs i ≡ Some x → slice_get drvs i ≡ Some d
+    → (after : List Use)
+    × (uses inputs drvs ≡ uses (take i inputs) (take i drvs)
+    ++ (uses_of x.path d x.names ++ after))
 uses_split [] drvs i x d at_x at_d = absurd cc
 uses_split (y ∷ ys) [] i x d at_x at_d = absurd cc
 uses_split (y ∷ ys) (e ∷ es) zero x d at_x at_d =
     let one : y ≡ x = cc in
-    let other : e ≡ d = cc in
-    (uses ys es, ap (λ (z : Input). uses_of z.path e z.names ++ uses ys es) one ∙ ap (λ (f : Drv). uses_of x.path f x.names ++ uses ys es) other)
+    let other : e ≡ d = cc in (
+      uses ys es,
+      ap (λ (z : Input). uses_of z.path e z.names ++ uses ys es) one
+          ∙ ap (λ (f : Drv). uses_of x.path f x.names ++ uses ys es) other,
+    )
 uses_split (y ∷ ys) (e ∷ es) (suc i) x d at_x at_d =
     let later = uses_split ys es i x d at_x at_d in (
       later.0,
       ap (λ (us : List Use). uses_of y.path e y.names ++ us) later.1
-          ∙ sym (append_assoc (uses_of y.path e y.names) (uses (take i ys) (take i es)) (uses_of x.path d x.names ++ later.0)),
+          ∙ sym (append_assoc (uses_of y.path e y.names) (uses (take i ys) (take i es))
+          (uses_of x.path d x.names ++ later.0)),
     )
 
-uses_next : (inputs : List Input) (drvs : List Drv) (i : ℕ) (x : Input) (d : Drv) → slice_get inputs i ≡ Some x → slice_get drvs i ≡ Some d
-    → uses (take (suc i) inputs) (take (suc i) drvs) ≡ uses (take i inputs) (take i drvs) ++ uses_of x.path d x.names
+uses_next : (inputs : List Input) (drvs : List Drv) (i : ℕ) (x : Input) (d : Drv)
+    → slice_get inputs i ≡ Some x → slice_get drvs i ≡ Some d
+    → uses (take (suc i) inputs) (take (suc i) drvs) ≡ uses (take i inputs) (take i drvs)
+    ++ uses_of x.path d x.names
 uses_next [] drvs i x d at_x at_d = absurd cc
 uses_next (y ∷ ys) [] i x d at_x at_d = absurd cc
 uses_next (y ∷ ys) (e ∷ es) zero x d at_x at_d =
     let one : y ≡ x = cc in
     let other : e ≡ d = cc in
-    ap (λ (z : Input). uses_of z.path e z.names ++ []) one ∙ ap (λ (f : Drv). uses_of x.path f x.names ++ []) other ∙ append-nil (uses_of x.path d x.names)
+    ap (λ (z : Input). uses_of z.path e z.names ++ []) one
+    ∙ ap (λ (f : Drv). uses_of x.path f x.names ++ []) other
+    ∙ append-nil (uses_of x.path d x.names)
 uses_next (y ∷ ys) (e ∷ es) (suc i) x d at_x at_d =
     ap (λ (us : List Use). uses_of y.path e y.names ++ us) (uses_next ys es i x d at_x at_d)
-    ∙ sym (append_assoc (uses_of y.path e y.names) (uses (take i ys) (take i es)) (uses_of x.path d x.names))
+    ∙ sym (append_assoc (uses_of y.path e y.names) (uses (take i ys) (take i es))
+    (uses_of x.path d x.names))
 
-pub known_more : (inputs : List Input) (drvs : List Drv) (i : ℕ) (x : Input) (d : Drv) → slice_get inputs i ≡ Some x → slice_get drvs i ≡ Some d
-    → All IsKnownUse (uses (take i inputs) (take i drvs)) → All IsKnownUse (uses_of x.path d x.names) → All IsKnownUse (uses (take (i + 1) inputs) (take (i + 1) drvs))
+pub known_more : (inputs : List Input) (drvs : List Drv) (i : ℕ) (x : Input) (d : Drv)
+    → slice_get inputs i ≡ Some x → slice_get drvs i ≡ Some d
+    → All IsKnownUse (uses (take i inputs) (take i drvs))
+    → All IsKnownUse (uses_of x.path d x.names)
+    → All IsKnownUse (uses (take (i + 1) inputs) (take (i + 1) drvs))
 known_more inputs drvs i x d at_x at_d before here =
     subst (λ (n : ℕ). All IsKnownUse (uses (take n inputs) (take n drvs))) (sym (add-one i))
-    (subst (λ (us : List Use). All IsKnownUse us) (sym (uses_next inputs drvs i x d at_x at_d)) (All-append IsKnownUse (uses (take i inputs) (take i drvs)) (uses_of x.path d x.names) before here))
+    (subst (λ (us : List Use). All IsKnownUse us) (sym (uses_next inputs drvs i x d at_x at_d))
+    (All-append IsKnownUse (uses (take i inputs) (take i drvs)) (uses_of x.path d x.names)
+    before here))
 
-use_fault_within : (before middle after : List Use) (fault : OutputFault) → All IsKnownUse before → IsUseFault middle fault → IsUseFault (before ++ (middle ++ after)) fault
-use_fault_within before middle after (UnknownOutput input output) known (u, first, a, b) = (u, first_within before middle after u known first, a, b)
+use_fault_within : (before middle after : List Use) (fault : OutputFault) → All IsKnownUse before
+    → IsUseFault middle fault → IsUseFault (before ++ (middle ++ after)) fault
+use_fault_within before middle after (UnknownOutput input output) known (u, first, a, b) =
+    (u, first_within before middle after u known first, a, b)
 use_fault_within before middle after NoMemory known h = tt
 use_fault_within before middle after MixedOutputs known h = h
 use_fault_within before middle after (UnknownMethod output) known h = h
@@ -288,25 +385,38 @@ use_fault_within before middle after BadName known h = h
 use_fault_within before middle after (OutputMismatch output expected) known h = h
 use_fault_within before middle after (EnvMismatch output) known h = h
 
-pub use_fault_at : (inputs : List Input) (drvs : List Drv) (i : ℕ) (x : Input) (d : Drv) (fault : OutputFault) → slice_get inputs i ≡ Some x → slice_get drvs i ≡ Some d
-    → All IsKnownUse (uses (take i inputs) (take i drvs)) → IsUseFault (uses_of x.path d x.names) fault → IsUseFault (uses inputs drvs) fault
+pub use_fault_at : (inputs : List Input) (drvs : List Drv) (i : ℕ) (x : Input) (d : Drv)
+    (fault : OutputFault) → slice_get inputs i ≡ Some x → slice_get drvs i ≡ Some d
+    → All IsKnownUse (uses (take i inputs) (take i drvs))
+    → IsUseFault (uses_of x.path d x.names) fault → IsUseFault (uses inputs drvs) fault
 use_fault_at inputs drvs i x d fault at_x at_d before here =
     let split = uses_split inputs drvs i x d at_x at_d in
-    subst (λ (us : List Use). IsUseFault us fault) (sym split.1) (use_fault_within (uses (take i inputs) (take i drvs)) (uses_of x.path d x.names) split.0 fault before here)
+    subst (λ (us : List Use). IsUseFault us fault) (sym split.1)
+    (use_fault_within (uses (take i inputs) (take i drvs)) (uses_of x.path d x.names) split.0
+    fault before here)
 
 -- ---- entries under a name
 
-places_one : (keys : List (List ℕ)) (i j : ℕ) (key : List ℕ) → IsRising keys → slice_get keys i ≡ Some key → slice_get keys j ≡ Some key → i < j → ⊥
+places_one : (keys : List (List ℕ)) (i j : ℕ) (key : List ℕ) → IsRising keys → slice_get keys i
+    ≡ Some key → slice_get keys j ≡ Some key → i < j → ⊥
 places_one keys i j key rises at_i at_j before =
-    let less : slice_cmp nat_cmp (get_or keys i []) (get_or keys j []) ≡ Less = Less-from_sorted (slice_cmp nat_cmp) keys i j [] (sorted_from_rising keys rises) before (slice_get_within keys j key at_j) in
-    let here : slice_cmp nat_cmp key key ≡ Less = rw (get_or_from_slice_get keys i key [] at_i, get_or_from_slice_get keys j key [] at_j) at less in
+    let less : slice_cmp nat_cmp (get_or keys i []) (get_or keys j [])
+    ≡ Less = Less-from_sorted (slice_cmp nat_cmp) keys i j [] (sorted_from_rising keys rises)
+    before (slice_get_within keys j key at_j) in
+    let here : slice_cmp nat_cmp key key ≡ Less =
+    rw (get_or_from_slice_get keys i key [] at_i, get_or_from_slice_get keys j key [] at_j) at
+    less in
     not_below_itself key here
 
-one_entry : (env : List EnvEntry) (i j : ℕ) (a b : EnvEntry) → IsRising (map (λ (e : EnvEntry). e.key) env) → slice_get env i ≡ Some a → slice_get env j ≡ Some b → a.key ≡ b.key → a ≡ b
+one_entry : (env : List EnvEntry) (i j : ℕ) (a b : EnvEntry)
+    → IsRising (map (λ (e : EnvEntry). e.key) env) → slice_get env i ≡ Some a → slice_get env j
+    ≡ Some b → a.key ≡ b.key → a ≡ b
 one_entry env i j a b rises at_a at_b same =
     let keys = map (λ (e : EnvEntry). e.key) env in
-    let key_a : slice_get keys i ≡ Some a.key = slice_get-map (λ (e : EnvEntry). e.key) env i ∙ ap (option_map (λ (e : EnvEntry). e.key)) at_a in
-    let key_b : slice_get keys j ≡ Some a.key = slice_get-map (λ (e : EnvEntry). e.key) env j ∙ ap (option_map (λ (e : EnvEntry). e.key)) at_b ∙ ap (λ (k : List ℕ). Some k) (sym same) in
+    let key_a : slice_get keys i ≡ Some a.key = slice_get-map (λ (e : EnvEntry). e.key) env i
+    ∙ ap (option_map (λ (e : EnvEntry). e.key)) at_a in
+    let key_b : slice_get keys j ≡ Some a.key = slice_get-map (λ (e : EnvEntry). e.key) env j
+    ∙ ap (option_map (λ (e : EnvEntry). e.key)) at_b ∙ ap (λ (k : List ℕ). Some k) (sym same) in
     elim (cases_lt i j) [
       | inl before ↦ absurd (places_one keys i j a.key rises key_a key_b before)
       | inr not_before ↦ elim (cases_lt j i) [
@@ -317,36 +427,65 @@ one_entry env i j a b rises at_a at_b same =
       ]
     ]
 
-pub entry_answer : (in_draft : Bool) (env : List EnvEntry) (name path : List ℕ) (answer : Bool) (place : ℕ) (entry : EnvEntry) → IsRising (map (λ (e : EnvEntry). e.key) env)
-    → slice_get (map (λ (e : EnvEntry). e.key) env) place ≡ Some name → slice_get env place ≡ Some entry → MatchBool answer (FitsIn in_draft entry.value path) (FitsIn in_draft entry.value path → ⊥)
+pub entry_answer : (in_draft : Bool) (env : List EnvEntry) (name path : List ℕ) (answer : Bool)
+    (place : ℕ) (entry : EnvEntry) → IsRising (map (λ (e : EnvEntry). e.key) env)
+    → slice_get (map (λ (e : EnvEntry). e.key) env) place ≡ Some name → slice_get env place
+    ≡ Some entry → MatchBool answer (FitsIn in_draft entry.value path)
+    (FitsIn in_draft entry.value path → ⊥)
     → MatchBool answer (HasMisfit in_draft env name path → ⊥) (HasMisfit in_draft env name path)
-entry_answer in_draft env name path true place entry rises at_key at fits = λ (other, has, key, misfit).
+entry_answer in_draft env name path true place entry rises at_key at fits =
+    λ (other, has, key, misfit).
     let found = slice_get-Contains env other has in
-    let here : Some entry.key ≡ Some name = sym (slice_get-map (λ (e : EnvEntry). e.key) env place ∙ ap (option_map (λ (e : EnvEntry). e.key)) at) ∙ at_key in
-    let same : other ≡ entry = one_entry env found.0 place other entry rises found.2 at (key ∙ sym (same_Some entry.key name here)) in
+    let here : Some entry.key ≡ Some name = sym
+    (slice_get-map (λ (e : EnvEntry). e.key) env place
+    ∙ ap (option_map (λ (e : EnvEntry). e.key)) at) ∙ at_key in
+    let same : other ≡ entry = one_entry env found.0 place other entry rises found.2 at
+    (key ∙ sym (same_Some entry.key name here)) in
     misfit (subst (λ (e : EnvEntry). FitsIn in_draft e.value path) (sym same) fits)
 entry_answer in_draft env name path false place entry rises at_key at fits =
-    let here : Some entry.key ≡ Some name = sym (slice_get-map (λ (e : EnvEntry). e.key) env place ∙ ap (option_map (λ (e : EnvEntry). e.key)) at) ∙ at_key in
+    let here : Some entry.key ≡ Some name = sym
+    (slice_get-map (λ (e : EnvEntry). e.key) env place
+    ∙ ap (option_map (λ (e : EnvEntry). e.key)) at) ∙ at_key in
     (entry, Contains-slice_get env place entry at, same_Some entry.key name here, fits)
 
 -- outputs that fit, seen otherwise
-pub fit_moved : (Fits : Output → List ℕ → Type 0) (outputs others : List Output) (paths : List (List ℕ)) (n m : ℕ) → outputs ≡ others → n ≡ m → FitBefore Fits outputs paths n → FitBefore Fits others paths m
+pub fit_moved : (Fits : Output → List ℕ → Type 0) (outputs others : List Output)
+    (paths : List (List ℕ)) (n m : ℕ) → outputs ≡ others → n ≡ m → FitBefore Fits outputs paths n
+    → FitBefore Fits others paths m
 fit_moved Fits outputs others paths n m same long fit = λ k o path below at_o at_path.
     fit k o path (omega arith) (ap (λ (os : List Output). slice_get os k) same ∙ at_o) at_path
 
-pub env_mismatch : (in_draft : Bool) (env : List EnvEntry) (outputs : List Output) (paths : List (List ℕ)) (i : ℕ) (o : Output) (path : List ℕ) (fault : OutputFault)
-    → slice_get outputs i ≡ Some o → slice_get paths i ≡ Some path → FitBefore (EntriesFit in_draft env) outputs paths i → HasMisfit in_draft env o.name path
+pub env_mismatch : (in_draft : Bool) (env : List EnvEntry) (outputs : List Output)
+    (paths : List (List ℕ)) (i : ℕ) (o : Output) (path : List ℕ) (fault : OutputFault)
+    → slice_get outputs i ≡ Some o → slice_get paths i ≡ Some path
+    → FitBefore (EntriesFit in_draft env) outputs paths i → HasMisfit in_draft env o.name path
     → IsEnvMismatch o.name fault → IsEnvFault in_draft env outputs paths fault
-env_mismatch in_draft env outputs paths i o path (EnvMismatch output) at_o at_path before wrong h =
-    (o, path, record { place = i; is_output = at_o; is_path = at_path; wrong = wrong; before = before }, h)
+env_mismatch in_draft env outputs paths i o path (EnvMismatch output) at_o at_path before wrong h = (
+  o,
+  path,
+  record {
+    place = i;
+    is_output = at_o;
+    is_path = at_path;
+    wrong = wrong;
+    before = before;
+  },
+  h,
+)
 env_mismatch in_draft env outputs paths i o path NoMemory at_o at_path before wrong h = tt
 env_mismatch in_draft env outputs paths i o path MixedOutputs at_o at_path before wrong h = h
-env_mismatch in_draft env outputs paths i o path (UnknownMethod output) at_o at_path before wrong h = h
+env_mismatch in_draft env outputs paths i o path (UnknownMethod output) at_o at_path before wrong
+    h = h
 env_mismatch in_draft env outputs paths i o path BadName at_o at_path before wrong h = h
-env_mismatch in_draft env outputs paths i o path (UnknownOutput input output) at_o at_path before wrong h = h
-env_mismatch in_draft env outputs paths i o path (OutputMismatch output expected) at_o at_path before wrong h = h
+env_mismatch in_draft env outputs paths i o path (UnknownOutput input output) at_o at_path before
+    wrong h = h
+env_mismatch in_draft env outputs paths i o path (OutputMismatch output expected) at_o at_path
+    before wrong h = h
 
 -- where no entry has a key, none misfits
-pub no_misfit : (in_draft : Bool) (env : List EnvEntry) (key name path : List ℕ) → (Contains (map (λ (e : EnvEntry). e.key) env) key → ⊥) → key ≡ name → HasMisfit in_draft env name path → ⊥
+pub no_misfit : (in_draft : Bool) (env : List EnvEntry) (key name path : List ℕ)
+    → (Contains (map (λ (e : EnvEntry). e.key) env) key → ⊥) → key ≡ name
+    → HasMisfit in_draft env name path → ⊥
 no_misfit in_draft env key name path none same (entry, has, is, misfit) =
-    none (subst (λ (k : List ℕ). Contains (map (λ (e : EnvEntry). e.key) env) k) (is ∙ sym same) (Contains-map (λ (e : EnvEntry). e.key) env entry has))
+    none (subst (λ (k : List ℕ). Contains (map (λ (e : EnvEntry). e.key) env) k) (is ∙ sym same)
+    (Contains-map (λ (e : EnvEntry). e.key) env entry has))

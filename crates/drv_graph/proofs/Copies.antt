@@ -12,9 +12,12 @@ use Rattle.drv_graph.specs.PlanNodes.{AreKept, HasHash, IsKept, IsSameNode, node
 use Rattle.drv_graph.specs.declared.node.PlanNode.{PlanNode}
 
 -- one path more was copied
-pub copied_more : (paths copies : List (List ℕ)) (i : ℕ) (path copy : List ℕ) → i < length paths → path ≡ get_or paths i path → copies ≡ take i paths → copy ≡ path → copies ++ copy ∷ [] ≡ take (i + 1) paths
+pub copied_more : (paths copies : List (List ℕ)) (i : ℕ) (path copy : List ℕ) → i < length paths
+    → path ≡ get_or paths i path → copies ≡ take i paths → copy ≡ path → copies ++ copy ∷ []
+    ≡ take (i + 1) paths
 copied_more paths copies i path copy lt is same copied =
-    ap (λ l. l ++ copy ∷ []) same ∙ ap (λ p. take i paths ++ p ∷ []) (copied ∙ is) ∙ sym (take_more paths i path lt)
+    ap (λ l. l ++ copy ∷ []) same ∙ ap (λ p. take i paths ++ p ∷ []) (copied ∙ is)
+    ∙ sym (take_more paths i path lt)
 
 -- copies are seen as the same nodes
 pub same_nodes : (xs ys : List PlanNode) → AllZip IsSameNode xs ys → nodes_of ys ≡ nodes_of xs
@@ -28,28 +31,43 @@ same_nodes (x ∷ xs) (y ∷ ys) zip =
 
 same_kept : (nodes : List Node) (x y : PlanNode) → IsSameNode x y → IsKept nodes x → IsKept nodes y
 same_kept nodes x y same right = record {
-  numbers = subst (λ ns. AreNumbers nodes ns (inputs_of y.drv)) (sym same.inputs) (subst (λ d. AreNumbers nodes x.inputs.items (inputs_of d)) (sym same.drv) right.numbers);
-  has_kind = subst (λ k. HasKind y.drv k) (sym same.kind) (subst (λ d. HasKind d x.kind) (sym same.drv) right.has_kind);
-  has_hash = subst (λ h. HasHash nodes y.drv y.kind h) (sym same.hash) (subst (λ k. HasHash nodes y.drv k x.hash) (sym same.kind) (subst (λ d. HasHash nodes d x.kind x.hash) (sym same.drv) right.has_hash));
+  numbers = subst (λ ns. AreNumbers nodes ns (inputs_of y.drv)) (sym same.inputs)
+      (subst (λ d. AreNumbers nodes x.inputs.items (inputs_of d)) (sym same.drv) right.numbers);
+  has_kind = subst (λ k. HasKind y.drv k) (sym same.kind)
+      (subst (λ d. HasKind d x.kind) (sym same.drv) right.has_kind);
+  has_hash = subst (λ h. HasHash nodes y.drv y.kind h) (sym same.hash)
+      (subst (λ k. HasHash nodes y.drv k x.hash) (sym same.kind)
+      (subst (λ d. HasHash nodes d x.kind x.hash) (sym same.drv) right.has_hash));
   outputs = same.outputs ∙ right.outputs ∙ ap (λ d. output_paths_of d) (sym same.drv);
   sources = same.sources ∙ right.sources ∙ ap (λ d. d.sources) (sym same.drv);
 }
 
-all_kept : (nodes : List Node) (xs ys : List PlanNode) → AllZip IsSameNode xs ys → All (IsKept nodes) xs → All (IsKept nodes) ys
+all_kept : (nodes : List Node) (xs ys : List PlanNode) → AllZip IsSameNode xs ys
+    → All (IsKept nodes) xs → All (IsKept nodes) ys
 all_kept nodes [] [] zip right = right
 all_kept nodes [] (y ∷ ys) zip right = absurd zip
 all_kept nodes (x ∷ xs) [] zip right = absurd zip
 all_kept nodes (x ∷ xs) (y ∷ ys) zip right =
-    All-cons (IsKept nodes) y ys (same_kept nodes x y zip.0 (All-head (IsKept nodes) x xs right)) (all_kept nodes xs ys zip.1 (All-tail (IsKept nodes) x xs right))
+    All-cons (IsKept nodes) y ys (same_kept nodes x y zip.0 (All-head (IsKept nodes) x xs right))
+    (all_kept nodes xs ys zip.1 (All-tail (IsKept nodes) x xs right))
 
 -- copies are kept right
 pub kept_copies : (xs ys : List PlanNode) → AllZip IsSameNode xs ys → AreKept xs → AreKept ys
-kept_copies xs ys zip right = subst (λ ns. All (IsKept ns) ys) (sym (same_nodes xs ys zip)) (all_kept (nodes_of xs) xs ys zip right)
+kept_copies xs ys zip right = subst (λ ns. All (IsKept ns) ys) (sym (same_nodes xs ys zip))
+    (all_kept (nodes_of xs) xs ys zip right)
 
 -- a copied plan is seen as the same graph
-pub same_graph : (xs ys : List PlanNode) (roots others : List ℕ) → AllZip IsSameNode xs ys → others ≡ roots → ◌≡◌ {A = Graph} (record { nodes = nodes_of ys; roots = others }) (record { nodes = nodes_of xs; roots = roots })
+pub same_graph : (xs ys : List PlanNode) (roots others : List ℕ) → AllZip IsSameNode xs ys → others
+    ≡ roots → ◌≡◌ {A = Graph} (record { nodes = nodes_of ys; roots = others })
+    (record { nodes = nodes_of xs; roots = roots })
 same_graph xs ys roots others zip same = let nodes = same_nodes xs ys zip in cc
 
 -- and is right
-pub copy_sound : (xs ys : List PlanNode) (roots others : List ℕ) → AllZip IsSameNode xs ys → others ≡ roots → AreKept xs × IsSound (record { nodes = nodes_of xs; roots = roots }) → AreKept ys × IsSound (record { nodes = nodes_of ys; roots = others })
-copy_sound xs ys roots others zip same right = (kept_copies xs ys zip right.0, subst IsSound (sym (same_graph xs ys roots others zip same)) right.1)
+pub copy_sound : (xs ys : List PlanNode) (roots others : List ℕ) → AllZip IsSameNode xs ys → others
+    ≡ roots → AreKept xs × IsSound (record { nodes = nodes_of xs; roots = roots }) → AreKept ys
+    × IsSound (record { nodes = nodes_of ys; roots = others })
+copy_sound xs ys roots others zip same right = (
+  kept_copies xs ys zip right.0,
+  subst IsSound (sym (same_graph xs ys roots others zip same))
+      right.1,
+)

@@ -24,38 +24,51 @@ use Rattle.drv_graph.proofs.PathLists.{contains_from_get, same_place}
 -- ---- outputs
 
 -- one path more changes one output more
-place_set : (os : List Output) (ps : List (List ℕ)) (i : ℕ) (o : Output) (p : List ℕ) → slice_get os i ≡ Some o → slice_get ps i ≡ Some p
-    → placed_outputs os (take (suc i) ps) ≡ set (placed_outputs os (take i ps)) i (placed_output o p)
+place_set : (os : List Output) (ps : List (List ℕ)) (i : ℕ) (o : Output) (p : List ℕ)
+    → slice_get os i ≡ Some o → slice_get ps i ≡ Some p
+    → placed_outputs os (take (suc i) ps) ≡ set (placed_outputs os (take i ps)) i
+    (placed_output o p)
 place_set [] ps i o p at_o at_p = absurd (none-some o at_o)
 place_set (x ∷ os) [] i o p at_o at_p = absurd (none-some p at_p)
 place_set (x ∷ os) (q ∷ ps) zero o p at_o at_p =
-    ap (λ (y : Output). placed_output y q ∷ os) (same_Some x o at_o) ∙ ap (λ (r : List ℕ). placed_output o r ∷ os) (same_Some q p at_p)
-place_set (x ∷ os) (q ∷ ps) (suc i) o p at_o at_p = ap (λ (rest : List Output). placed_output x q ∷ rest) (place_set os ps i o p at_o at_p)
+    ap (λ (y : Output). placed_output y q ∷ os) (same_Some x o at_o)
+    ∙ ap (λ (r : List ℕ). placed_output o r ∷ os) (same_Some q p at_p)
+place_set (x ∷ os) (q ∷ ps) (suc i) o p at_o at_p =
+    ap (λ (rest : List Output). placed_output x q ∷ rest) (place_set os ps i o p at_o at_p)
 
 -- the outputs behind are as they were
-unplaced : (os : List Output) (ps : List (List ℕ)) (i : ℕ) → slice_get (placed_outputs os (take i ps)) i ≡ slice_get os i
+unplaced : (os : List Output) (ps : List (List ℕ)) (i : ℕ)
+    → slice_get (placed_outputs os (take i ps)) i ≡ slice_get os i
 unplaced os [] zero = refl
 unplaced os [] (suc i) = refl
 unplaced os (q ∷ ps) zero = refl
 unplaced [] (q ∷ ps) (suc i) = refl
 unplaced (x ∷ os) (q ∷ ps) (suc i) = unplaced os ps i
 
-pub place_more : (old now after : List OutputStruct) (paths : List (List ℕ)) (i : ℕ) (x d : OutputStruct) (path : List ℕ) → i < length now
-    → slice_get paths i ≡ Some path → map output_of now ≡ placed_outputs (map output_of old) (take i paths) → after ≡ set now i x
-    → output_of x ≡ placed_output (output_of (get_or now i d)) path → map output_of after ≡ placed_outputs (map output_of old) (take (i + 1) paths)
+pub place_more : (old now after : List OutputStruct) (paths : List (List ℕ)) (i : ℕ)
+    (x d : OutputStruct) (path : List ℕ) → i < length now
+    → slice_get paths i ≡ Some path → map output_of now
+    ≡ placed_outputs (map output_of old) (take i paths) → after ≡ set now i x
+    → output_of x ≡ placed_output (output_of (get_or now i d)) path → map output_of after
+    ≡ placed_outputs (map output_of old) (take (i + 1) paths)
 place_more old now after paths i x d path below at same is made =
     let was : Output = output_of (get_or now i d) in
     let next : suc i ≡ i + 1 = omega arith in
     let here : slice_get (map output_of now) i ≡ Some was =
-    slice_get-get_or (map output_of now) i was (omega (arith, length-map now output_of)) ∙ ap Some (get_or-map output_of now i d was below) in
-    let there : slice_get (map output_of old) i ≡ Some was = sym (unplaced (map output_of old) paths i) ∙ ap (λ (os : List Output). slice_get os i) (sym same) ∙ here in
-    ap (map output_of) is ∙ map-set output_of now i x ∙ ap (λ (os : List Output). set os i (output_of x)) same
+    slice_get-get_or (map output_of now) i was (omega (arith, length-map now output_of))
+    ∙ ap Some (get_or-map output_of now i d was below) in
+    let there : slice_get (map output_of old) i
+    ≡ Some was = sym (unplaced (map output_of old) paths i)
+    ∙ ap (λ (os : List Output). slice_get os i) (sym same) ∙ here in
+    ap (map output_of) is ∙ map-set output_of now i x
+    ∙ ap (λ (os : List Output). set os i (output_of x)) same
     ∙ ap (set (placed_outputs (map output_of old) (take i paths)) i) made
     ∙ sym (place_set (map output_of old) paths i was path there at)
     ∙ ap (λ (n : ℕ). placed_outputs (map output_of old) (take n paths)) next
 
 -- names are as they were
-pub same_names : (os : List Output) (ps : List (List ℕ)) → names_of (placed_outputs os ps) ≡ names_of os
+pub same_names : (os : List Output) (ps : List (List ℕ)) → names_of (placed_outputs os ps)
+    ≡ names_of os
 same_names os [] = refl
 same_names [] (p ∷ ps) = refl
 same_names (o ∷ os) (p ∷ ps) = ap (λ (names : List (List ℕ)). o.name ∷ names) (same_names os ps)
@@ -63,42 +76,62 @@ same_names (o ∷ os) (p ∷ ps) = ap (λ (names : List (List ℕ)). o.name ∷ 
 -- ---- entries
 
 -- an entry under a name has the path beside it
-pub entry_under : (names paths : List (List ℕ)) (draft filled : EnvEntry) (place : ℕ) (path : List ℕ) → IsRising names → slice_get names place ≡ Some draft.key
-    → slice_get paths place ≡ Some path → filled.key ≡ draft.key → filled.value ≡ placed draft.value path → IsPlacedEntry names paths draft filled
+pub entry_under : (names paths : List (List ℕ)) (draft filled : EnvEntry) (place : ℕ)
+    (path : List ℕ) → IsRising names → slice_get names place ≡ Some draft.key
+    → slice_get paths place ≡ Some path → filled.key ≡ draft.key → filled.value
+    ≡ placed draft.value path → IsPlacedEntry names paths draft filled
 entry_under names paths draft filled place path rising at at_path same is = record {
   key = same;
   named = λ other beside at_other at_beside.
-      let one : place ≡ other = same_place names place other draft.key (distinct_from_rising names rising) at at_other in
-      is ∙ ap (placed draft.value) (same_Some path beside (sym at_path ∙ ap (slice_get paths) one ∙ at_beside));
+      let one : place ≡ other = same_place names place other draft.key
+      (distinct_from_rising names rising) at at_other in
+      is ∙ ap (placed draft.value)
+      (same_Some path beside (sym at_path ∙ ap (slice_get paths) one ∙ at_beside));
   other = λ none. absurd (none (contains_from_get names place draft.key at));
 }
 
 -- another entry stays
-pub entry_other : (names paths : List (List ℕ)) (draft : EnvEntry) → (Contains names draft.key → ⊥) → IsPlacedEntry names paths draft draft
+pub entry_other : (names paths : List (List ℕ)) (draft : EnvEntry) → (Contains names draft.key → ⊥)
+    → IsPlacedEntry names paths draft draft
 entry_other names paths draft none = record {
   key = refl;
   named = λ place path at at_path. absurd (none (contains_from_get names place draft.key at));
   other = λ again. refl;
 }
 
-same_keys : (names paths : List (List ℕ)) (draft filled : List EnvEntry) → AllZip (IsPlacedEntry names paths) draft filled
+same_keys : (names paths : List (List ℕ)) (draft filled : List EnvEntry)
+    → AllZip (IsPlacedEntry names paths) draft filled
     → map (λ (e : EnvEntry). e.key) filled ≡ map (λ (e : EnvEntry). e.key) draft
 same_keys names paths [] [] zip = refl
 same_keys names paths [] (f ∷ fs) zip = absurd zip
 same_keys names paths (d ∷ ds) [] zip = absurd zip
 same_keys names paths (d ∷ ds) (f ∷ fs) zip =
-    ap (λ (k : List ℕ). k ∷ map (λ (e : EnvEntry). e.key) fs) zip.0.key ∙ ap (λ (ks : List (List ℕ)). d.key ∷ ks) (same_keys names paths ds fs zip.1)
+    ap (λ (k : List ℕ). k ∷ map (λ (e : EnvEntry). e.key) fs) zip.0.key
+    ∙ ap (λ (ks : List (List ℕ)). d.key ∷ ks) (same_keys names paths ds fs zip.1)
 
 -- ---- parts
 
-pub placed_parts : (parts : Parts) (draft : Drv) (outputs : List OutputStruct) (env : List EntryStruct) (paths : List (List ℕ)) → drv_of parts ≡ draft
-    → length outputs ≡ parts.outputs.len → length env ≡ parts.env.len → map output_of outputs ≡ placed_outputs (map output_of parts.outputs.items) paths
-    → AllZip (IsPlacedEntry (names_of draft.outputs) paths) (map entry_of parts.env.items) (map entry_of env)
-    → IsPlaced paths draft (drv_of (record parts { outputs = with_items parts.outputs outputs; env = with_items parts.env env }))
+pub placed_parts : (parts : Parts) (draft : Drv) (outputs : List OutputStruct)
+    (env : List EntryStruct) (paths : List (List ℕ)) → drv_of parts ≡ draft
+    → length outputs ≡ parts.outputs.len → length env ≡ parts.env.len → map output_of outputs
+    ≡ placed_outputs (map output_of parts.outputs.items) paths
+    → AllZip (IsPlacedEntry (names_of draft.outputs) paths) (map entry_of parts.env.items)
+    (map entry_of env)
+    → IsPlaced paths draft
+    (drv_of (record parts {
+      outputs = with_items parts.outputs outputs;
+      env = with_items parts.env env;
+    }))
 placed_parts parts draft outputs env paths view long_outputs long_env are_outputs are_env =
-    let made : Drv = drv_of (record parts { outputs = with_items parts.outputs outputs; env = with_items parts.env env }) in
-    let entries : AllZip (IsPlacedEntry (names_of (map output_of parts.outputs.items)) paths) (map entry_of parts.env.items) (map entry_of env) =
-    subst (λ (d : Drv). AllZip (IsPlacedEntry (names_of d.outputs) paths) (map entry_of parts.env.items) (map entry_of env)) (sym view) are_env in
+    let made : Drv =
+    drv_of (record parts {
+      outputs = with_items parts.outputs outputs;
+      env = with_items parts.env env;
+    }) in
+    let entries : AllZip (IsPlacedEntry (names_of (map output_of parts.outputs.items)) paths)
+    (map entry_of parts.env.items) (map entry_of env) =
+    subst (λ (d : Drv). AllZip (IsPlacedEntry (names_of d.outputs) paths)
+    (map entry_of parts.env.items) (map entry_of env)) (sym view) are_env in
     subst (λ (d : Drv). IsPlaced paths d made) view
     (record {
       outputs = ap (map output_of) (with_items_is parts.outputs outputs long_outputs) ∙ are_outputs;
@@ -107,7 +140,9 @@ placed_parts parts draft outputs env paths view long_outputs long_env are_output
       system = refl;
       builder = refl;
       args = refl;
-      env = subst (λ (es : List EntryStruct). AllZip (IsPlacedEntry (names_of (map output_of parts.outputs.items)) paths) (map entry_of parts.env.items) (map entry_of es))
+      env = subst (λ (es : List EntryStruct).
+          AllZip (IsPlacedEntry (names_of (map output_of parts.outputs.items)) paths)
+          (map entry_of parts.env.items) (map entry_of es))
           (sym (with_items_is parts.env env long_env)) entries;
     })
 
@@ -124,24 +159,45 @@ each_entry [] = tt
 each_entry (e ∷ es) = ((tt, (tt, (tt, (tt, tt)))), each_entry es)
 
 -- a draft keeps the order rules when paths are put into its empty places
-pub placed_order : (paths : List (List ℕ)) (draft filled : Drv) → IsPlaced paths draft filled → InOrder derivation_form (drv_value draft) → InOrder derivation_form (drv_value filled)
+pub placed_order : (paths : List (List ℕ)) (draft filled : Drv) → IsPlaced paths draft filled
+    → InOrder derivation_form (drv_value draft) → InOrder derivation_form (drv_value filled)
 unfolding KeysRise
 placed_order paths draft filled is ordered =
-    let h : KeysRise derivation_form (drv_value draft) = (order_means_rising derivation_form (drv_value draft)).0 ordered in
-    let names : map (key output_form) (map output_value draft.outputs) ≡ map (key output_form) (map output_value filled.outputs) =
-    map-map (key output_form) output_value draft.outputs ∙ sym (ap names_of is.outputs ∙ same_names draft.outputs paths) ∙ sym (map-map (key output_form) output_value filled.outputs) in
-    let keys : map (key entry_form) (map entry_value draft.env) ≡ map (key entry_form) (map entry_value filled.env) =
-    map-map (key entry_form) entry_value draft.env ∙ sym (same_keys (names_of draft.outputs) paths draft.env filled.env is.env) ∙ sym (map-map (key entry_form) entry_value filled.env) in
-    let outputs : KeysRise (Many Rising output_form) (map output_value filled.outputs) = (subst IsRising names h.1.0.0, each_output filled.outputs) in
+    let h : KeysRise derivation_form (drv_value draft) =
+    (order_means_rising derivation_form (drv_value draft)).0 ordered in
+    let names : map (key output_form) (map output_value draft.outputs)
+    ≡ map (key output_form) (map output_value filled.outputs) =
+    map-map (key output_form) output_value draft.outputs
+    ∙ sym (ap names_of is.outputs ∙ same_names draft.outputs paths)
+    ∙ sym (map-map (key output_form) output_value filled.outputs) in
+    let keys : map (key entry_form) (map entry_value draft.env)
+    ≡ map (key entry_form) (map entry_value filled.env) =
+    map-map (key entry_form) entry_value draft.env
+    ∙ sym (same_keys (names_of draft.outputs) paths draft.env filled.env is.env)
+    ∙ sym (map-map (key entry_form) entry_value filled.env) in
+    let outputs : KeysRise (Many Rising output_form) (map output_value filled.outputs) =
+    (subst IsRising names h.1.0.0, each_output filled.outputs) in
     let inputs : KeysRise (Many Rising input_form) (map input_value filled.inputs) =
-    subst (λ (is : List Input). KeysRise (Many Rising input_form) (map input_value is)) (sym is.inputs) h.1.1.1.0 in
-    let sources : KeysRise (Many Rising Str) filled.sources = subst (KeysRise (Many Rising Str)) (sym is.sources) h.1.1.1.1.1.0 in
-    let args : KeysRise (Many Free Str) filled.args = subst (KeysRise (Many Free Str)) (sym is.args) h.1.1.1.1.1.1.1.1.1.1.1.0 in
-    let env : KeysRise (Many Rising entry_form) (map entry_value filled.env) = (subst IsRising keys h.1.1.1.1.1.1.1.1.1.1.1.1.1.0.0, each_entry filled.env) in
-    (order_means_rising derivation_form (drv_value filled)).1 (tt, (outputs, (tt, (inputs, (tt, (sources, (tt, (tt, (tt, (tt, (tt, (args, (tt, (env, tt))))))))))))))
+    subst (λ (is : List Input). KeysRise (Many Rising input_form) (map input_value is))
+    (sym is.inputs) h.1.1.1.0 in
+    let sources : KeysRise (Many Rising Str) filled.sources =
+    subst (KeysRise (Many Rising Str)) (sym is.sources) h.1.1.1.1.1.0 in
+    let args : KeysRise (Many Free Str) filled.args =
+    subst (KeysRise (Many Free Str)) (sym is.args) h.1.1.1.1.1.1.1.1.1.1.1.0 in
+    let env : KeysRise (Many Rising entry_form) (map entry_value filled.env) =
+    (subst IsRising keys h.1.1.1.1.1.1.1.1.1.1.1.1.1.0.0, each_entry filled.env) in
+    (order_means_rising derivation_form (drv_value filled)).1 (
+      tt,
+      (
+        outputs,
+        (tt, (inputs, (tt, (sources, (tt, (tt, (tt, (tt, (tt, (args, (tt, (env, tt)))))))))))),
+      ),
+    )
 
 -- the paths of inputs rise
-pub inputs_rise : (draft : Drv) → InOrder derivation_form (drv_value draft) → IsRising (inputs_of draft)
+pub inputs_rise : (draft : Drv) → InOrder derivation_form (drv_value draft)
+    → IsRising (inputs_of draft)
 unfolding KeysRise
 inputs_rise draft ordered =
-    subst IsRising (map-map (key input_form) input_value draft.inputs) ((order_means_rising derivation_form (drv_value draft)).0 ordered).1.1.1.0.0
+    subst IsRising (map-map (key input_form) input_value draft.inputs)
+    ((order_means_rising derivation_form (drv_value draft)).0 ordered).1.1.1.0.0

@@ -8,21 +8,26 @@ use Rattle.drv_graph.specs.Nodes.{Node}
 use Rattle.drv_graph.specs.Plans.{Graph}
 
 -- two tests, each of one part
-both_parts : {P Q R : Type 0} (a b : Bool) → Decides a P → Decides b Q → (P → Q → R) → (R → P) → (R → Q) → Decides (a && b) R
-both_parts a b first second join one two =
-    (λ h. let parts = and_parts a b h in join (first.0 parts.0) (second.0 parts.1), λ r. and_from a b (first.1 (one r)) (second.1 (two r)))
+both_parts : {P Q R : Type 0} (a b : Bool) → Decides a P → Decides b Q → (P → Q → R) → (R → P)
+    → (R → Q) → Decides (a && b) R
+both_parts a b first second join one two = (
+  λ h. let parts = and_parts a b h in join (first.0 parts.0) (second.0 parts.1),
+  λ r. and_from a b (first.1 (one r)) (second.1 (two r)),
+)
 
 module _ (drvs : EqualDerivationsAreSame) where
   nodes_decide : (a b : Node) → Decides (same_node a b) (a ≡ b)
   nodes_decide a b =
-      both_parts (pointwise nat_eq a.path b.path) (same_drv a.drv b.drv) (bytes_decides a.path b.path) (drvs a.drv b.drv)
+      both_parts (pointwise nat_eq a.path b.path) (same_drv a.drv b.drv)
+      (bytes_decides a.path b.path) (drvs a.drv b.drv)
       (λ p q j. record { path = p j; drv = q j })
       (λ e. ap (λ (n : Node). n.path) e)
       (λ e. ap (λ (n : Node). n.drv) e)
 
   pub equal_plans_are_same : EqualPlansAreSame
   equal_plans_are_same a b =
-      both_parts (pointwise nat_eq a.roots b.roots) (pointwise same_node a.nodes b.nodes) (bytes_decides a.roots b.roots) (pointwise_decides nodes_decide a.nodes b.nodes)
+      both_parts (pointwise nat_eq a.roots b.roots) (pointwise same_node a.nodes b.nodes)
+      (bytes_decides a.roots b.roots) (pointwise_decides nodes_decide a.nodes b.nodes)
       (λ p q j. record { nodes = q j; roots = p j })
       (λ e. ap (λ (g : Graph). g.roots) e)
       (λ e. ap (λ (g : Graph). g.nodes) e)

@@ -40,7 +40,8 @@ use Rattle.drv_graph.proofs.UsedNodes.{used_drvs, used_hashes, used_paths}
 
 -- ---- the draft's references
 
-pub stray_draft : (dir : List ℕ) (paths : List (List ℕ)) (fault : DrvFault) → fault ≢ NoSpace → IsStrayFault dir paths fault → IsStrayRefused dir paths (Draft (Text fault))
+pub stray_draft : (dir : List ℕ) (paths : List (List ℕ)) (fault : DrvFault) → fault ≢ NoSpace
+    → IsStrayFault dir paths fault → IsStrayRefused dir paths (Draft (Text fault))
 stray_draft dir paths (BadReference text) some stray = inr (text, refl, stray)
 stray_draft dir paths NoSpace some stray = absurd (some refl)
 stray_draft dir paths (Syntax place) some stray = absurd stray
@@ -52,89 +53,135 @@ stray_draft dir paths NotSorted some stray = absurd stray
 
 contains_middle : {X : Type 0} (before after : List X) (x : X) → Contains (before ++ x ∷ after) x
 contains_middle [] after x = contains_first x after
-contains_middle (y ∷ before) after x = contains_later y x (before ++ x ∷ after) (contains_middle before after x)
+contains_middle (y ∷ before) after x = contains_later y x (before ++ x ∷ after)
+    (contains_middle before after x)
 
 -- where all paths are of the folder there is no first that isn't
-none_stray : (dir : List ℕ) (draft : Drv) → All (IsPathOf dir) (paths_of draft) → AreInStore dir draft
+none_stray : (dir : List ℕ) (draft : Drv) → All (IsPathOf dir) (paths_of draft)
+    → AreInStore dir draft
 none_stray dir draft all text stray =
-    stray.is_stray (All-contains (IsPathOf dir) (paths_of draft) text all (subst (λ (ps : List (List ℕ)). Contains ps text) (sym stray.parts) (contains_middle stray.before stray.after text)))
+    stray.is_stray
+    (All-contains (IsPathOf dir) (paths_of draft) text all
+    (subst (λ (ps : List (List ℕ)). Contains ps text) (sym stray.parts)
+    (contains_middle stray.before stray.after text)))
 
 -- ---- the draft's inputs
 
-filter_all : {X : Type 0} (p : X → Bool) (xs : List X) → ((x : X) → Contains xs x → p x ≡ true) → filter p xs ≡ xs
+filter_all : {X : Type 0} (p : X → Bool) (xs : List X) → ((x : X) → Contains xs x → p x ≡ true)
+    → filter p xs ≡ xs
 filter_all p [] all = refl
-filter_all p (x ∷ xs) all = rw (all x (contains_first x xs)) (ap (λ (ys : List _). x ∷ ys) (filter_all p xs (λ y has. all y (contains_later x y xs has))))
+filter_all p (x ∷ xs) all = rw (all x (contains_first x xs))
+    (ap (λ (ys : List _). x ∷ ys) (filter_all p xs (λ y has. all y (contains_later x y xs has))))
 
 pub once_rising : (paths : List (List ℕ)) → IsRising paths → each_once paths ≡ paths
 once_rising [] rises = refl
 once_rising (p ∷ ps) rises =
     let later = once_rising ps (rising_later p ps rises) in
     let other : (q : List ℕ) → Contains ps q → not (same_bytes p q) ≡ true =
-    λ q has. ap not (other_path p q (λ same. not_below_itself q (subst (λ (r : List ℕ). IsBelow r q) same (first_below p ps q rises has)))) in
-    ap (λ (qs : List (List ℕ)). p ∷ filter (λ q. not (same_bytes p q)) qs) later ∙ ap (λ (qs : List (List ℕ)). p ∷ qs) (filter_all (λ q. not (same_bytes p q)) ps other)
+    λ q has. ap not
+    (other_path p q
+    (λ same. not_below_itself q
+    (subst (λ (r : List ℕ). IsBelow r q) same (first_below p ps q rises has)))) in
+    ap (λ (qs : List (List ℕ)). p ∷ filter (λ q. not (same_bytes p q)) qs) later
+    ∙ ap (λ (qs : List (List ℕ)). p ∷ qs) (filter_all (λ q. not (same_bytes p q)) ps other)
 
-pub same_inputs : (parts : Parts) (draft : Drv) (inputs : List InputStruct) (paths given : List (List ℕ)) → drv_of parts ≡ draft → inputs ≡ parts.inputs.items → paths ≡ map path_of inputs → given ≡ paths → given ≡ inputs_of draft
+pub same_inputs : (parts : Parts) (draft : Drv) (inputs : List InputStruct)
+    (paths given : List (List ℕ)) → drv_of parts ≡ draft → inputs ≡ parts.inputs.items → paths
+    ≡ map path_of inputs → given ≡ paths → given ≡ inputs_of draft
 same_inputs parts draft inputs paths given view same are is =
-    is ∙ are ∙ ap (map path_of) same ∙ sym (map-map (λ (i : Input). i.path) input_of parts.inputs.items) ∙ ap inputs_of view
+    is ∙ are ∙ ap (map path_of) same
+    ∙ sym (map-map (λ (i : Input). i.path) input_of parts.inputs.items) ∙ ap inputs_of view
 
-pub numbers_loaded : (dir : List ℕ) (gives : List ℕ → Answer → Type 0) (roots : List (List ℕ)) (answer : Result Graph GraphFault) → IsRising roots → IsLoading dir gives roots answer
+pub numbers_loaded : (dir : List ℕ) (gives : List ℕ → Answer → Type 0) (roots : List (List ℕ))
+    (answer : Result Graph GraphFault) → IsRising roots → IsLoading dir gives roots answer
     → IfOk answer (λ (graph : Graph). AreNumbers graph.nodes graph.roots roots)
-numbers_loaded dir gives roots (Ok graph) rises loaded = subst (AreNumbers graph.nodes graph.roots) (once_rising roots rises) loaded.is_roots
+numbers_loaded dir gives roots (Ok graph) rises loaded =
+    subst (AreNumbers graph.nodes graph.roots) (once_rising roots rises) loaded.is_roots
 numbers_loaded dir gives roots (Err fault) rises loaded = tt
 
 -- ---- the filled derivation
 
-pub are_used : (kept : List PlanNode) (numbers : List ℕ) (used given : List UsedInput) (draft : Drv) → AreKept kept → AreNumbers (nodes_of kept) numbers (inputs_of draft) → AllZip (IsUsed kept) numbers used
+pub are_used : (kept : List PlanNode) (numbers : List ℕ) (used given : List UsedInput) (draft : Drv)
+    → AreKept kept → AreNumbers (nodes_of kept) numbers (inputs_of draft)
+    → AllZip (IsUsed kept) numbers used
     → given ≡ used → AreUsed (nodes_of kept) draft (drvs_of given) (hashes_of given)
 are_used kept numbers used given draft right are zip same =
     let paths = used_paths kept numbers used (inputs_of draft) zip are in
-    subst (λ (us : List UsedInput). AreUsed (nodes_of kept) draft (drvs_of us) (hashes_of us)) (sym same)
+    subst (λ (us : List UsedInput). AreUsed (nodes_of kept) draft (drvs_of us) (hashes_of us))
+    (sym same)
     (record {
-      are_used = subst (λ (ps : List (List ℕ)). AreDrvsOf (nodes_of kept) ps (drvs_of used)) paths (used_drvs kept numbers used zip);
-      are_hashes = subst (λ (ps : List (List ℕ)). AreHashes (nodes_of kept) ps (hashes_of used)) paths (used_hashes kept numbers used right zip);
+      are_used = subst (λ (ps : List (List ℕ)). AreDrvsOf (nodes_of kept) ps (drvs_of used)) paths
+          (used_drvs kept numbers used zip);
+      are_hashes = subst (λ (ps : List (List ℕ)). AreHashes (nodes_of kept) ps (hashes_of used))
+          paths (used_hashes kept numbers used right zip);
     })
 
-pub paths_long : (dir name : List ℕ) (draft : Drv) (used : List Drv) (hashes paths given : List (List ℕ)) → AreDraftPaths dir name draft used hashes paths → given ≡ paths → length given ≡ length draft.outputs
-paths_long dir name draft used hashes paths given (kind, right, expected) same = ap length same ∙ AllZip-long (IsExpected dir name kind draft hashes) draft.outputs paths expected
+pub paths_long : (dir name : List ℕ) (draft : Drv) (used : List Drv)
+    (hashes paths given : List (List ℕ)) → AreDraftPaths dir name draft used hashes paths → given
+    ≡ paths → length given ≡ length draft.outputs
+paths_long dir name draft used hashes paths given (kind, right, expected) same = ap length same
+    ∙ AllZip-long (IsExpected dir name kind draft hashes) draft.outputs paths expected
 
-pub filled_behind : (dir name : List ℕ) (nodes : List Node) (draft filled : Drv) (used : List Drv) (hashes paths given : List (List ℕ)) → AreUsed nodes draft used hashes
-    → AreDraftPaths dir name draft used hashes paths → given ≡ paths → IsPlaced given draft filled → IsFilledBehind dir name nodes draft filled
-filled_behind dir name nodes draft filled used hashes paths given behind (kind, right, expected) same is = record {
-  used = used;
-  hashes = hashes;
-  behind = behind;
-  kind = kind;
-  right = right;
-  filled_is = filled_right dir name kind draft hashes paths expected used filled right (subst (λ (ps : List (List ℕ)). IsPlaced ps draft filled) same is);
-}
+pub filled_behind : (dir name : List ℕ) (nodes : List Node) (draft filled : Drv) (used : List Drv)
+    (hashes paths given : List (List ℕ)) → AreUsed nodes draft used hashes
+    → AreDraftPaths dir name draft used hashes paths → given ≡ paths → IsPlaced given draft filled
+    → IsFilledBehind dir name nodes draft filled
+filled_behind dir name nodes draft filled used hashes paths given behind (kind, right, expected)
+    same is = record {
+      used = used;
+      hashes = hashes;
+      behind = behind;
+      kind = kind;
+      right = right;
+      filled_is = filled_right dir name kind draft hashes paths expected used filled right
+          (subst (λ (ps : List (List ℕ)). IsPlaced ps draft filled) same is);
+    }
 
 -- ---- all of it
 
 module _ (dir : List ℕ) (gives : List ℕ → Answer → Type 0) (name : List ℕ) (draft : Drv) where
-  pub target_refused : (fault : GraphFault) → IsTargetRefused dir name draft fault → IsFilling dir gives name draft (Err fault)
+  pub target_refused : (fault : GraphFault) → IsTargetRefused dir name draft fault
+      → IsFilling dir gives name draft (Err fault)
   target_refused fault (inl (inl memory)) = rw memory tt
   target_refused fault (inl (inr (is, none))) = rw is none
   target_refused fault (inr (names, inl memory)) = rw memory tt
   target_refused fault (inr (names, inr (text, is, stray))) = rw is (names, stray)
 
   module _ (target : Target) (is_target : IsTarget dir name draft target) where
-    pub load_refused : (fault : GraphFault) → IsLoading dir gives (inputs_of draft) (Err fault) → IsFilling dir gives name draft (Err fault)
+    pub load_refused : (fault : GraphFault) → IsLoading dir gives (inputs_of draft) (Err fault)
+        → IsFilling dir gives name draft (Err fault)
     load_refused NoMemory loaded = tt
-    load_refused (At path fault) loaded = (is_target.names, none_stray dir draft is_target.in_store, loaded.0, loaded.1)
+    load_refused (At path fault) loaded = (
+      is_target.names,
+      none_stray dir draft is_target.in_store,
+      loaded.0,
+      loaded.1,
+    )
     load_refused (Draft fault) loaded = absurd loaded
     load_refused Name loaded = absurd loaded
 
     module _ (graph : Graph) (is_plan : IsPlan dir gives (inputs_of draft) graph) where
-      abbrev behind : (used : List Drv) (hashes : List (List ℕ)) → AreUsed graph.nodes draft used hashes → MayFill dir gives name draft
-      behind used hashes are = record { graph = graph; is_plan = is_plan; used = used; hashes = hashes; are_used = are.are_used; are_hashes = are.are_hashes }
+      abbrev behind : (used : List Drv) (hashes : List (List ℕ))
+          → AreUsed graph.nodes draft used hashes → MayFill dir gives name draft
+      behind used hashes are = record {
+        graph = graph;
+        is_plan = is_plan;
+        used = used;
+        hashes = hashes;
+        are_used = are.are_used;
+        are_hashes = are.are_hashes;
+      }
 
-      pub fill_refused : (fault : GraphFault) → IsFillRefused dir name graph.nodes draft fault → IsFilling dir gives name draft (Err fault)
+      pub fill_refused : (fault : GraphFault) → IsFillRefused dir name graph.nodes draft fault
+          → IsFilling dir gives name draft (Err fault)
       fill_refused fault (inl memory) = rw memory tt
       fill_refused fault (inr (used, hashes, are, inl memory)) = rw memory tt
-      fill_refused fault (inr (used, hashes, are, inr (of, is, some, check))) = rw is (is_target.names, (some, (behind used hashes are, check)))
+      fill_refused fault (inr (used, hashes, are, inr (of, is, some, check))) =
+          rw is (is_target.names, (some, (behind used hashes are, check)))
 
       module _ (filled : Drv) (is_filled : IsFilledBehind dir name graph.nodes draft filled) where
-        abbrev filled_text : (bytes : List ℕ) → IsDrvText filled bytes → IsFilledText dir gives name draft filled bytes
+        abbrev filled_text : (bytes : List ℕ) → IsDrvText filled bytes
+            → IsFilledText dir gives name draft filled bytes
         filled_text bytes is_text = record {
           behind = behind is_filled.used is_filled.hashes is_filled.behind;
           kind = is_filled.kind;
@@ -143,22 +190,33 @@ module _ (dir : List ℕ) (gives : List ℕ → Answer → Type 0) (name : List 
           is_text = is_text;
         }
 
-        pub text_refused : (fault : GraphFault) → IsTextRefused filled fault → IsFilling dir gives name draft (Err fault)
+        pub text_refused : (fault : GraphFault) → IsTextRefused filled fault
+            → IsFilling dir gives name draft (Err fault)
         text_refused fault (inl memory) = rw memory tt
         text_refused fault (inr (is, (bytes, is_text, long))) =
             rw is (is_target.names, (filled, bytes, filled_text bytes is_text, long))
 
         same_paths : paths_of filled ≡ paths_of draft
         unfolding paths_of
-        same_paths = ap (λ (inputs : List Input). map (λ (i : Input). i.path) inputs ++ filled.sources) is_filled.filled_is.inputs ∙ ap (λ (sources : List (List ℕ)). inputs_of draft ++ sources) is_filled.filled_is.sources
+        same_paths = ap (λ (inputs : List Input). map (λ (i : Input). i.path) inputs
+            ++ filled.sources) is_filled.filled_is.inputs
+            ∙ ap (λ (sources : List (List ℕ)). inputs_of draft ++ sources)
+            is_filled.filled_is.sources
 
-        pub filling_right : (path : List ℕ) → IsTextPath dir target.file.items target.refs.items filled path → IsFilling dir gives name draft (Ok (filled, path))
+        pub filling_right : (path : List ℕ) → IsTextPath dir target.file.items target.refs.items
+            filled path → IsFilling dir gives name draft (Ok (filled, path))
         filling_right path is =
-            let refs = subst (λ (ps : List (List ℕ)). IsReferencesOf ps target.refs.items) (sym same_paths) is_target.refs in
+            let refs = subst (λ (ps : List (List ℕ)). IsReferencesOf ps target.refs.items)
+            (sym same_paths) is_target.refs in
             let own : IsOwnPath dir (file_name name) filled is.bytes path = record {
               refs = target.refs.items;
               rising = refs.rising;
               same = refs.same;
-              is_path = is.is_path ∙ ap (λ (file : List ℕ). text_path dir file is.bytes target.refs.items) is_target.file;
-            } in
-            (is_target.names, none_stray dir draft is_target.in_store, (is.bytes, filled_text is.bytes is.is_text, is.within, own))
+              is_path = is.is_path
+                  ∙ ap (λ (file : List ℕ). text_path dir file is.bytes target.refs.items)
+                  is_target.file;
+            } in (
+              is_target.names,
+              none_stray dir draft is_target.in_store,
+              (is.bytes, filled_text is.bytes is.is_text, is.within, own),
+            )

@@ -23,48 +23,72 @@ placed_is [] path fits = refl
 placed_is (b ∷ bs) path (inl none) = absurd cc
 placed_is (b ∷ bs) path (inr same) = same
 
-fits_or_not : (value path : List ℕ) → IsThePathOrEmpty value path ⊎ (IsThePathOrEmpty value path → ⊥)
+fits_or_not : (value path : List ℕ) → IsThePathOrEmpty value path
+    ⊎ (IsThePathOrEmpty value path → ⊥)
 fits_or_not [] path = inl (inl refl)
-fits_or_not (b ∷ bs) path = ⊎_elim (λ same. inl (inr same)) (λ other. inr (⊎_elim (λ none. absurd cc) other)) (path_cases (b ∷ bs) path)
+fits_or_not (b ∷ bs) path = ⊎_elim (λ same. inl (inr same))
+    (λ other. inr (⊎_elim (λ none. absurd cc) other)) (path_cases (b ∷ bs) path)
 
-zip_weaker : {A B : Type 0} (R S : A → B → Type 0) (xs : List A) (ys : List B) → ((x : A) (y : B) → Contains xs x → R x y → S x y) → AllZip R xs ys → AllZip S xs ys
+zip_weaker : {A B : Type 0} (R S : A → B → Type 0) (xs : List A) (ys : List B)
+    → ((x : A) (y : B) → Contains xs x → R x y → S x y) → AllZip R xs ys → AllZip S xs ys
 zip_weaker R S [] [] h zip = tt
 zip_weaker R S [] (y ∷ ys) h zip = absurd zip
 zip_weaker R S (x ∷ xs) [] h zip = absurd zip
-zip_weaker R S (x ∷ xs) (y ∷ ys) h zip = (h x y (contains_first x xs) zip.0, zip_weaker R S xs ys (λ a b has. h a b (contains_later x a xs has)) zip.1)
+zip_weaker R S (x ∷ xs) (y ∷ ys) h zip = (
+  h x y (contains_first x xs) zip.0,
+  zip_weaker R S xs ys (λ a b has. h a b (contains_later x a xs has)) zip.1,
+)
 
 -- a filled output is one of the draft's with the path beside it
-placed_at : (os : List Output) (ps : List (List ℕ)) (R : Output → List ℕ → Type 0) (n : ℕ) (filled : Output) → AllZip R os ps → slice_get (placed_outputs os ps) n ≡ Some filled
-    → (o : Output) × (p : List ℕ) × (slice_get os n ≡ Some o) × (slice_get ps n ≡ Some p) × (filled ≡ placed_output o p)
+placed_at : (os : List Output) (ps : List (List ℕ)) (R : Output → List ℕ → Type 0) (n : ℕ)
+    (filled : Output) → AllZip R os ps → slice_get (placed_outputs os ps) n ≡ Some filled
+    → (o : Output) × (p : List ℕ) × (slice_get os n ≡ Some o) × (slice_get ps n ≡ Some p)
+    × (filled ≡ placed_output o p)
 placed_at [] [] R n filled zip at = absurd (none-some filled at)
 placed_at [] (p ∷ ps) R n filled zip at = absurd zip
 placed_at (o ∷ os) [] R n filled zip at = absurd zip
-placed_at (o ∷ os) (p ∷ ps) R zero filled zip at = (o, p, refl, refl, sym (same_Some (placed_output o p) filled at))
+placed_at (o ∷ os) (p ∷ ps) R zero filled zip at =
+    (o, p, refl, refl, sym (same_Some (placed_output o p) filled at))
 placed_at (o ∷ os) (p ∷ ps) R (suc n) filled zip at = placed_at os ps R n filled zip.1 at
 
-module _ (dir name : List ℕ) (kind : Kind) (draft : Drv) (hashes paths : List (List ℕ)) (expected : AreExpected dir name kind draft hashes paths) where
+module _ (dir name : List ℕ) (kind : Kind) (draft : Drv) (hashes paths : List (List ℕ))
+    (expected : AreExpected dir name kind draft hashes paths) where
   abbrev Expected : Output → List ℕ → Type 0
   Expected = IsExpected dir name kind draft hashes
 
-  output_filled : (o : Output) (p : List ℕ) → Expected o p → IsThePathOrEmpty o.path p → IsFilledOutput Expected o (placed_output o p)
+  output_filled : (o : Output) (p : List ℕ) → Expected o p → IsThePathOrEmpty o.path p
+      → IsFilledOutput Expected o (placed_output o p)
   output_filled o p is fits =
-      let same = sym (placed_is o.path p fits) in record { name = refl; algo = refl; hash = refl; expected = subst (Expected o) same is; kept = subst (IsThePathOrEmpty o.path) same fits }
+      let same = sym (placed_is o.path p fits)
+      in record {
+        name = refl;
+        algo = refl;
+        hash = refl;
+        expected = subst (Expected o) same is;
+        kept = subst (IsThePathOrEmpty o.path) same fits;
+      }
 
-  outputs_filled : (os : List Output) (ps : List (List ℕ)) → AllZip Expected os ps → ((o : Output) → Contains os o → (p : List ℕ) × Expected o p × IsThePathOrEmpty o.path p)
+  outputs_filled : (os : List Output) (ps : List (List ℕ)) → AllZip Expected os ps
+      → ((o : Output) → Contains os o → (p : List ℕ) × Expected o p × IsThePathOrEmpty o.path p)
       → AllZip (IsFilledOutput Expected) os (placed_outputs os ps)
   outputs_filled [] [] zip fit = tt
   outputs_filled [] (p ∷ ps) zip fit = absurd zip
   outputs_filled (o ∷ os) [] zip fit = absurd zip
   outputs_filled (o ∷ os) (p ∷ ps) zip fit =
       let found = fit o (contains_first o os) in
-      let one : found.0 ≡ p = one_path dir name kind draft hashes o found.0 p found.1 zip.0 in
-      (output_filled o p zip.0 (subst (IsThePathOrEmpty o.path) one found.2), outputs_filled os ps zip.1 (λ a has. fit a (contains_later o a os has)))
+      let one : found.0 ≡ p = one_path dir name kind draft hashes o found.0 p found.1 zip.0 in (
+        output_filled o p zip.0 (subst (IsThePathOrEmpty o.path) one found.2),
+        outputs_filled os ps zip.1 (λ a has. fit a (contains_later o a os has)),
+      )
 
   -- an entry under an output's name
-  entry_named : ((o : Output) → Contains draft.outputs o → (p : List ℕ) × Expected o p × IsThePathOrEmpty o.path p)
-      → ((o : Output) → Contains draft.outputs o → HasOtherEntry IsThePathOrEmpty Expected draft o → ⊥)
+  entry_named : ((o : Output) → Contains draft.outputs o → (p : List ℕ) × Expected o p
+      × IsThePathOrEmpty o.path p)
+      → ((o : Output) → Contains draft.outputs o → HasOtherEntry IsThePathOrEmpty Expected draft o
+      → ⊥)
       → (d f : EnvEntry) → Contains draft.env d → IsPlacedEntry (names_of draft.outputs) paths d f
-      → (output : Output) → Contains (placed_outputs draft.outputs paths) output → output.name ≡ d.key → (f.value ≡ output.path) × IsThePathOrEmpty d.value output.path
+      → (output : Output) → Contains (placed_outputs draft.outputs paths) output → output.name
+      ≡ d.key → (f.value ≡ output.path) × IsThePathOrEmpty d.value output.path
   entry_named fit alone d f has is output has_output named =
       let at = get_from_contains (placed_outputs draft.outputs paths) output has_output in
       let found = placed_at draft.outputs paths Expected at.0 output expected at.1 in
@@ -73,33 +97,57 @@ module _ (dir name : List ℕ) (kind : Kind) (draft : Drv) (hashes paths : List 
       let here : Contains draft.outputs o = contains_from_get draft.outputs at.0 o found.2 in
       let under : o.name ≡ d.key = sym (ap (λ (x : Output). x.name) found.4) ∙ named in
       let stands = beside Expected draft.outputs paths at.0 o expected found.2 in
-      let is_p : Expected o p = subst (Expected o) (same_Some stands.0 p (sym stands.1 ∙ found.3)) stands.2 in
+      let is_p : Expected o p = subst (Expected o) (same_Some stands.0 p (sym stands.1 ∙ found.3))
+      stands.2 in
       let fits_o = fit o here in
       let path : output.path ≡ p =
-      ap (λ (x : Output). x.path) found.4 ∙ placed_is o.path p (subst (IsThePathOrEmpty o.path) (one_path dir name kind draft hashes o fits_o.0 p fits_o.1 is_p) fits_o.2) in
-      let fits : IsThePathOrEmpty d.value p = ⊎_elim (λ yes. yes) (λ no. absurd (alone o here (d, p, has, sym under, is_p, no))) (fits_or_not d.value p) in
-      let at_name = get_mapped (λ (x : Output). x.name) draft.outputs at.0 o found.2 ∙ ap Some under in (
+      ap (λ (x : Output). x.path) found.4 ∙ placed_is o.path p
+      (subst (IsThePathOrEmpty o.path)
+      (one_path dir name kind draft hashes o fits_o.0 p fits_o.1 is_p) fits_o.2) in
+      let fits : IsThePathOrEmpty d.value p =
+      ⊎_elim (λ yes. yes) (λ no. absurd (alone o here (d, p, has, sym under, is_p, no)))
+      (fits_or_not d.value p) in
+      let at_name = get_mapped (λ (x : Output). x.name) draft.outputs at.0 o found.2 ∙ ap Some under
+      in (
         is.named at.0 p at_name found.3 ∙ placed_is d.value p fits ∙ sym path,
         subst (IsThePathOrEmpty d.value) (sym path) fits,
       )
 
-  pub filled_right : (used : List Drv) (filled : Drv) → IsOutputsCheck IsThePathOrEmpty dir name draft used hashes (Ok kind) → IsPlaced paths draft filled → IsFilled Expected draft filled
+  pub filled_right : (used : List Drv) (filled : Drv)
+      → IsOutputsCheck IsThePathOrEmpty dir name draft used hashes (Ok kind)
+      → IsPlaced paths draft filled → IsFilled Expected draft filled
   filled_right used filled right is =
-      let fit : (o : Output) → Contains draft.outputs o → (p : List ℕ) × Expected o p × IsThePathOrEmpty o.path p = λ o has. All-contains (λ (x : Output). (p : List ℕ) × Expected x p × IsThePathOrEmpty x.path p) draft.outputs o right.1 has in
-      let alone : (o : Output) → Contains draft.outputs o → HasOtherEntry IsThePathOrEmpty Expected draft o → ⊥ = λ o has. All-contains (λ x. HasOtherEntry IsThePathOrEmpty Expected draft x → ⊥) draft.outputs o right.2 has in
-      let filled_entry : (d f : EnvEntry) → Contains draft.env d → IsPlacedEntry (names_of draft.outputs) paths d f → IsFilledEntry (placed_outputs draft.outputs paths) d f =
+      let fit : (o : Output) → Contains draft.outputs o → (p : List ℕ) × Expected o p
+      × IsThePathOrEmpty o.path p = λ o has.
+      All-contains (λ (x : Output). (p : List ℕ) × Expected x p × IsThePathOrEmpty x.path p)
+      draft.outputs o right.1 has in
+      let alone : (o : Output) → Contains draft.outputs o
+      → HasOtherEntry IsThePathOrEmpty Expected draft o
+      → ⊥ = λ o has. All-contains (λ x. HasOtherEntry IsThePathOrEmpty Expected draft x → ⊥)
+      draft.outputs o right.2 has in
+      let filled_entry : (d f : EnvEntry) → Contains draft.env d
+      → IsPlacedEntry (names_of draft.outputs) paths d f
+      → IsFilledEntry (placed_outputs draft.outputs paths) d f =
       λ d f has placed_here. record {
         key = placed_here.key;
         named = entry_named fit alone d f has placed_here;
-        other = λ none. placed_here.other (λ under. none (subst (λ (ns : List (List ℕ)). Contains ns d.key) (sym (same_names draft.outputs paths)) under));
+        other = λ none.
+            placed_here.other
+            (λ under.
+            none (subst (λ (ns : List (List ℕ)). Contains ns d.key)
+            (sym (same_names draft.outputs paths)) under));
       } in
       record {
-        outputs = subst (λ (os : List Output). AllZip (IsFilledOutput Expected) draft.outputs os) (sym is.outputs) (outputs_filled draft.outputs paths expected fit);
+        outputs = subst (λ (os : List Output). AllZip (IsFilledOutput Expected) draft.outputs os)
+            (sym is.outputs) (outputs_filled draft.outputs paths expected fit);
         inputs = is.inputs;
         sources = is.sources;
         system = is.system;
         builder = is.builder;
         args = is.args;
-        env = subst (λ (os : List Output). AllZip (IsFilledEntry os) draft.env filled.env) (sym is.outputs)
-            (zip_weaker (IsPlacedEntry (names_of draft.outputs) paths) (IsFilledEntry (placed_outputs draft.outputs paths)) draft.env filled.env filled_entry is.env);
+        env = subst (λ (os : List Output). AllZip (IsFilledEntry os) draft.env filled.env)
+            (sym is.outputs)
+            (zip_weaker (IsPlacedEntry (names_of draft.outputs) paths)
+            (IsFilledEntry (placed_outputs draft.outputs paths)) draft.env filled.env
+            filled_entry is.env);
       }

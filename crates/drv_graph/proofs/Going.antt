@@ -7,12 +7,22 @@ use Rattle.drv_graph.specs.declared.found.Found.{Found}
 use Rattle.drv_graph.specs.declared.found.Visit.{Visit}
 
 -- the derivation is kept open, with one number more
-pub went_along : (dir : List ℕ) (gives : List ℕ → Answer → Type 0) (before after : Found) (below visits : List Visit) (visit next : Visit) (child : Option Visit) (made : ⊤) → LeavesNone before after → child ≡ None → IsStepping dir gives before.marks after.marks visit next (Ok child) → visits ≡ below ++ next ∷ [] → IsGoingOn dir gives before after below visit visits (Ok made)
-went_along dir gives before after below visits visit next (Some child) made none is step shape = absurd cc
-went_along dir gives before after below visits visit next None made none is step shape = inr (inl (next, none, step, shape))
+pub went_along : (dir : List ℕ) (gives : List ℕ → Answer → Type 0) (before after : Found)
+    (below visits : List Visit) (visit next : Visit) (child : Option Visit) (made : ⊤)
+    → LeavesNone before after → child ≡ None → IsStepping dir gives before.marks after.marks visit
+    next (Ok child) → visits ≡ below ++ next ∷ []
+    → IsGoingOn dir gives before after below visit visits (Ok made)
+went_along dir gives before after below visits visit next (Some child) made none is step shape =
+    absurd cc
+went_along dir gives before after below visits visit next None made none is step shape =
+    inr (inl (next, none, step, shape))
 
 -- another one is opened
-pub went_down : (dir : List ℕ) (gives : List ℕ → Answer → Type 0) (before after : Found) (below pushed visits : List Visit) (visit next child : Visit) (made : ⊤) → LeavesNone before after → IsStepping dir gives before.marks after.marks visit next (Ok (Some child)) → pushed ≡ below ++ next ∷ [] → visits ≡ pushed ++ child ∷ [] → IsGoingOn dir gives before after below visit visits (Ok made)
+pub went_down : (dir : List ℕ) (gives : List ℕ → Answer → Type 0) (before after : Found)
+    (below pushed visits : List Visit) (visit next child : Visit) (made : ⊤)
+    → LeavesNone before after → IsStepping dir gives before.marks after.marks visit next
+    (Ok (Some child)) → pushed ≡ below ++ next ∷ [] → visits ≡ pushed ++ child ∷ []
+    → IsGoingOn dir gives before after below visit visits (Ok made)
 went_down dir gives before after below pushed visits visit next child made none step first shape =
     let same : next ≡ visit = step.same in
     inr (inr (

@@ -16,43 +16,76 @@ use Rattle.drv_graph.proofs.PathLists.{all_from_contains, contains_cases, contai
 use Rattle.drv_graph.proofs.Roots.{number_source}
 
 -- the derivation that is kept with a number
-kept_at : (kept : List PlanNode) (n : ℕ) (node : PlanNode) → n < length (nodes_of kept) → node ≡ get_or kept n node → slice_get kept n ≡ Some node
-kept_at kept n node lt is = slice_get_read kept (length kept) n node refl (omega (arith, lt, length-map kept node_of)) is
+kept_at : (kept : List PlanNode) (n : ℕ) (node : PlanNode) → n < length (nodes_of kept) → node
+    ≡ get_or kept n node → slice_get kept n ≡ Some node
+kept_at kept n node lt is = slice_get_read kept (length kept) n node refl
+    (omega (arith, lt, length-map kept node_of)) is
 
-pub kept_node : (kept : List PlanNode) (n : ℕ) (node : PlanNode) → n < length (nodes_of kept) → node ≡ get_or kept n node → slice_get (nodes_of kept) n ≡ Some (node_of node)
+pub kept_node : (kept : List PlanNode) (n : ℕ) (node : PlanNode) → n < length (nodes_of kept) → node
+    ≡ get_or kept n node → slice_get (nodes_of kept) n ≡ Some (node_of node)
 kept_node kept n node lt is = get_mapped node_of kept n node (kept_at kept n node lt is)
 
-pub kept_drv : (kept : List PlanNode) (n : ℕ) (node : PlanNode) → n < length (nodes_of kept) → node ≡ get_or kept n node → slice_get (drvs_of (nodes_of kept)) n ≡ Some node.drv
-kept_drv kept n node lt is = get_mapped (λ (m : Node). m.drv) (nodes_of kept) n (node_of node) (kept_node kept n node lt is)
+pub kept_drv : (kept : List PlanNode) (n : ℕ) (node : PlanNode) → n < length (nodes_of kept) → node
+    ≡ get_or kept n node → slice_get (drvs_of (nodes_of kept)) n ≡ Some node.drv
+kept_drv kept n node lt is = get_mapped (λ (m : Node). m.drv) (nodes_of kept) n (node_of node)
+    (kept_node kept n node lt is)
 
-pub kept_path : (kept : List PlanNode) (n : ℕ) (node : PlanNode) → n < length (nodes_of kept) → node ≡ get_or kept n node → slice_get (paths_of (nodes_of kept)) n ≡ Some node.path
-kept_path kept n node lt is = get_mapped (λ (m : Node). m.path) (nodes_of kept) n (node_of node) (kept_node kept n node lt is)
+pub kept_path : (kept : List PlanNode) (n : ℕ) (node : PlanNode) → n < length (nodes_of kept) → node
+    ≡ get_or kept n node → slice_get (paths_of (nodes_of kept)) n ≡ Some node.path
+kept_path kept n node lt is = get_mapped (λ (m : Node). m.path) (nodes_of kept) n (node_of node)
+    (kept_node kept n node lt is)
 
 -- what is used stands among the nodes
-drvs_paths : (nodes : List Node) (paths : List (List ℕ)) (drvs : List Drv) → AreDrvsOf nodes paths drvs → (path : List ℕ) → Contains paths path → Contains (paths_of nodes) path
+drvs_paths : (nodes : List Node) (paths : List (List ℕ)) (drvs : List Drv)
+    → AreDrvsOf nodes paths drvs → (path : List ℕ) → Contains paths path
+    → Contains (paths_of nodes) path
 drvs_paths nodes [] drvs are path has = absurd (contains_none path has)
 drvs_paths nodes (p ∷ ps) [] are path has = absurd are
 drvs_paths nodes (p ∷ ps) (d ∷ ds) are path has =
-    ⊎_elim (λ same. subst (Contains (paths_of nodes)) same (contains_mapped (λ (m : Node). m.path) nodes (record { path = p; drv = d }) are.0)) (λ later. drvs_paths nodes ps ds are.1 path later) (contains_cases p path ps has)
+    ⊎_elim (λ same. subst (Contains (paths_of nodes)) same
+    (contains_mapped (λ (m : Node). m.path) nodes (record { path = p; drv = d }) are.0))
+    (λ later. drvs_paths nodes ps ds are.1 path later) (contains_cases p path ps has)
 
 -- a node's inputs have smaller numbers
-smaller : (graph : Graph) (d : ℕ) (node : Node) (ns : List ℕ) → IsSound graph → slice_get graph.nodes d ≡ Some node → AreNumbers graph.nodes ns (inputs_of node.drv) → (n : ℕ) → Contains ns n → n < d
+smaller : (graph : Graph) (d : ℕ) (node : Node) (ns : List ℕ) → IsSound graph
+    → slice_get graph.nodes d ≡ Some node → AreNumbers graph.nodes ns (inputs_of node.drv) → (n : ℕ)
+    → Contains ns n → n < d
 smaller graph d node ns sound at numbers n has =
     let nodes = graph.nodes in
     let lt : d < length graph.nodes = slice_get_within graph.nodes d node at in
-    let read : get_or graph.nodes d node ≡ node = get_or_from_slice_get graph.nodes d node node at in
-    let parts : graph.nodes ≡ take d graph.nodes ++ node ∷ drop (suc d) graph.nodes = split_at graph.nodes d node lt ∙ ap (λ (m : Node). take d graph.nodes ++ m ∷ drop (suc d) graph.nodes) read in
+    let read : get_or graph.nodes d node ≡ node = get_or_from_slice_get graph.nodes d node node at
+    in
+    let parts : graph.nodes ≡ take d graph.nodes ++ node ∷ drop (suc d) graph.nodes =
+    split_at graph.nodes d node lt
+    ∙ ap (λ (m : Node). take d graph.nodes ++ m ∷ drop (suc d) graph.nodes) read in
     let lawful = sound.lawful (take d graph.nodes) (drop (suc d) graph.nodes) node parts in
     let its = number_source graph.nodes ns (inputs_of node.drv) n numbers has in
-    let before : Contains (paths_of (take d graph.nodes)) its.0 = drvs_paths (take d graph.nodes) (inputs_of node.drv) lawful.right.used lawful.right.are_used its.0 its.1 in
+    let before : Contains (paths_of (take d graph.nodes)) its.0 =
+    drvs_paths (take d graph.nodes) (inputs_of node.drv) lawful.right.used lawful.right.are_used
+    its.0 its.1 in
     let place = get_from_contains (paths_of (take d graph.nodes)) its.0 before in
     let there : slice_get (paths_of graph.nodes) place.0 ≡ Some its.0 =
-    subst (λ l. slice_get (paths_of l) place.0 ≡ Some its.0) (sym parts) (number_grows (take d graph.nodes) (node ∷ drop (suc d) graph.nodes) place.0 its.0 place.1) in
-    let same : n ≡ place.0 = same_place (paths_of graph.nodes) n place.0 its.0 sound.distinct its.2 there in
-    let low : place.0 < length (paths_of (take d graph.nodes)) = slice_get_within (paths_of (take d graph.nodes)) place.0 its.0 place.1 in
-    omega (arith, same, low, length-map (take d graph.nodes) (λ (m : Node). m.path), length-take-le d graph.nodes (omega (arith, lt)))
+    subst (λ l. slice_get (paths_of l) place.0 ≡ Some its.0) (sym parts)
+    (number_grows (take d graph.nodes) (node ∷ drop (suc d) graph.nodes) place.0 its.0 place.1)
+    in
+    let same : n ≡ place.0 = same_place (paths_of graph.nodes) n place.0 its.0 sound.distinct its.2
+    there in
+    let low : place.0 < length (paths_of (take d graph.nodes)) =
+    slice_get_within (paths_of (take d graph.nodes)) place.0 its.0 place.1 in
+    omega (
+      arith,
+      same,
+      low,
+      length-map (take d graph.nodes) (λ (m : Node). m.path),
+      length-take-le d graph.nodes (omega (arith, lt)),
+    )
 
-pub inputs_smaller : (kept : List PlanNode) (roots : List ℕ) (d : ℕ) (node : PlanNode) → d < length (nodes_of kept) → node ≡ get_or kept d node → AreKept kept × IsSound (record { nodes = nodes_of kept; roots = roots }) → All (λ n. n < d) node.inputs.items
+pub inputs_smaller : (kept : List PlanNode) (roots : List ℕ) (d : ℕ) (node : PlanNode) → d
+    < length (nodes_of kept) → node ≡ get_or kept d node → AreKept kept
+    × IsSound (record { nodes = nodes_of kept; roots = roots }) → All (λ n. n < d) node.inputs.items
 inputs_smaller kept roots d node lt is right =
-    let own : IsKept (nodes_of kept) node = All-contains (IsKept (nodes_of kept)) kept node right.0 (contains_from_get kept d node (kept_at kept d node lt is)) in
-    all_from_contains (λ n. n < d) node.inputs.items (smaller (record { nodes = nodes_of kept; roots = roots }) d (node_of node) node.inputs.items right.1 (kept_node kept d node lt is) own.numbers)
+    let own : IsKept (nodes_of kept) node = All-contains (IsKept (nodes_of kept)) kept node right.0
+    (contains_from_get kept d node (kept_at kept d node lt is)) in
+    all_from_contains (λ n. n < d) node.inputs.items
+    (smaller (record { nodes = nodes_of kept; roots = roots }) d (node_of node)
+    node.inputs.items right.1 (kept_node kept d node lt is) own.numbers)

@@ -31,7 +31,8 @@ bytes_everywhere xs each i =
     ]
 
 -- the digits of a digest decode to it
-pub digits_decode : (digest : List ℕ) → IsDigest digest → decode_sized (encode_lower digest) 32 ≡ Ok digest
+pub digits_decode : (digest : List ℕ) → IsDigest digest → decode_sized (encode_lower digest) 32
+    ≡ Ok digest
 digits_decode digest is = decode_sized-encode_lower digest 32 is.0 (bytes_everywhere digest is.1)
 
 -- what bytes decode to is a digest
@@ -42,22 +43,27 @@ decoded text digest ok =
     (omega (arith, parts.2), All-from_get_or (λ b. b < 256) digest 0 (λ i within. parts.3 i))
 
 -- bytes that don't decode are no digest's digits
-pub no_digits : (text : List ℕ) (e : FromHexError) → decode_sized text 32 ≡ Err e → (digest : List ℕ) → IsDigest digest → text ≡ encode_lower digest → ⊥
+pub no_digits : (text : List ℕ) (e : FromHexError) → decode_sized text 32 ≡ Err e
+    → (digest : List ℕ) → IsDigest digest → text ≡ encode_lower digest → ⊥
 no_digits text e err digest is same = let ok = rw (← same) at (digits_decode digest is) in cc
 
 -- nor are bytes that decode to another's
-pub other_digits : (text found : List ℕ) → decode_sized text 32 ≡ Ok found → text ≢ encode_lower found → (digest : List ℕ) → IsDigest digest → text ≡ encode_lower digest → ⊥
+pub other_digits : (text found : List ℕ) → decode_sized text 32 ≡ Ok found
+    → text ≢ encode_lower found → (digest : List ℕ) → IsDigest digest → text ≡ encode_lower digest
+    → ⊥
 other_digits text found ok other digest is same =
     let again = rw (← same) at (digits_decode digest is) in
     let one : found ≡ digest = cc in
     other (same ∙ ap encode_lower (sym one))
 
 -- what a comparison of two texts said
-pub told_other : (xs ys zs : List ℕ) (r : Bool) → r ≡ pointwise nat_eq xs ys → ys ≡ zs → r ≡ false → xs ≢ zs
+pub told_other : (xs ys zs : List ℕ) (r : Bool) → r ≡ pointwise nat_eq xs ys → ys ≡ zs → r ≡ false
+    → xs ≢ zs
 told_other xs ys zs r is other unlike same =
     false≢true (sym unlike ∙ (slice_eq-Decides Decides-eqb xs ys r is).1 (same ∙ sym other))
 
-pub told_same : (xs ys zs : List ℕ) (r : Bool) → r ≡ pointwise nat_eq xs ys → ys ≡ zs → r ≡ true → xs ≡ zs
+pub told_same : (xs ys zs : List ℕ) (r : Bool) → r ≡ pointwise nat_eq xs ys → ys ≡ zs → r ≡ true
+    → xs ≡ zs
 told_same xs ys zs r is other alike = (slice_eq-Decides Decides-eqb xs ys r is).0 alike ∙ other
 
 -- ---- kinds
@@ -66,42 +72,63 @@ pub some_outputs : (outputs : List Output) (n : ℕ) → length outputs ≡ n �
 some_outputs outputs n long some none = some (sym long ∙ ap length none)
 
 -- an output that says something among outputs that aren't one alone
-pub mixed : (drv : Drv) (outputs : List Output) → outputs ≡ drv.outputs → (o : Output) × Contains outputs o × (IsAddressed o → ⊥)
+pub mixed : (drv : Drv) (outputs : List Output) → outputs ≡ drv.outputs → (o : Output)
+    × Contains outputs o × (IsAddressed o → ⊥)
     → ((o : Output) → outputs ≡ o ∷ [] → o.name ≡ codes "out" → ⊥) → AreMixed drv
 mixed drv outputs is (o, has, says) alone =
-    inr (o, subst (λ (os : List Output). Contains os o) is has, says, λ only. alone o (is ∙ only.0) only.1)
+    inr (
+      o,
+      subst (λ (os : List Output). Contains os o) is has,
+      says,
+      λ only. alone o (is ∙ only.0) only.1,
+    )
 
-not_mixed : (drv : Drv) (only : Output) → drv.outputs ≡ only ∷ [] → only.name ≡ codes "out" → AreMixed drv → ⊥
+not_mixed : (drv : Drv) (only : Output) → drv.outputs ≡ only ∷ [] → only.name ≡ codes "out"
+    → AreMixed drv → ⊥
 not_mixed drv only is named (inl none) = let clash : [] ≡ only ∷ [] = sym none ∙ is in cc
 not_mixed drv only is named (inr (o, has, says, other)) =
     elim (Contains-cons_cases only [] o (subst (λ (os : List Output). Contains os o) is has)) [
-      | inl same ↦ other (is ∙ ap (λ (p : Output). p ∷ []) same, ap (λ (p : Output). p.name) (sym same) ∙ named)
+      | inl same ↦ other (
+        is ∙ ap (λ (p : Output). p ∷ []) same,
+        ap (λ (p : Output). p.name) (sym same) ∙ named,
+      )
       | inr later ↦ Contains-nothing o later
     ]
 
 -- the only output says something
-says_alone : (only : Output) (outputs : List Output) → outputs ≡ only ∷ [] → (o : Output) × Contains outputs o × (IsAddressed o → ⊥) → IsAddressed only → ⊥
+says_alone : (only : Output) (outputs : List Output) → outputs ≡ only ∷ [] → (o : Output)
+    × Contains outputs o × (IsAddressed o → ⊥) → IsAddressed only → ⊥
 says_alone only outputs is (o, has, says) addressed =
     elim (Contains-cons_cases only [] o (subst (λ (os : List Output). Contains os o) is has)) [
       | inl same ↦ says (subst IsAddressed same addressed)
       | inr later ↦ Contains-nothing o later
     ]
 
-pub unknown : (drv : Drv) (outputs : List Output) (only : Output) (name : List ℕ) → outputs ≡ drv.outputs → outputs ≡ only ∷ [] → only.name ≡ codes "out"
-    → (o : Output) × Contains outputs o × (IsAddressed o → ⊥) → ((method : Method) (digest : List ℕ) → IsFixed only method digest → ⊥) → name ≡ only.name
+pub unknown : (drv : Drv) (outputs : List Output) (only : Output) (name : List ℕ) → outputs
+    ≡ drv.outputs → outputs ≡ only ∷ [] → only.name ≡ codes "out"
+    → (o : Output) × Contains outputs o × (IsAddressed o → ⊥)
+    → ((method : Method) (digest : List ℕ) → IsFixed only method digest → ⊥) → name ≡ only.name
     → (AreMixed drv → ⊥) × ((o : Output) × Contains drv.outputs o × IsUnknown o × (name ≡ o.name))
 unknown drv outputs only name here is named says none same = (
   not_mixed drv only (sym here ∙ is) named,
-  (only, subst (λ (os : List Output). Contains os only) (sym is ∙ here) (Contains-first only []), record { says = says_alone only outputs is says; none = none }, same),
+  (
+    only,
+    subst (λ (os : List Output). Contains os only) (sym is ∙ here) (Contains-first only []),
+    record { says = says_alone only outputs is says; none = none },
+    same,
+  ),
 )
 
-fixed_has_kind : (drv : Drv) (only : Output) (kind : Kind) → drv.outputs ≡ only ∷ [] → only.name ≡ codes "out" → IsFixedKind only (Ok kind) → HasKind drv kind
+fixed_has_kind : (drv : Drv) (only : Output) (kind : Kind) → drv.outputs ≡ only ∷ [] → only.name
+    ≡ codes "out" → IsFixedKind only (Ok kind) → HasKind drv kind
 fixed_has_kind drv only Addressed is named h = absurd h
 fixed_has_kind drv only (Fixed method digest) is named h = (only, (is, named), h)
 
-fixed_fault : (drv : Drv) (outputs : List Output) (only : Output) (fault : OutputFault) → outputs ≡ drv.outputs → outputs ≡ only ∷ [] → only.name ≡ codes "out"
+fixed_fault : (drv : Drv) (outputs : List Output) (only : Output) (fault : OutputFault) → outputs
+    ≡ drv.outputs → outputs ≡ only ∷ [] → only.name ≡ codes "out"
     → SaysSome outputs → IsFixedKind only (Err fault) → IsKindFault drv fault
-fixed_fault drv outputs only (UnknownMethod output) here is named says h = unknown drv outputs only output.items here is named says h.0 h.1
+fixed_fault drv outputs only (UnknownMethod output) here is named says h =
+    unknown drv outputs only output.items here is named says h.0 h.1
 fixed_fault drv outputs only NoMemory here is named says h = tt
 fixed_fault drv outputs only MixedOutputs here is named says h = absurd h
 fixed_fault drv outputs only BadName here is named says h = h
@@ -110,13 +137,19 @@ fixed_fault drv outputs only (OutputMismatch output expected) here is named says
 fixed_fault drv outputs only (EnvMismatch output) here is named says h = h
 
 -- what is answered of the only output is right of the derivation
-pub kind_from : (drv : Drv) (outputs : List Output) (only : Output) (answer : Result Kind OutputFault) → outputs ≡ drv.outputs → outputs ≡ only ∷ [] → only.name ≡ codes "out"
-    → SaysSome outputs → IsFixedKind only answer → IfOk answer (HasKind drv) × IfErr answer (IsKindFault drv)
-kind_from drv outputs only (Ok kind) here is named says h = (fixed_has_kind drv only kind (sym here ∙ is) named h, tt)
-kind_from drv outputs only (Err fault) here is named says h = (tt, fixed_fault drv outputs only fault here is named says h)
+pub kind_from : (drv : Drv) (outputs : List Output) (only : Output)
+    (answer : Result Kind OutputFault) → outputs ≡ drv.outputs → outputs ≡ only ∷ [] → only.name
+    ≡ codes "out"
+    → SaysSome outputs → IsFixedKind only answer → IfOk answer (HasKind drv)
+    × IfErr answer (IsKindFault drv)
+kind_from drv outputs only (Ok kind) here is named says h =
+    (fixed_has_kind drv only kind (sym here ∙ is) named h, tt)
+kind_from drv outputs only (Err fault) here is named says h =
+    (tt, fixed_fault drv outputs only fault here is named says h)
 
 -- an answer that names an output with no known method
-pub names_unknown : (o : Output) (fault : OutputFault) → IsNotFixed o → NamesUnknown o fault → IsFixedKind o (Err fault)
+pub names_unknown : (o : Output) (fault : OutputFault) → IsNotFixed o → NamesUnknown o fault
+    → IsFixedKind o (Err fault)
 names_unknown o (UnknownMethod output) none h = (none, h)
 names_unknown o NoMemory none h = absurd h
 names_unknown o MixedOutputs none h = h
@@ -146,18 +179,25 @@ one_digest a b is_a is_b same =
     let second = rw (← same) at (digits_decode b is_b) in
     cc
 
-not_both : (drv : Drv) (method : Method) (digest : List ℕ) → All IsAddressed drv.outputs → HasKind drv (Fixed method digest) → ⊥
+not_both : (drv : Drv) (method : Method) (digest : List ℕ) → All IsAddressed drv.outputs
+    → HasKind drv (Fixed method digest) → ⊥
 not_both drv method digest each (output, only, fixed) =
-    let addressed = All-contains IsAddressed drv.outputs output each (subst (λ (os : List Output). Contains os output) (sym only.0) (Contains-first output [])) in
+    let addressed = All-contains IsAddressed drv.outputs output each
+    (subst (λ (os : List Output). Contains os output) (sym only.0) (Contains-first output []))
+    in
     some_method method (sym fixed.0 ∙ addressed.0)
 
 pub one_kind : (drv : Drv) (a b : Kind) → HasKind drv a → HasKind drv b → a ≡ b
 one_kind drv Addressed Addressed is_a is_b = refl
-one_kind drv Addressed (Fixed method digest) is_a is_b = absurd (not_both drv method digest is_a.1 is_b)
-one_kind drv (Fixed method digest) Addressed is_a is_b = absurd (not_both drv method digest is_b.1 is_a)
+one_kind drv Addressed (Fixed method digest) is_a is_b =
+    absurd (not_both drv method digest is_a.1 is_b)
+one_kind drv (Fixed method digest) Addressed is_a is_b =
+    absurd (not_both drv method digest is_b.1 is_a)
 one_kind drv (Fixed m d) (Fixed m' d') (o, only, fixed) (o', only', fixed') =
     let lists : o ∷ [] ≡ o' ∷ [] = sym only.0 ∙ only'.0 in
     let same : o ≡ o' = cc in
-    let method : m ≡ m' = one_method m m' (sym fixed.0 ∙ ap (λ (p : Output). p.algo) same ∙ fixed'.0) in
-    let digest : d ≡ d' = one_digest d d' fixed.2 fixed'.2 (sym fixed.1 ∙ ap (λ (p : Output). p.hash) same ∙ fixed'.1) in
+    let method : m
+    ≡ m' = one_method m m' (sym fixed.0 ∙ ap (λ (p : Output). p.algo) same ∙ fixed'.0) in
+    let digest : d ≡ d' = one_digest d d' fixed.2 fixed'.2
+    (sym fixed.1 ∙ ap (λ (p : Output). p.hash) same ∙ fixed'.1) in
     ap (λ (k : Method). Fixed k d) method ∙ ap (λ (e : List ℕ). Fixed m' e) digest

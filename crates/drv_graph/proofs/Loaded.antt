@@ -27,9 +27,11 @@ use Rattle.drv_graph.proofs.SameSources.{walked_by}
 use Rattle.drv_graph.proofs.WalkEnds.{all_front}
 
 -- What the first roots reach was left, in plan order, and these are their numbers.
-pub record IsReachedSome (dir : List ℕ) (gives : List ℕ → Answer → Type 0) (roots done : List (List ℕ)) (found : Found) (numbers : List ℕ) : Type 0 where
+pub record IsReachedSome (dir : List ℕ) (gives : List ℕ → Answer → Type 0)
+    (roots done : List (List ℕ)) (found : Found) (numbers : List ℕ) : Type 0 where
   pub walked : IsWalked dir gives roots found []
-  pub in_order : (nodes : List Node) → All (Contains nodes) (nodes_of found.nodes.items) → AreLeft nodes [] done (paths_of (nodes_of found.nodes.items))
+  pub in_order : (nodes : List Node) → All (Contains nodes) (nodes_of found.nodes.items)
+      → AreLeft nodes [] done (paths_of (nodes_of found.nodes.items))
   pub are_numbers : AreNumbers (nodes_of found.nodes.items) numbers (each_once done)
   pub once : IsDistinct nat_eq numbers
 
@@ -37,16 +39,20 @@ no_nodes : (dir : List ℕ) → AreLawful dir []
 no_nodes dir [] after node parts = absurd cc
 no_nodes dir (x ∷ xs) after node parts = absurd cc
 
-empty_get : {X S : Type 0} (m : IndexMap (List ℕ) X S) → m.entries ≡ [] → (path : List ℕ) → get (pointwise nat_eq) m path ≡ None
+empty_get : {X S : Type 0} (m : IndexMap (List ℕ) X S) → m.entries ≡ [] → (path : List ℕ)
+    → get (pointwise nat_eq) m path ≡ None
 empty_get m none path = ap (λ es. lookup (pointwise nat_eq path) es) none
 
 distinct_none : IsDistinct (pointwise nat_eq) []
 unfolding IsDistinct
 distinct_none = tt
 
-no_keys : (found : Found) → IsEmptyFound found → length (keys found.marks) ≡ length found.nodes.items + 0
+no_keys : (found : Found) → IsEmptyFound found → length (keys found.marks)
+    ≡ length found.nodes.items + 0
 no_keys found empty =
-    let marks : length (keys found.marks) ≡ 0 = ap (λ (es : List (List ℕ × Option ℕ)). length (map (λ (e : List ℕ × Option ℕ). e.0) es)) empty.1 in
+    let marks : length (keys found.marks) ≡ 0 =
+    ap (λ (es : List (List ℕ × Option ℕ)). length (map (λ (e : List ℕ × Option ℕ). e.0) es))
+    empty.1 in
     let nodes : length found.nodes.items ≡ 0 = ap length empty.0 in
     omega (arith, marks, nodes)
 
@@ -56,58 +62,88 @@ no_more found empty =
     omega (arith, no_keys found empty, nodes)
 
 -- nothing was left yet
-pub loading_begins : (dir : List ℕ) (gives : List ℕ → Answer → Type 0) (roots : List (List ℕ)) (found : Found) (numbers : List ℕ) → IsEmptyFound found → numbers ≡ [] → IsDistinct nat_eq numbers → IsReachedSome dir gives roots [] found numbers
+pub loading_begins : (dir : List ℕ) (gives : List ℕ → Answer → Type 0) (roots : List (List ℕ))
+    (found : Found) (numbers : List ℕ) → IsEmptyFound found → numbers ≡ []
+    → IsDistinct nat_eq numbers → IsReachedSome dir gives roots [] found numbers
 loading_begins dir gives roots found numbers empty none once = record {
   walked = record {
     right = record {
       kept = subst AreKept (sym empty.0) (All-nil (IsKept []));
-      distinct = subst (λ l. IsDistinct (pointwise nat_eq) (paths_of (nodes_of l))) (sym empty.0) distinct_none;
+      distinct = subst (λ l. IsDistinct (pointwise nat_eq) (paths_of (nodes_of l))) (sym empty.0)
+          distinct_none;
       lawful = subst (λ l. AreLawful dir (nodes_of l)) (sym empty.0) (no_nodes dir);
-      owners = subst (λ l. AreOwners (owned found.owners) (outputs_of l) []) (sym empty.0) (owners_none (owned found.owners) (empty_get found.owners empty.2));
+      owners = subst (λ l. AreOwners (owned found.owners) (outputs_of l) []) (sym empty.0)
+          (owners_none (owned found.owners) (empty_get found.owners empty.2));
     };
-    given = subst (λ l. All (λ (n : Node). MayStand dir gives n.path n.drv) (nodes_of l)) (sym empty.0) (All-nil (λ (n : Node). MayStand dir gives n.path n.drv));
-    reached = subst (λ l. All (IsReached (MayUse dir gives) roots) (paths_of (nodes_of l))) (sym empty.0) (All-nil (IsReached (MayUse dir gives) roots));
-    marks = subst (λ l. AreMarks (marked found.marks) (paths_of (nodes_of l)) []) (sym empty.0) (marks_none (marked found.marks) (empty_get found.marks empty.1));
+    given = subst (λ l. All (λ (n : Node). MayStand dir gives n.path n.drv) (nodes_of l))
+        (sym empty.0) (All-nil (λ (n : Node). MayStand dir gives n.path n.drv));
+    reached = subst (λ l. All (IsReached (MayUse dir gives) roots) (paths_of (nodes_of l)))
+        (sym empty.0) (All-nil (IsReached (MayUse dir gives) roots));
+    marks = subst (λ l. AreMarks (marked found.marks) (paths_of (nodes_of l)) []) (sym empty.0)
+        (marks_none (marked found.marks) (empty_get found.marks empty.1));
     count = no_keys found empty;
     few = no_more found empty;
   };
-  in_order = λ nodes has. subst (λ l. AreLeft nodes [] [] (paths_of (nodes_of l))) (sym empty.0) (none_left []);
+  in_order = λ nodes has. subst (λ l. AreLeft nodes [] [] (paths_of (nodes_of l))) (sym empty.0)
+      (none_left []);
   are_numbers = subst (λ ns. AreNumbers (nodes_of found.nodes.items) ns []) (sym none) refl;
   once = once;
 }
 
 -- one more root
 pub loading_more :
-    (dir : List ℕ) (G H : List ℕ → Answer → Type 0) (roots done : List (List ℕ)) (found after : Found) (numbers next : List ℕ) (root : List ℕ) (number : ℕ) →
+    (dir : List ℕ) (G H : List ℕ → Answer → Type 0) (roots done : List (List ℕ))
+    (found after : Found) (numbers next : List ℕ) (root : List ℕ) (number : ℕ) →
     GivesSame G H →
     IsReachedSome dir G roots done found numbers →
     IsVisited dir H roots root found after number →
     next ≡ insert_key nat_eq numbers number →
     IsDistinct nat_eq next →
     IsReachedSome dir G roots (done ++ root ∷ []) after next
-loading_more dir G H roots done found after numbers next root number same some visited inserted once = record {
-  walked = walked_by dir G H same roots after [] visited.walked;
-  in_order = λ nodes has.
-      left_append (root ∷ []) (paths_of (nodes_of after.nodes.items))
-      (some.in_order nodes (all_front (Contains nodes) (nodes_of found.nodes.items) visited.in_order.more (subst (All (Contains nodes)) visited.in_order.grown has)))
-      (visited.in_order.in_order nodes has);
-  are_numbers = subst (λ ns. AreNumbers (nodes_of after.nodes.items) ns (each_once (done ++ root ∷ []))) (sym inserted)
-      (roots_more (nodes_of after.nodes.items) numbers done root number visited.walked.right.distinct
-      (subst (λ l. AreNumbers l numbers (each_once done)) (sym visited.in_order.grown) (numbers_grow (nodes_of found.nodes.items) visited.in_order.more numbers (each_once done) some.are_numbers))
-      visited.is_number);
-  once = once;
-}
+loading_more dir G H roots done found after numbers next root number same some visited inserted
+    once = record {
+      walked = walked_by dir G H same roots after [] visited.walked;
+      in_order = λ nodes has.
+          left_append (root ∷ []) (paths_of (nodes_of after.nodes.items))
+          (some.in_order nodes
+          (all_front (Contains nodes) (nodes_of found.nodes.items) visited.in_order.more
+          (subst (All (Contains nodes)) visited.in_order.grown has)))
+          (visited.in_order.in_order nodes has);
+      are_numbers =
+          subst (λ ns. AreNumbers (nodes_of after.nodes.items) ns (each_once (done ++ root ∷ [])))
+          (sym inserted)
+          (roots_more (nodes_of after.nodes.items) numbers done root number
+          visited.walked.right.distinct
+          (subst (λ l. AreNumbers l numbers (each_once done)) (sym visited.in_order.grown)
+          (numbers_grow (nodes_of found.nodes.items) visited.in_order.more numbers (each_once done)
+          some.are_numbers))
+          visited.is_number);
+      once = once;
+    }
 
 -- behind all roots
-pub loading_ends : (dir : List ℕ) (gives : List ℕ → Answer → Type 0) (roots : List (List ℕ)) (place : ℕ) (found : Found) (numbers : List ℕ) → length roots ≤ place → IsReachedSome dir gives roots (take place roots) found numbers → IsReachedAll dir gives roots found numbers
+pub loading_ends : (dir : List ℕ) (gives : List ℕ → Answer → Type 0) (roots : List (List ℕ))
+    (place : ℕ) (found : Found) (numbers : List ℕ) → length roots ≤ place
+    → IsReachedSome dir gives roots (take place roots) found numbers
+    → IsReachedAll dir gives roots found numbers
 loading_ends dir gives roots place found numbers all some =
-    let whole : IsReachedSome dir gives roots roots found numbers = subst (λ l. IsReachedSome dir gives roots l found numbers) (take_all place roots all) some in
-    record { walked = whole.walked; in_order = whole.in_order; are_numbers = whole.are_numbers; once = whole.once }
+    let whole : IsReachedSome dir gives roots roots found numbers =
+    subst (λ l. IsReachedSome dir gives roots l found numbers) (take_all place roots all) some
+    in
+    record {
+      walked = whole.walked;
+      in_order = whole.in_order;
+      are_numbers = whole.are_numbers;
+      once = whole.once;
+    }
 
 -- what was found is the plan
-pub plan_found : (dir : List ℕ) (gives : List ℕ → Answer → Type 0) (roots : List (List ℕ)) (found : Found) (numbers : List ℕ) → IsReachedAll dir gives roots found numbers → IsPlan dir gives roots (record { nodes = nodes_of found.nodes.items; roots = numbers })
+pub plan_found : (dir : List ℕ) (gives : List ℕ → Answer → Type 0) (roots : List (List ℕ))
+    (found : Found) (numbers : List ℕ) → IsReachedAll dir gives roots found numbers
+    → IsPlan dir gives roots (record { nodes = nodes_of found.nodes.items; roots = numbers })
 plan_found dir gives roots found numbers all =
-    let order = all.in_order (nodes_of found.nodes.items) (All-contains_itself (nodes_of found.nodes.items)) in
+    let order = all.in_order (nodes_of found.nodes.items)
+    (All-contains_itself (nodes_of found.nodes.items)) in
     record {
       given = all.walked.given;
       in_order = order;
@@ -119,16 +155,21 @@ plan_found dir gives roots found numbers all =
     }
 
 -- and is right without its source
-pub sound_found : (dir : List ℕ) (gives : List ℕ → Answer → Type 0) (roots : List (List ℕ)) (found : Found) (numbers : List ℕ) → IsReachedAll dir gives roots found numbers → AreKept found.nodes.items × IsSound (record { nodes = nodes_of found.nodes.items; roots = numbers })
+pub sound_found : (dir : List ℕ) (gives : List ℕ → Answer → Type 0) (roots : List (List ℕ))
+    (found : Found) (numbers : List ℕ) → IsReachedAll dir gives roots found numbers
+    → AreKept found.nodes.items
+    × IsSound (record { nodes = nodes_of found.nodes.items; roots = numbers })
 sound_found dir gives roots found numbers all = (
   all.walked.right.kept,
   record {
     dir = dir;
     lawful = all.walked.right.lawful;
     distinct = all.walked.right.distinct;
-    roots_within = numbers_within (nodes_of found.nodes.items) numbers (each_once roots) all.are_numbers;
+    roots_within = numbers_within (nodes_of found.nodes.items) numbers (each_once roots)
+        all.are_numbers;
     roots_once = all.once;
     named = all_named dir gives (nodes_of found.nodes.items) all.walked.given;
-    own_outputs = all_own_outputs dir gives (nodes_of found.nodes.items) all.walked.right.lawful all.walked.given;
+    own_outputs = all_own_outputs dir gives (nodes_of found.nodes.items) all.walked.right.lawful
+        all.walked.given;
   },
 )

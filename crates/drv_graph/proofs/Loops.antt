@@ -13,35 +13,45 @@ use Rattle.nix_names.proofs.RisingLists.{Contains-cons_cases, Contains-first, Co
 
 -- ---- a list that is built beside another
 
-pub mapped_more : {A B C : Type 0} (view : A → C) (made : B → C) (items : List A) (i : ℕ) (d : A) (built pushed : List B) (x : B)
-    → i < length items → d ≡ get_or items i d → map made built ≡ map view (take i items) → pushed ≡ built ++ x ∷ [] → made x ≡ view d
+pub mapped_more : {A B C : Type 0} (view : A → C) (made : B → C) (items : List A) (i : ℕ) (d : A)
+    (built pushed : List B) (x : B)
+    → i < length items → d ≡ get_or items i d → map made built ≡ map view (take i items) → pushed
+    ≡ built ++ x ∷ [] → made x ≡ view d
     → map made pushed ≡ map view (take (i + 1) items)
 mapped_more {A} {B} {C} view made items i d built pushed x below at before is same =
-    ap (map made) is ∙ map-append made built (x ∷ []) ∙ ap (λ (front : List C). front ++ made x ∷ []) before
+    ap (map made) is ∙ map-append made built (x ∷ [])
+    ∙ ap (λ (front : List C). front ++ made x ∷ []) before
     ∙ ap (λ (c : C). map view (take i items) ++ c ∷ []) (same ∙ ap view at)
-    ∙ sym (ap (map view) (take_more items i d below) ∙ map-append view (take i items) (get_or items i d ∷ []))
+    ∙ sym (ap (map view) (take_more items i d below)
+    ∙ map-append view (take i items) (get_or items i d ∷ []))
 
 -- ---- a list that is changed in place
 
 written_at : {C : Type 0} (f : C → C) (old : List C) (i : ℕ) (d : C) → i < length old
-    → set (map f (take i old) ++ drop i old) i (f (get_or old i d)) ≡ map f (take (suc i) old) ++ drop (suc i) old
+    → set (map f (take i old) ++ drop i old) i (f (get_or old i d)) ≡ map f (take (suc i) old)
+    ++ drop (suc i) old
 written_at f [] i d below = absurd (omega arith)
 written_at f (x ∷ xs) zero d below = refl
-written_at {C} f (x ∷ xs) (suc i) d below = ap (λ (zs : List C). f x ∷ zs) (written_at f xs i d (omega arith))
+written_at {C} f (x ∷ xs) (suc i) d below = ap (λ (zs : List C). f x ∷ zs)
+    (written_at f xs i d (omega arith))
 
-unwritten_at : {C : Type 0} (f : C → C) (old : List C) (i : ℕ) (d : C) → get_or (map f (take i old) ++ drop i old) i d ≡ get_or old i d
+unwritten_at : {C : Type 0} (f : C → C) (old : List C) (i : ℕ) (d : C)
+    → get_or (map f (take i old) ++ drop i old) i d ≡ get_or old i d
 unwritten_at f [] zero d = refl
 unwritten_at f [] (suc i) d = refl
 unwritten_at f (x ∷ xs) zero d = refl
 unwritten_at f (x ∷ xs) (suc i) d = unwritten_at f xs i d
 
 -- one element more, seen by a view, is what a function makes of it
-pub written_more : {A C : Type 0} (view : A → C) (f : C → C) (old now after : List A) (i : ℕ) (x d : A) → i < length now → length now ≡ length old
-    → map view now ≡ map f (take i (map view old)) ++ drop i (map view old) → after ≡ set now i x → view x ≡ f (view (get_or now i d))
+pub written_more : {A C : Type 0} (view : A → C) (f : C → C) (old now after : List A) (i : ℕ)
+    (x d : A) → i < length now → length now ≡ length old
+    → map view now ≡ map f (take i (map view old)) ++ drop i (map view old) → after ≡ set now i x
+    → view x ≡ f (view (get_or now i d))
     → map view after ≡ map f (take (i + 1) (map view old)) ++ drop (i + 1) (map view old)
 written_more {A} {C} view f old now after i x d below same before is made =
     let at : view (get_or now i d) ≡ get_or (map view old) i (view d) =
-    sym (get_or-map view now i d (view d) below) ∙ ap (λ (cs : List C). get_or cs i (view d)) before ∙ unwritten_at f (map view old) i (view d) in
+    sym (get_or-map view now i d (view d) below) ∙ ap (λ (cs : List C). get_or cs i (view d)) before
+    ∙ unwritten_at f (map view old) i (view d) in
     let within : i < length (map view old) = omega (arith, length-map old view) in
     ap (map view) is ∙ map-set view now i x
     ∙ ap (λ (c : C). set (map view now) i c) (made ∙ ap f at)
@@ -50,30 +60,38 @@ written_more {A} {C} view f old now after i x d below same before is made =
     ∙ ap (λ (n : ℕ). map f (take n (map view old)) ++ drop n (map view old)) (sym (add-one i))
 
 -- at the end all are
-pub written_all : {A C : Type 0} (view : A → C) (f : C → C) (old now : List A) (i : ℕ) → length old ≤ i
-    → map view now ≡ map f (take i (map view old)) ++ drop i (map view old) → map view now ≡ map f (map view old)
+pub written_all : {A C : Type 0} (view : A → C) (f : C → C) (old now : List A) (i : ℕ) → length old
+    ≤ i
+    → map view now ≡ map f (take i (map view old)) ++ drop i (map view old) → map view now
+    ≡ map f (map view old)
 written_all {A} {C} view f old now i past is =
     let long : length (map view old) ≤ i = omega (arith, length-map old view) in
     is ∙ ap (λ (cs : List C). map f cs ++ drop i (map view old)) (take_all i (map view old) long)
-    ∙ ap (λ (cs : List C). map f (map view old) ++ cs) (drop_all i (map view old) long) ∙ append-nil (map f (map view old))
+    ∙ ap (λ (cs : List C). map f (map view old) ++ cs) (drop_all i (map view old) long)
+    ∙ append-nil (map f (map view old))
 
 -- ---- elements and their places
 
-pub Contains-map : {A B : Type 0} (f : A → B) (xs : List A) (x : A) → Contains xs x → Contains (map f xs) (f x)
+pub Contains-map : {A B : Type 0} (f : A → B) (xs : List A) (x : A) → Contains xs x
+    → Contains (map f xs) (f x)
 Contains-map f [] x (k, below, is) = absurd (omega arith)
 Contains-map {A} {B} f (y ∷ ys) x has =
     ⊎_elim
-    (λ is. subst (λ (z : B). Contains (map f (y ∷ ys)) z) (ap f is) (Contains-first (f y) (map f ys)))
+    (λ is. subst (λ (z : B). Contains (map f (y ∷ ys)) z) (ap f is)
+    (Contains-first (f y) (map f ys)))
     (λ later. Contains-later (f y) (map f ys) (f x) (Contains-map f ys x later))
     (Contains-cons_cases y ys x has)
 
 -- what the elements at a list's places show is shown of all
-pub Contains-slice_get : {A : Type 0} (xs : List A) (k : ℕ) (x : A) → slice_get xs k ≡ Some x → Contains xs x
+pub Contains-slice_get : {A : Type 0} (xs : List A) (k : ℕ) (x : A) → slice_get xs k ≡ Some x
+    → Contains xs x
 Contains-slice_get [] k x e = absurd cc
-Contains-slice_get {A} (y ∷ ys) zero x e = let is : y ≡ x = cc in subst (λ (z : A). Contains (y ∷ ys) z) is (Contains-first y ys)
+Contains-slice_get {A} (y ∷ ys) zero x e = let is : y ≡ x = cc
+    in subst (λ (z : A). Contains (y ∷ ys) z) is (Contains-first y ys)
 Contains-slice_get (y ∷ ys) (suc k) x e = Contains-later y ys x (Contains-slice_get ys k x e)
 
-pub slice_get-Contains : {A : Type 0} (xs : List A) (x : A) → Contains xs x → (k : ℕ) × (k < length xs) × (slice_get xs k ≡ Some x)
+pub slice_get-Contains : {A : Type 0} (xs : List A) (x : A) → Contains xs x → (k : ℕ)
+    × (k < length xs) × (slice_get xs k ≡ Some x)
 slice_get-Contains [] x (k, below, is) = absurd (omega arith)
 slice_get-Contains {A} (y ∷ ys) x has =
     elim (Contains-cons_cases y ys x has) [
@@ -82,29 +100,36 @@ slice_get-Contains {A} (y ∷ ys) x has =
     ]
 
 -- the elements round a place
-pub split_get : {A : Type 0} (xs : List A) (k : ℕ) (x : A) → slice_get xs k ≡ Some x → xs ≡ take k xs ++ x ∷ drop (suc k) xs
+pub split_get : {A : Type 0} (xs : List A) (k : ℕ) (x : A) → slice_get xs k ≡ Some x → xs
+    ≡ take k xs ++ x ∷ drop (suc k) xs
 split_get [] k x e = absurd cc
 split_get {A} (y ∷ ys) zero x e = let is : y ≡ x = cc in ap (λ (z : A). z ∷ ys) is
 split_get {A} (y ∷ ys) (suc k) x e = ap (λ (zs : List A). y ∷ zs) (split_get ys k x e)
 
-pub slice_get-take : {A : Type 0} (xs : List A) (n k : ℕ) (x : A) → slice_get (take n xs) k ≡ Some x → (k < n) × (slice_get xs k ≡ Some x)
+pub slice_get-take : {A : Type 0} (xs : List A) (n k : ℕ) (x : A) → slice_get (take n xs) k ≡ Some x
+    → (k < n) × (slice_get xs k ≡ Some x)
 slice_get-take [] zero k x e = absurd cc
 slice_get-take [] (suc n) k x e = absurd cc
 slice_get-take (y ∷ ys) zero k x e = absurd cc
 slice_get-take (y ∷ ys) (suc n) zero x e = (omega arith, e)
-slice_get-take (y ∷ ys) (suc n) (suc k) x e = let h = slice_get-take ys n k x e in (omega (arith, h.0), h.1)
+slice_get-take (y ∷ ys) (suc n) (suc k) x e = let h = slice_get-take ys n k x e
+    in (omega (arith, h.0), h.1)
 
 -- beside each element stands another
-pub beside : {A B : Type 0} (R : A → B → Type 0) (xs : List A) (ys : List B) (k : ℕ) (x : A) → AllZip R xs ys → slice_get xs k ≡ Some x
+pub beside : {A B : Type 0} (R : A → B → Type 0) (xs : List A) (ys : List B) (k : ℕ) (x : A)
+    → AllZip R xs ys → slice_get xs k ≡ Some x
     → (y : B) × (slice_get ys k ≡ Some y) × R x y
 beside R [] ys k x zipped e = absurd cc
 beside R (a ∷ xs) [] k x zipped e = absurd zipped
-beside {A} {B} R (a ∷ xs) (b ∷ ys) zero x zipped e = let is : a ≡ x = cc in (b, refl, subst (λ (z : A). R z b) is zipped.0)
+beside {A} {B} R (a ∷ xs) (b ∷ ys) zero x zipped e = let is : a ≡ x = cc
+    in (b, refl, subst (λ (z : A). R z b) is zipped.0)
 beside R (a ∷ xs) (b ∷ ys) (suc k) x zipped e = beside R xs ys k x zipped.1 e
 
 -- two lists in step
-pub zipped_from_map : {A B : Type 0} (R : A → B → Type 0) (f : A → B) (xs : List A) (ys : List B) → ys ≡ map f xs → ((x : A) → R x (f x)) → AllZip R xs ys
-zipped_from_map {A} {B} R f xs ys is each = subst (λ (zs : List B). AllZip R xs zs) (sym is) (step xs)
+pub zipped_from_map : {A B : Type 0} (R : A → B → Type 0) (f : A → B) (xs : List A) (ys : List B)
+    → ys ≡ map f xs → ((x : A) → R x (f x)) → AllZip R xs ys
+zipped_from_map {A} {B} R f xs ys is each = subst (λ (zs : List B). AllZip R xs zs) (sym is)
+    (step xs)
   where
     step : (zs : List A) → AllZip R zs (map f zs)
     step [] = tt
@@ -113,34 +138,44 @@ zipped_from_map {A} {B} R f xs ys is each = subst (λ (zs : List B). AllZip R xs
 -- ---- a list that is gone over
 
 -- the view of the element at a place
-pub seen_at : {A B : Type 0} (view : A → B) (items : List A) (i : ℕ) (d : A) → i < length items → d ≡ get_or items i d → slice_get (map view items) i ≡ Some (view d)
-seen_at view items i d below at = slice_get-map view items i ∙ ap (option_map view) (slice_get_read items (length items) i d refl below at)
+pub seen_at : {A B : Type 0} (view : A → B) (items : List A) (i : ℕ) (d : A) → i < length items → d
+    ≡ get_or items i d → slice_get (map view items) i ≡ Some (view d)
+seen_at view items i d below at = slice_get-map view items i
+    ∙ ap (option_map view) (slice_get_read items (length items) i d refl below at)
 
-pub seen_twice : {A B C : Type 0} (outer : B → C) (view : A → B) (items : List A) (i : ℕ) (d : A) → i < length items → d ≡ get_or items i d
+pub seen_twice : {A B C : Type 0} (outer : B → C) (view : A → B) (items : List A) (i : ℕ) (d : A)
+    → i < length items → d ≡ get_or items i d
     → slice_get (map outer (map view items)) i ≡ Some (outer (view d))
-seen_twice outer view items i d below at = slice_get-map outer (map view items) i ∙ ap (option_map outer) (seen_at view items i d below at)
+seen_twice outer view items i d below at = slice_get-map outer (map view items) i
+    ∙ ap (option_map outer) (seen_at view items i d below at)
 
 -- a list that is built is the front of another, up to a place
-pub took_more : {B : Type 0} (xs : List B) (i : ℕ) (x : B) (built pushed : List B) → slice_get xs i ≡ Some x → built ≡ take i xs → pushed ≡ built ++ x ∷ [] → pushed ≡ take (i + 1) xs
+pub took_more : {B : Type 0} (xs : List B) (i : ℕ) (x : B) (built pushed : List B) → slice_get xs i
+    ≡ Some x → built ≡ take i xs → pushed ≡ built ++ x ∷ [] → pushed ≡ take (i + 1) xs
 took_more {B} xs i x built pushed at before is =
     let below : i < length xs = slice_get_within xs i x at in
     is ∙ ap (λ (front : List B). front ++ x ∷ []) before
     ∙ ap (λ (y : B). take i xs ++ y ∷ []) (sym (get_or_from_slice_get xs i x x at))
     ∙ sym (take_more xs i x below)
 
-pub took_all : {B : Type 0} (xs built : List B) (i : ℕ) → length xs ≤ i → built ≡ take i xs → built ≡ xs
+pub took_all : {B : Type 0} (xs built : List B) (i : ℕ) → length xs ≤ i → built ≡ take i xs → built
+    ≡ xs
 took_all xs built i past is = is ∙ take_all i xs past
 
 -- what holds of each element up to a place
-pub all_took_more : {B : Type 0} (P : B → Type 0) (xs : List B) (i : ℕ) (x : B) → slice_get xs i ≡ Some x → All P (take i xs) → P x → All P (take (i + 1) xs)
+pub all_took_more : {B : Type 0} (P : B → Type 0) (xs : List B) (i : ℕ) (x : B) → slice_get xs i
+    ≡ Some x → All P (take i xs) → P x → All P (take (i + 1) xs)
 all_took_more {B} P xs i x at before here =
-    All-more P xs i x (slice_get_within xs i x at) before (subst (λ (y : B). P y) (sym (get_or_from_slice_get xs i x x at)) here)
+    All-more P xs i x (slice_get_within xs i x at) before
+    (subst (λ (y : B). P y) (sym (get_or_from_slice_get xs i x x at)) here)
 
-pub all_took_all : {B : Type 0} (P : B → Type 0) (xs : List B) (i : ℕ) → length xs ≤ i → All P (take i xs) → All P xs
+pub all_took_all : {B : Type 0} (P : B → Type 0) (xs : List B) (i : ℕ) → length xs ≤ i
+    → All P (take i xs) → All P xs
 all_took_all {B} P xs i past all = subst (λ (ys : List B). All P ys) (take_all i xs past) all
 
 -- the first element of which something doesn't hold
-pub first_without : {B : Type 0} (Good : B → Type 0) (xs : List B) (i : ℕ) (x : B) → slice_get xs i ≡ Some x → All Good (take i xs) → (Good x → ⊥) → IsFirst (λ (b : B). Good b → ⊥) xs x
+pub first_without : {B : Type 0} (Good : B → Type 0) (xs : List B) (i : ℕ) (x : B) → slice_get xs i
+    ≡ Some x → All Good (take i xs) → (Good x → ⊥) → IsFirst (λ (b : B). Good b → ⊥) xs x
 first_without Good xs i x at good bad = record {
   before = take i xs;
   after = drop (suc i) xs;
@@ -150,42 +185,60 @@ first_without Good xs i x at good bad = record {
 }
 
 -- a list of one element
-pub one_element : {A B : Type 0} (view : A → B) (xs : List A) (x : A) → length xs ≡ 1 → x ≡ get_or xs 0 x → map view xs ≡ view x ∷ []
+pub one_element : {A B : Type 0} (view : A → B) (xs : List A) (x : A) → length xs ≡ 1 → x
+    ≡ get_or xs 0 x → map view xs ≡ view x ∷ []
 one_element view [] x long at = absurd (omega arith)
 one_element {A} {B} view (y ∷ []) x long at = ap (λ (z : A). view z ∷ []) (sym at)
 one_element view (y ∷ z ∷ zs) x long at = absurd (omega arith)
 
 -- an element is changed in place, by a relation
-pub zipped_in_place : {A C : Type 0} (R : C → C → Type 0) (view : A → C) (old now after : List A) (i : ℕ) (x d : A) → i < length now → length now ≡ length old
-    → AllZip R (take i (map view old)) (take i (map view now)) → drop i (map view now) ≡ drop i (map view old) → after ≡ set now i x → R (view (get_or now i d)) (view x)
-    → AllZip R (take (i + 1) (map view old)) (take (i + 1) (map view after)) × (drop (i + 1) (map view after) ≡ drop (i + 1) (map view old))
+pub zipped_in_place : {A C : Type 0} (R : C → C → Type 0) (view : A → C) (old now after : List A)
+    (i : ℕ) (x d : A) → i < length now → length now ≡ length old
+    → AllZip R (take i (map view old)) (take i (map view now)) → drop i (map view now)
+    ≡ drop i (map view old) → after ≡ set now i x → R (view (get_or now i d)) (view x)
+    → AllZip R (take (i + 1) (map view old)) (take (i + 1) (map view after))
+    × (drop (i + 1) (map view after) ≡ drop (i + 1) (map view old))
 zipped_in_place {A} {C} R view old now after i x d below same zipped rest is made =
     let e : C = view d in
     let in_now : i < length (map view now) = omega (arith, length-map now view) in
     let in_old : i < length (map view old) = omega (arith, length-map old view) in
-    let changed : map view after ≡ set (map view now) i (view x) = ap (map view) is ∙ map-set view now i x in
-    let parts : get_or (map view now) i e ∷ drop (i + 1) (map view now) ≡ get_or (map view old) i e ∷ drop (i + 1) (map view old) =
+    let changed : map view after ≡ set (map view now) i (view x) = ap (map view) is
+    ∙ map-set view now i x in
+    let parts : get_or (map view now) i e ∷ drop (i + 1) (map view now) ≡ get_or (map view old) i e
+    ∷ drop (i + 1) (map view old) =
     sym (drop_more (map view now) i e in_now) ∙ rest ∙ drop_more (map view old) i e in_old in
     let head : get_or (map view now) i e ≡ get_or (map view old) i e = cc in
     let tail : drop (i + 1) (map view now) ≡ drop (i + 1) (map view old) = cc in
-    let was : view (get_or now i d) ≡ get_or (map view old) i e = sym (get_or-map view now i d e below) ∙ head in
-    let one_more = all_zipped_more R (take i (map view old)) (take i (map view now)) (get_or (map view old) i e) (view x) zipped (subst (λ (c : C). R c (view x)) was made) in (
-      subst (λ (front : List C). AllZip R front (take (i + 1) (map view after))) (sym (take_more (map view old) i e in_old))
-          (subst (λ (back : List C). AllZip R (take i (map view old) ++ get_or (map view old) i e ∷ []) back) (sym (ap (take (i + 1)) changed ∙ take_more_set (map view now) i (view x) in_now)) one_more),
-      ap (drop (i + 1)) changed ∙ drop-set-lt (i + 1) (map view now) i (view x) (omega arith) ∙ tail,
+    let was : view (get_or now i d) ≡ get_or (map view old) i e =
+    sym (get_or-map view now i d e below) ∙ head in
+    let one_more = all_zipped_more R (take i (map view old)) (take i (map view now))
+    (get_or (map view old) i e) (view x) zipped (subst (λ (c : C). R c (view x)) was made) in (
+      subst (λ (front : List C). AllZip R front (take (i + 1) (map view after)))
+          (sym (take_more (map view old) i e in_old))
+          (subst (λ (back : List C). AllZip R
+          (take i (map view old) ++ get_or (map view old) i e ∷ []) back)
+          (sym (ap (take (i + 1)) changed ∙ take_more_set (map view now) i (view x) in_now))
+          one_more),
+      ap (drop (i + 1)) changed ∙ drop-set-lt (i + 1) (map view now) i (view x) (omega arith)
+          ∙ tail,
     )
 
-pub zipped_all : {C : Type 0} (R : C → C → Type 0) (old now : List C) (i : ℕ) → length old ≤ i → length now ≤ i → AllZip R (take i old) (take i now) → AllZip R old now
+pub zipped_all : {C : Type 0} (R : C → C → Type 0) (old now : List C) (i : ℕ) → length old ≤ i
+    → length now ≤ i → AllZip R (take i old) (take i now) → AllZip R old now
 zipped_all {C} R old now i past past' zipped =
-    subst (λ (cs : List C). AllZip R cs now) (take_all i old past) (subst (λ (cs : List C). AllZip R (take i old) cs) (take_all i now past') zipped)
+    subst (λ (cs : List C). AllZip R cs now) (take_all i old past)
+    (subst (λ (cs : List C). AllZip R (take i old) cs) (take_all i now past') zipped)
 
 -- the last element of a list
-pub split_last : {A : Type 0} (xs : List A) (n : ℕ) (x : A) → n ≡ length xs → 0 < n → x ≡ get_or xs (n - 1) x → xs ≡ take (n - 1) xs ++ x ∷ []
+pub split_last : {A : Type 0} (xs : List A) (n : ℕ) (x : A) → n ≡ length xs → 0 < n → x
+    ≡ get_or xs (n - 1) x → xs ≡ take (n - 1) xs ++ x ∷ []
 split_last {A} xs n x long some at =
     split_at xs (n - 1) x (omega arith)
     ∙ ap (λ (y : A). take (n - 1) xs ++ y ∷ drop (suc (n - 1)) xs) (sym at)
     ∙ ap (λ (ys : List A). take (n - 1) xs ++ x ∷ ys) (drop_all (suc (n - 1)) xs (omega arith))
 
-pub set_last : {A : Type 0} (xs : List A) (n : ℕ) (x : A) → n ≡ length xs → 0 < n → set xs (n - 1) x ≡ take (n - 1) xs ++ x ∷ []
+pub set_last : {A : Type 0} (xs : List A) (n : ℕ) (x : A) → n ≡ length xs → 0 < n → set xs (n - 1) x
+    ≡ take (n - 1) xs ++ x ∷ []
 set_last {A} xs n x long some =
-    set_split xs (n - 1) x (omega arith) ∙ ap (λ (ys : List A). take (n - 1) xs ++ x ∷ ys) (drop_all (suc (n - 1)) xs (omega arith))
+    set_split xs (n - 1) x (omega arith) ∙ ap (λ (ys : List A). take (n - 1) xs ++ x ∷ ys)
+    (drop_all (suc (n - 1)) xs (omega arith))

@@ -8,76 +8,125 @@ use Rattle.drv_graph.specs.Walks.{AreMarks, SetsEntry}
 use Rattle.drv_graph.proofs.PathLists.{contains_cases, contains_first, contains_from_get, contains_later, contains_none, get_from_contains, get_grows, get_push_cases, get_pushed, other_path, path_cases}
 
 -- what an insert sets
-pub sets_entry : {X S : Type 0} (before after : IndexMap (List ℕ) X S) (path : List ℕ) (entry : X) → Updates (pointwise nat_eq) before after path (Some entry) → SetsEntry (get (pointwise nat_eq) before) (get (pointwise nat_eq) after) path entry
+pub sets_entry : {X S : Type 0} (before after : IndexMap (List ℕ) X S) (path : List ℕ) (entry : X)
+    → Updates (pointwise nat_eq) before after path (Some entry)
+    → SetsEntry (get (pointwise nat_eq) before) (get (pointwise nat_eq) after) path entry
 sets_entry before after path entry updates = record {
   here = updates.1;
   others = λ other differs. updates.2 other (other_path path other (λ same. differs (sym same)));
 }
 
 -- nothing was met
-pub marks_none : (marks : List ℕ → Option (Option ℕ)) → ((path : List ℕ) → marks path ≡ None) → AreMarks marks [] []
+pub marks_none : (marks : List ℕ → Option (Option ℕ)) → ((path : List ℕ) → marks path ≡ None)
+    → AreMarks marks [] []
 marks_none marks none = record {
-  numbered = λ path number. (λ e. absurd (none-some (Some number) (sym (none path) ∙ e)), λ e. absurd (none-some path e));
-  is_pending = λ path. (λ e. absurd (none-some None (sym (none path) ∙ e)), λ has. absurd (contains_none path has));
+  numbered = λ path number. (
+    λ e. absurd (none-some (Some number) (sym (none path) ∙ e)),
+    λ e. absurd (none-some path e),
+  );
+  is_pending = λ path. (
+    λ e. absurd (none-some None (sym (none path) ∙ e)),
+    λ has. absurd (contains_none path has),
+  );
 }
 
 -- a path that has no mark wasn't left, and isn't open
-pub new_not_left : (marks : List ℕ → Option (Option ℕ)) (left pending : List (List ℕ)) (path : List ℕ) → AreMarks marks left pending → marks path ≡ None → Contains left path → ⊥
+pub new_not_left : (marks : List ℕ → Option (Option ℕ)) (left pending : List (List ℕ))
+    (path : List ℕ) → AreMarks marks left pending → marks path ≡ None → Contains left path → ⊥
 new_not_left marks left pending path right none has =
     let at = get_from_contains left path has in
     none-some (Some at.0) (sym none ∙ (right.numbered path at.0).1 at.1)
 
-pub new_not_pending : (marks : List ℕ → Option (Option ℕ)) (left pending : List (List ℕ)) (path : List ℕ) → AreMarks marks left pending → marks path ≡ None → Contains pending path → ⊥
-new_not_pending marks left pending path right none has = none-some None (sym none ∙ (right.is_pending path).1 has)
+pub new_not_pending : (marks : List ℕ → Option (Option ℕ)) (left pending : List (List ℕ))
+    (path : List ℕ) → AreMarks marks left pending → marks path ≡ None → Contains pending path → ⊥
+new_not_pending marks left pending path right none has =
+    none-some None (sym none ∙ (right.is_pending path).1 has)
 
 -- an open path wasn't left
-pub pending_not_left : (marks : List ℕ → Option (Option ℕ)) (left pending : List (List ℕ)) (path : List ℕ) → AreMarks marks left pending → Contains pending path → Contains left path → ⊥
+pub pending_not_left : (marks : List ℕ → Option (Option ℕ)) (left pending : List (List ℕ))
+    (path : List ℕ) → AreMarks marks left pending → Contains pending path → Contains left path → ⊥
 pending_not_left marks left pending path right has old =
     let at = get_from_contains left path old in
-    let e : Some None ≡ Some (Some at.0) = sym ((right.is_pending path).1 has) ∙ (right.numbered path at.0).1 at.1 in
+    let e : Some None ≡ Some (Some at.0) = sym ((right.is_pending path).1 has)
+    ∙ (right.numbered path at.0).1 at.1 in
     none-some at.0 (same_Some None (Some at.0) e)
 
 -- a path was opened
-pub marks_opened : (marks after : List ℕ → Option (Option ℕ)) (left pending : List (List ℕ)) (path : List ℕ) → AreMarks marks left pending → marks path ≡ None → SetsEntry marks after path None → AreMarks after left (path ∷ pending)
+pub marks_opened : (marks after : List ℕ → Option (Option ℕ)) (left pending : List (List ℕ))
+    (path : List ℕ) → AreMarks marks left pending → marks path ≡ None
+    → SetsEntry marks after path None → AreMarks after left (path ∷ pending)
 marks_opened marks after left pending path right none sets = record {
   numbered = λ other number. (
-    λ e. ⊎_elim (λ same. absurd (numberless other number same e)) (λ differs. (right.numbered other number).0 (sym (sets.others other differs) ∙ e)) (path_cases other path),
-    λ e. ⊎_elim (λ same. absurd (new_not_left marks left pending path right none (subst (Contains left) same (contains_from_get left number other e)))) (λ differs. sets.others other differs ∙ (right.numbered other number).1 e) (path_cases other path),
+    λ e. ⊎_elim (λ same. absurd (numberless other number same e))
+        (λ differs. (right.numbered other number).0 (sym (sets.others other differs) ∙ e))
+        (path_cases other path),
+    λ e. ⊎_elim (λ same.
+        absurd (new_not_left marks left pending path right none
+        (subst (Contains left) same (contains_from_get left number other e))))
+        (λ differs. sets.others other differs ∙ (right.numbered other number).1 e)
+        (path_cases other path),
   );
   is_pending = λ other. (
-    λ e. ⊎_elim (λ same. subst (Contains (path ∷ pending)) (sym same) (contains_first path pending)) (λ differs. contains_later path other pending ((right.is_pending other).0 (sym (sets.others other differs) ∙ e))) (path_cases other path),
-    λ has. ⊎_elim (λ same. ap after (sym same) ∙ sets.here) (λ later. ⊎_elim (λ same. ap after same ∙ sets.here) (λ differs. sets.others other differs ∙ (right.is_pending other).1 later) (path_cases other path)) (contains_cases path other pending has),
+    λ e. ⊎_elim (λ same. subst (Contains (path ∷ pending)) (sym same) (contains_first path pending))
+        (λ differs. contains_later path other pending
+        ((right.is_pending other).0 (sym (sets.others other differs) ∙ e))) (path_cases other path),
+    λ has. ⊎_elim (λ same. ap after (sym same) ∙ sets.here)
+        (λ later. ⊎_elim (λ same. ap after same ∙ sets.here)
+        (λ differs. sets.others other differs ∙ (right.is_pending other).1 later)
+        (path_cases other path)) (contains_cases path other pending has),
   );
 }
   where
     numberless : (other : List ℕ) (number : ℕ) → other ≡ path → after other ≡ Some (Some number) → ⊥
     numberless other number same e =
-        let both : Some None ≡ Some (Some number) = sym sets.here ∙ ap after (sym same) ∙ e in none-some number (same_Some None (Some number) both)
+        let both : Some None ≡ Some (Some number) = sym sets.here ∙ ap after (sym same) ∙ e
+        in none-some number (same_Some None (Some number) both)
 
 -- the innermost open path was left
-pub marks_left : (marks after : List ℕ → Option (Option ℕ)) (left pending : List (List ℕ)) (path : List ℕ) → AreMarks marks left (path ∷ pending) → (Contains pending path → ⊥) → SetsEntry marks after path (Some (length left)) → AreMarks after (left ++ path ∷ []) pending
+pub marks_left : (marks after : List ℕ → Option (Option ℕ)) (left pending : List (List ℕ))
+    (path : List ℕ) → AreMarks marks left (path ∷ pending) → (Contains pending path → ⊥)
+    → SetsEntry marks after path (Some (length left)) → AreMarks after (left ++ path ∷ []) pending
 marks_left marks after left pending path right apart sets = record {
   numbered = λ other number. (
-    λ e. ⊎_elim (λ same. at_end other number same e) (λ differs. get_grows left (path ∷ []) number other ((right.numbered other number).0 (sym (sets.others other differs) ∙ e))) (path_cases other path),
-    λ e. ⊎_elim (λ old. before other number old) (λ last. ap after (sym last.1) ∙ sets.here ∙ ap (λ n. Some (Some n)) (sym last.0)) (get_push_cases left path number other e),
+    λ e. ⊎_elim (λ same. at_end other number same e)
+        (λ differs. get_grows left (path ∷ []) number other
+        ((right.numbered other number).0 (sym (sets.others other differs) ∙ e)))
+        (path_cases other path),
+    λ e. ⊎_elim (λ old. before other number old)
+        (λ last. ap after (sym last.1) ∙ sets.here ∙ ap (λ n. Some (Some n)) (sym last.0))
+        (get_push_cases left path number other e),
   );
   is_pending = λ other. (
-    λ e. ⊎_elim (λ same. absurd (numbered other same e)) (λ differs. ⊎_elim (λ same. absurd (differs (sym same))) (λ later. later) (contains_cases path other pending ((right.is_pending other).0 (sym (sets.others other differs) ∙ e)))) (path_cases other path),
-    λ has. sets.others other (λ same. apart (subst (Contains pending) same has)) ∙ (right.is_pending other).1 (contains_later path other pending has),
+    λ e. ⊎_elim (λ same. absurd (numbered other same e))
+        (λ differs. ⊎_elim (λ same. absurd (differs (sym same))) (λ later. later)
+        (contains_cases path other pending
+        ((right.is_pending other).0 (sym (sets.others other differs) ∙ e))))
+        (path_cases other path),
+    λ has. sets.others other (λ same. apart (subst (Contains pending) same has))
+        ∙ (right.is_pending other).1 (contains_later path other pending has),
   );
 }
   where
-    at_end : (other : List ℕ) (number : ℕ) → other ≡ path → after other ≡ Some (Some number) → slice_get (left ++ path ∷ []) number ≡ Some other
+    at_end : (other : List ℕ) (number : ℕ) → other ≡ path → after other ≡ Some (Some number)
+        → slice_get (left ++ path ∷ []) number ≡ Some other
     at_end other number same e =
-        let both : Some (Some (length left)) ≡ Some (Some number) = sym sets.here ∙ ap after (sym same) ∙ e in
-        let number_is = same_Some (length left) number (same_Some (Some (length left)) (Some number) both) in
-        ap (λ n. slice_get (left ++ path ∷ []) n) (sym number_is) ∙ get_pushed left path ∙ ap Some (sym same)
+        let both : Some (Some (length left)) ≡ Some (Some number) = sym sets.here
+        ∙ ap after (sym same) ∙ e in
+        let number_is = same_Some (length left) number
+        (same_Some (Some (length left)) (Some number) both) in
+        ap (λ n. slice_get (left ++ path ∷ []) n) (sym number_is) ∙ get_pushed left path
+        ∙ ap Some (sym same)
 
-    before : (other : List ℕ) (number : ℕ) → slice_get left number ≡ Some other → after other ≡ Some (Some number)
+    before : (other : List ℕ) (number : ℕ) → slice_get left number ≡ Some other → after other
+        ≡ Some (Some number)
     before other number old =
-        sets.others other (λ same. pending_not_left marks left (path ∷ pending) path right (contains_first path pending) (subst (Contains left) same (contains_from_get left number other old)))
+        sets.others other
+        (λ same. pending_not_left marks left (path ∷ pending) path right
+        (contains_first path pending)
+        (subst (Contains left) same (contains_from_get left number other old)))
         ∙ (right.numbered other number).1 old
 
     numbered : (other : List ℕ) → other ≡ path → after other ≡ Some None → ⊥
     numbered other same e =
-        let both : Some None ≡ Some (Some (length left)) = sym e ∙ ap after same ∙ sets.here in none-some (length left) (same_Some None (Some (length left)) both)
+        let both : Some None ≡ Some (Some (length left)) = sym e ∙ ap after same ∙ sets.here
+        in none-some (length left) (same_Some None (Some (length left)) both)

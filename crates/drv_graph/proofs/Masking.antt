@@ -26,74 +26,101 @@ use Rattle.drv_graph.specs.Modulo.{IsModuloText, IsUnited, masked, masked_entry,
 
 -- ---- entries under names
 
-any_here : (key : List ℕ) (names : List (List ℕ)) (place : ℕ) → slice_get names place ≡ Some key → list_any (same_bytes key) names ≡ true
+any_here : (key : List ℕ) (names : List (List ℕ)) (place : ℕ) → slice_get names place ≡ Some key
+    → list_any (same_bytes key) names ≡ true
 any_here key [] place e = absurd cc
 any_here key (x ∷ xs) zero e =
     let is : x ≡ key = cc in
     ap (λ (b : Bool). b || list_any (same_bytes key) xs) ((bytes_decides key x).1 (sym is))
 any_here key (x ∷ xs) (suc place) e = later (same_bytes key x) (any_here key xs place e)
   where
-    later : (b : Bool) → list_any (same_bytes key) xs ≡ true → (b || list_any (same_bytes key) xs) ≡ true
+    later : (b : Bool) → list_any (same_bytes key) xs ≡ true → (b || list_any (same_bytes key) xs)
+        ≡ true
     later true e = refl
     later false e = e
 
-any_none : (key : List ℕ) (names : List (List ℕ)) → (Contains names key → ⊥) → list_any (same_bytes key) names ≡ false
+any_none : (key : List ℕ) (names : List (List ℕ)) → (Contains names key → ⊥)
+    → list_any (same_bytes key) names ≡ false
 any_none key [] none = refl
 any_none key (x ∷ xs) none =
     let unlike : same_bytes key x ≡ false =
     elim (cases_Bool (same_bytes key x)) [
-      | inl same ↦ absurd (none (subst (λ (y : List ℕ). Contains (x ∷ xs) y) (sym ((bytes_decides key x).0 same)) (Contains-first x xs)))
+      | inl same ↦ absurd
+          (none (subst (λ (y : List ℕ). Contains (x ∷ xs) y) (sym ((bytes_decides key x).0 same))
+          (Contains-first x xs)))
       | inr other ↦ other
     ] in
-    ap (λ (b : Bool). b || list_any (same_bytes key) xs) unlike ∙ any_none key xs (λ has. none (Contains-later x xs key has))
+    ap (λ (b : Bool). b || list_any (same_bytes key) xs) unlike
+    ∙ any_none key xs (λ has. none (Contains-later x xs key has))
 
 -- an entry under a name has no value
-pub masked_under : (names : List (List ℕ)) (entry : EnvEntry) (place : ℕ) → slice_get names place ≡ Some entry.key → record { key = entry.key; value = [] } ≡ masked_entry names entry
-masked_under names entry place at = sym (ap (λ (b : Bool). if b then record { key = entry.key; value = [] } else entry) (any_here entry.key names place at))
+pub masked_under : (names : List (List ℕ)) (entry : EnvEntry) (place : ℕ) → slice_get names place
+    ≡ Some entry.key → record { key = entry.key; value = [] } ≡ masked_entry names entry
+masked_under names entry place at =
+    sym (ap (λ (b : Bool). if b then record { key = entry.key; value = [] } else entry)
+    (any_here entry.key names place at))
 
 -- another is as it was
-pub masked_other : (names : List (List ℕ)) (entry : EnvEntry) → (Contains names entry.key → ⊥) → entry ≡ masked_entry names entry
-masked_other names entry none = sym (ap (λ (b : Bool). if b then record { key = entry.key; value = [] } else entry) (any_none entry.key names none))
+pub masked_other : (names : List (List ℕ)) (entry : EnvEntry) → (Contains names entry.key → ⊥)
+    → entry ≡ masked_entry names entry
+masked_other names entry none =
+    sym (ap (λ (b : Bool). if b then record { key = entry.key; value = [] } else entry)
+    (any_none entry.key names none))
 
 -- the same by what was found
-pub masked_found : (names : List (List ℕ)) (entry : EnvEntry) (key : List ℕ) (found : Option ℕ) → IsPlaceOf names key found → key ≡ entry.key → is_some found ≡ true
+pub masked_found : (names : List (List ℕ)) (entry : EnvEntry) (key : List ℕ) (found : Option ℕ)
+    → IsPlaceOf names key found → key ≡ entry.key → is_some found ≡ true
     → record { key = entry.key; value = [] } ≡ masked_entry names entry
 masked_found names entry key None place same is = absurd (false≢true is)
-masked_found names entry key (Some place) at same is = masked_under names entry place (at ∙ ap (λ (k : List ℕ). Some k) same)
+masked_found names entry key (Some place) at same is =
+    masked_under names entry place (at ∙ ap (λ (k : List ℕ). Some k) same)
 
-pub masked_missing : (names : List (List ℕ)) (entry : EnvEntry) (key : List ℕ) (found : Option ℕ) → IsPlaceOf names key found → key ≡ entry.key → is_some found ≡ false
+pub masked_missing : (names : List (List ℕ)) (entry : EnvEntry) (key : List ℕ) (found : Option ℕ)
+    → IsPlaceOf names key found → key ≡ entry.key → is_some found ≡ false
     → entry ≡ masked_entry names entry
-masked_missing names entry key None none same is = masked_other names entry (λ has. none (subst (λ (k : List ℕ). Contains names k) (sym same) has))
+masked_missing names entry key None none same is =
+    masked_other names entry (λ has. none (subst (λ (k : List ℕ). Contains names k) (sym same) has))
 masked_missing names entry key (Some place) at same is = absurd (false≢true (sym is))
 
 -- ---- inputs with hashes
 
-pub replaced_at : (inputs : List Input) (hashes : List (List ℕ)) (i : ℕ) (input : Input) (hash : List ℕ) → slice_get inputs i ≡ Some input → slice_get hashes i ≡ Some hash
-    → slice_get (replaced inputs hashes) i ≡ Some (record { path = encode_lower hash; names = input.names })
+pub replaced_at : (inputs : List Input) (hashes : List (List ℕ)) (i : ℕ) (input : Input)
+    (hash : List ℕ) → slice_get inputs i ≡ Some input → slice_get hashes i ≡ Some hash
+    → slice_get (replaced inputs hashes) i ≡ Some
+    (record { path = encode_lower hash; names = input.names })
 replaced_at [] hashes i input hash e h = absurd cc
 replaced_at (x ∷ xs) [] i input hash e h = absurd cc
 replaced_at (x ∷ xs) (y ∷ ys) zero input hash e h =
     let one : x ≡ input = cc in
     let other : y ≡ hash = cc in
-    ap (λ (n : List (List ℕ)). Some (record { path = encode_lower y; names = n })) (ap (λ (i : Input). i.names) one)
+    ap (λ (n : List (List ℕ)). Some (record { path = encode_lower y; names = n }))
+    (ap (λ (i : Input). i.names) one)
     ∙ ap (λ (z : List ℕ). Some (record { path = encode_lower z; names = input.names })) other
 replaced_at (x ∷ xs) (y ∷ ys) (suc i) input hash e h = replaced_at xs ys i input hash e h
 
-pub replaced_length : (inputs : List Input) (hashes : List (List ℕ)) → length (replaced inputs hashes) ≤ length inputs
+pub replaced_length : (inputs : List Input) (hashes : List (List ℕ))
+    → length (replaced inputs hashes) ≤ length inputs
 replaced_length [] hashes = omega arith
 replaced_length (x ∷ xs) [] = omega arith
 replaced_length (x ∷ xs) (y ∷ ys) = let h = replaced_length xs ys in omega arith
 
-pub input_parts : (x : InputStruct) (path : List ℕ) (names : List (List ℕ)) → x.path.items ≡ path → map bytes_of x.names.items ≡ names → input_of x ≡ record { path = path; names = names }
+pub input_parts : (x : InputStruct) (path : List ℕ) (names : List (List ℕ)) → x.path.items ≡ path
+    → map bytes_of x.names.items ≡ names → input_of x ≡ record { path = path; names = names }
 input_parts x path names same_path same_names =
-    let by_path : input_of x ≡ record { path = path; names = map bytes_of x.names.items } = ap (λ (p : List ℕ). record { path = p; names = map bytes_of x.names.items }) same_path in
-    let by_names : ◌≡◌ {A = Input} (record { path = path; names = map bytes_of x.names.items }) (record { path = path; names = names }) = ap (λ (n : List (List ℕ)). record { path = path; names = n }) same_names in
+    let by_path : input_of x ≡ record { path = path; names = map bytes_of x.names.items } =
+    ap (λ (p : List ℕ). record { path = p; names = map bytes_of x.names.items }) same_path in
+    let by_names : ◌≡◌ {A = Input} (record { path = path; names = map bytes_of x.names.items })
+    (record { path = path; names = names }) =
+    ap (λ (n : List (List ℕ)). record { path = path; names = n }) same_names in
     by_path ∙ by_names
 
 -- ---- texts
 
-pub text_from : (drv whole : Drv) (hashes : List (List ℕ)) (mask : Bool) (inputs : List Input) (answer : Result (Vec ℕ Global) AllocError) → IsUnited (replaced drv.inputs hashes) inputs
-    → whole ≡ (if mask then masked drv else drv) → IfOk answer (λ text. IsLooseText (with_inputs whole inputs) text.items) → IfOk answer (λ text. IsModuloText drv hashes mask text.items)
+pub text_from : (drv whole : Drv) (hashes : List (List ℕ)) (mask : Bool) (inputs : List Input)
+    (answer : Result (Vec ℕ Global) AllocError) → IsUnited (replaced drv.inputs hashes) inputs
+    → whole ≡ (if mask then masked drv else drv)
+    → IfOk answer (λ text. IsLooseText (with_inputs whole inputs) text.items)
+    → IfOk answer (λ text. IsModuloText drv hashes mask text.items)
 text_from drv whole hashes mask inputs (Err refused) united same is = tt
 text_from drv whole hashes mask inputs (Ok bytes) united same is = record {
   inputs = inputs;
@@ -103,17 +130,40 @@ text_from drv whole hashes mask inputs (Ok bytes) united same is = record {
 
 -- ---- parts
 
-pub masked_parts : (parts : Parts) (drv : Drv) (outputs : List OutputStruct) (env : List EntryStruct) → drv_of parts ≡ drv → length outputs ≡ parts.outputs.len → length env ≡ parts.env.len
+pub masked_parts : (parts : Parts) (drv : Drv) (outputs : List OutputStruct)
+    (env : List EntryStruct) → drv_of parts ≡ drv → length outputs ≡ parts.outputs.len → length env
+    ≡ parts.env.len
     → map output_of outputs ≡ map masked_output (map output_of parts.outputs.items)
     → map entry_of env ≡ map (masked_entry (names_of drv.outputs)) (map entry_of parts.env.items)
-    → drv_of (record parts { outputs = with_items parts.outputs outputs; env = with_items parts.env env }) ≡ masked drv
+    → drv_of (record parts {
+      outputs = with_items parts.outputs outputs;
+      env = with_items parts.env env;
+    }) ≡ masked drv
 masked_parts parts drv outputs env view long_outputs long_env are_outputs are_env =
     let whole = drv_of parts in
-    let build : List Output → List EnvEntry → Drv = λ os es. record { outputs = os; inputs = whole.inputs; sources = whole.sources; system = whole.system; builder = whole.builder; args = whole.args; env = es } in
-    let outs : map output_of (with_items parts.outputs outputs).items ≡ map masked_output whole.outputs = ap (map output_of) (with_items_is parts.outputs outputs long_outputs) ∙ are_outputs in
-    let entries : map entry_of (with_items parts.env env).items ≡ map (masked_entry (names_of whole.outputs)) whole.env =
-    ap (map entry_of) (with_items_is parts.env env long_env) ∙ are_env ∙ ap (λ (d : Drv). map (masked_entry (names_of d.outputs)) whole.env) (sym view) in
-    let first : build (map output_of (with_items parts.outputs outputs).items) (map entry_of (with_items parts.env env).items) ≡ build (map masked_output whole.outputs) (map entry_of (with_items parts.env env).items) =
+    let build : List Output → List EnvEntry → Drv = λ os es.
+    record {
+      outputs = os;
+      inputs = whole.inputs;
+      sources = whole.sources;
+      system = whole.system;
+      builder = whole.builder;
+      args = whole.args;
+      env = es;
+    } in
+    let outs : map output_of (with_items parts.outputs outputs).items
+    ≡ map masked_output whole.outputs = ap (map output_of)
+    (with_items_is parts.outputs outputs long_outputs) ∙ are_outputs in
+    let entries : map entry_of (with_items parts.env env).items
+    ≡ map (masked_entry (names_of whole.outputs)) whole.env =
+    ap (map entry_of) (with_items_is parts.env env long_env) ∙ are_env
+    ∙ ap (λ (d : Drv). map (masked_entry (names_of d.outputs)) whole.env) (sym view) in
+    let first : build (map output_of (with_items parts.outputs outputs).items)
+    (map entry_of (with_items parts.env env).items)
+    ≡ build (map masked_output whole.outputs) (map entry_of (with_items parts.env env).items) =
     ap (λ (os : List Output). build os (map entry_of (with_items parts.env env).items)) outs in
-    let second : build (map masked_output whole.outputs) (map entry_of (with_items parts.env env).items) ≡ masked whole = ap (λ (es : List EnvEntry). build (map masked_output whole.outputs) es) entries in
+    let second : build (map masked_output whole.outputs)
+    (map entry_of (with_items parts.env env).items)
+    ≡ masked whole = ap (λ (es : List EnvEntry). build (map masked_output whole.outputs) es)
+    entries in
     first ∙ second ∙ ap masked view

@@ -10,49 +10,73 @@ use Rattle.drv_graph.specs.Plans.{AreNumbers}
 use Rattle.drv_graph.proofs.PathLists.{get_grows}
 
 -- paths of more nodes
-pub paths_append : (nodes more : List Node) → paths_of (nodes ++ more) ≡ paths_of nodes ++ paths_of more
+pub paths_append : (nodes more : List Node) → paths_of (nodes ++ more) ≡ paths_of nodes
+    ++ paths_of more
 paths_append nodes more = map-append (λ (n : Node). n.path) nodes more
 
 -- a path keeps its number
-pub number_grows : (nodes more : List Node) (number : ℕ) (path : List ℕ) → slice_get (paths_of nodes) number ≡ Some path → slice_get (paths_of (nodes ++ more)) number ≡ Some path
-number_grows nodes more number path is = ap (λ ps. slice_get ps number) (paths_append nodes more) ∙ get_grows (paths_of nodes) (paths_of more) number path is
+pub number_grows : (nodes more : List Node) (number : ℕ) (path : List ℕ)
+    → slice_get (paths_of nodes) number ≡ Some path → slice_get (paths_of (nodes ++ more)) number
+    ≡ Some path
+number_grows nodes more number path is = ap (λ ps. slice_get ps number) (paths_append nodes more)
+    ∙ get_grows (paths_of nodes) (paths_of more) number path is
 
-pub first_number : (nodes : List Node) (n : ℕ) (ns : List ℕ) (p : List ℕ) (ps : List (List ℕ)) → AreNumbers nodes (n ∷ ns) (p ∷ ps) → slice_get (paths_of nodes) n ≡ Some p
+pub first_number : (nodes : List Node) (n : ℕ) (ns : List ℕ) (p : List ℕ) (ps : List (List ℕ))
+    → AreNumbers nodes (n ∷ ns) (p ∷ ps) → slice_get (paths_of nodes) n ≡ Some p
 first_number nodes n ns p ps e = cc
 
-pub later_numbers : (nodes : List Node) (n : ℕ) (ns : List ℕ) (p : List ℕ) (ps : List (List ℕ)) → AreNumbers nodes (n ∷ ns) (p ∷ ps) → AreNumbers nodes ns ps
+pub later_numbers : (nodes : List Node) (n : ℕ) (ns : List ℕ) (p : List ℕ) (ps : List (List ℕ))
+    → AreNumbers nodes (n ∷ ns) (p ∷ ps) → AreNumbers nodes ns ps
 later_numbers nodes n ns p ps e = cc
 
 -- one more number
-pub number_first : (nodes : List Node) (n : ℕ) (ns : List ℕ) (p : List ℕ) (ps : List (List ℕ)) → slice_get (paths_of nodes) n ≡ Some p → AreNumbers nodes ns ps → AreNumbers nodes (n ∷ ns) (p ∷ ps)
+pub number_first : (nodes : List Node) (n : ℕ) (ns : List ℕ) (p : List ℕ) (ps : List (List ℕ))
+    → slice_get (paths_of nodes) n ≡ Some p → AreNumbers nodes ns ps
+    → AreNumbers nodes (n ∷ ns) (p ∷ ps)
 number_first nodes n ns p ps is rest = cc
 
 -- numbers stay those of their paths
-pub numbers_grow : (nodes more : List Node) (ns : List ℕ) (ps : List (List ℕ)) → AreNumbers nodes ns ps → AreNumbers (nodes ++ more) ns ps
+pub numbers_grow : (nodes more : List Node) (ns : List ℕ) (ps : List (List ℕ))
+    → AreNumbers nodes ns ps → AreNumbers (nodes ++ more) ns ps
 numbers_grow nodes more [] ps e = e
 numbers_grow nodes more (n ∷ ns) [] e = absurd cc
 numbers_grow nodes more (n ∷ ns) (p ∷ ps) e =
-    number_first (nodes ++ more) n ns p ps (number_grows nodes more n p (first_number nodes n ns p ps e)) (numbers_grow nodes more ns ps (later_numbers nodes n ns p ps e))
+    number_first (nodes ++ more) n ns p ps
+    (number_grows nodes more n p (first_number nodes n ns p ps e))
+    (numbers_grow nodes more ns ps (later_numbers nodes n ns p ps e))
 
 -- one number more, at the end
-pub numbers_push : (nodes : List Node) (ns : List ℕ) (ps : List (List ℕ)) (n : ℕ) (p : List ℕ) → AreNumbers nodes ns ps → slice_get (paths_of nodes) n ≡ Some p → AreNumbers nodes (ns ++ n ∷ []) (ps ++ p ∷ [])
+pub numbers_push : (nodes : List Node) (ns : List ℕ) (ps : List (List ℕ)) (n : ℕ) (p : List ℕ)
+    → AreNumbers nodes ns ps → slice_get (paths_of nodes) n ≡ Some p
+    → AreNumbers nodes (ns ++ n ∷ []) (ps ++ p ∷ [])
 numbers_push nodes ns ps n p e is =
-    map_push (λ m. slice_get (paths_of nodes) m) ns n ∙ ap (λ l. l ++ slice_get (paths_of nodes) n ∷ []) e ∙ ap (λ o. map Some ps ++ o ∷ []) is ∙ sym (map_push Some ps p)
+    map_push (λ m. slice_get (paths_of nodes) m) ns n
+    ∙ ap (λ l. l ++ slice_get (paths_of nodes) n ∷ []) e ∙ ap (λ o. map Some ps ++ o ∷ []) is
+    ∙ sym (map_push Some ps p)
 
 -- as many numbers as paths
-pub numbers_length : (nodes : List Node) (ns : List ℕ) (ps : List (List ℕ)) → AreNumbers nodes ns ps → length ns ≡ length ps
-numbers_length nodes ns ps e = sym (length-map ns (λ m. slice_get (paths_of nodes) m)) ∙ ap length e ∙ length-map ps Some
+pub numbers_length : (nodes : List Node) (ns : List ℕ) (ps : List (List ℕ)) → AreNumbers nodes ns ps
+    → length ns ≡ length ps
+numbers_length nodes ns ps e = sym (length-map ns (λ m. slice_get (paths_of nodes) m)) ∙ ap length e
+    ∙ length-map ps Some
 
 -- each is a node's
-pub numbers_within : (nodes : List Node) (ns : List ℕ) (ps : List (List ℕ)) → AreNumbers nodes ns ps → All (λ n. n < length nodes) ns
+pub numbers_within : (nodes : List Node) (ns : List ℕ) (ps : List (List ℕ)) → AreNumbers nodes ns ps
+    → All (λ n. n < length nodes) ns
 numbers_within nodes [] ps e = All-nil (λ n. n < length nodes)
 numbers_within nodes (n ∷ ns) [] e = absurd cc
 numbers_within nodes (n ∷ ns) (p ∷ ps) e =
-    let lt : n < length (paths_of nodes) = slice_get_within (paths_of nodes) n p (first_number nodes n ns p ps e) in
-    All-cons (λ m. m < length nodes) n ns (omega (arith, length-map nodes (λ (x : Node). x.path))) (numbers_within nodes ns ps (later_numbers nodes n ns p ps e))
+    let lt : n < length (paths_of nodes) = slice_get_within (paths_of nodes) n p
+    (first_number nodes n ns p ps e) in
+    All-cons (λ m. m < length nodes) n ns (omega (arith, length-map nodes (λ (x : Node). x.path)))
+    (numbers_within nodes ns ps (later_numbers nodes n ns p ps e))
 
 -- hashes stay those of their paths
-pub hashes_grow : {nodes : List Node} {paths hashes : List (List ℕ)} (more : List Node) → AreHashes nodes paths hashes → AreHashes (nodes ++ more) paths hashes
+pub hashes_grow : {nodes : List Node} {paths hashes : List (List ℕ)} (more : List Node)
+    → AreHashes nodes paths hashes → AreHashes (nodes ++ more) paths hashes
 hashes_grow more no_hashes = no_hashes
-hashes_grow {nodes = nodes} more (one_more_hash node kind of_inputs hash paths hashes is_node has_kind of is_hash rest) =
-    one_more_hash node kind of_inputs hash paths hashes (Contains-append_left nodes more node is_node) has_kind (hashes_grow more of) is_hash (hashes_grow more rest)
+hashes_grow {nodes = nodes} more
+    (one_more_hash node kind of_inputs hash paths hashes is_node has_kind of is_hash rest) =
+    one_more_hash node kind of_inputs hash paths hashes
+    (Contains-append_left nodes more node is_node) has_kind (hashes_grow more of) is_hash
+    (hashes_grow more rest)

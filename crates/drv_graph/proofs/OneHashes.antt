@@ -11,36 +11,51 @@ use Rattle.drv_graph.proofs.KindAnswers.{one_kind}
 use Rattle.drv_graph.proofs.OneText.{one_text}
 
 -- there is one hash by some hashes of the inputs
-one_hash : (kind : Kind) (drv : Drv) (hashes : List (List ℕ)) (a b : List ℕ) → IsHashBy kind drv hashes a → IsHashBy kind drv hashes b → a ≡ b
-one_hash Addressed drv hashes a b (text, is_a, a_is) (other, is_b, b_is) = a_is ∙ ap sha256 (one_text drv hashes false text other is_a is_b) ∙ sym b_is
+one_hash : (kind : Kind) (drv : Drv) (hashes : List (List ℕ)) (a b : List ℕ)
+    → IsHashBy kind drv hashes a → IsHashBy kind drv hashes b → a ≡ b
+one_hash Addressed drv hashes a b (text, is_a, a_is) (other, is_b, b_is) = a_is
+    ∙ ap sha256 (one_text drv hashes false text other is_a is_b) ∙ sym b_is
 one_hash (Fixed method digest) drv hashes a b (output, only, a_is) (other, only', b_is) =
     let lists : output ∷ [] ≡ other ∷ [] = sym only ∙ only' in
     let same : output ≡ other = cc in
     a_is ∙ ap (λ (o : Output). sha256 (fixed_text o)) same ∙ sym b_is
 
-same_hash : (a b : Node) (kind kind' : Kind) (of_a of_b : List (List ℕ)) (hash hash' : List ℕ) → a ≡ b → HasKind a.drv kind → HasKind b.drv kind' → of_a ≡ of_b
+same_hash : (a b : Node) (kind kind' : Kind) (of_a of_b : List (List ℕ)) (hash hash' : List ℕ) → a
+    ≡ b → HasKind a.drv kind → HasKind b.drv kind' → of_a ≡ of_b
     → IsHashBy kind a.drv of_a hash → IsHashBy kind' b.drv of_b hash' → hash ≡ hash'
 same_hash a b kind kind' of_a of_b hash hash' same is_a is_b inputs by_a by_b =
     let here : HasKind b.drv kind = subst (λ (n : Node). HasKind n.drv kind) same is_a in
     let kinds : kind ≡ kind' = one_kind b.drv kind kind' here is_b in
-    let moved : IsHashBy kind b.drv of_a hash = subst (λ (n : Node). IsHashBy kind n.drv of_a hash) same by_a in
-    let kinded : IsHashBy kind' b.drv of_a hash = subst (λ (k : Kind). IsHashBy k b.drv of_a hash) kinds moved in
-    one_hash kind' b.drv of_b hash hash' (subst (λ (hs : List (List ℕ)). IsHashBy kind' b.drv hs hash) inputs kinded) by_b
+    let moved : IsHashBy kind b.drv of_a hash =
+    subst (λ (n : Node). IsHashBy kind n.drv of_a hash) same by_a in
+    let kinded : IsHashBy kind' b.drv of_a hash =
+    subst (λ (k : Kind). IsHashBy k b.drv of_a hash) kinds moved in
+    one_hash kind' b.drv of_b hash hash'
+    (subst (λ (hs : List (List ℕ)). IsHashBy kind' b.drv hs hash) inputs kinded) by_b
 
-hashes_same : (nodes : List Node) → HaveOwnPaths nodes → (paths hashes : List (List ℕ)) → AreHashes nodes paths hashes
-    → (others hashes' : List (List ℕ)) → AreHashes nodes others hashes' → others ≡ paths → hashes ≡ hashes'
+hashes_same : (nodes : List Node) → HaveOwnPaths nodes → (paths hashes : List (List ℕ))
+    → AreHashes nodes paths hashes
+    → (others hashes' : List (List ℕ)) → AreHashes nodes others hashes' → others ≡ paths → hashes
+    ≡ hashes'
 hashes_same nodes own paths hashes no_hashes others hashes' no_hashes same = refl
-hashes_same nodes own paths hashes no_hashes others hashes' (one_more_hash node kind of_inputs hash more hs has is_kind inputs by later) same = absurd cc
-hashes_same nodes own paths hashes (one_more_hash node kind of_inputs hash more hs has is_kind inputs by later) others hashes' no_hashes same = absurd cc
-hashes_same nodes own paths hashes (one_more_hash node kind of_inputs hash more hs has is_kind inputs by later) others hashes'
+hashes_same nodes own paths hashes no_hashes others hashes'
+    (one_more_hash node kind of_inputs hash more hs has is_kind inputs by later) same = absurd cc
+hashes_same nodes own paths hashes
+    (one_more_hash node kind of_inputs hash more hs has is_kind inputs by later) others hashes'
+    no_hashes same = absurd cc
+hashes_same nodes own paths hashes
+    (one_more_hash node kind of_inputs hash more hs has is_kind inputs by later) others hashes'
     (one_more_hash node' kind' of_inputs' hash' more' hs' has' is_kind' inputs' by' later') same =
     let path : node'.path ≡ node.path = cc in
     let rest : more' ≡ more = cc in
     let one : node ≡ node' = own node node' has has' (sym path) in
-    let inner : of_inputs ≡ of_inputs' = hashes_same nodes own (inputs_of node.drv) of_inputs inputs (inputs_of node'.drv) of_inputs' inputs' (ap (λ (n : Node). inputs_of n.drv) (sym one)) in
-    let first : hash ≡ hash' = same_hash node node' kind kind' of_inputs of_inputs' hash hash' one is_kind is_kind' inner by by' in
+    let inner : of_inputs ≡ of_inputs' = hashes_same nodes own (inputs_of node.drv) of_inputs inputs
+    (inputs_of node'.drv) of_inputs' inputs' (ap (λ (n : Node). inputs_of n.drv) (sym one)) in
+    let first : hash ≡ hash' = same_hash node node' kind kind' of_inputs of_inputs' hash hash' one
+    is_kind is_kind' inner by by' in
     let all : hs ≡ hs' = hashes_same nodes own more hs later more' hs' later' rest in
     ap (λ (h : List ℕ). h ∷ hs) first ∙ ap (λ (t : List (List ℕ)). hash' ∷ t) all
 
 pub one_hashes : HaveOneHashEach
-one_hashes nodes paths hashes hashes' own are are' = hashes_same nodes own paths hashes are paths hashes' are' refl
+one_hashes nodes paths hashes hashes' own are are' =
+    hashes_same nodes own paths hashes are paths hashes' are' refl

@@ -18,33 +18,55 @@ use Rattle.drv_graph.proofs.Loops.{Contains-map}
 
 -- ---- names that inputs have at a path
 
-pub named_first : (x : Input) (xs : List Input) (name : List ℕ) → Contains x.names name → IsNamed (x ∷ xs) x.path name
-named_first x xs name has = record { input = x; is_input = Contains-first x xs; is_path = refl; is_name = has }
+pub named_first : (x : Input) (xs : List Input) (name : List ℕ) → Contains x.names name
+    → IsNamed (x ∷ xs) x.path name
+named_first x xs name has = record {
+  input = x;
+  is_input = Contains-first x xs;
+  is_path = refl;
+  is_name = has;
+}
 
-pub named_later : (x : Input) (xs : List Input) (path name : List ℕ) → IsNamed xs path name → IsNamed (x ∷ xs) path name
-named_later x xs path name h = record { input = h.input; is_input = Contains-later x xs h.input h.is_input; is_path = h.is_path; is_name = h.is_name }
+pub named_later : (x : Input) (xs : List Input) (path name : List ℕ) → IsNamed xs path name
+    → IsNamed (x ∷ xs) path name
+named_later x xs path name h = record {
+  input = h.input;
+  is_input = Contains-later x xs h.input h.is_input;
+  is_path = h.is_path;
+  is_name = h.is_name;
+}
 
-pub named_cases : (x : Input) (xs : List Input) (path name : List ℕ) → IsNamed (x ∷ xs) path name → ((x.path ≡ path) × Contains x.names name) ⊎ IsNamed xs path name
+pub named_cases : (x : Input) (xs : List Input) (path name : List ℕ) → IsNamed (x ∷ xs) path name
+    → ((x.path ≡ path) × Contains x.names name) ⊎ IsNamed xs path name
 named_cases x xs path name h =
     elim (Contains-cons_cases x xs h.input h.is_input) [
-      | inl is ↦ inl (ap (λ (i : Input). i.path) is ∙ h.is_path, subst (λ (i : Input). Contains i.names name) (sym is) h.is_name)
-      | inr later ↦ inr (record { input = h.input; is_input = later; is_path = h.is_path; is_name = h.is_name })
+      | inl is ↦ inl (
+        ap (λ (i : Input). i.path) is ∙ h.is_path,
+        subst (λ (i : Input). Contains i.names name) (sym is) h.is_name,
+      )
+      | inr later ↦ inr
+          (record { input = h.input; is_input = later; is_path = h.is_path; is_name = h.is_name })
     ]
 
-pub path_of_named : (xs : List Input) (path name : List ℕ) → IsNamed xs path name → Contains (input_paths xs) path
+pub path_of_named : (xs : List Input) (path name : List ℕ) → IsNamed xs path name
+    → Contains (input_paths xs) path
 path_of_named xs path name h =
-    subst (λ (p : List ℕ). Contains (input_paths xs) p) h.is_path (Contains-map (λ (i : Input). i.path) xs h.input h.is_input)
+    subst (λ (p : List ℕ). Contains (input_paths xs) p) h.is_path
+    (Contains-map (λ (i : Input). i.path) xs h.input h.is_input)
 
 -- ---- one modulo text
 
 input_same : (x y : Input) → x.path ≡ y.path → x.names ≡ y.names → x ≡ y
 input_same x y path names =
-    let by_path : x ≡ record { path = y.path; names = x.names } = ap (λ (p : List ℕ). record { path = p; names = x.names }) path in
-    let by_names : ◌≡◌ {A = Input} (record { path = y.path; names = x.names }) y = ap (λ (n : List (List ℕ)). record { path = y.path; names = n }) names in
+    let by_path : x ≡ record { path = y.path; names = x.names } =
+    ap (λ (p : List ℕ). record { path = p; names = x.names }) path in
+    let by_names : ◌≡◌ {A = Input} (record { path = y.path; names = x.names }) y =
+    ap (λ (n : List (List ℕ)). record { path = y.path; names = n }) names in
     by_path ∙ by_names
 
 -- inputs with rising paths and names are told by what is named
-united_same : (xs ys : List Input) → IsRising (input_paths xs) → IsRising (input_paths ys) → input_paths xs ≡ input_paths ys
+united_same : (xs ys : List Input) → IsRising (input_paths xs) → IsRising (input_paths ys)
+    → input_paths xs ≡ input_paths ys
     → All (λ (i : Input). IsRising i.names) xs → All (λ (i : Input). IsRising i.names) ys
     → ((path name : List ℕ) → IsNamed xs path name ↔ IsNamed ys path name) → xs ≡ ys
 united_same [] [] rise rise' same names names' named = refl
@@ -54,18 +76,25 @@ united_same (x ∷ xs) (y ∷ ys) rise rise' same names names' named =
     let path : x.path ≡ y.path = cc in
     let paths : input_paths xs ≡ input_paths ys = cc in
     let first : x ≡ y = input_same x y path
-    (rising_same x.names y.names (All-head (λ (i : Input). IsRising i.names) x xs names) (All-head (λ (i : Input). IsRising i.names) y ys names')
+    (rising_same x.names y.names (All-head (λ (i : Input). IsRising i.names) x xs names)
+    (All-head (λ (i : Input). IsRising i.names) y ys names')
     (λ name. (there path name, back path name))) in
-    let rest : xs ≡ ys = united_same xs ys (rising_later x.path (input_paths xs) rise) (rising_later y.path (input_paths ys) rise') paths
-    (All-tail (λ (i : Input). IsRising i.names) x xs names) (All-tail (λ (i : Input). IsRising i.names) y ys names')
+    let rest : xs ≡ ys = united_same xs ys (rising_later x.path (input_paths xs) rise)
+    (rising_later y.path (input_paths ys) rise') paths
+    (All-tail (λ (i : Input). IsRising i.names) x xs names)
+    (All-tail (λ (i : Input). IsRising i.names) y ys names')
     (λ p name. (there_later path p name, back_later path p name)) in
     ap (λ (i : Input). i ∷ xs) first ∙ ap (λ (is : List Input). y ∷ is) rest
   where
     apart : (name : List ℕ) → IsNamed xs x.path name → ⊥
-    apart name h = not_below_itself x.path (first_below x.path (input_paths xs) x.path rise (path_of_named xs x.path name h))
+    apart name h =
+        not_below_itself x.path
+        (first_below x.path (input_paths xs) x.path rise (path_of_named xs x.path name h))
 
     apart' : (name : List ℕ) → IsNamed ys y.path name → ⊥
-    apart' name h = not_below_itself y.path (first_below y.path (input_paths ys) y.path rise' (path_of_named ys y.path name h))
+    apart' name h =
+        not_below_itself y.path
+        (first_below y.path (input_paths ys) y.path rise' (path_of_named ys y.path name h))
 
     there : x.path ≡ y.path → (name : List ℕ) → Contains x.names name → Contains y.names name
     there path name has =
@@ -78,43 +107,57 @@ united_same (x ∷ xs) (y ∷ ys) rise rise' same names names' named =
     back path name has =
         elim (named_cases x xs y.path name ((named y.path name).1 (named_first y ys name has))) [
           | inl at ↦ at.1
-          | inr later ↦ absurd (apart name (subst (λ (p : List ℕ). IsNamed xs p name) (sym path) later))
+          | inr later ↦ absurd
+              (apart name (subst (λ (p : List ℕ). IsNamed xs p name) (sym path) later))
         ]
 
     there_later : x.path ≡ y.path → (p name : List ℕ) → IsNamed xs p name → IsNamed ys p name
     there_later path p name h =
         elim (named_cases y ys p name ((named p name).0 (named_later x xs p name h))) [
-          | inl at ↦ absurd (apart name (subst (λ (q : List ℕ). IsNamed xs q name) (sym (path ∙ at.0)) h))
+          | inl at ↦ absurd
+              (apart name (subst (λ (q : List ℕ). IsNamed xs q name) (sym (path ∙ at.0)) h))
           | inr later ↦ later
         ]
 
     back_later : x.path ≡ y.path → (p name : List ℕ) → IsNamed ys p name → IsNamed xs p name
     back_later path p name h =
         elim (named_cases x xs p name ((named p name).1 (named_later y ys p name h))) [
-          | inl at ↦ absurd (apart' name (subst (λ (q : List ℕ). IsNamed ys q name) (sym (sym path ∙ at.0)) h))
+          | inl at ↦ absurd
+              (apart' name (subst (λ (q : List ℕ). IsNamed ys q name) (sym (sym path ∙ at.0)) h))
           | inr later ↦ later
         ]
 
 -- inputs are united in one way
 one_union : (given xs ys : List Input) → IsUnited given xs → IsUnited given ys → xs ≡ ys
 one_union given xs ys united united' =
-    let paths : input_paths xs ≡ input_paths ys = rising_same (input_paths xs) (input_paths ys) united.rising united'.rising
-    (λ path. (λ has. (united'.paths path).1 ((united.paths path).0 has), λ has. (united.paths path).1 ((united'.paths path).0 has))) in
+    let paths : input_paths xs ≡ input_paths ys =
+    rising_same (input_paths xs) (input_paths ys) united.rising united'.rising
+    (λ path. (
+      λ has. (united'.paths path).1 ((united.paths path).0 has),
+      λ has. (united.paths path).1 ((united'.paths path).0 has),
+    )) in
     united_same xs ys united.rising united'.rising paths united.names_rise united'.names_rise
-    (λ path name. (λ h. (united'.names path name).1 ((united.names path name).0 h), λ h. (united.names path name).1 ((united'.names path name).0 h)))
+    (λ path name. (
+      λ h. (united'.names path name).1 ((united.names path name).0 h),
+      λ h. (united.names path name).1 ((united'.names path name).0 h),
+    ))
 
 pub one_text : HasOneModuloText
 one_text drv hashes mask a b is_a is_b =
     is_a.is_text
-    ∙ ap (λ (inputs : List Input). text derivation_form (drv_value (with_inputs (if mask then masked drv else drv) inputs)))
+    ∙ ap (λ (inputs : List Input). text derivation_form
+    (drv_value (with_inputs (if mask then masked drv else drv) inputs)))
     (one_union (replaced drv.inputs hashes) is_a.inputs is_b.inputs is_a.united is_b.united)
     ∙ sym is_b.is_text
 
 -- ---- one expected path
 
-pub one_path : (dir name : List ℕ) (kind : Kind) (drv : Drv) (hashes : List (List ℕ)) (output : Output) (p q : List ℕ)
-    → IsExpected dir name kind drv hashes output p → IsExpected dir name kind drv hashes output q → p ≡ q
+pub one_path : (dir name : List ℕ) (kind : Kind) (drv : Drv) (hashes : List (List ℕ))
+    (output : Output) (p q : List ℕ)
+    → IsExpected dir name kind drv hashes output p → IsExpected dir name kind drv hashes output q
+    → p ≡ q
 one_path dir name Addressed drv hashes output p q (a, is_a, p_is) (b, is_b, q_is) =
-    p_is ∙ ap (λ (bytes : List ℕ). store_path (codes "output:" ++ output.name) (sha256 bytes) dir (path_name name output.name)) (one_text drv hashes true a b is_a is_b) ∙ sym q_is
+    p_is ∙ ap (λ (bytes : List ℕ). store_path (codes "output:" ++ output.name) (sha256 bytes) dir
+    (path_name name output.name)) (one_text drv hashes true a b is_a is_b) ∙ sym q_is
 one_path dir name (Fixed Flat digest) drv hashes output p q p_is q_is = p_is ∙ sym q_is
 one_path dir name (Fixed Recursive digest) drv hashes output p q p_is q_is = p_is ∙ sym q_is

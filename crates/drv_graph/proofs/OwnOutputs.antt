@@ -1,4 +1,5 @@
--- A plan's derivations stand at the paths of derivations' files, and none has one path for two outputs: their names differ.
+-- A plan's derivations stand at the paths of derivations' files, and none has one path for two
+-- outputs: their names differ.
 use Rattle.std.proofs.Common.{◌≡◌, ◌∙◌, ℕ, Bool, true, false, List, [], ◌∷◌, ◌++◌, length, map, take, drop, refl, sym, ap, subst, ⊎_elim, nat_eq, arith, suc}
 use Rattle.std.specs.Prelude.{All, Contains, codes, if◌then◌else◌}
 use Rattle.std.specs.Cmp.Lexicographic.{pointwise}
@@ -38,37 +39,49 @@ no_more a b same =
 
 -- outputs whose paths have one name have one name
 one_output : (name a b : List ℕ) → path_name name a ≡ path_name name b → a ≡ b
-one_output name a b same = by (pointwise nat_eq a (codes "out")) (pointwise nat_eq b (codes "out")) refl refl
+one_output name a b same = by (pointwise nat_eq a (codes "out")) (pointwise nat_eq b (codes "out"))
+    refl refl
   where
     chosen : Bool → List ℕ → List ℕ
     chosen is_out output = if is_out then name else name ++ codes "-" ++ output
 
-    by : (x y : Bool) → pointwise nat_eq a (codes "out") ≡ x → pointwise nat_eq b (codes "out") ≡ y → a ≡ b
+    by : (x y : Bool) → pointwise nat_eq a (codes "out") ≡ x → pointwise nat_eq b (codes "out") ≡ y
+        → a ≡ b
     by true true e f = same_path a (codes "out") e ∙ sym (same_path b (codes "out") f)
-    by true false e f = absurd (no_more name b (sym (ap (λ t. chosen t a) e) ∙ same ∙ ap (λ t. chosen t b) f))
-    by false true e f = absurd (no_more name a (sym (ap (λ t. chosen t b) f) ∙ sym same ∙ ap (λ t. chosen t a) e))
+    by true false e f =
+        absurd (no_more name b (sym (ap (λ t. chosen t a) e) ∙ same ∙ ap (λ t. chosen t b) f))
+    by false true e f =
+        absurd (no_more name a (sym (ap (λ t. chosen t b) f) ∙ sym same ∙ ap (λ t. chosen t a) e))
     by false false e f =
-        let whole : name ++ codes "-" ++ a ≡ name ++ codes "-" ++ b = sym (ap (λ t. chosen t a) e) ∙ same ∙ ap (λ t. chosen t b) f in
+        let whole : name ++ codes "-" ++ a ≡ name ++ codes "-" ++ b = sym (ap (λ t. chosen t a) e)
+        ∙ same ∙ ap (λ t. chosen t b) f in
         append_cancel_left (name ++ codes "-") a b whole
 
 -- a store path has its name
-name_of_store_path : (kind inner dir name : List ℕ) → is_name name ≡ true → name_of (store_path kind inner dir name) ≡ name
+name_of_store_path : (kind inner dir name : List ℕ) → is_name name ≡ true
+    → name_of (store_path kind inner dir name) ≡ name
 unfolding store_path
 name_of_store_path kind inner dir name named = name_of_path dir _ name (hash_part_of_fold _) named
 
 -- outputs of a derivation that have one path have one name
-one_name : (dir name : List ℕ) (kind : Kind) (drv : Drv) (hashes : List (List ℕ)) → HasKind drv kind → All (IsWellNamed name) drv.outputs
-    → PathsFit IsThePath (IsExpected dir name kind drv hashes) drv → (o p : Output) → Contains drv.outputs o → Contains drv.outputs p
+one_name : (dir name : List ℕ) (kind : Kind) (drv : Drv) (hashes : List (List ℕ)) → HasKind drv kind
+    → All (IsWellNamed name) drv.outputs
+    → PathsFit IsThePath (IsExpected dir name kind drv hashes) drv → (o p : Output)
+    → Contains drv.outputs o → Contains drv.outputs p
     → o.path ≡ p.path → o.name ≡ p.name
 one_name dir name Addressed drv hashes has_kind named fit o p has has' same =
     let expected = IsExpected dir name Addressed drv hashes in
-    let fits : (x : Output) → Contains drv.outputs x → (path : List ℕ) × expected x path × (x.path ≡ path) = λ x is.
-    All-contains (λ (y : Output). (path : List ℕ) × expected y path × (y.path ≡ path)) drv.outputs x fit is in
+    let fits : (x : Output) → Contains drv.outputs x → (path : List ℕ) × expected x path
+    × (x.path ≡ path) = λ x is.
+    All-contains (λ (y : Output). (path : List ℕ) × expected y path × (y.path ≡ path)) drv.outputs x
+    fit is in
     let at = fits o has in
     let at' = fits p has' in
-    let title = name_of_store_path (codes "output:" ++ o.name) (sha256 at.1.0) dir (path_name name o.name)
+    let title = name_of_store_path (codes "output:" ++ o.name) (sha256 at.1.0) dir
+    (path_name name o.name)
     (All-contains (IsWellNamed name) drv.outputs o named has).1 in
-    let title' = name_of_store_path (codes "output:" ++ p.name) (sha256 at'.1.0) dir (path_name name p.name)
+    let title' = name_of_store_path (codes "output:" ++ p.name) (sha256 at'.1.0) dir
+    (path_name name p.name)
     (All-contains (IsWellNamed name) drv.outputs p named has').1 in
     let of : name_of o.path ≡ path_name name o.name = ap name_of (at.2 ∙ at.1.2) ∙ title in
     let of' : name_of p.path ≡ path_name name p.name = ap name_of (at'.2 ∙ at'.1.2) ∙ title' in
@@ -76,7 +89,8 @@ one_name dir name Addressed drv hashes has_kind named fit o p has has' same =
 one_name dir name (Fixed method digest) drv hashes has_kind named fit o p has has' same =
     let only : (x : Output) → Contains drv.outputs x → has_kind.0 ≡ x = λ x is.
     ⊎_elim (λ e. e) (λ none. absurd (contains_none x none))
-    (contains_cases has_kind.0 x [] (subst (λ (os : List Output). Contains os x) has_kind.1.0 is)) in
+    (contains_cases has_kind.0 x [] (subst (λ (os : List Output). Contains os x) has_kind.1.0 is))
+    in
     ap (λ (x : Output). x.name) (sym (only o has) ∙ only p has')
 
 -- outputs in order have different paths, where those with one path have one name
@@ -86,7 +100,8 @@ paths_differ : (outputs : List Output) → IsRising (map (λ (o : Output). o.nam
 unfolding IsDistinct
 paths_differ [] rising same = tt
 paths_differ (x ∷ xs) rising same =
-    IsDistinct-cons (pointwise nat_eq) x.path (map (λ (o : Output). o.path) xs) (others xs (λ p has. apart p has))
+    IsDistinct-cons (pointwise nat_eq) x.path (map (λ (o : Output). o.path) xs)
+    (others xs (λ p has. apart p has))
     (paths_differ xs (rising_later x.name (map (λ (o : Output). o.name) xs) rising)
     (λ o p has has'. same o p (contains_later x o xs has) (contains_later x p xs has')))
   where
@@ -106,15 +121,18 @@ paths_differ (x ∷ xs) rising same =
     )
 
 -- so those of a lawful derivation have
-own_outputs : (dir : List ℕ) (before : List Node) (node : Node) → IsLawful dir before node → IsRising (output_names node.drv)
+own_outputs : (dir : List ℕ) (before : List Node) (node : Node) → IsLawful dir before node
+    → IsRising (output_names node.drv)
     → AreDistinct (output_paths_of node.drv)
 own_outputs dir before node lawful rising =
     let right = lawful.right in
     paths_differ node.drv.outputs rising
-    (one_name dir (drv_name_of node.path) lawful.kind node.drv right.hashes right.check.0.has_kind right.check.0.named right.check.1)
+    (one_name dir (drv_name_of node.path) lawful.kind node.drv right.hashes right.check.0.has_kind
+    right.check.0.named right.check.1)
 
 -- what stands among lawful nodes is lawful
-lawful_among : (dir : List ℕ) (nodes : List Node) → AreLawful dir nodes → (node : Node) → Contains nodes node
+lawful_among : (dir : List ℕ) (nodes : List Node) → AreLawful dir nodes → (node : Node)
+    → Contains nodes node
     → (before : List Node) × IsLawful dir before node
 lawful_among dir nodes lawful node has =
     let place = get_from_contains nodes node has in
@@ -125,7 +143,8 @@ lawful_among dir nodes lawful node has =
     (take place.0 nodes, lawful (take place.0 nodes) (drop (suc place.0) nodes) node parts)
 
 -- a plan's derivations have different paths for their outputs
-pub all_own_outputs : (dir : List ℕ) (gives : List ℕ → Answer → Type 0) (nodes : List Node) → AreLawful dir nodes
+pub all_own_outputs : (dir : List ℕ) (gives : List ℕ → Answer → Type 0) (nodes : List Node)
+    → AreLawful dir nodes
     → All (λ (n : Node). MayStand dir gives n.path n.drv) nodes
     → All (λ (n : Node). AreDistinct (output_paths_of n.drv)) nodes
 all_own_outputs dir gives nodes lawful given =
@@ -136,7 +155,9 @@ all_own_outputs dir gives nodes lawful given =
 
 -- and stand at the paths of derivations' files
 pub all_named : (dir : List ℕ) (gives : List ℕ → Answer → Type 0) (nodes : List Node)
-    → All (λ (n : Node). MayStand dir gives n.path n.drv) nodes → All (λ (n : Node). IsDrvPath n.path) nodes
+    → All (λ (n : Node). MayStand dir gives n.path n.drv) nodes
+    → All (λ (n : Node). IsDrvPath n.path) nodes
 all_named dir gives nodes given =
     all_from_contains (λ (n : Node). IsDrvPath n.path) nodes
-    (λ n has. (All-contains (λ (m : Node). MayStand dir gives m.path m.drv) nodes n given has).found.read.named)
+    (λ n has. (All-contains (λ (m : Node). MayStand dir gives m.path m.drv) nodes n given
+    has).found.read.named)

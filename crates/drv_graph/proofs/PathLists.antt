@@ -24,7 +24,9 @@ path_cases a b = by (pointwise nat_eq a b) refl
   where
     by : (t : Bool) → pointwise nat_eq a b ≡ t → (a ≡ b) ⊎ (a ≡ b → ⊥)
     by true e = inl (same_path a b e)
-    by false e = inr (λ same. false≢true (sym e ∙ subst (λ c. pointwise nat_eq a c ≡ true) same (nat_list_eq_equiv.refl a)))
+    by false e = inr
+        (λ same. false≢true
+        (sym e ∙ subst (λ c. pointwise nat_eq a c ≡ true) same (nat_list_eq_equiv.refl a)))
 
 module _ {X : Type 0} where
   pub contains_cases : (x y : X) (xs : List X) → Contains (x ∷ xs) y → (x ≡ y) ⊎ Contains xs y
@@ -40,20 +42,25 @@ module _ {X : Type 0} where
   pub contains_none : (x : X) → Contains [] x → ⊥
   contains_none x has = absurd (omega (arith, has.1))
 
-  pub contains_push_cases : (xs : List X) (y x : X) → Contains (xs ++ y ∷ []) x → Contains xs x ⊎ (y ≡ x)
+  pub contains_push_cases : (xs : List X) (y x : X) → Contains (xs ++ y ∷ []) x → Contains xs x
+      ⊎ (y ≡ x)
   contains_push_cases xs y x has =
-      ⊎_elim inl (λ last. ⊎_elim inr (λ none. absurd (contains_none x none)) (contains_cases y x [] last)) (Contains-append_cases xs (y ∷ []) x has)
+      ⊎_elim inl (λ last. ⊎_elim inr (λ none. absurd (contains_none x none))
+      (contains_cases y x [] last)) (Contains-append_cases xs (y ∷ []) x has)
 
-  pub all_from_contains : (P : X → Type 0) (xs : List X) → ((x : X) → Contains xs x → P x) → All P xs
+  pub all_from_contains : (P : X → Type 0) (xs : List X) → ((x : X) → Contains xs x → P x)
+      → All P xs
   all_from_contains P xs h k d lt = h (get_or xs k d) (Contains-get_or xs k d lt)
 
   pub contains_from_get : (xs : List X) (n : ℕ) (x : X) → slice_get xs n ≡ Some x → Contains xs x
   contains_from_get xs n x is = (n, slice_get_within xs n x is, get_or_from_slice_get xs n x x is)
 
-  pub get_from_contains : (xs : List X) (x : X) → Contains xs x → (n : ℕ) × (slice_get xs n ≡ Some x)
+  pub get_from_contains : (xs : List X) (x : X) → Contains xs x → (n : ℕ)
+      × (slice_get xs n ≡ Some x)
   get_from_contains xs x (n, lt, is) = (n, slice_get-get_or xs n x lt ∙ ap Some is)
 
-  pub get_grows : (xs ys : List X) (n : ℕ) (x : X) → slice_get xs n ≡ Some x → slice_get (xs ++ ys) n ≡ Some x
+  pub get_grows : (xs ys : List X) (n : ℕ) (x : X) → slice_get xs n ≡ Some x
+      → slice_get (xs ++ ys) n ≡ Some x
   get_grows [] ys n x is = absurd (none-some x is)
   get_grows (y ∷ xs) ys zero x is = is
   get_grows (y ∷ xs) ys (suc n) x is = get_grows xs ys n x is
@@ -62,18 +69,22 @@ module _ {X : Type 0} where
   get_pushed [] y = refl
   get_pushed (x ∷ xs) y = get_pushed xs y
 
-  pub get_push_cases : (xs : List X) (y : X) (n : ℕ) (x : X) → slice_get (xs ++ y ∷ []) n ≡ Some x → (slice_get xs n ≡ Some x) ⊎ ((n ≡ length xs) × (y ≡ x))
+  pub get_push_cases : (xs : List X) (y : X) (n : ℕ) (x : X) → slice_get (xs ++ y ∷ []) n ≡ Some x
+      → (slice_get xs n ≡ Some x) ⊎ ((n ≡ length xs) × (y ≡ x))
   get_push_cases [] y zero x is = inr (refl, same_Some y x is)
   get_push_cases [] y (suc n) x is = absurd (none-some x is)
   get_push_cases (z ∷ xs) y zero x is = inl is
-  get_push_cases (z ∷ xs) y (suc n) x is = ⊎_elim inl (λ last. inr (ap suc last.0, last.1)) (get_push_cases xs y n x is)
+  get_push_cases (z ∷ xs) y (suc n) x is = ⊎_elim inl (λ last. inr (ap suc last.0, last.1))
+      (get_push_cases xs y n x is)
 
-  pub drop_at : (xs : List X) (n : ℕ) (x : X) → slice_get xs n ≡ Some x → drop n xs ≡ x ∷ drop (suc n) xs
+  pub drop_at : (xs : List X) (n : ℕ) (x : X) → slice_get xs n ≡ Some x → drop n xs ≡ x
+      ∷ drop (suc n) xs
   drop_at [] n x is = absurd (none-some x is)
   drop_at (y ∷ xs) zero x is = ap (λ z. z ∷ xs) (same_Some y x is)
   drop_at (y ∷ xs) (suc n) x is = drop_at xs n x is
 
-  pub take_at : (xs : List X) (n : ℕ) (x : X) → slice_get xs n ≡ Some x → take (suc n) xs ≡ take n xs ++ x ∷ []
+  pub take_at : (xs : List X) (n : ℕ) (x : X) → slice_get xs n ≡ Some x → take (suc n) xs
+      ≡ take n xs ++ x ∷ []
   take_at [] n x is = absurd (none-some x is)
   take_at (y ∷ xs) zero x is = ap (λ z. z ∷ []) (same_Some y x is)
   take_at (y ∷ xs) (suc n) x is = ap (λ zs. y ∷ zs) (take_at xs n x is)
@@ -82,48 +93,65 @@ module _ {X Y : Type 0} (f : X → Y) where
   pub contains_mapped : (xs : List X) (x : X) → Contains xs x → Contains (map f xs) (f x)
   contains_mapped [] x has = absurd (contains_none x has)
   contains_mapped (y ∷ xs) x has =
-      ⊎_elim (λ same. (zero, omega arith, ap f same)) (λ later. contains_later (f y) (f x) (map f xs) (contains_mapped xs x later)) (contains_cases y x xs has)
+      ⊎_elim (λ same. (zero, omega arith, ap f same))
+      (λ later. contains_later (f y) (f x) (map f xs) (contains_mapped xs x later))
+      (contains_cases y x xs has)
 
-  pub contains_source : (xs : List X) (y : Y) → Contains (map f xs) y → (x : X) × Contains xs x × (f x ≡ y)
+  pub contains_source : (xs : List X) (y : Y) → Contains (map f xs) y → (x : X) × Contains xs x
+      × (f x ≡ y)
   contains_source [] y has = absurd (contains_none y has)
   contains_source (x ∷ xs) y has =
-      ⊎_elim (λ same. (x, contains_first x xs, same)) (λ later. let found = contains_source xs y later in (found.0, contains_later x found.0 xs found.1, found.2)) (contains_cases (f x) y (map f xs) has)
+      ⊎_elim (λ same. (x, contains_first x xs, same))
+      (λ later. let found = contains_source xs y later
+      in (found.0, contains_later x found.0 xs found.1, found.2))
+      (contains_cases (f x) y (map f xs) has)
 
-  pub get_mapped : (xs : List X) (n : ℕ) (x : X) → slice_get xs n ≡ Some x → slice_get (map f xs) n ≡ Some (f x)
+  pub get_mapped : (xs : List X) (n : ℕ) (x : X) → slice_get xs n ≡ Some x → slice_get (map f xs) n
+      ≡ Some (f x)
   get_mapped [] n x is = absurd (none-some x is)
   get_mapped (y ∷ xs) zero x is = ap (λ z. Some (f z)) (same_Some y x is)
   get_mapped (y ∷ xs) (suc n) x is = get_mapped xs n x is
 
-  pub get_source : (xs : List X) (n : ℕ) (y : Y) → slice_get (map f xs) n ≡ Some y → (x : X) × (slice_get xs n ≡ Some x) × (f x ≡ y)
+  pub get_source : (xs : List X) (n : ℕ) (y : Y) → slice_get (map f xs) n ≡ Some y → (x : X)
+      × (slice_get xs n ≡ Some x) × (f x ≡ y)
   get_source [] n y is = absurd (none-some y is)
   get_source (x ∷ xs) zero y is = (x, refl, same_Some (f x) y is)
   get_source (x ∷ xs) (suc n) y is = get_source xs n y is
 
 -- a path that isn't in a list is found by no look-up
-pub unknown : (paths : List (List ℕ)) (path : List ℕ) → (Contains paths path → ⊥) → list_any (pointwise nat_eq path) paths ≡ false
-unknown paths path new = false_from_ne_true (list_any (pointwise nat_eq path) paths) (λ e. new (Contains-from_any same_path path paths e))
+pub unknown : (paths : List (List ℕ)) (path : List ℕ) → (Contains paths path → ⊥)
+    → list_any (pointwise nat_eq path) paths ≡ false
+unknown paths path new = false_from_ne_true (list_any (pointwise nat_eq path) paths)
+    (λ e. new (Contains-from_any same_path path paths e))
 
 -- one more path, which is new
-pub distinct_push : (paths : List (List ℕ)) (path : List ℕ) → AreDistinct paths → (Contains paths path → ⊥) → AreDistinct (paths ++ path ∷ [])
-distinct_push paths path once new = IsDistinct-push nat_list_eq_equiv paths path once (unknown paths path new)
+pub distinct_push : (paths : List (List ℕ)) (path : List ℕ) → AreDistinct paths
+    → (Contains paths path → ⊥) → AreDistinct (paths ++ path ∷ [])
+distinct_push paths path once new = IsDistinct-push nat_list_eq_equiv paths path once
+    (unknown paths path new)
 
 -- a path stands at one place
-pub same_place : (paths : List (List ℕ)) (i j : ℕ) (path : List ℕ) → AreDistinct paths → slice_get paths i ≡ Some path → slice_get paths j ≡ Some path → i ≡ j
+pub same_place : (paths : List (List ℕ)) (i j : ℕ) (path : List ℕ) → AreDistinct paths
+    → slice_get paths i ≡ Some path → slice_get paths j ≡ Some path → i ≡ j
 same_place paths i j path once at_i at_j = by (ltb_cases i j)
   where
     apart : (a b : ℕ) → a < b → slice_get paths a ≡ Some path → slice_get paths b ≡ Some path → ⊥
     apart a b below at_a at_b =
         let same_a : get_or paths a [] ≡ path = get_or_from_slice_get paths a path [] at_a in
         let same_b : get_or paths b [] ≡ path = get_or_from_slice_get paths b path [] at_b in
-        let other = apart_from_distinct (pointwise nat_eq) paths a b [] once below (slice_get_within paths b path at_b) in
-        false≢true (sym other ∙ ap (λ p. pointwise nat_eq p (get_or paths b [])) same_a ∙ ap (λ p. pointwise nat_eq path p) same_b ∙ nat_list_eq_equiv.refl path)
+        let other = apart_from_distinct (pointwise nat_eq) paths a b [] once below
+        (slice_get_within paths b path at_b) in
+        false≢true (sym other ∙ ap (λ p. pointwise nat_eq p (get_or paths b [])) same_a
+        ∙ ap (λ p. pointwise nat_eq path p) same_b ∙ nat_list_eq_equiv.refl path)
 
     ltb_cases : (a b : ℕ) → (a < b) ⊎ ((b < a) ⊎ (a ≡ b))
     ltb_cases zero zero = inr (inr refl)
     ltb_cases zero (suc b) = inl (omega arith)
     ltb_cases (suc a) zero = inr (inl (omega arith))
     ltb_cases (suc a) (suc b) =
-        ⊎_elim (λ lt. inl (omega arith)) (λ rest. ⊎_elim (λ gt. inr (inl (omega arith))) (λ same. inr (inr (ap suc same))) rest) (ltb_cases a b)
+        ⊎_elim (λ lt. inl (omega arith))
+        (λ rest. ⊎_elim (λ gt. inr (inl (omega arith))) (λ same. inr (inr (ap suc same))) rest)
+        (ltb_cases a b)
 
     by : (i < j) ⊎ ((j < i) ⊎ (i ≡ j)) → i ≡ j
     by (inl lt) = absurd (apart i j lt at_i at_j)

@@ -10,56 +10,89 @@ use Rattle.drv_graph.specs.Plans.AreLeft.{none_left, passed_over, left_behind_in
 use Rattle.drv_graph.proofs.PathLists.{contains_cases, contains_first, contains_later, contains_none, contains_push_cases, get_from_contains, get_mapped, same_place}
 
 -- paths left in two runs are left in one
-pub left_append : {nodes : List Node} {before paths middle : List (List ℕ)} (more after : List (List ℕ)) → AreLeft nodes before paths middle → AreLeft nodes middle more after → AreLeft nodes before (paths ++ more) after
+pub left_append : {nodes : List Node} {before paths middle : List (List ℕ)}
+    (more after : List (List ℕ)) → AreLeft nodes before paths middle
+    → AreLeft nodes middle more after → AreLeft nodes before (paths ++ more) after
 left_append more after (none_left b) rest = rest
-left_append more after (passed_over path b paths middle has first) rest = passed_over path b (paths ++ more) after has (left_append more after first rest)
-left_append more after (left_behind_inputs node b inputs paths middle is_node new under apart first) rest =
-    left_behind_inputs node b inputs (paths ++ more) after is_node new under apart (left_append more after first rest)
+left_append more after (passed_over path b paths middle has first) rest =
+    passed_over path b (paths ++ more) after has (left_append more after first rest)
+left_append more after (left_behind_inputs node b inputs paths middle is_node new under apart first)
+    rest =
+    left_behind_inputs node b inputs (paths ++ more) after is_node new under apart
+    (left_append more after first rest)
 
 -- a path that was left before is passed over
-pub left_later : {nodes : List Node} {before after : List (List ℕ)} (path : List ℕ) (paths : List (List ℕ)) → AreLeft nodes before (path ∷ paths) after → Contains before path → AreLeft nodes before paths after
+pub left_later : {nodes : List Node} {before after : List (List ℕ)} (path : List ℕ)
+    (paths : List (List ℕ)) → AreLeft nodes before (path ∷ paths) after → Contains before path
+    → AreLeft nodes before paths after
 left_later path paths (passed_over p b ps a has rest) there = rest
-left_later path paths (left_behind_inputs node b inputs ps a is_node new under apart rest) there = absurd (new there)
+left_later path paths (left_behind_inputs node b inputs ps a is_node new under apart rest) there =
+    absurd (new there)
 
 -- what was left stays
-pub left_keeps : {nodes : List Node} {before paths after : List (List ℕ)} → AreLeft nodes before paths after → (path : List ℕ) → Contains before path → Contains after path
+pub left_keeps : {nodes : List Node} {before paths after : List (List ℕ)}
+    → AreLeft nodes before paths after → (path : List ℕ) → Contains before path
+    → Contains after path
 left_keeps (none_left b) path has = has
 left_keeps (passed_over p b ps a there rest) path has = left_keeps rest path has
 left_keeps (left_behind_inputs node b inputs ps a is_node new under apart rest) path has =
-    left_keeps rest path (Contains-append_left inputs (node.path ∷ []) path (left_keeps under path has))
+    left_keeps rest path
+    (Contains-append_left inputs (node.path ∷ []) path (left_keeps under path has))
 
 -- what was asked for is left
-pub left_has : {nodes : List Node} {before paths after : List (List ℕ)} → AreLeft nodes before paths after → (path : List ℕ) → Contains paths path → Contains after path
+pub left_has : {nodes : List Node} {before paths after : List (List ℕ)}
+    → AreLeft nodes before paths after → (path : List ℕ) → Contains paths path → Contains after path
 left_has (none_left b) path has = absurd (contains_none path has)
 left_has (passed_over p b ps a there rest) path has =
-    ⊎_elim (λ same. left_keeps rest path (subst (Contains b) same there)) (λ later. left_has rest path later) (contains_cases p path ps has)
+    ⊎_elim (λ same. left_keeps rest path (subst (Contains b) same there))
+    (λ later. left_has rest path later) (contains_cases p path ps has)
 left_has (left_behind_inputs node b inputs ps a is_node new under apart rest) path has =
-    ⊎_elim (λ same. left_keeps rest path (subst (Contains (inputs ++ node.path ∷ [])) same (Contains-push inputs node.path))) (λ later. left_has rest path later) (contains_cases node.path path ps has)
+    ⊎_elim (λ same.
+    left_keeps rest path
+    (subst (Contains (inputs ++ node.path ∷ [])) same (Contains-push inputs node.path)))
+    (λ later. left_has rest path later) (contains_cases node.path path ps has)
 
 -- a node of some paths, all of whose inputs are among them
 abbrev pub HasNodeIn : List Node → List (List ℕ) → List ℕ → Type 0
-HasNodeIn nodes paths path = (node : Node) × Contains nodes node × (node.path ≡ path) × ((input : List ℕ) → Contains (inputs_of node.drv) input → Contains paths input)
+HasNodeIn nodes paths path = (node : Node) × Contains nodes node × (node.path ≡ path)
+    × ((input : List ℕ) → Contains (inputs_of node.drv) input → Contains paths input)
 
 abbrev pub AreClosed : List Node → List (List ℕ) → Type 0
 AreClosed nodes paths = (path : List ℕ) → Contains paths path → HasNodeIn nodes paths path
 
 -- one more node, whose inputs are there
-closed_push : (nodes : List Node) (node : Node) (inputs : List (List ℕ)) → Contains nodes node → ((input : List ℕ) → Contains (inputs_of node.drv) input → Contains inputs input) → AreClosed nodes inputs → AreClosed nodes (inputs ++ node.path ∷ [])
-closed_push nodes node inputs is_node under closed path has = ⊎_elim (λ old. wider path (closed path old)) (λ same. wider path (node, is_node, same, under)) (contains_push_cases inputs node.path path has)
+closed_push : (nodes : List Node) (node : Node) (inputs : List (List ℕ)) → Contains nodes node
+    → ((input : List ℕ) → Contains (inputs_of node.drv) input → Contains inputs input)
+    → AreClosed nodes inputs → AreClosed nodes (inputs ++ node.path ∷ [])
+closed_push nodes node inputs is_node under closed path has =
+    ⊎_elim (λ old. wider path (closed path old)) (λ same. wider path (node, is_node, same, under))
+    (contains_push_cases inputs node.path path has)
   where
-    wider : (path : List ℕ) → HasNodeIn nodes inputs path → HasNodeIn nodes (inputs ++ node.path ∷ []) path
-    wider path has = (has.0, has.1, has.2, λ input is. Contains-append_left inputs (node.path ∷ []) input (has.3 input is))
+    wider : (path : List ℕ) → HasNodeIn nodes inputs path
+        → HasNodeIn nodes (inputs ++ node.path ∷ []) path
+    wider path has = (
+      has.0,
+      has.1,
+      has.2,
+      λ input is. Contains-append_left inputs (node.path ∷ []) input
+          (has.3 input is),
+    )
 
 -- what is left is closed
-pub left_closed : {nodes : List Node} {before paths after : List (List ℕ)} → AreLeft nodes before paths after → AreClosed nodes before → AreClosed nodes after
+pub left_closed : {nodes : List Node} {before paths after : List (List ℕ)}
+    → AreLeft nodes before paths after → AreClosed nodes before → AreClosed nodes after
 left_closed (none_left b) closed = closed
 left_closed (passed_over p b ps a there rest) closed = left_closed rest closed
-left_closed {nodes = nodes} (left_behind_inputs node b inputs ps a is_node new under apart rest) closed =
-    left_closed rest (closed_push nodes node inputs is_node (left_has under) (left_closed under closed))
+left_closed {nodes = nodes} (left_behind_inputs node b inputs ps a is_node new under apart rest)
+    closed =
+    left_closed rest
+    (closed_push nodes node inputs is_node (left_has under) (left_closed under closed))
 
 -- what holds of what is asked for, and goes from users to inputs, holds of all that is left
 pub left_all :
-    {nodes : List Node} {before paths after : List (List ℕ)} (P : List ℕ → Type 0) → ((node : Node) (input : List ℕ) → Contains nodes node → P node.path → Contains (inputs_of node.drv) input → P input) →
+    {nodes : List Node} {before paths after : List (List ℕ)} (P : List ℕ → Type 0)
+    → ((node : Node) (input : List ℕ) → Contains nodes node → P node.path
+    → Contains (inputs_of node.drv) input → P input) →
     AreLeft nodes before paths after →
     ((path : List ℕ) → Contains before path → P path) →
     ((path : List ℕ) → Contains paths path → P path) →
@@ -67,29 +100,44 @@ pub left_all :
     Contains after path →
     P path
 left_all P on (none_left b) old asked path has = old path has
-left_all P on (passed_over p b ps a there rest) old asked path has = left_all P on rest old (λ q is. asked q (contains_later p q ps is)) path has
-left_all P on (left_behind_inputs node b inputs ps a is_node new under apart rest) old asked path has =
+left_all P on (passed_over p b ps a there rest) old asked path has =
+    left_all P on rest old (λ q is. asked q (contains_later p q ps is)) path has
+left_all P on (left_behind_inputs node b inputs ps a is_node new under apart rest) old asked path
+    has =
     let own : P node.path = asked node.path (contains_first node.path ps) in
-    let earlier : (q : List ℕ) → Contains inputs q → P q = left_all P on under old (λ input among. on node input is_node own among) in
-    left_all P on rest (λ q is. ⊎_elim (λ mine. earlier q mine) (λ same. subst P same own) (contains_push_cases inputs node.path q is)) (λ q is. asked q (contains_later node.path q ps is)) path has
+    let earlier : (q : List ℕ) → Contains inputs q
+    → P q = left_all P on under old (λ input among. on node input is_node own among) in
+    left_all P on rest
+    (λ q is. ⊎_elim (λ mine. earlier q mine) (λ same. subst P same own)
+    (contains_push_cases inputs node.path q is))
+    (λ q is. asked q (contains_later node.path q ps is)) path has
 
 -- two nodes at one path are one
-pub same_node : (nodes : List Node) (a b : Node) → AreDistinct (paths_of nodes) → Contains nodes a → Contains nodes b → a.path ≡ b.path → a ≡ b
+pub same_node : (nodes : List Node) (a b : Node) → AreDistinct (paths_of nodes) → Contains nodes a
+    → Contains nodes b → a.path ≡ b.path → a ≡ b
 same_node nodes a b once has_a has_b same =
     let at_a = get_from_contains nodes a has_a in
     let at_b = get_from_contains nodes b has_b in
-    let path_a : slice_get (paths_of nodes) at_a.0 ≡ Some b.path = get_mapped (λ (n : Node). n.path) nodes at_a.0 a at_a.1 ∙ ap Some same in
-    let path_b : slice_get (paths_of nodes) at_b.0 ≡ Some b.path = get_mapped (λ (n : Node). n.path) nodes at_b.0 b at_b.1 in
+    let path_a : slice_get (paths_of nodes) at_a.0
+    ≡ Some b.path = get_mapped (λ (n : Node). n.path) nodes at_a.0 a at_a.1 ∙ ap Some same in
+    let path_b : slice_get (paths_of nodes) at_b.0
+    ≡ Some b.path = get_mapped (λ (n : Node). n.path) nodes at_b.0 b at_b.1 in
     let place = same_place (paths_of nodes) at_a.0 at_b.0 b.path once path_a path_b in
     same_Some a b (sym at_a.1 ∙ ap (λ n. slice_get nodes n) place ∙ at_b.1)
 
 -- one more step
-pub leads_more : (Step : List ℕ → List ℕ → Type 0) (from to next : List ℕ) (steps : List (List ℕ)) → Leads Step from to steps → Step to next → Leads Step from next (steps ++ next ∷ [])
-leads_more Step from to next [] leads step = (subst (λ (p : List ℕ). Step p next) (sym leads) step, refl)
-leads_more Step from to next (first ∷ steps) leads step = (leads.0, leads_more Step first to next steps leads.1 step)
+pub leads_more : (Step : List ℕ → List ℕ → Type 0) (from to next : List ℕ) (steps : List (List ℕ))
+    → Leads Step from to steps → Step to next → Leads Step from next (steps ++ next ∷ [])
+leads_more Step from to next [] leads step = (
+  subst (λ (p : List ℕ). Step p next) (sym leads) step,
+  refl,
+)
+leads_more Step from to next (first ∷ steps) leads step =
+    (leads.0, leads_more Step first to next steps leads.1 step)
 
 -- what is used by what is reached is reached
-pub reached_more : (Step : List ℕ → List ℕ → Type 0) (roots : List (List ℕ)) (path next : List ℕ) → IsReached Step roots path → Step path next → IsReached Step roots next
+pub reached_more : (Step : List ℕ → List ℕ → Type 0) (roots : List (List ℕ)) (path next : List ℕ)
+    → IsReached Step roots path → Step path next → IsReached Step roots next
 reached_more Step roots path next reached step = record {
   root = reached.root;
   is_root = reached.is_root;
@@ -98,28 +146,41 @@ reached_more Step roots path next reached step = record {
 }
 
 -- a root is reached
-pub reached_root : (Step : List ℕ → List ℕ → Type 0) (roots : List (List ℕ)) (root : List ℕ) → Contains roots root → IsReached Step roots root
+pub reached_root : (Step : List ℕ → List ℕ → Type 0) (roots : List (List ℕ)) (root : List ℕ)
+    → Contains roots root → IsReached Step roots root
 reached_root Step roots root has = record { root = root; is_root = has; steps = []; leads = refl }
 
 -- all that a plan has is reached from its roots
-pub plan_reached : (nodes : List Node) (roots : List (List ℕ)) → AreLeft nodes [] roots (paths_of nodes) → (path : List ℕ) → Contains (paths_of nodes) path → IsReached (Uses nodes) roots path
+pub plan_reached : (nodes : List Node) (roots : List (List ℕ))
+    → AreLeft nodes [] roots (paths_of nodes) → (path : List ℕ) → Contains (paths_of nodes) path
+    → IsReached (Uses nodes) roots path
 plan_reached nodes roots order =
     left_all (IsReached (Uses nodes) roots)
-    (λ node input is_node reached is_input. reached_more (Uses nodes) roots node.path input reached (record { node = node; is_node = is_node; is_from = refl; is_input = is_input }))
+    (λ node input is_node reached is_input. reached_more (Uses nodes) roots node.path input reached
+    (record { node = node; is_node = is_node; is_from = refl; is_input = is_input }))
     order
     (λ path has. absurd (contains_none path has))
     (λ path has. reached_root (Uses nodes) roots path has)
 
 -- a closed list has all that is reached from its paths
-closed_leads : (nodes : List Node) (paths : List (List ℕ)) → AreDistinct (paths_of nodes) → AreClosed nodes paths → (from to : List ℕ) (steps : List (List ℕ)) → Contains paths from → Leads (Uses nodes) from to steps → Contains paths to
+closed_leads : (nodes : List Node) (paths : List (List ℕ)) → AreDistinct (paths_of nodes)
+    → AreClosed nodes paths → (from to : List ℕ) (steps : List (List ℕ)) → Contains paths from
+    → Leads (Uses nodes) from to steps → Contains paths to
 closed_leads nodes paths once closed from to [] has leads = subst (Contains paths) leads has
 closed_leads nodes paths once closed from to (next ∷ steps) has leads =
     let own = closed from has in
     let step = leads.0 in
-    let one : own.0 ≡ step.node = same_node nodes own.0 step.node once own.1 step.is_node (own.2 ∙ sym step.is_from) in
-    closed_leads nodes paths once closed next to steps (own.3 next (subst (λ (n : Node). Contains (inputs_of n.drv) next) (sym one) step.is_input)) leads.1
+    let one : own.0 ≡ step.node = same_node nodes own.0 step.node once own.1 step.is_node
+    (own.2 ∙ sym step.is_from) in
+    closed_leads nodes paths once closed next to steps
+    (own.3 next (subst (λ (n : Node). Contains (inputs_of n.drv) next) (sym one) step.is_input))
+    leads.1
 
 -- a plan has all that is reached from its roots
-pub plan_whole : (nodes : List Node) (roots : List (List ℕ)) → AreDistinct (paths_of nodes) → AreLeft nodes [] roots (paths_of nodes) → (path : List ℕ) → IsReached (Uses nodes) roots path → Contains (paths_of nodes) path
+pub plan_whole : (nodes : List Node) (roots : List (List ℕ)) → AreDistinct (paths_of nodes)
+    → AreLeft nodes [] roots (paths_of nodes) → (path : List ℕ) → IsReached (Uses nodes) roots path
+    → Contains (paths_of nodes) path
 plan_whole nodes roots once order path reached =
-    closed_leads nodes (paths_of nodes) once (left_closed order (λ p none. absurd (contains_none p none))) reached.root path reached.steps (left_has order reached.root reached.is_root) reached.leads
+    closed_leads nodes (paths_of nodes) once
+    (left_closed order (λ p none. absurd (contains_none p none))) reached.root path
+    reached.steps (left_has order reached.root reached.is_root) reached.leads

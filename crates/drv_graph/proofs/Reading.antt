@@ -20,16 +20,22 @@ use Rattle.drv_graph.specs.declared.walk.Met.TheVariants.{Done, New}
 use Rattle.drv_graph.proofs.Marks.{sets_entry}
 
 -- a text with a fault
-pub reading_wrong : (dir : List ℕ) (gives : List ℕ → Answer → Type 0) (path : List ℕ) (count : ℕ) (bytes given : List ℕ) (text : DrvFault) (fault : GraphFault) → gives path (Ok bytes) → given ≡ bytes → IsCheck dir path given (Err text) → IsTextFaultAt path text fault → IsReadingFault dir gives path count fault
+pub reading_wrong : (dir : List ℕ) (gives : List ℕ → Answer → Type 0) (path : List ℕ) (count : ℕ)
+    (bytes given : List ℕ) (text : DrvFault) (fault : GraphFault) → gives path (Ok bytes) → given
+    ≡ bytes → IsCheck dir path given (Err text) → IsTextFaultAt path text fault
+    → IsReadingFault dir gives path count fault
 reading_wrong dir gives path count bytes given text NoMemory gave same check at = tt
 reading_wrong dir gives path count bytes given text (At p found) gave same check at =
-    subst (λ f. IsReadingFault dir gives path count (At p f)) (sym at.1) (at.0, at.2, (bytes, gave, subst (λ b. IsCheck dir path b (Err text)) same check))
+    subst (λ f. IsReadingFault dir gives path count (At p f)) (sym at.1)
+    (at.0, at.2, (bytes, gave, subst (λ b. IsCheck dir path b (Err text)) same check))
 reading_wrong dir gives path count bytes given text (Draft fault) gave same check at = absurd at
 reading_wrong dir gives path count bytes given text Name gave same check at = absurd at
 
 -- a derivation was opened
 pub opens_made :
-    {S : Type 0} (dir : List ℕ) (gives : List ℕ → Answer → Type 0) (before after : IndexMap (List ℕ) (Option ℕ) S) (path key : List ℕ) (drv : Drv) (visit : Visit) (old : Option (Option ℕ)) (count : ℕ) →
+    {S : Type 0} (dir : List ℕ) (gives : List ℕ → Answer → Type 0)
+    (before after : IndexMap (List ℕ) (Option ℕ) S) (path key : List ℕ) (drv : Drv)
+    (visit : Visit) (old : Option (Option ℕ)) (count : ℕ) →
     visit.path ≡ path →
     MayStand dir gives path drv × (count < max_nodes) →
     visit.drv ≡ drv →
@@ -42,40 +48,58 @@ pub opens_made :
     old ≡ get (pointwise nat_eq) before key →
     index_map_len after ≡ index_map_len before + (if is_some old then 0 else 1) →
     Opens dir gives before after path visit
-opens_made dir gives before after path key drv visit old count is_path read is_drv inputs none same updates new counted found more =
-    let long : length (keys before) ≡ length before.entries = length-map before.entries (λ (e : List ℕ × Option ℕ). e.0) in
-    let long_after : length (keys after) ≡ length after.entries = length-map after.entries (λ (e : List ℕ × Option ℕ). e.0) in
+opens_made dir gives before after path key drv visit old count is_path read is_drv inputs none same
+    updates new counted found more =
+    let long : length (keys before) ≡ length before.entries =
+    length-map before.entries (λ (e : List ℕ × Option ℕ). e.0) in
+    let long_after : length (keys after) ≡ length after.entries =
+    length-map after.entries (λ (e : List ℕ × Option ℕ). e.0) in
     let absent : old ≡ None = found ∙ ap (get (pointwise nat_eq) before) same ∙ new in
-    let one : length after.entries ≡ length before.entries + 1 = more ∙ ap (λ o. length before.entries + (if is_some o then 0 else 1)) absent in
+    let one : length after.entries ≡ length before.entries + 1 = more
+    ∙ ap (λ o. length before.entries + (if is_some o then 0 else 1)) absent in
     record {
       is_path = is_path;
       stands = subst (MayStand dir gives path) (sym is_drv) read.0;
       inputs = inputs ∙ ap (λ d. inputs_of d) (sym is_drv);
       none = none;
       room = omega (arith, read.1, counted, long);
-      marks = subst (λ k. SetsEntry (marked before) (marked after) k None) same (sets_entry before after key None updates);
+      marks = subst (λ k. SetsEntry (marked before) (marked after) k None) same
+          (sets_entry before after key None updates);
       is_new = new;
       count = omega (arith, one, long, long_after);
     }
 
 -- an input was read
-pub input_read : (items : List (List ℕ)) (i n : ℕ) (x : List ℕ) → x ≡ get_or items i x → i ≡ n → n < length items → slice_get items n ≡ Some x
-input_read items i n x is same lt = slice_get_read items (length items) n x refl lt (subst (λ k. x ≡ get_or items k x) same is)
+pub input_read : (items : List (List ℕ)) (i n : ℕ) (x : List ℕ) → x ≡ get_or items i x → i ≡ n → n
+    < length items → slice_get items n ≡ Some x
+input_read items i n x is same lt = slice_get_read items (length items) n x refl lt
+    (subst (λ k. x ≡ get_or items k x) same is)
 
 -- the next input was left before
-pub advances_made : {S : Type 0} (dir : List ℕ) (gives : List ℕ → Answer → Type 0) (before after : IndexMap (List ℕ) (Option ℕ) S) (visit next : Visit) (input : List ℕ) (number : ℕ) → slice_get visit.inputs.items (length visit.numbers.items) ≡ Some input → IsMeeting dir gives before after input (Ok (Done number)) → next.path ≡ visit.path → next.drv ≡ visit.drv → next.inputs ≡ visit.inputs → next.numbers.items ≡ visit.numbers.items ++ number ∷ [] → Advances before after visit next
-advances_made dir gives before after visit next input number is_input met path drv inputs numbers = record {
-  input = input;
-  number = number;
-  is_input = is_input;
-  is_number = met.1;
-  marks = met.0;
-  path = path;
-  drv = drv;
-  inputs = inputs;
-  numbers = numbers;
-}
+pub advances_made : {S : Type 0} (dir : List ℕ) (gives : List ℕ → Answer → Type 0)
+    (before after : IndexMap (List ℕ) (Option ℕ) S) (visit next : Visit) (input : List ℕ)
+    (number : ℕ) → slice_get visit.inputs.items (length visit.numbers.items) ≡ Some input
+    → IsMeeting dir gives before after input (Ok (Done number)) → next.path ≡ visit.path → next.drv
+    ≡ visit.drv → next.inputs ≡ visit.inputs → next.numbers.items ≡ visit.numbers.items ++ number
+    ∷ [] → Advances before after visit next
+advances_made dir gives before after visit next input number is_input met path drv inputs numbers =
+    record {
+      input = input;
+      number = number;
+      is_input = is_input;
+      is_number = met.1;
+      marks = met.0;
+      path = path;
+      drv = drv;
+      inputs = inputs;
+      numbers = numbers;
+    }
 
 -- the next input was opened
-pub descends_made : {S : Type 0} (dir : List ℕ) (gives : List ℕ → Answer → Type 0) (before after : IndexMap (List ℕ) (Option ℕ) S) (visit next child : Visit) (input : List ℕ) → slice_get visit.inputs.items (length visit.numbers.items) ≡ Some input → IsMeeting dir gives before after input (Ok (New child)) → next ≡ visit → Descends dir gives before after visit next child
-descends_made dir gives before after visit next child input is_input met same = record { input = input; is_input = is_input; opens = met; same = same }
+pub descends_made : {S : Type 0} (dir : List ℕ) (gives : List ℕ → Answer → Type 0)
+    (before after : IndexMap (List ℕ) (Option ℕ) S) (visit next child : Visit) (input : List ℕ)
+    → slice_get visit.inputs.items (length visit.numbers.items) ≡ Some input
+    → IsMeeting dir gives before after input (Ok (New child)) → next ≡ visit
+    → Descends dir gives before after visit next child
+descends_made dir gives before after visit next child input is_input met same =
+    record { input = input; is_input = is_input; opens = met; same = same }

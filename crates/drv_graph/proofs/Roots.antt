@@ -18,91 +18,156 @@ use Rattle.drv_graph.proofs.Numbers.{first_number, later_numbers, numbers_push}
 use Rattle.drv_graph.proofs.PathLists.{contains_cases, contains_first, contains_later, contains_none, other_path, path_cases, same_place}
 
 module _ {X : Type 0} (test : X → Bool) where
-  source_step : (b : Bool) (y x : X) (ys : List X) → (Contains (filter test ys) x → Contains ys x) → Contains (cond b (y ∷ filter test ys) (filter test ys)) x → Contains (y ∷ ys) x
-  source_step true y x ys later has = ⊎_elim (λ same. subst (Contains (y ∷ ys)) same (contains_first y ys)) (λ rest. contains_later y x ys (later rest)) (contains_cases y x (filter test ys) has)
+  source_step : (b : Bool) (y x : X) (ys : List X) → (Contains (filter test ys) x → Contains ys x)
+      → Contains (cond b (y ∷ filter test ys) (filter test ys)) x → Contains (y ∷ ys) x
+  source_step true y x ys later has =
+      ⊎_elim (λ same. subst (Contains (y ∷ ys)) same (contains_first y ys))
+      (λ rest. contains_later y x ys (later rest)) (contains_cases y x (filter test ys) has)
   source_step false y x ys later has = contains_later y x ys (later has)
 
   filter_source : (xs : List X) (x : X) → Contains (filter test xs) x → Contains xs x
   filter_source [] x has = has
   filter_source (y ∷ ys) x has = source_step (test y) y x ys (filter_source ys x) has
 
-  has_step : (b : Bool) (y x : X) (ys : List X) → (y ≡ x → b ≡ true) → (Contains ys x → Contains (filter test ys) x) → Contains (y ∷ ys) x → Contains (cond b (y ∷ filter test ys) (filter test ys)) x
+  has_step : (b : Bool) (y x : X) (ys : List X) → (y ≡ x → b ≡ true)
+      → (Contains ys x → Contains (filter test ys) x) → Contains (y ∷ ys) x
+      → Contains (cond b (y ∷ filter test ys) (filter test ys)) x
   has_step true y x ys passes later has =
-      ⊎_elim (λ same. subst (Contains (y ∷ filter test ys)) same (contains_first y (filter test ys))) (λ rest. contains_later y x (filter test ys) (later rest)) (contains_cases y x ys has)
-  has_step false y x ys passes later has = ⊎_elim (λ same. absurd (false≢true (passes same))) (λ rest. later rest) (contains_cases y x ys has)
+      ⊎_elim (λ same. subst (Contains (y ∷ filter test ys)) same
+      (contains_first y (filter test ys)))
+      (λ rest. contains_later y x (filter test ys) (later rest)) (contains_cases y x ys has)
+  has_step false y x ys passes later has = ⊎_elim (λ same. absurd (false≢true (passes same)))
+      (λ rest. later rest) (contains_cases y x ys has)
 
   filter_has : (xs : List X) (x : X) → Contains xs x → test x ≡ true → Contains (filter test xs) x
   filter_has [] x has passes = has
-  filter_has (y ∷ ys) x has passes = has_step (test y) y x ys (λ same. ap test same ∙ passes) (λ later. filter_has ys x later passes) has
+  filter_has (y ∷ ys) x has passes = has_step (test y) y x ys (λ same. ap test same ∙ passes)
+      (λ later. filter_has ys x later passes) has
 
 -- what is among the elements once is among them, and the other way round
 once_source : (xs : List (List ℕ)) (x : List ℕ) → Contains (each_once xs) x → Contains xs x
 once_source [] x has = has
 once_source (y ∷ ys) x has =
-    ⊎_elim (λ same. subst (Contains (y ∷ ys)) same (contains_first y ys)) (λ later. contains_later y x ys (once_source ys x (filter_source (λ z. not (same_bytes y z)) (each_once ys) x later)))
+    ⊎_elim (λ same. subst (Contains (y ∷ ys)) same (contains_first y ys))
+    (λ later.
+    contains_later y x ys
+    (once_source ys x (filter_source (λ z. not (same_bytes y z)) (each_once ys) x later)))
     (contains_cases y x (filter (λ z. not (same_bytes y z)) (each_once ys)) has)
 
 once_has : (xs : List (List ℕ)) (x : List ℕ) → Contains xs x → Contains (each_once xs) x
 once_has [] x has = has
 once_has (y ∷ ys) x has =
-    ⊎_elim (λ same. subst (Contains (each_once (y ∷ ys))) same (contains_first y (filter (λ z. not (same_bytes y z)) (each_once ys))))
+    ⊎_elim (λ same. subst (Contains (each_once (y ∷ ys))) same
+    (contains_first y (filter (λ z. not (same_bytes y z)) (each_once ys))))
     (λ differs.
-    ⊎_elim (λ same. absurd (differs same)) (λ later. contains_later y x (filter (λ z. not (same_bytes y z)) (each_once ys)) (filter_has (λ z. not (same_bytes y z)) (each_once ys) x (once_has ys x later) (ap not (other_path y x differs)))) (contains_cases y x ys has))
+    ⊎_elim (λ same. absurd (differs same))
+    (λ later. contains_later y x (filter (λ z. not (same_bytes y z)) (each_once ys))
+    (filter_has (λ z. not (same_bytes y z)) (each_once ys) x (once_has ys x later)
+    (ap not (other_path y x differs)))) (contains_cases y x ys has))
     (path_cases y x)
 
 -- one element more changes nothing where it was there, and else stands last
-once_push : (xs : List (List ℕ)) (x : List ℕ) → (Contains xs x × (each_once (xs ++ x ∷ []) ≡ each_once xs)) ⊎ ((Contains xs x → ⊥) × (each_once (xs ++ x ∷ []) ≡ each_once xs ++ x ∷ []))
+once_push : (xs : List (List ℕ)) (x : List ℕ)
+    → (Contains xs x × (each_once (xs ++ x ∷ []) ≡ each_once xs))
+    ⊎ ((Contains xs x → ⊥) × (each_once (xs ++ x ∷ []) ≡ each_once xs ++ x ∷ []))
 once_push [] x = inr (contains_none x, refl)
 once_push (y ∷ ys) x = by (path_cases y x) (once_push ys x)
   where
-    by : (y ≡ x) ⊎ (y ≡ x → ⊥) → (Contains ys x × (each_once (ys ++ x ∷ []) ≡ each_once ys)) ⊎ ((Contains ys x → ⊥) × (each_once (ys ++ x ∷ []) ≡ each_once ys ++ x ∷ [])) → (Contains (y ∷ ys) x × (each_once (y ∷ (ys ++ x ∷ [])) ≡ each_once (y ∷ ys))) ⊎ ((Contains (y ∷ ys) x → ⊥) × (each_once (y ∷ (ys ++ x ∷ [])) ≡ each_once (y ∷ ys) ++ x ∷ []))
-    by (inl same) (inl old) = inl (subst (Contains (y ∷ ys)) same (contains_first y ys), ap (λ l. y ∷ filter (λ z. not (same_bytes y z)) l) old.1)
+    by : (y ≡ x) ⊎ (y ≡ x → ⊥) → (Contains ys x × (each_once (ys ++ x ∷ []) ≡ each_once ys))
+        ⊎ ((Contains ys x → ⊥) × (each_once (ys ++ x ∷ []) ≡ each_once ys ++ x ∷ []))
+        → (Contains (y ∷ ys) x × (each_once (y ∷ (ys ++ x ∷ [])) ≡ each_once (y ∷ ys)))
+        ⊎ ((Contains (y ∷ ys) x → ⊥)
+        × (each_once (y ∷ (ys ++ x ∷ [])) ≡ each_once (y ∷ ys) ++ x ∷ []))
+    by (inl same) (inl old) = inl (
+      subst (Contains (y ∷ ys)) same (contains_first y ys),
+      ap (λ l. y ∷ filter (λ z. not (same_bytes y z)) l) old.1,
+    )
     by (inl same) (inr new) =
-        let gone : filter (λ z. not (same_bytes y z)) (x ∷ []) ≡ [] = ap (λ b. cond (not b) (x ∷ []) []) (subst (λ z. same_bytes y z ≡ true) same (nat_list_eq_equiv.refl y)) in
+        let gone : filter (λ z. not (same_bytes y z)) (x ∷ [])
+        ≡ [] = ap (λ b. cond (not b) (x ∷ []) [])
+        (subst (λ z. same_bytes y z ≡ true) same (nat_list_eq_equiv.refl y)) in
         inl (
           subst (Contains (y ∷ ys)) same (contains_first y ys),
           ap (λ l. y ∷ filter (λ z. not (same_bytes y z)) l) new.1
-              ∙ ap (λ l. y ∷ l) (filter-append (λ z. not (same_bytes y z)) (each_once ys) (x ∷ []) ∙ ap (λ l. filter (λ z. not (same_bytes y z)) (each_once ys) ++ l) gone ∙ append-nil (filter (λ z. not (same_bytes y z)) (each_once ys))),
+              ∙ ap (λ l. y ∷ l) (filter-append (λ z. not (same_bytes y z)) (each_once ys) (x ∷ [])
+              ∙ ap (λ l. filter (λ z. not (same_bytes y z)) (each_once ys) ++ l) gone
+              ∙ append-nil (filter (λ z. not (same_bytes y z)) (each_once ys))),
         )
-    by (inr differs) (inl old) = inl (contains_later y x ys old.0, ap (λ l. y ∷ filter (λ z. not (same_bytes y z)) l) old.1)
+    by (inr differs) (inl old) = inl (
+      contains_later y x ys old.0,
+      ap (λ l. y ∷ filter (λ z. not (same_bytes y z)) l) old.1,
+    )
     by (inr differs) (inr new) =
-        let stays : filter (λ z. not (same_bytes y z)) (x ∷ []) ≡ x ∷ [] = ap (λ b. cond (not b) (x ∷ []) []) (other_path y x differs) in
+        let stays : filter (λ z. not (same_bytes y z)) (x ∷ []) ≡ x
+        ∷ [] = ap (λ b. cond (not b) (x ∷ []) []) (other_path y x differs) in
         inr (
           λ has. ⊎_elim (λ same. differs same) (λ later. new.0 later) (contains_cases y x ys has),
           ap (λ l. y ∷ filter (λ z. not (same_bytes y z)) l) new.1
-              ∙ ap (λ l. y ∷ l) (filter-append (λ z. not (same_bytes y z)) (each_once ys) (x ∷ []) ∙ ap (λ l. filter (λ z. not (same_bytes y z)) (each_once ys) ++ l) stays),
+              ∙ ap (λ l. y ∷ l) (filter-append (λ z. not (same_bytes y z)) (each_once ys) (x ∷ [])
+              ∙ ap (λ l. filter (λ z. not (same_bytes y z)) (each_once ys) ++ l) stays),
         )
 
 -- a number is that of one of the paths, and each path has one
-pub number_source : (nodes : List Node) (ns : List ℕ) (ps : List (List ℕ)) (n : ℕ) → AreNumbers nodes ns ps → Contains ns n → (p : List ℕ) × Contains ps p × (slice_get (paths_of nodes) n ≡ Some p)
+pub number_source : (nodes : List Node) (ns : List ℕ) (ps : List (List ℕ)) (n : ℕ)
+    → AreNumbers nodes ns ps → Contains ns n → (p : List ℕ) × Contains ps p
+    × (slice_get (paths_of nodes) n ≡ Some p)
 number_source nodes [] ps n e has = absurd (contains_none n has)
 number_source nodes (m ∷ ms) [] n e has = absurd cc
 number_source nodes (m ∷ ms) (p ∷ ps) n e has =
-    ⊎_elim (λ same. (p, contains_first p ps, subst (λ k. slice_get (paths_of nodes) k ≡ Some p) same (first_number nodes m ms p ps e)))
-    (λ later. let rest = number_source nodes ms ps n (later_numbers nodes m ms p ps e) later in (rest.0, contains_later p rest.0 ps rest.1, rest.2)) (contains_cases m n ms has)
+    ⊎_elim (λ same. (
+      p,
+      contains_first p ps,
+      subst (λ k. slice_get (paths_of nodes) k ≡ Some p) same
+          (first_number nodes m ms p ps e),
+    ))
+    (λ later. let rest = number_source nodes ms ps n (later_numbers nodes m ms p ps e) later
+    in (rest.0, contains_later p rest.0 ps rest.1, rest.2)) (contains_cases m n ms has)
 
-number_of_path : (nodes : List Node) (ns : List ℕ) (ps : List (List ℕ)) (p : List ℕ) → AreNumbers nodes ns ps → Contains ps p → (n : ℕ) × Contains ns n × (slice_get (paths_of nodes) n ≡ Some p)
+number_of_path : (nodes : List Node) (ns : List ℕ) (ps : List (List ℕ)) (p : List ℕ)
+    → AreNumbers nodes ns ps → Contains ps p → (n : ℕ) × Contains ns n
+    × (slice_get (paths_of nodes) n ≡ Some p)
 number_of_path nodes [] [] p e has = absurd (contains_none p has)
 number_of_path nodes [] (q ∷ qs) p e has = absurd cc
 number_of_path nodes (m ∷ ms) [] p e has = absurd (contains_none p has)
 number_of_path nodes (m ∷ ms) (q ∷ qs) p e has =
-    ⊎_elim (λ same. (m, contains_first m ms, subst (λ k. slice_get (paths_of nodes) m ≡ Some k) same (first_number nodes m ms q qs e)))
-    (λ later. let rest = number_of_path nodes ms qs p (later_numbers nodes m ms q qs e) later in (rest.0, contains_later m rest.0 ms rest.1, rest.2)) (contains_cases q p qs has)
+    ⊎_elim (λ same. (
+      m,
+      contains_first m ms,
+      subst (λ k. slice_get (paths_of nodes) m ≡ Some k) same
+          (first_number nodes m ms q qs e),
+    ))
+    (λ later. let rest = number_of_path nodes ms qs p (later_numbers nodes m ms q qs e) later
+    in (rest.0, contains_later m rest.0 ms rest.1, rest.2)) (contains_cases q p qs has)
 
 -- one root more
-pub roots_more : (nodes : List Node) (ns : List ℕ) (roots : List (List ℕ)) (root : List ℕ) (n : ℕ) → AreDistinct (paths_of nodes) → AreNumbers nodes ns (each_once roots) → slice_get (paths_of nodes) n ≡ Some root → AreNumbers nodes (insert_key nat_eq ns n) (each_once (roots ++ root ∷ []))
-roots_more nodes ns roots root n distinct right is = by (list_any (nat_eq n) ns) refl (once_push roots root)
+pub roots_more : (nodes : List Node) (ns : List ℕ) (roots : List (List ℕ)) (root : List ℕ) (n : ℕ)
+    → AreDistinct (paths_of nodes) → AreNumbers nodes ns (each_once roots)
+    → slice_get (paths_of nodes) n ≡ Some root
+    → AreNumbers nodes (insert_key nat_eq ns n) (each_once (roots ++ root ∷ []))
+roots_more nodes ns roots root n distinct right is =
+    by (list_any (nat_eq n) ns) refl (once_push roots root)
   where
-    by : (b : Bool) → list_any (nat_eq n) ns ≡ b → (Contains roots root × (each_once (roots ++ root ∷ []) ≡ each_once roots)) ⊎ ((Contains roots root → ⊥) × (each_once (roots ++ root ∷ []) ≡ each_once roots ++ root ∷ [])) → AreNumbers nodes (insert_key nat_eq ns n) (each_once (roots ++ root ∷ []))
-    by true e (inl old) = subst (λ b. AreNumbers nodes (if b then ns else ns ++ n ∷ []) (each_once (roots ++ root ∷ []))) (sym e) (subst (AreNumbers nodes ns) (sym old.1) right)
+    by : (b : Bool) → list_any (nat_eq n) ns ≡ b
+        → (Contains roots root × (each_once (roots ++ root ∷ []) ≡ each_once roots))
+        ⊎ ((Contains roots root → ⊥)
+        × (each_once (roots ++ root ∷ []) ≡ each_once roots ++ root ∷ []))
+        → AreNumbers nodes (insert_key nat_eq ns n) (each_once (roots ++ root ∷ []))
+    by true e (inl old) =
+        subst (λ b. AreNumbers nodes (if b then ns else ns ++ n ∷ [])
+        (each_once (roots ++ root ∷ []))) (sym e) (subst (AreNumbers nodes ns) (sym old.1) right)
     by true e (inr new) =
-        let source = number_source nodes ns (each_once roots) n right (Contains-from_any exact_unsigned_eq n ns e) in
+        let source = number_source nodes ns (each_once roots) n right
+        (Contains-from_any exact_unsigned_eq n ns e) in
         let one : source.0 ≡ root = same_Some source.0 root (sym source.2 ∙ is) in
         absurd (new.0 (subst (Contains roots) one (once_source roots source.0 source.1)))
     by false e (inl old) =
-        let its = number_of_path nodes ns (each_once roots) root right (once_has roots root old.0) in
+        let its = number_of_path nodes ns (each_once roots) root right (once_has roots root old.0)
+        in
         let one : its.0 ≡ n = same_place (paths_of nodes) its.0 n root distinct its.2 is in
-        absurd (false≢true (sym e ∙ list_any-from_Contains nat_eq_equiv n ns (subst (Contains ns) one its.1)))
+        absurd (false≢true
+        (sym e ∙ list_any-from_Contains nat_eq_equiv n ns (subst (Contains ns) one its.1)))
     by false e (inr new) =
-        subst (λ b. AreNumbers nodes (if b then ns else ns ++ n ∷ []) (each_once (roots ++ root ∷ []))) (sym e)
-        (subst (AreNumbers nodes (ns ++ n ∷ [])) (sym new.1) (numbers_push nodes ns (each_once roots) n root right is))
+        subst (λ b. AreNumbers nodes (if b then ns else ns ++ n ∷ [])
+        (each_once (roots ++ root ∷ []))) (sym e)
+        (subst (AreNumbers nodes (ns ++ n ∷ [])) (sym new.1)
+        (numbers_push nodes ns (each_once roots) n root right is))

@@ -16,57 +16,99 @@ use Rattle.drv_graph.specs.declared.found.Found.{Found}
 pub gives_back : (G H : List ℕ → Answer → Type 0) → GivesSame G H → GivesSame H G
 gives_back G H same path answer = ((same path answer).1, (same path answer).0)
 
-leads_by : (Step Other : List ℕ → List ℕ → Type 0) → ((a b : List ℕ) → Step a b → Other a b) → (from to : List ℕ) (steps : List (List ℕ)) → Leads Step from to steps → Leads Other from to steps
+leads_by : (Step Other : List ℕ → List ℕ → Type 0) → ((a b : List ℕ) → Step a b → Other a b)
+    → (from to : List ℕ) (steps : List (List ℕ)) → Leads Step from to steps
+    → Leads Other from to steps
 leads_by Step Other on from to [] leads = leads
-leads_by Step Other on from to (next ∷ steps) leads = (on from next leads.0, leads_by Step Other on next to steps leads.1)
+leads_by Step Other on from to (next ∷ steps) leads =
+    (on from next leads.0, leads_by Step Other on next to steps leads.1)
 
 module _ (dir : List ℕ) (G H : List ℕ → Answer → Type 0) (same : GivesSame G H) where
   stands_by : (path : List ℕ) (drv : Drv) → MayStand dir H path drv → MayStand dir G path drv
-  stands_by path drv stands = record { bytes = stands.bytes; given = (same path (Ok stands.bytes)).1 stands.given; found = stands.found }
+  stands_by path drv stands = record {
+    bytes = stands.bytes;
+    given = (same path (Ok stands.bytes)).1 stands.given;
+    found = stands.found;
+  }
 
   uses_by : (a b : List ℕ) → MayUse dir H a b → MayUse dir G a b
-  uses_by a b step = record { drv = step.drv; stands = stands_by a step.drv step.stands; is_input = step.is_input }
+  uses_by a b step = record {
+    drv = step.drv;
+    stands = stands_by a step.drv step.stands;
+    is_input = step.is_input;
+  }
 
-  reached_by : (roots : List (List ℕ)) (path : List ℕ) → IsReached (MayUse dir H) roots path → IsReached (MayUse dir G) roots path
+  reached_by : (roots : List (List ℕ)) (path : List ℕ) → IsReached (MayUse dir H) roots path
+      → IsReached (MayUse dir G) roots path
   reached_by roots path reached = record {
     root = reached.root;
     is_root = reached.is_root;
     steps = reached.steps;
-    leads = leads_by (MayUse dir H) (MayUse dir G) uses_by reached.root path reached.steps reached.leads;
+    leads = leads_by (MayUse dir H) (MayUse dir G) uses_by reached.root path reached.steps
+        reached.leads;
   }
 
-  given_by : (nodes : List Node) → All (λ (n : Node). MayStand dir H n.path n.drv) nodes → All (λ (n : Node). MayStand dir G n.path n.drv) nodes
-  given_by nodes all = All-weaker (λ (n : Node). MayStand dir H n.path n.drv) (λ (n : Node). MayStand dir G n.path n.drv) (λ n. stands_by n.path n.drv) nodes all
+  given_by : (nodes : List Node) → All (λ (n : Node). MayStand dir H n.path n.drv) nodes
+      → All (λ (n : Node). MayStand dir G n.path n.drv) nodes
+  given_by nodes all = All-weaker (λ (n : Node). MayStand dir H n.path n.drv)
+      (λ (n : Node). MayStand dir G n.path n.drv) (λ n. stands_by n.path n.drv) nodes all
 
   -- what was left and is open is right by the other source too
-  pub walked_by : (roots : List (List ℕ)) (found : Found) (pending : List (List ℕ)) → IsWalked dir H roots found pending → IsWalked dir G roots found pending
+  pub walked_by : (roots : List (List ℕ)) (found : Found) (pending : List (List ℕ))
+      → IsWalked dir H roots found pending → IsWalked dir G roots found pending
   walked_by roots found pending walked = record {
     right = walked.right;
     given = given_by _ walked.given;
-    reached = All-weaker (IsReached (MayUse dir H) roots) (IsReached (MayUse dir G) roots) (reached_by roots) _ walked.reached;
+    reached = All-weaker (IsReached (MayUse dir H) roots) (IsReached (MayUse dir G) roots)
+        (reached_by roots) _ walked.reached;
     marks = walked.marks;
     count = walked.count;
     few = walked.few;
   }
 
   -- a fault is true by the other source too
-  pub fault_by : (roots : List (List ℕ)) (fault : GraphFault) → IsLoading dir H roots (Err fault) → IsLoading dir G roots (Err fault)
+  pub fault_by : (roots : List (List ℕ)) (fault : GraphFault) → IsLoading dir H roots (Err fault)
+      → IsLoading dir G roots (Err fault)
   fault_by roots NoMemory at = tt
-  fault_by roots (At p Unreadable) at = (reached_by roots p at.0, ⊎_elim (λ missing. inl ((same p _).1 missing)) (λ device. inr ((same p _).1 device)) at.1)
+  fault_by roots (At p Unreadable) at = (
+    reached_by roots p at.0,
+    ⊎_elim (λ missing. inl ((same p _).1 missing)) (λ device. inr ((same p _).1 device)) at.1,
+  )
   fault_by roots (At p TooMany) at = (
     reached_by roots p at.0,
-    record { paths = at.1.paths; distinct = at.1.distinct; many = at.1.many; reached = All-weaker (IsReached (MayUse dir H) roots) (IsReached (MayUse dir G) roots) (reached_by roots) at.1.paths at.1.reached },
+    record {
+      paths = at.1.paths;
+      distinct = at.1.distinct;
+      many = at.1.many;
+      reached = All-weaker (IsReached (MayUse dir H) roots) (IsReached (MayUse dir G) roots)
+          (reached_by roots) at.1.paths at.1.reached;
+    },
   )
-  fault_by roots (At p (Text text)) at = (reached_by roots p at.0, (at.1.0, (at.1.1.0, (same p (Ok at.1.1.0)).1 at.1.1.1, at.1.1.2)))
+  fault_by roots (At p (Text text)) at = (
+    reached_by roots p at.0,
+    (at.1.0, (at.1.1.0, (same p (Ok at.1.1.0)).1 at.1.1.1, at.1.1.2)),
+  )
   fault_by roots (At p Cycle) at = (
     reached_by roots p at.0,
-    record { user = at.1.user; steps = at.1.steps; leads = leads_by (MayUse dir H) (MayUse dir G) uses_by p at.1.user at.1.steps at.1.leads; closes = uses_by at.1.user p at.1.closes },
+    record {
+      user = at.1.user;
+      steps = at.1.steps;
+      leads = leads_by (MayUse dir H) (MayUse dir G) uses_by p at.1.user at.1.steps at.1.leads;
+      closes = uses_by at.1.user p at.1.closes;
+    },
   )
   fault_by roots (At p (Outputs outputs)) at = (
     reached_by roots p at.0,
     (
       at.1.0,
-      record { drv = at.1.1.drv; stands = stands_by p at.1.1.drv at.1.1.stands; nodes = at.1.1.nodes; distinct = at.1.1.distinct; given = given_by at.1.1.nodes at.1.1.given; check = at.1.1.check },
+      record {
+        drv = at.1.1.drv;
+        stands = stands_by p at.1.1.drv at.1.1.stands;
+        nodes = at.1.1.nodes;
+        distinct = at.1.1.distinct;
+        given = given_by at.1.1.nodes at.1.1.given;
+        check = at.1.1.check;
+      },
     ),
   )
   fault_by roots (At p (SharedOutput earlier)) at = (

@@ -26,11 +26,18 @@ use Rattle.drv_graph.proofs.PlanOrder.{leads_more}
 use Rattle.drv_graph.proofs.Walking.{AreOpen, IsOpen, IsWalk, IsWanted, Remains, uses_input, visits_of, wanted_reached}
 
 -- what is open stays right as nodes are added
-open_grows : (dir : List ℕ) (gives : List ℕ → Answer → Type 0) (roots : List (List ℕ)) (root : List ℕ) (nodes more : List Node) (visits : List Visit) → AreOpen dir gives roots root nodes visits → AreOpen dir gives roots root (nodes ++ more) visits
+open_grows : (dir : List ℕ) (gives : List ℕ → Answer → Type 0) (roots : List (List ℕ))
+    (root : List ℕ) (nodes more : List Node) (visits : List Visit)
+    → AreOpen dir gives roots root nodes visits
+    → AreOpen dir gives roots root (nodes ++ more) visits
 open_grows dir gives roots root nodes more [] are = tt
 open_grows dir gives roots root nodes more (v ∷ vs) are = (
   record {
-    is_visit = record { inputs = are.0.is_visit.inputs; numbers = numbers_grow nodes more v.numbers.items (take (length v.numbers.items) (inputs_of v.drv)) are.0.is_visit.numbers };
+    is_visit = record {
+      inputs = are.0.is_visit.inputs;
+      numbers = numbers_grow nodes more v.numbers.items
+          (take (length v.numbers.items) (inputs_of v.drv)) are.0.is_visit.numbers;
+    };
     stands = are.0.stands;
     reached = are.0.reached;
   },
@@ -40,11 +47,13 @@ open_grows dir gives roots root nodes more (v ∷ vs) are = (
 )
 
 pub all_front : {X : Type 0} (P : X → Type 0) (xs ys : List X) → All P (xs ++ ys) → All P xs
-all_front P xs ys all = all_from_contains P xs (λ x has. All-contains P (xs ++ ys) x all (Contains-append_left xs ys x has))
+all_front P xs ys all = all_from_contains P xs
+    (λ x has. All-contains P (xs ++ ys) x all (Contains-append_left xs ys x has))
 
 -- the innermost open derivation is left
 pub walk_leaves :
-    (dir : List ℕ) (gives : List ℕ → Answer → Type 0) (roots : List (List ℕ)) (root : List ℕ) (start : List Node) (found after : Found) (visit : Visit) (visits : List Visit) →
+    (dir : List ℕ) (gives : List ℕ → Answer → Type 0) (roots : List (List ℕ)) (root : List ℕ)
+    (start : List Node) (found after : Found) (visit : Visit) (visits : List Visit) →
     IsWalk dir gives roots root start found (visit ∷ visits) →
     HasAllNumbers visit →
     Leaves dir found after visit →
@@ -52,120 +61,215 @@ pub walk_leaves :
 walk_leaves dir gives roots root start found after visit visits walk all leaves = record {
   walked = record {
     right = leaves.found;
-    given = subst (All (λ (n : Node). MayStand dir gives n.path n.drv)) (sym leaves.nodes) (All-push (λ (n : Node). MayStand dir gives n.path n.drv) (nodes_of found.nodes.items) (visited visit) walk.walked.given is.stands);
-    reached = subst (All (IsReached (MayUse dir gives) roots)) (sym paths_grown) (All-push (IsReached (MayUse dir gives) roots) (paths_of (nodes_of found.nodes.items)) visit.path walk.walked.reached is.reached);
+    given = subst (All (λ (n : Node). MayStand dir gives n.path n.drv)) (sym leaves.nodes)
+        (All-push (λ (n : Node). MayStand dir gives n.path n.drv) (nodes_of found.nodes.items)
+        (visited visit) walk.walked.given is.stands);
+    reached = subst (All (IsReached (MayUse dir gives) roots)) (sym paths_grown)
+        (All-push (IsReached (MayUse dir gives) roots) (paths_of (nodes_of found.nodes.items))
+        visit.path walk.walked.reached is.reached);
     marks = subst (λ l. AreMarks (marked after.marks) l (pending_of visits)) (sym paths_grown)
-        (marks_left (marked found.marks) (marked after.marks) (paths_of (nodes_of found.nodes.items)) (pending_of visits) visit.path walk.walked.marks walk.pending.1 (subst (λ n. SetsEntry (marked found.marks) (marked after.marks) visit.path (Some n)) (sym long) leaves.marks));
+        (marks_left (marked found.marks) (marked after.marks)
+        (paths_of (nodes_of found.nodes.items)) (pending_of visits) visit.path walk.walked.marks
+        walk.pending.1
+        (subst (λ n. SetsEntry (marked found.marks) (marked after.marks) visit.path (Some n))
+        (sym long) leaves.marks));
     count = omega (arith, leaves.count, walk.walked.count, left_grown);
     few = omega (arith, leaves.count, walk.walked.few);
   };
-  pending = subst (λ ns. AreOpen dir gives roots root ns visits) (sym leaves.nodes) (open_grows dir gives roots root (nodes_of found.nodes.items) (visited visit ∷ []) visits walk.pending.3);
+  pending = subst (λ ns. AreOpen dir gives roots root ns visits) (sym leaves.nodes)
+      (open_grows dir gives roots root (nodes_of found.nodes.items) (visited visit ∷ []) visits
+      walk.pending.3);
   more = walk.more ++ visited visit ∷ [];
-  grown = leaves.nodes ∙ ap (λ l. l ++ visited visit ∷ []) walk.grown ∙ append_assoc start walk.more (visited visit ∷ []);
+  grown = leaves.nodes ∙ ap (λ l. l ++ visited visit ∷ []) walk.grown
+      ∙ append_assoc start walk.more (visited visit ∷ []);
   order = λ nodes last has open_has rest.
-      let has_all : All (Contains nodes) (nodes_of found.nodes.items ++ visited visit ∷ []) = subst (All (Contains nodes)) leaves.nodes has in
-      let has_visit : Contains nodes (visited visit) = All-contains (Contains nodes) (nodes_of found.nodes.items ++ visited visit ∷ []) (visited visit) has_all (Contains-push (nodes_of found.nodes.items) (visited visit)) in
-      walk.order nodes last (all_front (Contains nodes) (nodes_of found.nodes.items) (visited visit ∷ []) has_all) (All-cons (Contains nodes) (visited visit) (visits_of visits) has_visit open_has)
-      (paths_of (nodes_of found.nodes.items), ended nodes, not_left, subst (λ l. Remains nodes root l visits last) paths_grown rest);
+      let has_all : All (Contains nodes) (nodes_of found.nodes.items ++ visited visit ∷ []) =
+      subst (All (Contains nodes)) leaves.nodes has in
+      let has_visit : Contains nodes (visited visit) =
+      All-contains (Contains nodes) (nodes_of found.nodes.items ++ visited visit ∷ [])
+      (visited visit) has_all (Contains-push (nodes_of found.nodes.items) (visited visit)) in
+      walk.order nodes last
+      (all_front (Contains nodes) (nodes_of found.nodes.items) (visited visit ∷ []) has_all)
+      (All-cons (Contains nodes) (visited visit) (visits_of visits) has_visit open_has) (
+        paths_of (nodes_of found.nodes.items),
+        ended nodes,
+        not_left,
+        subst (λ l. Remains nodes root l visits last) paths_grown rest,
+      );
 }
   where
     is : IsOpen dir gives roots (nodes_of found.nodes.items) visit
     is = walk.pending.0
 
-    paths_grown : paths_of (nodes_of after.nodes.items) ≡ paths_of (nodes_of found.nodes.items) ++ visit.path ∷ []
-    paths_grown = ap paths_of leaves.nodes ∙ map_push (λ (n : Node). n.path) (nodes_of found.nodes.items) (visited visit)
+    paths_grown : paths_of (nodes_of after.nodes.items) ≡ paths_of (nodes_of found.nodes.items)
+        ++ visit.path ∷ []
+    paths_grown = ap paths_of leaves.nodes ∙ map_push (λ (n : Node). n.path)
+        (nodes_of found.nodes.items) (visited visit)
 
     long : length (paths_of (nodes_of found.nodes.items)) ≡ length found.nodes.items
-    long = length-map (nodes_of found.nodes.items) (λ (n : Node). n.path) ∙ length-map found.nodes.items _
+    long = length-map (nodes_of found.nodes.items) (λ (n : Node). n.path)
+        ∙ length-map found.nodes.items _
 
     left_grown : length after.nodes.items ≡ length found.nodes.items + 1
     left_grown =
-        let grown : length (nodes_of after.nodes.items) ≡ length (nodes_of found.nodes.items) + 1 = ap length leaves.nodes ∙ length_push (nodes_of found.nodes.items) (visited visit) in
-        omega (arith, grown, length-map after.nodes.items node_of, length-map found.nodes.items node_of)
+        let grown : length (nodes_of after.nodes.items) ≡ length (nodes_of found.nodes.items)
+        + 1 = ap length leaves.nodes ∙ length_push (nodes_of found.nodes.items) (visited visit)
+        in
+        omega (
+          arith,
+          grown,
+          length-map after.nodes.items node_of,
+          length-map found.nodes.items node_of,
+        )
 
     not_left : Contains (paths_of (nodes_of found.nodes.items)) visit.path → ⊥
-    not_left = pending_not_left (marked found.marks) (paths_of (nodes_of found.nodes.items)) (pending_of (visit ∷ visits)) visit.path walk.walked.marks (contains_first visit.path (pending_of visits))
+    not_left = pending_not_left (marked found.marks) (paths_of (nodes_of found.nodes.items))
+        (pending_of (visit ∷ visits)) visit.path walk.walked.marks
+        (contains_first visit.path (pending_of visits))
 
-    ended : (nodes : List Node) → AreLeft nodes (paths_of (nodes_of found.nodes.items)) (drop (length visit.numbers.items) (inputs_of visit.drv)) (paths_of (nodes_of found.nodes.items))
+    ended : (nodes : List Node) → AreLeft nodes (paths_of (nodes_of found.nodes.items))
+        (drop (length visit.numbers.items) (inputs_of visit.drv))
+        (paths_of (nodes_of found.nodes.items))
     ended nodes =
-        let short : length (inputs_of visit.drv) ≤ length visit.numbers.items = omega (arith, all, ap length is.is_visit.inputs) in
-        subst (λ ps. AreLeft nodes (paths_of (nodes_of found.nodes.items)) ps (paths_of (nodes_of found.nodes.items))) (sym (drop_all (length visit.numbers.items) (inputs_of visit.drv) short)) (none_left (paths_of (nodes_of found.nodes.items)))
+        let short : length (inputs_of visit.drv) ≤ length visit.numbers.items =
+        omega (arith, all, ap length is.is_visit.inputs) in
+        subst (λ ps. AreLeft nodes (paths_of (nodes_of found.nodes.items)) ps
+        (paths_of (nodes_of found.nodes.items)))
+        (sym (drop_all (length visit.numbers.items) (inputs_of visit.drv) short))
+        (none_left (paths_of (nodes_of found.nodes.items)))
 
 -- an open path leads to the innermost one
-leads_up : (dir : List ℕ) (gives : List ℕ → Answer → Type 0) (roots : List (List ℕ)) (root : List ℕ) (nodes : List Node) (v : Visit) (vs : List Visit) (path : List ℕ) → AreOpen dir gives roots root nodes (v ∷ vs) → Contains (pending_of (v ∷ vs)) path → (steps : List (List ℕ)) × Leads (MayUse dir gives) path v.path steps
+leads_up : (dir : List ℕ) (gives : List ℕ → Answer → Type 0) (roots : List (List ℕ)) (root : List ℕ)
+    (nodes : List Node) (v : Visit) (vs : List Visit) (path : List ℕ)
+    → AreOpen dir gives roots root nodes (v ∷ vs) → Contains (pending_of (v ∷ vs)) path
+    → (steps : List (List ℕ)) × Leads (MayUse dir gives) path v.path steps
 leads_up dir gives roots root nodes v [] path are has =
-    ⊎_elim (λ same. ([], sym same)) (λ none. absurd (contains_none path none)) (contains_cases v.path path [] has)
+    ⊎_elim (λ same. ([], sym same)) (λ none. absurd (contains_none path none))
+    (contains_cases v.path path [] has)
 leads_up dir gives roots root nodes v (w ∷ ws) path are has =
     ⊎_elim (λ same. ([], sym same))
     (λ below.
-    let lower = leads_up dir gives roots root nodes w ws path are.3 below in
-    (lower.0 ++ v.path ∷ [], leads_more (MayUse dir gives) path w.path v.path lower.0 lower.1 (uses_input dir gives roots nodes w v.path (length w.numbers.items) are.3.0 are.2)))
+    let lower = leads_up dir gives roots root nodes w ws path are.3 below in (
+      lower.0 ++ v.path ∷ [],
+      leads_more (MayUse dir gives) path w.path v.path lower.0 lower.1
+          (uses_input dir gives roots nodes w v.path (length w.numbers.items) are.3.0 are.2),
+    ))
     (contains_cases v.path path (pending_of (w ∷ ws)) has)
 
 -- an open path is reached
-pending_reached : (dir : List ℕ) (gives : List ℕ → Answer → Type 0) (roots : List (List ℕ)) (root : List ℕ) (nodes : List Node) (visits : List Visit) (path : List ℕ) → AreOpen dir gives roots root nodes visits → Contains (pending_of visits) path → IsReached (MayUse dir gives) roots path
+pending_reached : (dir : List ℕ) (gives : List ℕ → Answer → Type 0) (roots : List (List ℕ))
+    (root : List ℕ) (nodes : List Node) (visits : List Visit) (path : List ℕ)
+    → AreOpen dir gives roots root nodes visits → Contains (pending_of visits) path
+    → IsReached (MayUse dir gives) roots path
 pending_reached dir gives roots root nodes [] path are has = absurd (contains_none path has)
 pending_reached dir gives roots root nodes (v ∷ vs) path are has =
-    ⊎_elim (λ same. subst (IsReached (MayUse dir gives) roots) same are.0.reached) (λ below. pending_reached dir gives roots root nodes vs path are.3 below) (contains_cases v.path path (pending_of vs) has)
+    ⊎_elim (λ same. subst (IsReached (MayUse dir gives) roots) same are.0.reached)
+    (λ below. pending_reached dir gives roots root nodes vs path are.3 below)
+    (contains_cases v.path path (pending_of vs) has)
 
 -- what is open and wanted again is on a cycle
-on_cycle : (dir : List ℕ) (gives : List ℕ → Answer → Type 0) (roots : List (List ℕ)) (root : List ℕ) (nodes : List Node) (visits : List Visit) (path : List ℕ) → AreOpen dir gives roots root nodes visits → IsWanted root visits path → Contains (pending_of visits) path → IsOnCycle (MayUse dir gives) path
+on_cycle : (dir : List ℕ) (gives : List ℕ → Answer → Type 0) (roots : List (List ℕ)) (root : List ℕ)
+    (nodes : List Node) (visits : List Visit) (path : List ℕ)
+    → AreOpen dir gives roots root nodes visits → IsWanted root visits path
+    → Contains (pending_of visits) path → IsOnCycle (MayUse dir gives) path
 on_cycle dir gives roots root nodes [] path are wanted has = absurd (contains_none path has)
 on_cycle dir gives roots root nodes (v ∷ vs) path are wanted has =
     let up = leads_up dir gives roots root nodes v vs path are has in
-    record { user = v.path; steps = up.0; leads = up.1; closes = uses_input dir gives roots nodes v path (length v.numbers.items) are.0 wanted }
+    record {
+      user = v.path;
+      steps = up.0;
+      leads = up.1;
+      closes = uses_input dir gives roots nodes v path (length v.numbers.items) are.0 wanted;
+    }
 
 -- each path that was met is reached
-met_reached : (dir : List ℕ) (gives : List ℕ → Answer → Type 0) (roots : List (List ℕ)) (root : List ℕ) (start : List Node) (found : Found) (visits : List Visit) → IsWalk dir gives roots root start found visits → (path : List ℕ) → Contains (keys found.marks) path → IsReached (MayUse dir gives) roots path
-met_reached dir gives roots root start found visits walk path has = by (marked found.marks path) refl
+met_reached : (dir : List ℕ) (gives : List ℕ → Answer → Type 0) (roots : List (List ℕ))
+    (root : List ℕ) (start : List Node) (found : Found) (visits : List Visit)
+    → IsWalk dir gives roots root start found visits → (path : List ℕ)
+    → Contains (keys found.marks) path → IsReached (MayUse dir gives) roots path
+met_reached dir gives roots root start found visits walk path has =
+    by (marked found.marks path) refl
   where
-    by : (mark : Option (Option ℕ)) → marked found.marks path ≡ mark → IsReached (MayUse dir gives) roots path
-    by None is = absurd (false≢true (sym (ap is_some is) ∙ (hash_map_contains_key_iff nat_list_eq_equiv same_path found.marks path).1 has))
-    by (Some None) is = pending_reached dir gives roots root (nodes_of found.nodes.items) visits path walk.pending ((walk.walked.marks.is_pending path).0 is)
+    by : (mark : Option (Option ℕ)) → marked found.marks path ≡ mark
+        → IsReached (MayUse dir gives) roots path
+    by None is = absurd
+        (false≢true
+        (sym (ap is_some is)
+        ∙ (hash_map_contains_key_iff nat_list_eq_equiv same_path found.marks path).1 has))
+    by (Some None) is = pending_reached dir gives roots root (nodes_of found.nodes.items) visits
+        path walk.pending ((walk.walked.marks.is_pending path).0 is)
     by (Some (Some n)) is =
-        All-contains (IsReached (MayUse dir gives) roots) (paths_of (nodes_of found.nodes.items)) path walk.walked.reached (contains_from_get (paths_of (nodes_of found.nodes.items)) n path ((walk.walked.marks.numbered path n).0 is))
+        All-contains (IsReached (MayUse dir gives) roots) (paths_of (nodes_of found.nodes.items))
+        path walk.walked.reached
+        (contains_from_get (paths_of (nodes_of found.nodes.items)) n path
+        ((walk.walked.marks.numbered path n).0 is))
 
-too_many : (dir : List ℕ) (gives : List ℕ → Answer → Type 0) (roots : List (List ℕ)) (root : List ℕ) (start : List Node) (found : Found) (visits : List Visit) (path : List ℕ) → IsWalk dir gives roots root start found visits → IsReached (MayUse dir gives) roots path → marked found.marks path ≡ None → AreDistinct (keys found.marks) → max_nodes ≤ length (keys found.marks) → ReachTooMany (MayUse dir gives) roots
+too_many : (dir : List ℕ) (gives : List ℕ → Answer → Type 0) (roots : List (List ℕ)) (root : List ℕ)
+    (start : List Node) (found : Found) (visits : List Visit) (path : List ℕ)
+    → IsWalk dir gives roots root start found visits → IsReached (MayUse dir gives) roots path
+    → marked found.marks path ≡ None → AreDistinct (keys found.marks) → max_nodes
+    ≤ length (keys found.marks) → ReachTooMany (MayUse dir gives) roots
 too_many dir gives roots root start found visits path walk reached none distinct many =
     let ks = keys found.marks in
     record {
       paths = keys found.marks ++ path ∷ [];
-      distinct = distinct_push (keys found.marks) path distinct (λ has. false≢true (sym (ap is_some none) ∙ (hash_map_contains_key_iff nat_list_eq_equiv same_path found.marks path).1 has));
+      distinct = distinct_push (keys found.marks) path distinct
+          (λ has. false≢true (sym (ap is_some none)
+          ∙ (hash_map_contains_key_iff nat_list_eq_equiv same_path found.marks path).1 has));
       many = omega (arith, many, length_push (keys found.marks) path);
-      reached = All-push (IsReached (MayUse dir gives) roots) (keys found.marks) path (all_from_contains (IsReached (MayUse dir gives) roots) (keys found.marks) (met_reached dir gives roots root start found visits walk)) reached;
+      reached = All-push (IsReached (MayUse dir gives) roots) (keys found.marks) path
+          (all_from_contains (IsReached (MayUse dir gives) roots) (keys found.marks)
+          (met_reached dir gives roots root start found visits walk)) reached;
     }
 
 -- a fault of what is wanted next is true
 pub meeting_fault :
-    (dir : List ℕ) (gives : List ℕ → Answer → Type 0) (roots : List (List ℕ)) (root : List ℕ) (start : List Node) (found : Found) (visits : List Visit) (path : List ℕ) (fault : GraphFault) →
+    (dir : List ℕ) (gives : List ℕ → Answer → Type 0) (roots : List (List ℕ)) (root : List ℕ)
+    (start : List Node) (found : Found) (visits : List Visit) (path : List ℕ)
+    (fault : GraphFault) →
     Contains roots root →
     IsWalk dir gives roots root start found visits →
     IsWanted root visits path →
     IsMeetingFault dir gives found.marks path fault →
     IsLoading dir gives roots (Err fault)
-meeting_fault dir gives roots root start found visits path fault has_root walk wanted (inl cycle) = by fault cycle.0
+meeting_fault dir gives roots root start found visits path fault has_root walk wanted (inl cycle) =
+    by fault cycle.0
   where
     reached : IsReached (MayUse dir gives) roots path
-    reached = wanted_reached dir gives roots root (nodes_of found.nodes.items) visits path has_root walk.pending wanted
+    reached = wanted_reached dir gives roots root (nodes_of found.nodes.items) visits path has_root
+        walk.pending wanted
 
     by : (f : GraphFault) → IsFaultAt path Cycle f → IsLoading dir gives roots (Err f)
     by NoMemory at = tt
     by (At p found_fault) at =
         subst (λ f. IsLoading dir gives roots (Err (At p f))) (sym at.1)
-        (subst (λ q. IsReached (MayUse dir gives) roots q × IsOnCycle (MayUse dir gives) q) (sym at.0)
-        (reached, on_cycle dir gives roots root (nodes_of found.nodes.items) visits path walk.pending wanted ((walk.walked.marks.is_pending path).0 cycle.1)))
+        (subst (λ q. IsReached (MayUse dir gives) roots q × IsOnCycle (MayUse dir gives) q)
+        (sym at.0) (
+          reached,
+          on_cycle dir gives roots root (nodes_of found.nodes.items) visits path
+              walk.pending wanted ((walk.walked.marks.is_pending path).0 cycle.1),
+        ))
     by (Draft found_fault) at = absurd at
     by Name at = absurd at
-meeting_fault dir gives roots root start found visits path fault has_root walk wanted (inr reading) = by fault reading.0
+meeting_fault dir gives roots root start found visits path fault has_root walk wanted
+    (inr reading) = by fault reading.0
   where
     reached : IsReached (MayUse dir gives) roots path
-    reached = wanted_reached dir gives roots root (nodes_of found.nodes.items) visits path has_root walk.pending wanted
+    reached = wanted_reached dir gives roots root (nodes_of found.nodes.items) visits path has_root
+        walk.pending wanted
 
-    by : (f : GraphFault) → IsReadingFault dir gives path (length (keys found.marks)) f → IsLoading dir gives roots (Err f)
+    by : (f : GraphFault) → IsReadingFault dir gives path (length (keys found.marks)) f
+        → IsLoading dir gives roots (Err f)
     by NoMemory at = tt
-    by (At p Unreadable) at = subst (λ q. IsLoading dir gives roots (Err (At q Unreadable))) (sym at.0) (reached, at.1)
-    by (At p TooMany) at = subst (λ q. IsLoading dir gives roots (Err (At q TooMany))) (sym at.0) (reached, too_many dir gives roots root start found visits path walk reached reading.1 reading.2 at.1)
-    by (At p (Text text)) at = subst (λ q. IsLoading dir gives roots (Err (At q (Text text)))) (sym at.0) (reached, (at.1, at.2))
+    by (At p Unreadable) at = subst (λ q. IsLoading dir gives roots (Err (At q Unreadable)))
+        (sym at.0) (reached, at.1)
+    by (At p TooMany) at = subst (λ q. IsLoading dir gives roots (Err (At q TooMany))) (sym at.0) (
+      reached,
+      too_many dir gives roots root start found visits path walk reached reading.1
+          reading.2 at.1,
+    )
+    by (At p (Text text)) at = subst (λ q. IsLoading dir gives roots (Err (At q (Text text))))
+        (sym at.0) (reached, (at.1, at.2))
     by (At p Cycle) at = absurd at
     by (At p (Outputs outputs)) at = absurd at
     by (At p (SharedOutput earlier)) at = absurd at
@@ -174,7 +278,9 @@ meeting_fault dir gives roots root start found visits path fault has_root walk w
 
 -- a fault of the innermost open derivation is true
 pub leaving_fault :
-    (dir : List ℕ) (gives : List ℕ → Answer → Type 0) (roots : List (List ℕ)) (root : List ℕ) (start : List Node) (found : Found) (visit : Visit) (visits : List Visit) (fault : GraphFault) →
+    (dir : List ℕ) (gives : List ℕ → Answer → Type 0) (roots : List (List ℕ)) (root : List ℕ)
+    (start : List Node) (found : Found) (visit : Visit) (visits : List Visit)
+    (fault : GraphFault) →
     IsWalk dir gives roots root start found (visit ∷ visits) →
     IsLeavingFault dir found.nodes.items visit fault →
     IsLoading dir gives roots (Err fault)
@@ -182,18 +288,39 @@ leaving_fault dir gives roots root start found visit visits NoMemory walk at = t
 leaving_fault dir gives roots root start found visit visits (At p (Outputs outputs)) walk at =
     subst (λ q. IsLoading dir gives roots (Err (At q (Outputs outputs)))) (sym at.0) (
       walk.pending.0.reached,
-      (at.1, record { drv = visit.drv; stands = walk.pending.0.stands; nodes = nodes_of found.nodes.items; distinct = walk.walked.right.distinct; given = walk.walked.given; check = at.2 }),
+      (
+        at.1,
+        record {
+          drv = visit.drv;
+          stands = walk.pending.0.stands;
+          nodes = nodes_of found.nodes.items;
+          distinct = walk.walked.right.distinct;
+          given = walk.walked.given;
+          check = at.2;
+        },
+      ),
     )
 leaving_fault dir gives roots root start found visit visits (At p (SharedOutput earlier)) walk at =
     let other = at.1 in
     let left = paths_of (nodes_of found.nodes.items) in
-    let there : Contains left other.0.path = contains_mapped (λ (n : Node). n.path) (nodes_of found.nodes.items) other.0 other.1 in
-    let reached : IsReached (MayUse dir gives) roots earlier = subst (IsReached (MayUse dir gives) roots) (sym other.2) (All-contains (IsReached (MayUse dir gives) roots) left other.0.path walk.walked.reached there) in
-    let stands : MayStand dir gives earlier other.0.drv = subst (λ q. MayStand dir gives q other.0.drv) (sym other.2) (All-contains (λ (n : Node). MayStand dir gives n.path n.drv) (nodes_of found.nodes.items) other.0 walk.walked.given other.1) in
+    let there : Contains left other.0.path = contains_mapped (λ (n : Node). n.path)
+    (nodes_of found.nodes.items) other.0 other.1 in
+    let reached : IsReached (MayUse dir gives) roots earlier =
+    subst (IsReached (MayUse dir gives) roots) (sym other.2)
+    (All-contains (IsReached (MayUse dir gives) roots) left other.0.path walk.walked.reached
+    there) in
+    let stands : MayStand dir gives earlier other.0.drv =
+    subst (λ q. MayStand dir gives q other.0.drv) (sym other.2)
+    (All-contains (λ (n : Node). MayStand dir gives n.path n.drv) (nodes_of found.nodes.items)
+    other.0 walk.walked.given other.1) in
     let differs : earlier ≡ visit.path → ⊥ =
-    λ same. pending_not_left (marked found.marks) left (pending_of (visit ∷ visits)) visit.path walk.walked.marks (contains_first visit.path (pending_of visits)) (subst (Contains left) (sym other.2 ∙ same) there) in
-    subst (λ q. IsLoading dir gives roots (Err (At q (SharedOutput earlier)))) (sym at.0)
-    (walk.pending.0.reached, (visit.drv, other.0.drv, walk.pending.0.stands, reached, stands, differs, other.3))
+    λ same. pending_not_left (marked found.marks) left (pending_of (visit ∷ visits)) visit.path
+    walk.walked.marks (contains_first visit.path (pending_of visits))
+    (subst (Contains left) (sym other.2 ∙ same) there) in
+    subst (λ q. IsLoading dir gives roots (Err (At q (SharedOutput earlier)))) (sym at.0) (
+      walk.pending.0.reached,
+      (visit.drv, other.0.drv, walk.pending.0.stands, reached, stands, differs, other.3),
+    )
 leaving_fault dir gives roots root start found visit visits (At p Unreadable) walk at = absurd at
 leaving_fault dir gives roots root start found visit visits (At p TooMany) walk at = absurd at
 leaving_fault dir gives roots root start found visit visits (At p (Text text)) walk at = absurd at

@@ -26,15 +26,25 @@ use Rattle.drv_graph.proofs.WalkEnds.{leaving_fault, meeting_fault, walk_leaves}
 
 -- sources that give the same
 pub gives_trans : (G H K : List ℕ → Answer → Type 0) → GivesSame G H → GivesSame H K → GivesSame G K
-gives_trans G H K first second path answer = (λ g. (second path answer).0 ((first path answer).0 g), λ k. (first path answer).1 ((second path answer).1 k))
+gives_trans G H K first second path answer = (
+  λ g. (second path answer).0 ((first path answer).0 g),
+  λ k. (first path answer).1 ((second path answer).1 k),
+)
 
 pub gives_itself : (G : List ℕ → Answer → Type 0) → GivesSame G G
 gives_itself G path answer = (λ g. g, λ g. g)
 
-same_stands : (dir : List ℕ) (G H : List ℕ → Answer → Type 0) (path : List ℕ) (drv : Drv) → GivesSame G H → MayStand dir H path drv → MayStand dir G path drv
-same_stands dir G H path drv same stands = record { bytes = stands.bytes; given = (same path (Ok stands.bytes)).1 stands.given; found = stands.found }
+same_stands : (dir : List ℕ) (G H : List ℕ → Answer → Type 0) (path : List ℕ) (drv : Drv)
+    → GivesSame G H → MayStand dir H path drv → MayStand dir G path drv
+same_stands dir G H path drv same stands = record {
+  bytes = stands.bytes;
+  given = (same path (Ok stands.bytes)).1 stands.given;
+  found = stands.found;
+}
 
-same_opens : {S : Type 0} (dir : List ℕ) (G H : List ℕ → Answer → Type 0) (before after : IndexMap (List ℕ) (Option ℕ) S) (path : List ℕ) (child : Visit) → GivesSame G H → Opens dir H before after path child → Opens dir G before after path child
+same_opens : {S : Type 0} (dir : List ℕ) (G H : List ℕ → Answer → Type 0)
+    (before after : IndexMap (List ℕ) (Option ℕ) S) (path : List ℕ) (child : Visit) → GivesSame G H
+    → Opens dir H before after path child → Opens dir G before after path child
 same_opens dir G H before after path child same opens = record {
   is_path = opens.is_path;
   stands = same_stands dir G H path child.drv same opens.stands;
@@ -46,40 +56,70 @@ same_opens dir G H before after path child same opens = record {
   count = opens.count;
 }
 
-same_reading : (dir : List ℕ) (G H : List ℕ → Answer → Type 0) (path : List ℕ) (count : ℕ) (fault : GraphFault) → GivesSame G H → IsReadingFault dir H path count fault → IsReadingFault dir G path count fault
+same_reading : (dir : List ℕ) (G H : List ℕ → Answer → Type 0) (path : List ℕ) (count : ℕ)
+    (fault : GraphFault) → GivesSame G H → IsReadingFault dir H path count fault
+    → IsReadingFault dir G path count fault
 same_reading dir G H path count NoMemory same at = tt
-same_reading dir G H path count (At p Unreadable) same at = (at.0, ⊎_elim (λ missing. inl ((same path _).1 missing)) (λ device. inr ((same path _).1 device)) at.1)
+same_reading dir G H path count (At p Unreadable) same at = (
+  at.0,
+  ⊎_elim (λ missing. inl ((same path _).1 missing))
+      (λ device. inr ((same path _).1 device)) at.1,
+)
 same_reading dir G H path count (At p TooMany) same at = at
-same_reading dir G H path count (At p (Text text)) same at = (at.0, at.1, (at.2.0, (same path (Ok at.2.0)).1 at.2.1, at.2.2))
+same_reading dir G H path count (At p (Text text)) same at =
+    (at.0, at.1, (at.2.0, (same path (Ok at.2.0)).1 at.2.1, at.2.2))
 same_reading dir G H path count (At p Cycle) same at = absurd at
 same_reading dir G H path count (At p (Outputs outputs)) same at = absurd at
 same_reading dir G H path count (At p (SharedOutput earlier)) same at = absurd at
 same_reading dir G H path count (Draft found) same at = absurd at
 same_reading dir G H path count Name same at = absurd at
 
-same_meeting : {S : Type 0} (dir : List ℕ) (G H : List ℕ → Answer → Type 0) (before : IndexMap (List ℕ) (Option ℕ) S) (path : List ℕ) (fault : GraphFault) → GivesSame G H → IsMeetingFault dir H before path fault → IsMeetingFault dir G before path fault
+same_meeting : {S : Type 0} (dir : List ℕ) (G H : List ℕ → Answer → Type 0)
+    (before : IndexMap (List ℕ) (Option ℕ) S) (path : List ℕ) (fault : GraphFault) → GivesSame G H
+    → IsMeetingFault dir H before path fault → IsMeetingFault dir G before path fault
 same_meeting dir G H before path fault same (inl cycle) = inl cycle
-same_meeting dir G H before path fault same (inr reading) = inr (same_reading dir G H path (length (keys before)) fault same reading.0, reading.1, reading.2)
+same_meeting dir G H before path fault same (inr reading) =
+    inr (
+      same_reading dir G H path (length (keys before)) fault same reading.0,
+      reading.1,
+      reading.2,
+    )
 
 -- open derivations, innermost first, where one is put on top
-pub reverse_push : (below : List Visit) (visit : Visit) → reverse (below ++ visit ∷ []) ≡ visit ∷ reverse below
+pub reverse_push : (below : List Visit) (visit : Visit) → reverse (below ++ visit ∷ []) ≡ visit
+    ∷ reverse below
 reverse_push below visit = reverse-append below (visit ∷ [])
 
-module _ (dir : List ℕ) (G H : List ℕ → Answer → Type 0) (roots : List (List ℕ)) (root : List ℕ) (start : List Node) where
-  popped : (found : Found) (before below : List Visit) (visit : Visit) → IsWalk dir G roots root start found (reverse before) → before ≡ below ++ visit ∷ [] → IsWalk dir G roots root start found (visit ∷ reverse below)
-  popped found before below visit walk parts = subst (IsWalk dir G roots root start found) (ap reverse parts ∙ reverse_push below visit) walk
+module _ (dir : List ℕ) (G H : List ℕ → Answer → Type 0) (roots : List (List ℕ)) (root : List ℕ)
+    (start : List Node) where
+  popped : (found : Found) (before below : List Visit) (visit : Visit)
+      → IsWalk dir G roots root start found (reverse before) → before ≡ below ++ visit ∷ []
+      → IsWalk dir G roots root start found (visit ∷ reverse below)
+  popped found before below visit walk parts =
+      subst (IsWalk dir G roots root start found) (ap reverse parts ∙ reverse_push below visit) walk
 
   -- what is asked of the innermost open derivation
-  pub popped_is : (found : Found) (before below : List Visit) (visit : Visit) → IsWalk dir G roots root start found (reverse before) → before ≡ below ++ visit ∷ [] → IsVisit (nodes_of found.nodes.items) visit × (marked found.marks visit.path ≡ Some None) × (Contains (paths_of (nodes_of found.nodes.items)) visit.path → ⊥)
+  pub popped_is : (found : Found) (before below : List Visit) (visit : Visit)
+      → IsWalk dir G roots root start found (reverse before) → before ≡ below ++ visit ∷ []
+      → IsVisit (nodes_of found.nodes.items) visit × (marked found.marks visit.path ≡ Some None)
+      × (Contains (paths_of (nodes_of found.nodes.items)) visit.path → ⊥)
   popped_is found before below visit walk parts =
       let top = popped found before below visit walk parts in (
         top.pending.0.is_visit,
-        (top.walked.marks.is_pending visit.path).1 (contains_first visit.path (pending_of (reverse below))),
-        pending_not_left (marked found.marks) (paths_of (nodes_of found.nodes.items)) (pending_of (visit ∷ reverse below)) visit.path top.walked.marks (contains_first visit.path (pending_of (reverse below))),
+        (top.walked.marks.is_pending visit.path).1
+            (contains_first visit.path (pending_of (reverse below))),
+        pending_not_left (marked found.marks) (paths_of (nodes_of found.nodes.items))
+            (pending_of (visit ∷ reverse below)) visit.path top.walked.marks
+            (contains_first visit.path (pending_of (reverse below))),
       )
 
-  wanted_input : (found : Found) (visit : Visit) (below : List Visit) (input : List ℕ) → IsWalk dir G roots root start found (visit ∷ below) → slice_get visit.inputs.items (length visit.numbers.items) ≡ Some input → IsWanted root (visit ∷ below) input
-  wanted_input found visit below input walk is = subst (λ l. slice_get l (length visit.numbers.items) ≡ Some input) walk.pending.0.is_visit.inputs is
+  wanted_input : (found : Found) (visit : Visit) (below : List Visit) (input : List ℕ)
+      → IsWalk dir G roots root start found (visit ∷ below)
+      → slice_get visit.inputs.items (length visit.numbers.items) ≡ Some input
+      → IsWanted root (visit ∷ below) input
+  wanted_input found visit below input walk is =
+      subst (λ l. slice_get l (length visit.numbers.items) ≡ Some input)
+      walk.pending.0.is_visit.inputs is
 
   -- the walk goes on
   pub walk_goes_on :
@@ -91,14 +131,24 @@ module _ (dir : List ℕ) (G H : List ℕ → Answer → Type 0) (roots : List (
       IsGoingOn dir H found after below visit rest (Ok made) →
       IsWalk dir G roots root start after (reverse rest)
   walk_goes_on found after before below rest visit made has_root same walk parts (inl left) =
-      subst (λ vs. IsWalk dir G roots root start after (reverse vs)) (sym left.2) (walk_leaves dir G roots root start found after visit (reverse below) (popped found before below visit walk parts) left.0 left.1)
-  walk_goes_on found after before below rest visit made has_root same walk parts (inr (inl (next, none, step, is))) =
-      subst (IsWalk dir G roots root start after) (sym (ap reverse is ∙ reverse_push below next)) (walk_advances dir G roots root start found after visit next (reverse below) (popped found before below visit walk parts) none step)
-  walk_goes_on found after before below rest visit made has_root same walk parts (inr (inr (child, none, step, is))) =
+      subst (λ vs. IsWalk dir G roots root start after (reverse vs)) (sym left.2)
+      (walk_leaves dir G roots root start found after visit (reverse below)
+      (popped found before below visit walk parts) left.0 left.1)
+  walk_goes_on found after before below rest visit made has_root same walk parts
+      (inr (inl (next, none, step, is))) =
+      subst (IsWalk dir G roots root start after) (sym (ap reverse is ∙ reverse_push below next))
+      (walk_advances dir G roots root start found after visit next (reverse below)
+      (popped found before below visit walk parts) none step)
+  walk_goes_on found after before below rest visit made has_root same walk parts
+      (inr (inr (child, none, step, is))) =
       let top = popped found before below visit walk parts in
-      let shape : reverse rest ≡ child ∷ visit ∷ reverse below = ap reverse is ∙ reverse_push (below ++ visit ∷ []) child ∙ ap (λ l. child ∷ l) (reverse_push below visit) in
+      let shape : reverse rest ≡ child ∷ visit ∷ reverse below = ap reverse is
+      ∙ reverse_push (below ++ visit ∷ []) child
+      ∙ ap (λ l. child ∷ l) (reverse_push below visit) in
       subst (IsWalk dir G roots root start after) (sym shape)
-      (walk_opens dir G roots root start found after (visit ∷ reverse below) step.input child has_root top (wanted_input found visit (reverse below) step.input top step.is_input) none (same_opens dir G H found.marks after.marks step.input child same step.opens))
+      (walk_opens dir G roots root start found after (visit ∷ reverse below) step.input child
+      has_root top (wanted_input found visit (reverse below) step.input top step.is_input) none
+      (same_opens dir G H found.marks after.marks step.input child same step.opens))
 
   -- or ends with a fault, which is true
   pub walk_stops :
@@ -109,26 +159,40 @@ module _ (dir : List ℕ) (G H : List ℕ → Answer → Type 0) (roots : List (
       before ≡ below ++ visit ∷ [] →
       IsGoingOn dir H found after below visit rest (Err fault) →
       IsLoading dir G roots (Err fault)
-  walk_stops found after before below rest visit fault has_root same walk parts (inl refused) = subst (λ f. IsLoading dir G roots (Err f)) (sym refused) tt
+  walk_stops found after before below rest visit fault has_root same walk parts (inl refused) =
+      subst (λ f. IsLoading dir G roots (Err f)) (sym refused) tt
   walk_stops found after before below rest visit fault has_root same walk parts (inr (inl left)) =
-      leaving_fault dir G roots root start found visit (reverse below) fault (popped found before below visit walk parts) left.1
+      leaving_fault dir G roots root start found visit (reverse below) fault
+      (popped found before below visit walk parts) left.1
   walk_stops found after before below rest visit fault has_root same walk parts (inr (inr input)) =
       let top = popped found before below visit walk parts in
-      meeting_fault dir G roots root start found (visit ∷ reverse below) input.input fault has_root top (wanted_input found visit (reverse below) input.input top input.is_input)
+      meeting_fault dir G roots root start found (visit ∷ reverse below) input.input fault has_root
+      top (wanted_input found visit (reverse below) input.input top input.is_input)
       (same_meeting dir G H found.marks input.input fault same input.is_true)
 
   -- at the root nothing is open
-  pub root_opens : (found after : Found) (visits : List Visit) (child : Visit) → Contains roots root → GivesSame G H → IsWalk dir G roots root start found (reverse visits) → length visits ≡ 0 → LeavesNone found after → Opens dir H found.marks after.marks root child → IsWalk dir G roots root start after (child ∷ [])
-  root_opens found after [] child has_root same walk none left opens = walk_opens dir G roots root start found after [] root child has_root walk refl left (same_opens dir G H found.marks after.marks root child same opens)
-  root_opens found after (v ∷ vs) child has_root same walk none left opens = absurd (omega (arith, none))
+  pub root_opens : (found after : Found) (visits : List Visit) (child : Visit) → Contains roots root
+      → GivesSame G H → IsWalk dir G roots root start found (reverse visits) → length visits ≡ 0
+      → LeavesNone found after → Opens dir H found.marks after.marks root child
+      → IsWalk dir G roots root start after (child ∷ [])
+  root_opens found after [] child has_root same walk none left opens =
+      walk_opens dir G roots root start found after [] root child has_root walk refl left
+      (same_opens dir G H found.marks after.marks root child same opens)
+  root_opens found after (v ∷ vs) child has_root same walk none left opens =
+      absurd (omega (arith, none))
 
-  pub root_stops : (found : Found) (visits : List Visit) (fault : GraphFault) → Contains roots root → GivesSame G H → IsWalk dir G roots root start found (reverse visits) → length visits ≡ 0 → IsMeetingFault dir H found.marks root fault → IsLoading dir G roots (Err fault)
-  root_stops found [] fault has_root same walk none at = meeting_fault dir G roots root start found [] root fault has_root walk refl (same_meeting dir G H found.marks root fault same at)
+  pub root_stops : (found : Found) (visits : List Visit) (fault : GraphFault) → Contains roots root
+      → GivesSame G H → IsWalk dir G roots root start found (reverse visits) → length visits ≡ 0
+      → IsMeetingFault dir H found.marks root fault → IsLoading dir G roots (Err fault)
+  root_stops found [] fault has_root same walk none at =
+      meeting_fault dir G roots root start found [] root fault has_root walk refl
+      (same_meeting dir G H found.marks root fault same at)
   root_stops found (v ∷ vs) fault has_root same walk none at = absurd (omega (arith, none))
 
 -- the root was left, so the walk is done
 pub walk_ends :
-    (dir : List ℕ) (G : List ℕ → Answer → Type 0) (roots : List (List ℕ)) (root : List ℕ) (before found : Found) (visits : List Visit) (number : ℕ) →
+    (dir : List ℕ) (G : List ℕ → Answer → Type 0) (roots : List (List ℕ)) (root : List ℕ)
+    (before found : Found) (visits : List Visit) (number : ℕ) →
     IsWalk dir G roots root (nodes_of before.nodes.items) found (reverse visits) →
     length visits ≡ 0 →
     marked found.marks root ≡ Some (Some number) →
@@ -143,7 +207,10 @@ walk_ends dir G roots root before found [] number walk none is =
         grown = walk.grown;
         in_order = λ nodes has.
             walk.order nodes (paths_of (nodes_of found.nodes.items)) has (All-nil (Contains nodes))
-            (passed_over root (paths_of (nodes_of found.nodes.items)) [] (paths_of (nodes_of found.nodes.items)) (contains_from_get (paths_of (nodes_of found.nodes.items)) number root at) (none_left (paths_of (nodes_of found.nodes.items))));
+            (passed_over root (paths_of (nodes_of found.nodes.items)) []
+            (paths_of (nodes_of found.nodes.items))
+            (contains_from_get (paths_of (nodes_of found.nodes.items)) number root at)
+            (none_left (paths_of (nodes_of found.nodes.items))));
       };
       is_number = at;
     }
@@ -153,17 +220,27 @@ abbrev pub work : List Visit → ℕ
 work [] = 0
 work (v ∷ vs) = (length v.inputs.items - length v.numbers.items) + 1 + work vs
 
--- what a walk still has to do: at most so many more derivations are opened, each with fewer than 2^64 inputs
+-- what a walk still has to do: at most so many more derivations are opened, each with fewer than
+-- 2^64 inputs
 abbrev pub to_do : (count : ℕ) → List Visit → ℕ
 to_do count visits = (65536 - count) * 36893488147419103232 + work visits
 
-pub less_left : (count after : ℕ) (visit : Visit) (below : List Visit) → after ≡ count → to_do after below < to_do count (visit ∷ below)
-less_left count after visit below same = subst (λ n. to_do n below < to_do count (visit ∷ below)) (sym same) (omega arith)
+pub less_left : (count after : ℕ) (visit : Visit) (below : List Visit) → after ≡ count
+    → to_do after below < to_do count (visit ∷ below)
+less_left count after visit below same = subst (λ n. to_do n below < to_do count (visit ∷ below))
+    (sym same) (omega arith)
 
-pub less_advanced : (count after : ℕ) (visit next : Visit) (below : List Visit) → after ≡ count → length visit.numbers.items < length visit.inputs.items → length next.inputs.items ≡ length visit.inputs.items → length next.numbers.items ≡ length visit.numbers.items + 1 → to_do after (next ∷ below) < to_do count (visit ∷ below)
-less_advanced count after visit next below same lt inputs numbers = subst (λ n. to_do n (next ∷ below) < to_do count (visit ∷ below)) (sym same) (omega (arith, lt, inputs, numbers))
+pub less_advanced : (count after : ℕ) (visit next : Visit) (below : List Visit) → after ≡ count
+    → length visit.numbers.items < length visit.inputs.items → length next.inputs.items
+    ≡ length visit.inputs.items → length next.numbers.items ≡ length visit.numbers.items + 1
+    → to_do after (next ∷ below) < to_do count (visit ∷ below)
+less_advanced count after visit next below same lt inputs numbers =
+    subst (λ n. to_do n (next ∷ below) < to_do count (visit ∷ below)) (sym same)
+    (omega (arith, lt, inputs, numbers))
 
-pub less_opened : (count after : ℕ) (child : Visit) (visits : List Visit) → after ≡ count + 1 → count < 65536 → length child.inputs.items < 2 ^ 64 → to_do after (child ∷ visits) < to_do count visits
+pub less_opened : (count after : ℕ) (child : Visit) (visits : List Visit) → after ≡ count + 1
+    → count < 65536 → length child.inputs.items < 2 ^ 64 → to_do after (child ∷ visits)
+    < to_do count visits
 less_opened count after child visits same room few = omega (arith, same, room, few)
 
 vec_fits : (v : Vec (List ℕ)) → length v.items < 2 ^ 64
@@ -171,29 +248,50 @@ vec_fits v = omega (arith, v.ok.0, v.small)
 
 -- a walk that goes on has less to do
 pub less_going :
-    (dir : List ℕ) (H : List ℕ → Answer → Type 0) (found after : Found) (before below rest : List Visit) (visit : Visit) (made : ⊤) →
+    (dir : List ℕ) (H : List ℕ → Answer → Type 0) (found after : Found)
+    (before below rest : List Visit) (visit : Visit) (made : ⊤) →
     before ≡ below ++ visit ∷ [] →
     IsGoingOn dir H found after below visit rest (Ok made) →
-    to_do (length (keys after.marks)) (reverse rest) < to_do (length (keys found.marks)) (reverse before)
+    to_do (length (keys after.marks)) (reverse rest)
+    < to_do (length (keys found.marks)) (reverse before)
 less_going dir H found after before below rest visit made parts going =
-    subst (λ vs. to_do (length (keys after.marks)) (reverse rest) < to_do (length (keys found.marks)) vs) (sym (ap reverse parts ∙ reverse_push below visit)) (by going)
+    subst (λ vs. to_do (length (keys after.marks)) (reverse rest)
+    < to_do (length (keys found.marks)) vs) (sym (ap reverse parts ∙ reverse_push below visit))
+    (by going)
   where
-    by : IsGoingOn dir H found after below visit rest (Ok made) → to_do (length (keys after.marks)) (reverse rest) < to_do (length (keys found.marks)) (visit ∷ reverse below)
+    by : IsGoingOn dir H found after below visit rest (Ok made)
+        → to_do (length (keys after.marks)) (reverse rest)
+        < to_do (length (keys found.marks)) (visit ∷ reverse below)
     by (inl left) =
-        subst (λ vs. to_do (length (keys after.marks)) (reverse vs) < to_do (length (keys found.marks)) (visit ∷ reverse below)) (sym left.2) (less_left (length (keys found.marks)) (length (keys after.marks)) visit (reverse below) left.1.count)
+        subst (λ vs. to_do (length (keys after.marks)) (reverse vs)
+        < to_do (length (keys found.marks)) (visit ∷ reverse below)) (sym left.2)
+        (less_left (length (keys found.marks)) (length (keys after.marks)) visit (reverse below)
+        left.1.count)
     by (inr (inl (next, none, step, is))) =
-        subst (λ vs. to_do (length (keys after.marks)) vs < to_do (length (keys found.marks)) (visit ∷ reverse below)) (sym (ap reverse is ∙ reverse_push below next))
-        (less_advanced (length (keys found.marks)) (length (keys after.marks)) visit next (reverse below) (ap (λ m. length (keys m)) step.marks) (slice_get_within visit.inputs.items (length visit.numbers.items) step.input step.is_input) (ap (λ v. length v.items) step.inputs)
+        subst (λ vs. to_do (length (keys after.marks)) vs
+        < to_do (length (keys found.marks)) (visit ∷ reverse below))
+        (sym (ap reverse is ∙ reverse_push below next))
+        (less_advanced (length (keys found.marks)) (length (keys after.marks)) visit next
+        (reverse below) (ap (λ m. length (keys m)) step.marks)
+        (slice_get_within visit.inputs.items (length visit.numbers.items) step.input
+        step.is_input) (ap (λ v. length v.items) step.inputs)
         (ap length step.numbers ∙ length_push visit.numbers.items step.number))
     by (inr (inr (child, none, step, is))) =
-        subst (λ vs. to_do (length (keys after.marks)) vs < to_do (length (keys found.marks)) (visit ∷ reverse below)) (sym (ap reverse is ∙ reverse_push (below ++ visit ∷ []) child ∙ ap (λ l. child ∷ l) (reverse_push below visit)))
-        (less_opened (length (keys found.marks)) (length (keys after.marks)) child (visit ∷ reverse below) step.opens.count step.opens.room (vec_fits child.inputs))
+        subst (λ vs. to_do (length (keys after.marks)) vs
+        < to_do (length (keys found.marks)) (visit ∷ reverse below))
+        (sym (ap reverse is ∙ reverse_push (below ++ visit ∷ []) child
+        ∙ ap (λ l. child ∷ l) (reverse_push below visit)))
+        (less_opened (length (keys found.marks)) (length (keys after.marks)) child
+        (visit ∷ reverse below) step.opens.count step.opens.room (vec_fits child.inputs))
 
 -- only what is pushed is open
-pub reverse_one : (below : List Visit) (visits : List Visit) (visit : Visit) → length below ≡ 0 → visits ≡ below ++ visit ∷ [] → reverse visits ≡ visit ∷ []
+pub reverse_one : (below : List Visit) (visits : List Visit) (visit : Visit) → length below ≡ 0
+    → visits ≡ below ++ visit ∷ [] → reverse visits ≡ visit ∷ []
 reverse_one [] visits visit none is = ap reverse is
 reverse_one (v ∷ vs) visits visit none is = absurd (omega (arith, none))
 
 -- a root that was read
-pub root_read : (roots : List (List ℕ)) (place : ℕ) (root other : List ℕ) → place < length roots → root ≡ get_or roots place root → slice_get roots place ≡ Some other → root ≡ other
-root_read roots place root other lt is at = same_Some root other (sym (slice_get_read roots (length roots) place root refl lt is) ∙ at)
+pub root_read : (roots : List (List ℕ)) (place : ℕ) (root other : List ℕ) → place < length roots
+    → root ≡ get_or roots place root → slice_get roots place ≡ Some other → root ≡ other
+root_read roots place root other lt is at = same_Some root other
+    (sym (slice_get_read roots (length roots) place root refl lt is) ∙ at)

@@ -19,7 +19,8 @@ use Rattle.drv_graph.proofs.PathLists.{contains_from_get, drop_at, take_at}
 use Rattle.drv_graph.proofs.PlanOrder.{left_later, reached_more}
 
 -- What is open of a derivation is right: it may stand at its path, and is reached.
-pub record IsOpen (dir : List ℕ) (gives : List ℕ → Answer → Type 0) (roots : List (List ℕ)) (nodes : List Node) (visit : Visit) : Type 0 where
+pub record IsOpen (dir : List ℕ) (gives : List ℕ → Answer → Type 0) (roots : List (List ℕ))
+    (nodes : List Node) (visit : Visit) : Type 0 where
   pub is_visit : IsVisit nodes visit
   pub stands : MayStand dir gives visit.path visit.drv
   pub reached : IsReached (MayUse dir gives) roots visit.path
@@ -29,33 +30,45 @@ abbrev pub IsWanted : (root : List ℕ) → List Visit → List ℕ → Type 0
 IsWanted root [] path = path ≡ root
 IsWanted root (v ∷ vs) path = slice_get (inputs_of v.drv) (length v.numbers.items) ≡ Some path
 
--- open derivations, innermost first: each is asked for by the one that it stands above, and no two have one path
-abbrev pub AreOpen : (dir : List ℕ) → (gives : List ℕ → Answer → Type 0) → (roots : List (List ℕ)) → (root : List ℕ) → List Node → List Visit → Type 0
+-- open derivations, innermost first: each is asked for by the one that it stands above, and no two
+-- have one path
+abbrev pub AreOpen : (dir : List ℕ) → (gives : List ℕ → Answer → Type 0) → (roots : List (List ℕ))
+    → (root : List ℕ) → List Node → List Visit → Type 0
 AreOpen dir gives roots root nodes [] = ⊤
 AreOpen dir gives roots root nodes (v ∷ vs) =
-    IsOpen dir gives roots nodes v × (Contains (pending_of vs) v.path → ⊥) × IsWanted root vs v.path × AreOpen dir gives roots root nodes vs
+    IsOpen dir gives roots nodes v × (Contains (pending_of vs) v.path → ⊥) × IsWanted root vs v.path
+    × AreOpen dir gives roots root nodes vs
 
--- what is still to be left, of open derivations innermost first and then of the root, leads from some paths to others by plan order
-abbrev pub Remains : (nodes : List Node) → (root : List ℕ) → (now : List (List ℕ)) → List Visit → (after : List (List ℕ)) → Type 0
+-- what is still to be left, of open derivations innermost first and then of the root, leads from
+-- some paths to others by plan order
+abbrev pub Remains : (nodes : List Node) → (root : List ℕ) → (now : List (List ℕ)) → List Visit
+    → (after : List (List ℕ)) → Type 0
 Remains nodes root now [] after = AreLeft nodes now (root ∷ []) after
 Remains nodes root now (v ∷ vs) after =
-    (inputs : List (List ℕ)) × AreLeft nodes now (drop (length v.numbers.items) (inputs_of v.drv)) inputs × (Contains inputs v.path → ⊥)
+    (inputs : List (List ℕ)) × AreLeft nodes now (drop (length v.numbers.items) (inputs_of v.drv))
+    inputs × (Contains inputs v.path → ⊥)
     × Remains nodes root (inputs ++ v.path ∷ []) vs after
 
 abbrev pub visits_of : List Visit → List Node
 visits_of visits = map visited visits
 
--- A walk from a root: what was left and what is open is right, and leads on to the end by plan order.
-pub record IsWalk (dir : List ℕ) (gives : List ℕ → Answer → Type 0) (roots : List (List ℕ)) (root : List ℕ) (start : List Node) (found : Found) (visits : List Visit) : Type 0 where
+-- A walk from a root: what was left and what is open is right, and leads on to the end by plan
+-- order.
+pub record IsWalk (dir : List ℕ) (gives : List ℕ → Answer → Type 0) (roots : List (List ℕ))
+    (root : List ℕ) (start : List Node) (found : Found) (visits : List Visit) : Type 0 where
   pub walked : IsWalked dir gives roots found (pending_of visits)
   pub pending : AreOpen dir gives roots root (nodes_of found.nodes.items) visits
   pub more : List Node
   pub grown : nodes_of found.nodes.items ≡ start ++ more
-  pub order : (nodes : List Node) (after : List (List ℕ)) → All (Contains nodes) (nodes_of found.nodes.items) → All (Contains nodes) (visits_of visits)
-      → Remains nodes root (paths_of (nodes_of found.nodes.items)) visits after → AreLeft nodes (paths_of start) (root ∷ []) after
+  pub order : (nodes : List Node) (after : List (List ℕ))
+      → All (Contains nodes) (nodes_of found.nodes.items) → All (Contains nodes) (visits_of visits)
+      → Remains nodes root (paths_of (nodes_of found.nodes.items)) visits after
+      → AreLeft nodes (paths_of start) (root ∷ []) after
 
 -- a walk begins
-pub walk_begins : (dir : List ℕ) (gives : List ℕ → Answer → Type 0) (roots : List (List ℕ)) (root : List ℕ) (found : Found) → IsWalked dir gives roots found [] → IsWalk dir gives roots root (nodes_of found.nodes.items) found []
+pub walk_begins : (dir : List ℕ) (gives : List ℕ → Answer → Type 0) (roots : List (List ℕ))
+    (root : List ℕ) (found : Found) → IsWalked dir gives roots found []
+    → IsWalk dir gives roots root (nodes_of found.nodes.items) found []
 walk_begins dir gives roots root found walked = record {
   walked = walked;
   pending = tt;
@@ -65,148 +78,258 @@ walk_begins dir gives roots root found walked = record {
 }
 
 -- what is wanted next is to be left before the rest
-remains_wanted : (nodes : List Node) (root : List ℕ) (visits : List Visit) (child : Visit) (now after inputs : List (List ℕ)) → IsWanted root visits child.path → Contains nodes (visited child) → (Contains now child.path → ⊥) → AreLeft nodes now (inputs_of child.drv) inputs → (Contains inputs child.path → ⊥) → Remains nodes root (inputs ++ child.path ∷ []) visits after → Remains nodes root now visits after
+remains_wanted : (nodes : List Node) (root : List ℕ) (visits : List Visit) (child : Visit)
+    (now after inputs : List (List ℕ)) → IsWanted root visits child.path
+    → Contains nodes (visited child) → (Contains now child.path → ⊥)
+    → AreLeft nodes now (inputs_of child.drv) inputs → (Contains inputs child.path → ⊥)
+    → Remains nodes root (inputs ++ child.path ∷ []) visits after
+    → Remains nodes root now visits after
 remains_wanted nodes root [] child now after inputs wanted has new under apart rest =
-    let at_root = subst (λ r. AreLeft nodes (inputs ++ child.path ∷ []) (r ∷ []) after) (sym wanted) rest in
+    let at_root = subst (λ r. AreLeft nodes (inputs ++ child.path ∷ []) (r ∷ []) after) (sym wanted)
+    rest in
     let later = left_later child.path [] at_root (Contains-push inputs child.path) in
-    subst (λ r. AreLeft nodes now (r ∷ []) after) wanted (left_behind_inputs (visited child) now inputs [] after has new under apart later)
-remains_wanted nodes root (v ∷ vs) child now after inputs wanted has new under apart (own, left, free, rest) =
+    subst (λ r. AreLeft nodes now (r ∷ []) after) wanted
+    (left_behind_inputs (visited child) now inputs [] after has new under apart later)
+remains_wanted nodes root (v ∷ vs) child now after inputs wanted has new under apart
+    (own, left, free, rest) =
     let parts = drop_at (inputs_of v.drv) (length v.numbers.items) child.path wanted in
     let rest_of = drop (suc (length v.numbers.items)) (inputs_of v.drv) in
-    let later = left_later child.path rest_of (subst (λ ps. AreLeft nodes (inputs ++ child.path ∷ []) ps own) parts left) (Contains-push inputs child.path) in (
+    let later = left_later child.path rest_of
+    (subst (λ ps. AreLeft nodes (inputs ++ child.path ∷ []) ps own) parts left)
+    (Contains-push inputs child.path) in (
       own,
-      subst (λ ps. AreLeft nodes now ps own) (sym parts) (left_behind_inputs (visited child) now inputs rest_of own has new under apart later),
+      subst (λ ps. AreLeft nodes now ps own) (sym parts)
+          (left_behind_inputs (visited child) now inputs rest_of own has new under apart later),
       free,
       rest,
     )
 
 -- what may use a path among its inputs
-pub uses_input : (dir : List ℕ) (gives : List ℕ → Answer → Type 0) (roots : List (List ℕ)) (nodes : List Node) (v : Visit) (path : List ℕ) (n : ℕ) → IsOpen dir gives roots nodes v → slice_get (inputs_of v.drv) n ≡ Some path → MayUse dir gives v.path path
-uses_input dir gives roots nodes v path n is wanted = record { drv = v.drv; stands = is.stands; is_input = contains_from_get (inputs_of v.drv) n path wanted }
+pub uses_input : (dir : List ℕ) (gives : List ℕ → Answer → Type 0) (roots : List (List ℕ))
+    (nodes : List Node) (v : Visit) (path : List ℕ) (n : ℕ) → IsOpen dir gives roots nodes v
+    → slice_get (inputs_of v.drv) n ≡ Some path → MayUse dir gives v.path path
+uses_input dir gives roots nodes v path n is wanted =
+    record {
+      drv = v.drv;
+      stands = is.stands;
+      is_input = contains_from_get (inputs_of v.drv) n path wanted;
+    }
 
 -- what is wanted is reached
-pub wanted_reached : (dir : List ℕ) (gives : List ℕ → Answer → Type 0) (roots : List (List ℕ)) (root : List ℕ) (nodes : List Node) (visits : List Visit) (path : List ℕ) → Contains roots root → AreOpen dir gives roots root nodes visits → IsWanted root visits path → IsReached (MayUse dir gives) roots path
-wanted_reached dir gives roots root nodes [] path has_root are wanted = record { root = root; is_root = has_root; steps = []; leads = sym wanted }
+pub wanted_reached : (dir : List ℕ) (gives : List ℕ → Answer → Type 0) (roots : List (List ℕ))
+    (root : List ℕ) (nodes : List Node) (visits : List Visit) (path : List ℕ) → Contains roots root
+    → AreOpen dir gives roots root nodes visits → IsWanted root visits path
+    → IsReached (MayUse dir gives) roots path
+wanted_reached dir gives roots root nodes [] path has_root are wanted =
+    record { root = root; is_root = has_root; steps = []; leads = sym wanted }
 wanted_reached dir gives roots root nodes (v ∷ vs) path has_root are wanted =
-    reached_more (MayUse dir gives) roots v.path path are.0.reached (uses_input dir gives roots nodes v path (length v.numbers.items) are.0 wanted)
+    reached_more (MayUse dir gives) roots v.path path are.0.reached
+    (uses_input dir gives roots nodes v path (length v.numbers.items) are.0 wanted)
 
 -- what was left stays right where nothing is left
-found_same : (dir : List ℕ) (found after : Found) → LeavesNone found after → IsFound dir found → IsFound dir after
+found_same : (dir : List ℕ) (found after : Found) → LeavesNone found after → IsFound dir found
+    → IsFound dir after
 found_same dir found after none right = record {
   kept = subst (λ l. AreKept l.items) (sym none.nodes) right.kept;
   distinct = subst (λ l. AreDistinct (paths_of (nodes_of l.items))) (sym none.nodes) right.distinct;
   lawful = subst (λ l. AreLawful dir (nodes_of l.items)) (sym none.nodes) right.lawful;
   owners = subst (λ o. AreOwners (owned o) (outputs_of after.nodes.items) []) (sym none.owners)
-      (subst (λ l. AreOwners (owned found.owners) (outputs_of l.items) []) (sym none.nodes) right.owners);
+      (subst (λ l. AreOwners (owned found.owners) (outputs_of l.items) []) (sym none.nodes)
+      right.owners);
 }
 
 -- what is wanted is opened
 pub walk_opens :
-    (dir : List ℕ) (gives : List ℕ → Answer → Type 0) (roots : List (List ℕ)) (root : List ℕ) (start : List Node) (found after : Found) (visits : List Visit) (path : List ℕ) (child : Visit) →
+    (dir : List ℕ) (gives : List ℕ → Answer → Type 0) (roots : List (List ℕ)) (root : List ℕ)
+    (start : List Node) (found after : Found) (visits : List Visit) (path : List ℕ)
+    (child : Visit) →
     Contains roots root →
     IsWalk dir gives roots root start found visits →
     IsWanted root visits path →
     LeavesNone found after →
     Opens dir gives found.marks after.marks path child →
     IsWalk dir gives roots root start after (child ∷ visits)
-walk_opens dir gives roots root start found after visits path child has_root walk wanted none opens =
+walk_opens dir gives roots root start found after visits path child has_root walk wanted none
+    opens =
     let left = paths_of (nodes_of found.nodes.items) in
-    let nodes_same : nodes_of after.nodes.items ≡ nodes_of found.nodes.items = ap (λ l. nodes_of l.items) none.nodes in
+    let nodes_same : nodes_of after.nodes.items ≡ nodes_of found.nodes.items =
+    ap (λ l. nodes_of l.items) none.nodes in
     let own : child.path ≡ path = opens.is_path in
-    let wanted_child : IsWanted root visits child.path = subst (IsWanted root visits) (sym own) wanted in
-    let reached : IsReached (MayUse dir gives) roots child.path = wanted_reached dir gives roots root (nodes_of found.nodes.items) visits child.path has_root walk.pending wanted_child in
-    let new_left : Contains left child.path → ⊥ = subst (λ p. Contains left p → ⊥) (sym own) (new_not_left (marked found.marks) left (pending_of visits) path walk.walked.marks opens.is_new) in
-    let apart : Contains (pending_of visits) child.path → ⊥ = subst (λ p. Contains (pending_of visits) p → ⊥) (sym own) (new_not_pending (marked found.marks) left (pending_of visits) path walk.walked.marks opens.is_new) in
-    let stands : MayStand dir gives child.path child.drv = subst (λ p. MayStand dir gives p child.drv) (sym own) opens.stands in
+    let wanted_child : IsWanted root visits child.path =
+    subst (IsWanted root visits) (sym own) wanted in
+    let reached : IsReached (MayUse dir gives) roots child.path =
+    wanted_reached dir gives roots root (nodes_of found.nodes.items) visits child.path has_root
+    walk.pending wanted_child in
+    let new_left : Contains left child.path → ⊥ =
+    subst (λ p. Contains left p → ⊥) (sym own)
+    (new_not_left (marked found.marks) left (pending_of visits) path walk.walked.marks
+    opens.is_new) in
+    let apart : Contains (pending_of visits) child.path
+    → ⊥ = subst (λ p. Contains (pending_of visits) p → ⊥) (sym own)
+    (new_not_pending (marked found.marks) left (pending_of visits) path walk.walked.marks
+    opens.is_new) in
+    let stands : MayStand dir gives child.path child.drv =
+    subst (λ p. MayStand dir gives p child.drv) (sym own) opens.stands in
     let marks : AreMarks (marked after.marks) left (child.path ∷ pending_of visits) =
-    subst (λ p. AreMarks (marked after.marks) left (p ∷ pending_of visits)) (sym own) (marks_opened (marked found.marks) (marked after.marks) left (pending_of visits) path walk.walked.marks opens.is_new opens.marks) in
+    subst (λ p. AreMarks (marked after.marks) left (p ∷ pending_of visits)) (sym own)
+    (marks_opened (marked found.marks) (marked after.marks) left (pending_of visits) path
+    walk.walked.marks opens.is_new opens.marks) in
     let is_open : IsOpen dir gives roots (nodes_of found.nodes.items) child =
-    record { is_visit = begun (nodes_of found.nodes.items) child opens.inputs opens.none; stands = stands; reached = reached } in
+    record {
+      is_visit = begun (nodes_of found.nodes.items) child opens.inputs opens.none;
+      stands = stands;
+      reached = reached;
+    } in
     record {
       walked = record {
         right = found_same dir found after none walk.walked.right;
-        given = subst (All (λ (n : Node). MayStand dir gives n.path n.drv)) (sym nodes_same) walk.walked.given;
-        reached = subst (λ ns. All (IsReached (MayUse dir gives) roots) (paths_of ns)) (sym nodes_same) walk.walked.reached;
-        marks = subst (λ ns. AreMarks (marked after.marks) (paths_of ns) (child.path ∷ pending_of visits)) (sym nodes_same) marks;
+        given = subst (All (λ (n : Node). MayStand dir gives n.path n.drv)) (sym nodes_same)
+            walk.walked.given;
+        reached = subst (λ ns. All (IsReached (MayUse dir gives) roots) (paths_of ns))
+            (sym nodes_same) walk.walked.reached;
+        marks = subst (λ ns. AreMarks (marked after.marks) (paths_of ns)
+            (child.path ∷ pending_of visits)) (sym nodes_same) marks;
         count = omega (arith, opens.count, walk.walked.count, ap (λ l. length l.items) none.nodes);
         few = omega (arith, opens.count, opens.room);
       };
-      pending = subst (λ ns. AreOpen dir gives roots root ns (child ∷ visits)) (sym nodes_same) (is_open, apart, wanted_child, walk.pending);
+      pending = subst (λ ns. AreOpen dir gives roots root ns (child ∷ visits)) (sym nodes_same)
+          (is_open, apart, wanted_child, walk.pending);
       more = walk.more;
       grown = nodes_same ∙ walk.grown;
       order = λ nodes last has open_has rest.
-          walk.order nodes last (subst (All (Contains nodes)) nodes_same has) (All-tail (Contains nodes) (visited child) (visits_of visits) open_has)
-          (goes_on nodes last (All-head (Contains nodes) (visited child) (visits_of visits) open_has) (subst (λ ns. Remains nodes root (paths_of ns) (child ∷ visits) last) nodes_same rest) new_left wanted_child);
+          walk.order nodes last (subst (All (Contains nodes)) nodes_same has)
+          (All-tail (Contains nodes) (visited child) (visits_of visits) open_has)
+          (goes_on nodes last
+          (All-head (Contains nodes) (visited child) (visits_of visits) open_has)
+          (subst (λ ns. Remains nodes root (paths_of ns) (child ∷ visits) last) nodes_same rest)
+          new_left wanted_child);
     }
   where
-    begun : (ns : List Node) (v : Visit) → v.inputs.items ≡ inputs_of v.drv → v.numbers.items ≡ [] → IsVisit ns v
+    begun : (ns : List Node) (v : Visit) → v.inputs.items ≡ inputs_of v.drv → v.numbers.items ≡ []
+        → IsVisit ns v
     begun ns v inputs none_yet = record {
       inputs = inputs;
-      numbers = subst (λ l. AreNumbers ns l (take (length l) (inputs_of v.drv))) (sym none_yet) refl;
+      numbers = subst (λ l. AreNumbers ns l (take (length l) (inputs_of v.drv))) (sym none_yet)
+          refl;
     }
 
-    goes_on : (nodes : List Node) (last : List (List ℕ)) → Contains nodes (visited child) → Remains nodes root (paths_of (nodes_of found.nodes.items)) (child ∷ visits) last → (Contains (paths_of (nodes_of found.nodes.items)) child.path → ⊥) → IsWanted root visits child.path → Remains nodes root (paths_of (nodes_of found.nodes.items)) visits last
+    goes_on : (nodes : List Node) (last : List (List ℕ)) → Contains nodes (visited child)
+        → Remains nodes root (paths_of (nodes_of found.nodes.items)) (child ∷ visits) last
+        → (Contains (paths_of (nodes_of found.nodes.items)) child.path → ⊥)
+        → IsWanted root visits child.path → Remains nodes root
+        (paths_of (nodes_of found.nodes.items)) visits last
     goes_on nodes last has (inputs, left, free, rest) new wanted_child =
-        let whole : AreLeft nodes (paths_of (nodes_of found.nodes.items)) (inputs_of child.drv) inputs =
-        subst (λ l. AreLeft nodes (paths_of (nodes_of found.nodes.items)) (drop (length l) (inputs_of child.drv)) inputs) opens.none left in
-        remains_wanted nodes root visits child (paths_of (nodes_of found.nodes.items)) last inputs wanted_child has new whole free rest
+        let whole : AreLeft nodes (paths_of (nodes_of found.nodes.items)) (inputs_of child.drv)
+        inputs =
+        subst (λ l. AreLeft nodes (paths_of (nodes_of found.nodes.items))
+        (drop (length l) (inputs_of child.drv)) inputs) opens.none left in
+        remains_wanted nodes root visits child (paths_of (nodes_of found.nodes.items)) last inputs
+        wanted_child has new whole free rest
 
 -- the innermost open derivation gets the number of its next input
 pub walk_advances :
-    (dir : List ℕ) (gives : List ℕ → Answer → Type 0) (roots : List (List ℕ)) (root : List ℕ) (start : List Node) (found after : Found) (visit next : Visit) (visits : List Visit) →
+    (dir : List ℕ) (gives : List ℕ → Answer → Type 0) (roots : List (List ℕ)) (root : List ℕ)
+    (start : List Node) (found after : Found) (visit next : Visit) (visits : List Visit) →
     IsWalk dir gives roots root start found (visit ∷ visits) →
     LeavesNone found after →
     Advances found.marks after.marks visit next →
     IsWalk dir gives roots root start after (next ∷ visits)
 walk_advances dir gives roots root start found after visit next visits walk none step =
     let ns = nodes_of found.nodes.items in
-    let nodes_same : nodes_of after.nodes.items ≡ nodes_of found.nodes.items = ap (λ l. nodes_of l.items) none.nodes in
+    let nodes_same : nodes_of after.nodes.items ≡ nodes_of found.nodes.items =
+    ap (λ l. nodes_of l.items) none.nodes in
     let is = walk.pending.0 in
-    let at : slice_get (paths_of (nodes_of found.nodes.items)) step.number ≡ Some step.input = (walk.walked.marks.numbered step.input step.number).0 step.is_number in
-    let wanted : slice_get (inputs_of visit.drv) (length visit.numbers.items) ≡ Some step.input = subst (λ l. slice_get l (length visit.numbers.items) ≡ Some step.input) is.is_visit.inputs step.is_input in
-    let long : length next.numbers.items ≡ suc (length visit.numbers.items) = ap length step.numbers ∙ length_push visit.numbers.items step.number ∙ omega arith in
-    let numbers : AreNumbers (nodes_of found.nodes.items) next.numbers.items (take (length next.numbers.items) (inputs_of next.drv)) =
-    subst (λ d. AreNumbers (nodes_of found.nodes.items) next.numbers.items (take (length next.numbers.items) (inputs_of d))) (sym step.drv)
-    (subst (λ n. AreNumbers (nodes_of found.nodes.items) next.numbers.items (take n (inputs_of visit.drv))) (sym long)
-    (subst (λ l. AreNumbers (nodes_of found.nodes.items) l (take (suc (length visit.numbers.items)) (inputs_of visit.drv))) (sym step.numbers)
-    (subst (AreNumbers (nodes_of found.nodes.items) (visit.numbers.items ++ step.number ∷ [])) (sym (take_at (inputs_of visit.drv) (length visit.numbers.items) step.input wanted))
-    (numbers_push (nodes_of found.nodes.items) visit.numbers.items (take (length visit.numbers.items) (inputs_of visit.drv)) step.number step.input is.is_visit.numbers at)))) in
+    let at : slice_get (paths_of (nodes_of found.nodes.items)) step.number
+    ≡ Some step.input = (walk.walked.marks.numbered step.input step.number).0 step.is_number in
+    let wanted : slice_get (inputs_of visit.drv) (length visit.numbers.items)
+    ≡ Some step.input = subst (λ l. slice_get l (length visit.numbers.items) ≡ Some step.input)
+    is.is_visit.inputs step.is_input in
+    let long : length next.numbers.items ≡ suc (length visit.numbers.items) = ap length step.numbers
+    ∙ length_push visit.numbers.items step.number ∙ omega arith in
+    let numbers : AreNumbers (nodes_of found.nodes.items) next.numbers.items
+    (take (length next.numbers.items) (inputs_of next.drv)) =
+    subst (λ d. AreNumbers (nodes_of found.nodes.items) next.numbers.items
+    (take (length next.numbers.items) (inputs_of d))) (sym step.drv)
+    (subst (λ n. AreNumbers (nodes_of found.nodes.items) next.numbers.items
+    (take n (inputs_of visit.drv))) (sym long)
+    (subst (λ l. AreNumbers (nodes_of found.nodes.items) l
+    (take (suc (length visit.numbers.items)) (inputs_of visit.drv))) (sym step.numbers)
+    (subst (AreNumbers (nodes_of found.nodes.items) (visit.numbers.items ++ step.number ∷ []))
+    (sym (take_at (inputs_of visit.drv) (length visit.numbers.items) step.input wanted))
+    (numbers_push (nodes_of found.nodes.items) visit.numbers.items
+    (take (length visit.numbers.items) (inputs_of visit.drv)) step.number step.input
+    is.is_visit.numbers at)))) in
     let same : visited next ≡ visited visit = cc (step.path, step.drv) in
-    let pending_same : pending_of (next ∷ visits) ≡ pending_of (visit ∷ visits) = ap (λ p. p ∷ pending_of visits) step.path in
+    let pending_same : pending_of (next ∷ visits) ≡ pending_of (visit ∷ visits) =
+    ap (λ p. p ∷ pending_of visits) step.path in
     let is_open : IsOpen dir gives roots (nodes_of found.nodes.items) next = record {
-      is_visit = record { inputs = ap (λ v. v.items) step.inputs ∙ is.is_visit.inputs ∙ ap (λ d. inputs_of d) (sym step.drv); numbers = numbers };
-      stands = subst (λ p. MayStand dir gives p next.drv) (sym step.path) (subst (MayStand dir gives visit.path) (sym step.drv) is.stands);
+      is_visit = record {
+        inputs = ap (λ v. v.items) step.inputs ∙ is.is_visit.inputs
+            ∙ ap (λ d. inputs_of d) (sym step.drv);
+        numbers = numbers;
+      };
+      stands = subst (λ p. MayStand dir gives p next.drv) (sym step.path)
+          (subst (MayStand dir gives visit.path) (sym step.drv) is.stands);
       reached = subst (IsReached (MayUse dir gives) roots) (sym step.path) is.reached;
     } in
     record {
       walked = record {
         right = found_same dir found after none walk.walked.right;
-        given = subst (All (λ (n : Node). MayStand dir gives n.path n.drv)) (sym nodes_same) walk.walked.given;
-        reached = subst (λ l. All (IsReached (MayUse dir gives) roots) (paths_of l)) (sym nodes_same) walk.walked.reached;
-        marks = subst (λ m. AreMarks (marked m) (paths_of (nodes_of after.nodes.items)) (pending_of (next ∷ visits))) (sym step.marks)
-            (subst (λ l. AreMarks (marked found.marks) (paths_of l) (pending_of (next ∷ visits))) (sym nodes_same)
-            (subst (AreMarks (marked found.marks) (paths_of (nodes_of found.nodes.items))) (sym pending_same) walk.walked.marks));
-        count = omega (arith, ap (λ m. length (keys m)) step.marks, walk.walked.count, ap (λ l. length l.items) none.nodes);
+        given = subst (All (λ (n : Node). MayStand dir gives n.path n.drv)) (sym nodes_same)
+            walk.walked.given;
+        reached = subst (λ l. All (IsReached (MayUse dir gives) roots) (paths_of l))
+            (sym nodes_same) walk.walked.reached;
+        marks = subst (λ m. AreMarks (marked m) (paths_of (nodes_of after.nodes.items))
+            (pending_of (next ∷ visits))) (sym step.marks)
+            (subst (λ l. AreMarks (marked found.marks) (paths_of l) (pending_of (next ∷ visits)))
+            (sym nodes_same)
+            (subst (AreMarks (marked found.marks) (paths_of (nodes_of found.nodes.items)))
+            (sym pending_same) walk.walked.marks));
+        count = omega (
+          arith,
+          ap (λ m. length (keys m)) step.marks,
+          walk.walked.count,
+          ap (λ l. length l.items) none.nodes,
+        );
         few = omega (arith, ap (λ m. length (keys m)) step.marks, walk.walked.few);
       };
-      pending = subst (λ l. AreOpen dir gives roots root l (next ∷ visits)) (sym nodes_same) (is_open, subst (λ p. Contains (pending_of visits) p → ⊥) (sym step.path) walk.pending.1, subst (IsWanted root visits) (sym step.path) walk.pending.2, walk.pending.3);
+      pending = subst (λ l. AreOpen dir gives roots root l (next ∷ visits)) (sym nodes_same) (
+        is_open,
+        subst (λ p. Contains (pending_of visits) p → ⊥) (sym step.path) walk.pending.1,
+        subst (IsWanted root visits) (sym step.path) walk.pending.2,
+        walk.pending.3,
+      );
       more = walk.more;
       grown = nodes_same ∙ walk.grown;
       order = λ nodes last has open_has rest.
-          walk.order nodes last (subst (All (Contains nodes)) nodes_same has) (subst (λ v. All (Contains nodes) (v ∷ visits_of visits)) same open_has)
-          (goes_on nodes last wanted long (contains_from_get (paths_of (nodes_of found.nodes.items)) step.number step.input at) (subst (λ l. Remains nodes root (paths_of l) (next ∷ visits) last) nodes_same rest));
+          walk.order nodes last (subst (All (Contains nodes)) nodes_same has)
+          (subst (λ v. All (Contains nodes) (v ∷ visits_of visits)) same open_has)
+          (goes_on nodes last wanted long
+          (contains_from_get (paths_of (nodes_of found.nodes.items)) step.number step.input at)
+          (subst (λ l. Remains nodes root (paths_of l) (next ∷ visits) last) nodes_same rest));
     }
   where
-    goes_on : (nodes : List Node) (last : List (List ℕ)) → slice_get (inputs_of visit.drv) (length visit.numbers.items) ≡ Some step.input → length next.numbers.items ≡ suc (length visit.numbers.items) → Contains (paths_of (nodes_of found.nodes.items)) step.input → Remains nodes root (paths_of (nodes_of found.nodes.items)) (next ∷ visits) last → Remains nodes root (paths_of (nodes_of found.nodes.items)) (visit ∷ visits) last
+    goes_on : (nodes : List Node) (last : List (List ℕ))
+        → slice_get (inputs_of visit.drv) (length visit.numbers.items) ≡ Some step.input
+        → length next.numbers.items ≡ suc (length visit.numbers.items)
+        → Contains (paths_of (nodes_of found.nodes.items)) step.input
+        → Remains nodes root (paths_of (nodes_of found.nodes.items)) (next ∷ visits) last
+        → Remains nodes root (paths_of (nodes_of found.nodes.items)) (visit ∷ visits) last
     goes_on nodes last wanted long there (inputs, left, free, rest) =
         let now = paths_of (nodes_of found.nodes.items) in
         let rest_of = drop (suc (length visit.numbers.items)) (inputs_of visit.drv) in
-        let left_rest : AreLeft nodes (paths_of (nodes_of found.nodes.items)) (drop (suc (length visit.numbers.items)) (inputs_of visit.drv)) inputs =
-        subst (λ d. AreLeft nodes (paths_of (nodes_of found.nodes.items)) (drop (suc (length visit.numbers.items)) (inputs_of d)) inputs) step.drv
-        (subst (λ n. AreLeft nodes (paths_of (nodes_of found.nodes.items)) (drop n (inputs_of next.drv)) inputs) long left) in (
+        let left_rest : AreLeft nodes (paths_of (nodes_of found.nodes.items))
+        (drop (suc (length visit.numbers.items)) (inputs_of visit.drv)) inputs =
+        subst (λ d. AreLeft nodes (paths_of (nodes_of found.nodes.items))
+        (drop (suc (length visit.numbers.items)) (inputs_of d)) inputs) step.drv
+        (subst (λ n. AreLeft nodes (paths_of (nodes_of found.nodes.items))
+        (drop n (inputs_of next.drv)) inputs) long left) in (
           inputs,
-          subst (λ ps. AreLeft nodes (paths_of (nodes_of found.nodes.items)) ps inputs) (sym (drop_at (inputs_of visit.drv) (length visit.numbers.items) step.input wanted))
-              (passed_over step.input (paths_of (nodes_of found.nodes.items)) (drop (suc (length visit.numbers.items)) (inputs_of visit.drv)) inputs there left_rest),
+          subst (λ ps. AreLeft nodes (paths_of (nodes_of found.nodes.items)) ps inputs)
+              (sym (drop_at (inputs_of visit.drv) (length visit.numbers.items) step.input wanted))
+              (passed_over step.input (paths_of (nodes_of found.nodes.items))
+              (drop (suc (length visit.numbers.items)) (inputs_of visit.drv)) inputs there
+              left_rest),
           subst (λ p. Contains inputs p → ⊥) step.path free,
           subst (λ p. Remains nodes root (inputs ++ p ∷ []) visits last) step.path rest,
         )

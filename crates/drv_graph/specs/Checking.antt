@@ -45,7 +45,8 @@ IsFixedKind o (Err (EnvMismatch output)) = ⊥
 -- what is wrong with the kind of a derivation's outputs
 abbrev pub IsKindFault : Drv → OutputFault → Type 0
 IsKindFault drv MixedOutputs = AreMixed drv
-IsKindFault drv (UnknownMethod output) = (AreMixed drv → ⊥) × ((o : Output) × Contains drv.outputs o × IsUnknown o × (output.items ≡ o.name))
+IsKindFault drv (UnknownMethod output) = (AreMixed drv → ⊥)
+    × ((o : Output) × Contains drv.outputs o × IsUnknown o × (output.items ≡ o.name))
 IsKindFault drv NoMemory = ⊤
 IsKindFault drv BadName = ⊥
 IsKindFault drv (UnknownOutput input output) = ⊥
@@ -65,7 +66,8 @@ IsNameFault name outputs (EnvMismatch output) = ⊥
 -- what is wrong with some uses of outputs
 abbrev pub IsUseFault : List Use → OutputFault → Type 0
 IsUseFault used (UnknownOutput input output) =
-    (u : Use) × IsFirst (λ other. IsKnownUse other → ⊥) used u × (input ≡ u.input) × (output.items ≡ u.output)
+    (u : Use) × IsFirst (λ other. IsKnownUse other → ⊥) used u × (input ≡ u.input)
+    × (output.items ≡ u.output)
 IsUseFault used NoMemory = ⊤
 IsUseFault used MixedOutputs = ⊥
 IsUseFault used (UnknownMethod output) = ⊥
@@ -74,13 +76,16 @@ IsUseFault used (OutputMismatch output expected) = ⊥
 IsUseFault used (EnvMismatch output) = ⊥
 
 -- what a derivation's kind, its outputs' names and its uses are, or what is wrong with them first
-abbrev pub IsSoundCheck : (name : List ℕ) → Drv → (used : List Drv) → Result Kind OutputFault → Type 0
+abbrev pub IsSoundCheck : (name : List ℕ) → Drv → (used : List Drv) → Result Kind OutputFault
+    → Type 0
 IsSoundCheck name drv used (Ok kind) = AreSound name drv used kind
 IsSoundCheck name drv used (Err MixedOutputs) = AreMixed drv
 IsSoundCheck name drv used (Err (UnknownMethod output)) = IsKindFault drv (UnknownMethod output)
-IsSoundCheck name drv used (Err BadName) = (kind : Kind) × HasKind drv kind × IsNameFault name drv.outputs BadName
+IsSoundCheck name drv used (Err BadName) = (kind : Kind) × HasKind drv kind
+    × IsNameFault name drv.outputs BadName
 IsSoundCheck name drv used (Err (UnknownOutput input output)) =
-    (kind : Kind) × HasKind drv kind × All (IsWellNamed name) drv.outputs × IsUseFault (uses drv.inputs used) (UnknownOutput input output)
+    (kind : Kind) × HasKind drv kind × All (IsWellNamed name) drv.outputs
+    × IsUseFault (uses drv.inputs used) (UnknownOutput input output)
 IsSoundCheck name drv used (Err NoMemory) = ⊤
 IsSoundCheck name drv used (Err (OutputMismatch output expected)) = ⊥
 IsSoundCheck name drv used (Err (EnvMismatch output)) = ⊥
@@ -91,12 +96,16 @@ FitsIn false value path = IsThePath value path
 FitsIn true value path = IsThePathOrEmpty value path
 
 -- some outputs fit the paths beside them, up to a place
-abbrev pub FitBefore : (Fits : Output → List ℕ → Type 0) → List Output → (paths : List (List ℕ)) → (place : ℕ) → Type 0
+abbrev pub FitBefore : (Fits : Output → List ℕ → Type 0) → List Output → (paths : List (List ℕ))
+    → (place : ℕ) → Type 0
 FitBefore Fits outputs paths place =
-    (k : ℕ) (o : Output) (path : List ℕ) → k < place → slice_get outputs k ≡ Some o → slice_get paths k ≡ Some path → Fits o path
+    (k : ℕ) (o : Output) (path : List ℕ) → k < place → slice_get outputs k ≡ Some o
+    → slice_get paths k ≡ Some path → Fits o path
 
--- An output and the path beside it are the first of which something is wrong, where those before them fit.
-pub record IsFirstPair (Fits Wrong : Output → List ℕ → Type 0) (outputs : List Output) (paths : List (List ℕ)) (o : Output) (path : List ℕ) : Type 0 where
+-- An output and the path beside it are the first of which something is wrong, where those before
+-- them fit.
+pub record IsFirstPair (Fits Wrong : Output → List ℕ → Type 0) (outputs : List Output)
+    (paths : List (List ℕ)) (o : Output) (path : List ℕ) : Type 0 where
   pub place : ℕ
   pub is_output : slice_get outputs place ≡ Some o
   pub is_path : slice_get paths place ≡ Some path
@@ -109,16 +118,19 @@ PathFits in_draft output path = FitsIn in_draft output.path path
 
 -- an entry of the environment under a name doesn't fit a path
 abbrev pub HasMisfit : (in_draft : Bool) → List EnvEntry → (name path : List ℕ) → Type 0
-HasMisfit in_draft env name path = (entry : EnvEntry) × Contains env entry × (entry.key ≡ name) × (FitsIn in_draft entry.value path → ⊥)
+HasMisfit in_draft env name path = (entry : EnvEntry) × Contains env entry × (entry.key ≡ name)
+    × (FitsIn in_draft entry.value path → ⊥)
 
 -- there is none under an output's name
 abbrev pub EntriesFit : (in_draft : Bool) → List EnvEntry → Output → (path : List ℕ) → Type 0
 EntriesFit in_draft env output path = HasMisfit in_draft env output.name path → ⊥
 
 -- what is wrong with the paths of some outputs
-abbrev pub IsPathFault : (in_draft : Bool) → List Output → (paths : List (List ℕ)) → OutputFault → Type 0
+abbrev pub IsPathFault : (in_draft : Bool) → List Output → (paths : List (List ℕ)) → OutputFault
+    → Type 0
 IsPathFault in_draft outputs paths (OutputMismatch output expected) =
-    (o : Output) × IsFirstPair (PathFits in_draft) (λ p path. PathFits in_draft p path → ⊥) outputs paths o expected × (output.items ≡ o.name)
+    (o : Output) × IsFirstPair (PathFits in_draft) (λ p path. PathFits in_draft p path → ⊥) outputs
+    paths o expected × (output.items ≡ o.name)
 IsPathFault in_draft outputs paths NoMemory = ⊤
 IsPathFault in_draft outputs paths MixedOutputs = ⊥
 IsPathFault in_draft outputs paths (UnknownMethod output) = ⊥
@@ -127,9 +139,12 @@ IsPathFault in_draft outputs paths (UnknownOutput input output) = ⊥
 IsPathFault in_draft outputs paths (EnvMismatch output) = ⊥
 
 -- what is wrong with the entries of the environment under the names of some outputs
-abbrev pub IsEnvFault : (in_draft : Bool) → List EnvEntry → List Output → (paths : List (List ℕ)) → OutputFault → Type 0
+abbrev pub IsEnvFault : (in_draft : Bool) → List EnvEntry → List Output → (paths : List (List ℕ))
+    → OutputFault → Type 0
 IsEnvFault in_draft env outputs paths (EnvMismatch output) =
-    (o : Output) × (path : List ℕ) × IsFirstPair (EntriesFit in_draft env) (λ p beside. HasMisfit in_draft env p.name beside) outputs paths o path × (output.items ≡ o.name)
+    (o : Output) × (path : List ℕ) × IsFirstPair (EntriesFit in_draft env)
+    (λ p beside. HasMisfit in_draft env p.name beside) outputs paths o path
+    × (output.items ≡ o.name)
 IsEnvFault in_draft env outputs paths NoMemory = ⊤
 IsEnvFault in_draft env outputs paths MixedOutputs = ⊥
 IsEnvFault in_draft env outputs paths (UnknownMethod output) = ⊥
@@ -139,9 +154,11 @@ IsEnvFault in_draft env outputs paths (OutputMismatch output expected) = ⊥
 
 -- what is wrong first with the values in a derivation's text that must be paths
 abbrev pub IsValueFault : (in_draft : Bool) → Drv → (paths : List (List ℕ)) → OutputFault → Type 0
-IsValueFault in_draft drv paths (OutputMismatch output expected) = IsPathFault in_draft drv.outputs paths (OutputMismatch output expected)
+IsValueFault in_draft drv paths (OutputMismatch output expected) =
+    IsPathFault in_draft drv.outputs paths (OutputMismatch output expected)
 IsValueFault in_draft drv paths (EnvMismatch output) =
-    FitBefore (PathFits in_draft) drv.outputs paths (length drv.outputs) × IsEnvFault in_draft drv.env drv.outputs paths (EnvMismatch output)
+    FitBefore (PathFits in_draft) drv.outputs paths (length drv.outputs)
+    × IsEnvFault in_draft drv.env drv.outputs paths (EnvMismatch output)
 IsValueFault in_draft drv paths NoMemory = ⊤
 IsValueFault in_draft drv paths MixedOutputs = ⊥
 IsValueFault in_draft drv paths (UnknownMethod output) = ⊥
@@ -179,11 +196,16 @@ IsEnvMismatch name (UnknownOutput input output) = ⊥
 IsEnvMismatch name (OutputMismatch output expected) = ⊥
 
 -- the paths are those that are expected of a derivation's outputs
-abbrev pub AreExpected : (dir name : List ℕ) → Kind → Drv → (hashes : List (List ℕ)) → (paths : List (List ℕ)) → Type 0
-AreExpected dir name kind drv hashes paths = AllZip (IsExpected dir name kind drv hashes) drv.outputs paths
+abbrev pub AreExpected : (dir name : List ℕ) → Kind → Drv → (hashes : List (List ℕ))
+    → (paths : List (List ℕ)) → Type 0
+AreExpected dir name kind drv hashes paths = AllZip (IsExpected dir name kind drv hashes)
+    drv.outputs paths
 
 -- the kind and the expected paths of a derivation's outputs, or what the check of them answers
-abbrev pub IsExpecting : (in_draft : Bool) → (dir name : List ℕ) → Drv → (used : List Drv) → (hashes : List (List ℕ)) → Result (Kind × Vec (List ℕ) Global) OutputFault → Type 0
+abbrev pub IsExpecting : (in_draft : Bool) → (dir name : List ℕ) → Drv → (used : List Drv)
+    → (hashes : List (List ℕ)) → Result (Kind × Vec (List ℕ) Global) OutputFault → Type 0
 IsExpecting in_draft dir name drv used hashes (Ok found) =
-    IsOutputsCheck (FitsIn in_draft) dir name drv used hashes (Ok found.0) × AreExpected dir name found.0 drv hashes found.1.items
-IsExpecting in_draft dir name drv used hashes (Err fault) = IsOutputsCheck (FitsIn in_draft) dir name drv used hashes (Err fault)
+    IsOutputsCheck (FitsIn in_draft) dir name drv used hashes (Ok found.0)
+    × AreExpected dir name found.0 drv hashes found.1.items
+IsExpecting in_draft dir name drv used hashes (Err fault) =
+    IsOutputsCheck (FitsIn in_draft) dir name drv used hashes (Err fault)

@@ -22,11 +22,13 @@ nodes_equal a b = same_node (node_of a) (node_of b)
 
 -- each is an equivalence
 pub same_node_laws : IsEquivalence same_node
-same_node_laws = and_equiv (on_equiv (λ (n : Node). n.path) nat_list_eq_equiv) (on_equiv (λ (n : Node). n.drv) same_drv_laws)
+same_node_laws = and_equiv (on_equiv (λ (n : Node). n.path) nat_list_eq_equiv)
+    (on_equiv (λ (n : Node). n.drv) same_drv_laws)
 
 pub same_graph_laws : IsEquivalence same_graph
 same_graph_laws =
-    and_equiv (on_equiv (λ (g : Graph). g.roots) nat_list_eq_equiv) (on_equiv (λ (g : Graph). g.nodes) (lists_equiv same_node_laws))
+    and_equiv (on_equiv (λ (g : Graph). g.roots) nat_list_eq_equiv)
+    (on_equiv (λ (g : Graph). g.nodes) (lists_equiv same_node_laws))
 
 pub nodes_equal_laws : IsEquivalence nodes_equal
 nodes_equal_laws = on_equiv node_of same_node_laws

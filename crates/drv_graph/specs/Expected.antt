@@ -1,5 +1,5 @@
--- *Expected path*: the paths that a derivation's outputs must have (Nix manual, "Complete Store Path Calculation" and "Store Derivation";
--- Dolstra's thesis, sections 5.1 and 5.4).
+-- *Expected path*: the paths that a derivation's outputs must have (Nix manual, "Complete Store
+-- Path Calculation" and "Store Derivation"; Dolstra's thesis, sections 5.1 and 5.4).
 use Rattle.std.specs.Prelude.{◌≡◌, ◌-◌, true, ℕ, List, ◌++◌, length, take, codes, if◌then◌else◌}
 use Rattle.hex.specs.Hex.{encode_lower}
 use Rattle.sha2.specs.Sha256.{sha256}
@@ -15,18 +15,25 @@ use Rattle.drv_graph.specs.Modulo.{IsModuloText}
 abbrev pub drv_name_of : List ℕ → List ℕ
 drv_name_of path = take (length (name_of path) - 4) (name_of path)
 
--- the name of an output's path: that of its derivation, and for another output than `out` a dash and the output's name behind it
+-- the name of an output's path: that of its derivation, and for another output than `out` a dash
+-- and the output's name behind it
 abbrev pub path_name : (name output : List ℕ) → List ℕ
-path_name name output = if same_bytes output (codes "out") then name else name ++ codes "-" ++ output
+path_name name output = if same_bytes output (codes "out") then name else name ++ codes "-"
+    ++ output
 
 -- what a flat fixed path is made of
 abbrev pub flat_text : (digest : List ℕ) → List ℕ
 flat_text digest = codes "fixed:out:sha256:" ++ encode_lower digest ++ codes ":"
 
--- the path of an output of the derivation with this name and kind, in a folder, by the hashes of the inputs
-abbrev pub IsExpected : (dir name : List ℕ) → Kind → Drv → (hashes : List (List ℕ)) → Output → (path : List ℕ) → Type 0
+-- the path of an output of the derivation with this name and kind, in a folder, by the hashes of
+-- the inputs
+abbrev pub IsExpected : (dir name : List ℕ) → Kind → Drv → (hashes : List (List ℕ)) → Output
+    → (path : List ℕ) → Type 0
 IsExpected dir name Addressed drv hashes output path =
     (bytes : List ℕ) × IsModuloText drv hashes true bytes
-    × (path ≡ store_path (codes "output:" ++ output.name) (sha256 bytes) dir (path_name name output.name))
-IsExpected dir name (Fixed Flat digest) drv hashes output path = path ≡ store_path (codes "output:out") (sha256 (flat_text digest)) dir name
-IsExpected dir name (Fixed Recursive digest) drv hashes output path = path ≡ store_path (codes "source") digest dir name
+    × (path ≡ store_path (codes "output:" ++ output.name) (sha256 bytes) dir
+    (path_name name output.name))
+IsExpected dir name (Fixed Flat digest) drv hashes output path = path
+    ≡ store_path (codes "output:out") (sha256 (flat_text digest)) dir name
+IsExpected dir name (Fixed Recursive digest) drv hashes output path = path
+    ≡ store_path (codes "source") digest dir name

@@ -16,9 +16,11 @@ pub record IsMaskedDigest (drv : Drv) (hashes : List (List ℕ)) (digest : List 
 
 -- the path of an input-addressed output with this inner digest
 abbrev pub output_path : (dir name inner : List ℕ) → Output → List ℕ
-output_path dir name inner output = store_path (codes "output:" ++ output.name) inner dir (path_name name output.name)
+output_path dir name inner output = store_path (codes "output:" ++ output.name) inner dir
+    (path_name name output.name)
 
 -- the path of a fixed output
 abbrev pub IsFixedPath : (dir name : List ℕ) → Method → (digest path : List ℕ) → Type 0
-IsFixedPath dir name Flat digest path = path ≡ store_path (codes "output:out") (sha256 (flat_text digest)) dir name
+IsFixedPath dir name Flat digest path = path ≡ store_path (codes "output:out")
+    (sha256 (flat_text digest)) dir name
 IsFixedPath dir name Recursive digest path = path ≡ store_path (codes "source") digest dir name

@@ -1,5 +1,6 @@
--- What `fill_outputs` answers: a draft in which each empty place of an output's path has the path that is expected (Nix manual,
--- "Store Derivation"; that values which are right already stay is this product's own).
+-- What `fill_outputs` answers: a draft in which each empty place of an output's path has the path
+-- that is expected (Nix manual, "Store Derivation"; that values which are right already stay is
+-- this product's own).
 use Rattle.std.specs.Prelude.{◌≡◌, ◌≢◌, ◌<◌, ◌≤◌, ◌++◌, ⊤, ℕ, List, length, codes, Contains, IsTrue, Result, Ok, Err}
 use Rattle.std.specs.List.{AllZip}
 use Rattle.nix_names.specs.Names.{is_name}
@@ -23,17 +24,20 @@ use Rattle.drv_graph.specs.declared.fault.NodeFault.TheVariants.{Unreadable, Too
 use Rattle.drv_graph.specs.declared.fault.OutputFault.TheVariants.{NoMemory as NoRoom}
 
 -- An output with its expected path; only an empty path is changed.
-pub record IsFilledOutput (Expected : Output → List ℕ → Type 0) (draft filled : Output) : Type 0 where
+pub record IsFilledOutput (Expected : Output → List ℕ → Type 0) (draft filled : Output)
+    : Type 0 where
   pub name : filled.name ≡ draft.name
   pub algo : filled.algo ≡ draft.algo
   pub hash : filled.hash ≡ draft.hash
   pub expected : Expected draft filled.path
   pub kept : IsThePathOrEmpty draft.path filled.path
 
--- An entry of the environment: under an output's name with that output's path, where only an empty value is changed; else as it was.
+-- An entry of the environment: under an output's name with that output's path, where only an empty
+-- value is changed; else as it was.
 pub record IsFilledEntry (outputs : List Output) (draft filled : EnvEntry) : Type 0 where
   pub key : filled.key ≡ draft.key
-  pub named : (output : Output) → Contains outputs output → output.name ≡ draft.key → (filled.value ≡ output.path) × IsThePathOrEmpty draft.value output.path
+  pub named : (output : Output) → Contains outputs output → output.name ≡ draft.key
+      → (filled.value ≡ output.path) × IsThePathOrEmpty draft.value output.path
   pub other : (Contains (names_of outputs) draft.key → ⊥) → filled.value ≡ draft.value
 
 -- A draft with its outputs' expected paths in its empty places, and nothing else changed.
@@ -55,7 +59,8 @@ abbrev pub AreNames : List ℕ → Type 0
 AreNames name = IsTrue (is_name name) × IsTrue (is_name (file_name name))
 
 -- What the check of a draft's outputs may answer, behind a plan of its inputs.
-pub record MayFill (dir : List ℕ) (gives : List ℕ → Answer → Type 0) (name : List ℕ) (draft : Drv) : Type 0 where
+pub record MayFill (dir : List ℕ) (gives : List ℕ → Answer → Type 0) (name : List ℕ) (draft : Drv)
+    : Type 0 where
   pub graph : Graph
   pub is_plan : IsPlan dir gives (inputs_of draft) graph
   pub used : List Drv
@@ -64,7 +69,8 @@ pub record MayFill (dir : List ℕ) (gives : List ℕ → Answer → Type 0) (na
   pub are_hashes : AreHashes graph.nodes (inputs_of draft) hashes
 
 -- The filled derivation of a draft, and its text.
-pub record IsFilledText (dir : List ℕ) (gives : List ℕ → Answer → Type 0) (name : List ℕ) (draft filled : Drv) (bytes : List ℕ) : Type 0 where
+pub record IsFilledText (dir : List ℕ) (gives : List ℕ → Answer → Type 0) (name : List ℕ)
+    (draft filled : Drv) (bytes : List ℕ) : Type 0 where
   pub behind : MayFill dir gives name draft
   pub kind : Kind
   pub right : IsOutputsCheck IsThePathOrEmpty dir name draft behind.used behind.hashes (Ok kind)
@@ -76,9 +82,12 @@ abbrev pub AreInStore : (dir : List ℕ) → Drv → Type 0
 AreInStore dir draft = (text : List ℕ) → IsFirstStray dir (paths_of draft) text → ⊥
 
 -- the fault is true of the draft, or of its filled text
-abbrev pub IsTrueOfDraft : (dir : List ℕ) → (gives : List ℕ → Answer → Type 0) → (name : List ℕ) → Drv → NodeFault → Type 0
-IsTrueOfDraft dir gives name draft (Text (BadReference text)) = IsFirstStray dir (paths_of draft) text.items
-IsTrueOfDraft dir gives name draft (Text TooLong) = (filled : Drv) × (bytes : List ℕ) × IsFilledText dir gives name draft filled bytes × (max_len < length bytes)
+abbrev pub IsTrueOfDraft : (dir : List ℕ) → (gives : List ℕ → Answer → Type 0) → (name : List ℕ)
+    → Drv → NodeFault → Type 0
+IsTrueOfDraft dir gives name draft (Text (BadReference text)) =
+    IsFirstStray dir (paths_of draft) text.items
+IsTrueOfDraft dir gives name draft (Text TooLong) = (filled : Drv) × (bytes : List ℕ)
+    × IsFilledText dir gives name draft filled bytes × (max_len < length bytes)
 IsTrueOfDraft dir gives name draft (Text NoSpace) = ⊥
 IsTrueOfDraft dir gives name draft (Text (Syntax place)) = ⊥
 IsTrueOfDraft dir gives name draft (Text (Order place)) = ⊥
@@ -86,20 +95,27 @@ IsTrueOfDraft dir gives name draft (Text (TextPathMismatch path)) = ⊥
 IsTrueOfDraft dir gives name draft (Text NotADrvName) = ⊥
 IsTrueOfDraft dir gives name draft (Text NotSorted) = ⊥
 IsTrueOfDraft dir gives name draft (Outputs fault) =
-    (fault ≢ NoRoom) × ((behind : MayFill dir gives name draft) × IsOutputsCheck IsThePathOrEmpty dir name draft behind.used behind.hashes (Err fault))
+    (fault ≢ NoRoom)
+    × ((behind : MayFill dir gives name draft)
+    × IsOutputsCheck IsThePathOrEmpty dir name draft behind.used behind.hashes (Err fault))
 IsTrueOfDraft dir gives name draft Unreadable = ⊥
 IsTrueOfDraft dir gives name draft TooMany = ⊥
 IsTrueOfDraft dir gives name draft Cycle = ⊥
 IsTrueOfDraft dir gives name draft (SharedOutput earlier) = ⊥
 
--- What filling a draft under a name answers: the filled derivation with the path of its text, or the first that is wrong of the name,
--- the draft's references, its inputs, its outputs and its filled text.
-abbrev pub IsFilling : (dir : List ℕ) → (gives : List ℕ → Answer → Type 0) → (name : List ℕ) → Drv → Result (Drv × List ℕ) GraphFault → Type 0
+-- What filling a draft under a name answers: the filled derivation with the path of its text, or
+-- the first that is wrong of the name, the draft's references, its inputs, its outputs and its
+-- filled text.
+abbrev pub IsFilling : (dir : List ℕ) → (gives : List ℕ → Answer → Type 0) → (name : List ℕ) → Drv
+    → Result (Drv × List ℕ) GraphFault → Type 0
 IsFilling dir gives name draft (Ok made) =
     AreNames name × AreInStore dir draft
-    × ((bytes : List ℕ) × IsFilledText dir gives name draft made.0 bytes × (length bytes ≤ max_len) × IsOwnPath dir (file_name name) made.0 bytes made.1)
+    × ((bytes : List ℕ) × IsFilledText dir gives name draft made.0 bytes × (length bytes ≤ max_len)
+    × IsOwnPath dir (file_name name) made.0 bytes made.1)
 IsFilling dir gives name draft (Err Name) = AreNames name → ⊥
 IsFilling dir gives name draft (Err (At path fault)) =
-    AreNames name × AreInStore dir draft × IsReached (MayUse dir gives) (inputs_of draft) path × IsTrueAt dir gives (inputs_of draft) path fault
-IsFilling dir gives name draft (Err (Draft fault)) = AreNames name × IsTrueOfDraft dir gives name draft fault
+    AreNames name × AreInStore dir draft × IsReached (MayUse dir gives) (inputs_of draft) path
+    × IsTrueAt dir gives (inputs_of draft) path fault
+IsFilling dir gives name draft (Err (Draft fault)) = AreNames name
+    × IsTrueOfDraft dir gives name draft fault
 IsFilling dir gives name draft (Err NoMemory) = ⊤

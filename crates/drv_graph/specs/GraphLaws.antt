@@ -11,10 +11,13 @@ HaveOwnPaths nodes = (a b : Node) → Contains nodes a → Contains nodes b → 
 
 -- the nodes at some paths have one list of modulo hashes, where no two nodes have one path
 abbrev pub HaveOneHashEach : Type 0
-HaveOneHashEach = (nodes : List Node) (paths hashes others : List (List ℕ)) → HaveOwnPaths nodes → AreHashes nodes paths hashes → AreHashes nodes paths others → hashes ≡ others
+HaveOneHashEach = (nodes : List Node) (paths hashes others : List (List ℕ)) → HaveOwnPaths nodes
+    → AreHashes nodes paths hashes → AreHashes nodes paths others → hashes ≡ others
 
 -- an output has one expected path
 abbrev pub HasOneExpectedPath : Type 0
 HasOneExpectedPath =
-    (dir name : List ℕ) (kind : Kind) (drv : Drv) (hashes : List (List ℕ)) (output : Output) (path other : List ℕ)
-    → IsExpected dir name kind drv hashes output path → IsExpected dir name kind drv hashes output other → path ≡ other
+    (dir name : List ℕ) (kind : Kind) (drv : Drv) (hashes : List (List ℕ)) (output : Output)
+    (path other : List ℕ)
+    → IsExpected dir name kind drv hashes output path
+    → IsExpected dir name kind drv hashes output other → path ≡ other

@@ -1,5 +1,6 @@
--- The kinds of a derivation's outputs (Nix manual, "Store Derivation": input-addressed and fixed content-addressed outputs;
--- Dolstra's thesis, section 5.4). Which methods of a fixed output are taken is this product's own.
+-- The kinds of a derivation's outputs (Nix manual, "Store Derivation": input-addressed and fixed
+-- content-addressed outputs; Dolstra's thesis, section 5.4). Which methods of a fixed output are
+-- taken is this product's own.
 use Rattle.std.specs.Prelude.{◌≡◌, ◌<◌, ℕ, List, [], ◌∷◌, ◌⊎◌, length, codes, All, Contains}
 use Rattle.hex.specs.Hex.{encode_lower}
 use Rattle.nix_drv.specs.Derivation.{Drv, Output}
@@ -23,7 +24,8 @@ IsAddressed output = (output.algo ≡ []) × (output.hash ≡ [])
 
 -- the output's content has this digest, in lower-case hex digits, by this method
 abbrev pub IsFixed : Output → Method → List ℕ → Type 0
-IsFixed output method digest = (output.algo ≡ algo_of method) × (output.hash ≡ encode_lower digest) × IsDigest digest
+IsFixed output method digest = (output.algo ≡ algo_of method) × (output.hash ≡ encode_lower digest)
+    × IsDigest digest
 
 -- the output is the derivation's only one, and named `out`
 abbrev pub IsOnlyOut : Drv → Output → Type 0
@@ -32,13 +34,16 @@ IsOnlyOut drv output = (drv.outputs ≡ output ∷ []) × (output.name ≡ codes
 -- a derivation's outputs are of one kind
 abbrev pub HasKind : Drv → Kind → Type 0
 HasKind drv Addressed = (drv.outputs ≡ [] → ⊥) × All IsAddressed drv.outputs
-HasKind drv (Fixed method digest) = (output : Output) × IsOnlyOut drv output × IsFixed output method digest
+HasKind drv (Fixed method digest) = (output : Output) × IsOnlyOut drv output
+    × IsFixed output method digest
 
--- a derivation's outputs are mixed: there is none, or one says something of its content and isn't the only one, named `out`
+-- a derivation's outputs are mixed: there is none, or one says something of its content and isn't
+-- the only one, named `out`
 abbrev pub AreMixed : Drv → Type 0
 AreMixed drv =
     (drv.outputs ≡ [])
-    ⊎ ((output : Output) × Contains drv.outputs output × (IsAddressed output → ⊥) × (IsOnlyOut drv output → ⊥))
+    ⊎ ((output : Output) × Contains drv.outputs output × (IsAddressed output → ⊥)
+    × (IsOnlyOut drv output → ⊥))
 
 -- the output says something of its content, by a method or with a hash that isn't known
 pub record IsUnknown (output : Output) : Type 0 where

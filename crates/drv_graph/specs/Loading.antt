@@ -1,4 +1,5 @@
--- What `Plan::load` answers: the plan of the roots, or a fault that is true of the path that it names (the faults are this product's own).
+-- What `Plan::load` answers: the plan of the roots, or a fault that is true of the path that it
+-- names (the faults are this product's own).
 use Rattle.std.specs.Prelude.{◌≢◌, ◌⊎◌, ◌<◌, ⊤, ℕ, List, length, nat_eq, All, Result, Ok, Err}
 use Rattle.std.specs.Cmp.Lexicographic.{pointwise}
 use Rattle.std.specs.List.{IsDistinct}
@@ -39,13 +40,17 @@ pub record IsOnCycle (Step : List ℕ → List ℕ → Type 0) (path : List ℕ)
   pub closes : Step user path
 
 -- the derivation at the path shares an output with that at another path, which is reached too
-abbrev pub SharesWith : (dir : List ℕ) → (gives : List ℕ → Answer → Type 0) → (roots : List (List ℕ)) → (path earlier : List ℕ) → Type 0
+abbrev pub SharesWith : (dir : List ℕ) → (gives : List ℕ → Answer → Type 0)
+    → (roots : List (List ℕ)) → (path earlier : List ℕ) → Type 0
 SharesWith dir gives roots path earlier =
-    (drv other : Drv) × MayStand dir gives path drv × IsReached (MayUse dir gives) roots earlier × MayStand dir gives earlier other
+    (drv other : Drv) × MayStand dir gives path drv × IsReached (MayUse dir gives) roots earlier
+    × MayStand dir gives earlier other
     × (earlier ≢ path) × ShareOutput other drv
 
--- What the check of the outputs at a path may answer, where the inputs are what the source may give.
-pub record MayCheck (dir : List ℕ) (gives : List ℕ → Answer → Type 0) (path : List ℕ) (fault : OutputFault) : Type 0 where
+-- What the check of the outputs at a path may answer, where the inputs are what the source may
+-- give.
+pub record MayCheck (dir : List ℕ) (gives : List ℕ → Answer → Type 0) (path : List ℕ)
+    (fault : OutputFault) : Type 0 where
   pub drv : Drv
   pub stands : MayStand dir gives path drv
   pub nodes : List Node
@@ -54,18 +59,22 @@ pub record MayCheck (dir : List ℕ) (gives : List ℕ → Answer → Type 0) (p
   pub check : MayAnswer dir nodes (record { path = path; drv = drv }) (Err fault)
 
 -- the fault is true of the path, by answers that the source may give
-abbrev pub IsTrueAt : (dir : List ℕ) → (gives : List ℕ → Answer → Type 0) → (roots : List (List ℕ)) → (path : List ℕ) → NodeFault → Type 0
+abbrev pub IsTrueAt : (dir : List ℕ) → (gives : List ℕ → Answer → Type 0) → (roots : List (List ℕ))
+    → (path : List ℕ) → NodeFault → Type 0
 IsTrueAt dir gives roots path Unreadable = gives path (Err Missing) ⊎ gives path (Err Device)
 IsTrueAt dir gives roots path TooMany = ReachTooMany (MayUse dir gives) roots
-IsTrueAt dir gives roots path (Text fault) = (fault ≢ NoSpace) × ((bytes : List ℕ) × gives path (Ok bytes) × IsCheck dir path bytes (Err fault))
+IsTrueAt dir gives roots path (Text fault) = (fault ≢ NoSpace)
+    × ((bytes : List ℕ) × gives path (Ok bytes) × IsCheck dir path bytes (Err fault))
 IsTrueAt dir gives roots path Cycle = IsOnCycle (MayUse dir gives) path
 IsTrueAt dir gives roots path (Outputs fault) = (fault ≢ NoRoom) × MayCheck dir gives path fault
 IsTrueAt dir gives roots path (SharedOutput earlier) = SharesWith dir gives roots path earlier
 
 -- what loading answers for some roots
-abbrev pub IsLoading : (dir : List ℕ) → (gives : List ℕ → Answer → Type 0) → (roots : List (List ℕ)) → Result Graph GraphFault → Type 0
+abbrev pub IsLoading : (dir : List ℕ) → (gives : List ℕ → Answer → Type 0) → (roots : List (List ℕ))
+    → Result Graph GraphFault → Type 0
 IsLoading dir gives roots (Ok graph) = IsPlan dir gives roots graph
-IsLoading dir gives roots (Err (At path fault)) = IsReached (MayUse dir gives) roots path × IsTrueAt dir gives roots path fault
+IsLoading dir gives roots (Err (At path fault)) = IsReached (MayUse dir gives) roots path
+    × IsTrueAt dir gives roots path fault
 IsLoading dir gives roots (Err NoMemory) = ⊤
 IsLoading dir gives roots (Err (Draft fault)) = ⊥
 IsLoading dir gives roots (Err Name) = ⊥

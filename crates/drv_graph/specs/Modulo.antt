@@ -1,6 +1,6 @@
--- The texts behind *Modulo hash* (Nix manual, "Derivation paths: hash modulo"; Dolstra's thesis, section 5.4): a derivation's text
--- in which each input derivation stands by its own hash, with or without the paths of the outputs.
--- That inputs of one hash become one entry is this product's own.
+-- The texts behind *Modulo hash* (Nix manual, "Derivation paths: hash modulo"; Dolstra's thesis,
+-- section 5.4): a derivation's text in which each input derivation stands by its own hash, with or
+-- without the paths of the outputs. That inputs of one hash become one entry is this product's own.
 use Rattle.std.specs.Prelude.{◌≡◌, ◌↔◌, Bool, ℕ, List, [], ◌∷◌, map, All, Contains, if◌then◌else◌}
 use Rattle.std.specs.List.{list_any}
 use Rattle.hex.specs.Hex.{encode_lower}
@@ -13,7 +13,8 @@ use Rattle.nix_drv.specs.Grammar.{text}
 abbrev pub replaced : List Input → (hashes : List (List ℕ)) → List Input
 replaced [] hashes = []
 replaced (input ∷ inputs) [] = []
-replaced (input ∷ inputs) (hash ∷ hashes) = record { path = encode_lower hash; names = input.names } ∷ replaced inputs hashes
+replaced (input ∷ inputs) (hash ∷ hashes) = record { path = encode_lower hash; names = input.names }
+    ∷ replaced inputs hashes
 
 -- some input with this path names this output
 pub record IsNamed (inputs : List Input) (path name : List ℕ) : Type 0 where
@@ -22,11 +23,14 @@ pub record IsNamed (inputs : List Input) (path name : List ℕ) : Type 0 where
   pub is_path : input.path ≡ path
   pub is_name : Contains input.names name
 
--- Inputs united: each path of the given ones once, in rising order, with all names, in rising order, that it has there.
+-- Inputs united: each path of the given ones once, in rising order, with all names, in rising
+-- order, that it has there.
 pub record IsUnited (given united : List Input) : Type 0 where
   pub rising : IsRising (map (λ (i : Input). i.path) united)
   pub names_rise : All (λ (i : Input). IsRising i.names) united
-  pub paths : (path : List ℕ) → (Contains (map (λ (i : Input). i.path) united) path ↔ Contains (map (λ (i : Input). i.path) given) path)
+  pub paths : (path : List ℕ)
+      → (Contains (map (λ (i : Input). i.path) united) path
+      ↔ Contains (map (λ (i : Input). i.path) given) path)
   pub names : (path name : List ℕ) → (IsNamed united path name ↔ IsNamed given path name)
 
 -- the names of outputs
@@ -35,12 +39,14 @@ names_of outputs = map (λ (o : Output). o.name) outputs
 
 -- an entry of the environment, without its value where its key is one of these names
 abbrev pub masked_entry : (names : List (List ℕ)) → EnvEntry → EnvEntry
-masked_entry names entry = if list_any (same_bytes entry.key) names then record { key = entry.key; value = [] } else entry
+masked_entry names entry = if list_any (same_bytes entry.key) names
+    then record { key = entry.key; value = [] } else entry
 
 -- a derivation without the paths of its outputs: neither at the outputs nor in the environment
 abbrev pub masked : Drv → Drv
 masked drv = record {
-  outputs = map (λ (o : Output). record { name = o.name; path = []; algo = o.algo; hash = o.hash }) drv.outputs;
+  outputs = map (λ (o : Output). record { name = o.name; path = []; algo = o.algo; hash = o.hash })
+      drv.outputs;
   inputs = drv.inputs;
   sources = drv.sources;
   system = drv.system;
@@ -61,12 +67,16 @@ with_inputs drv inputs = record {
   env = drv.env;
 }
 
--- The bytes are a derivation's modulo text for these hashes of its inputs, in their order, with the outputs' paths masked or not.
-pub record IsModuloText (drv : Drv) (hashes : List (List ℕ)) (mask : Bool) (bytes : List ℕ) : Type 0 where
+-- The bytes are a derivation's modulo text for these hashes of its inputs, in their order, with the
+-- outputs' paths masked or not.
+pub record IsModuloText (drv : Drv) (hashes : List (List ℕ)) (mask : Bool) (bytes : List ℕ)
+    : Type 0 where
   pub inputs : List Input
   pub united : IsUnited (replaced drv.inputs hashes) inputs
-  pub is_text : bytes ≡ text derivation_form (drv_value (with_inputs (if mask then masked drv else drv) inputs))
+  pub is_text : bytes
+      ≡ text derivation_form (drv_value (with_inputs (if mask then masked drv else drv) inputs))
 
 -- there is one modulo text
 abbrev pub HasOneModuloText : Type 0
-HasOneModuloText = (drv : Drv) (hashes : List (List ℕ)) (mask : Bool) (a b : List ℕ) → IsModuloText drv hashes mask a → IsModuloText drv hashes mask b → a ≡ b
+HasOneModuloText = (drv : Drv) (hashes : List (List ℕ)) (mask : Bool) (a b : List ℕ)
+    → IsModuloText drv hashes mask a → IsModuloText drv hashes mask b → a ≡ b

@@ -1,4 +1,5 @@
--- A plan's nodes, and *Modulo hash* by recursion over them (Nix manual, "Derivation paths: hash modulo"; Dolstra's thesis, section 5.4).
+-- A plan's nodes, and *Modulo hash* by recursion over them (Nix manual, "Derivation paths: hash
+-- modulo"; Dolstra's thesis, section 5.4).
 use Rattle.std.specs.Prelude.{◌≡◌, false, ℕ, List, [], ◌∷◌, ◌++◌, map, codes, Contains}
 use Rattle.sha2.specs.Sha256.{sha256}
 use Rattle.nix_drv.specs.Derivation.{Drv, Output, Input}
@@ -20,19 +21,25 @@ paths_of nodes = map (λ (n : Node). n.path) nodes
 abbrev pub inputs_of : Drv → List (List ℕ)
 inputs_of drv = map (λ (i : Input). i.path) drv.inputs
 
--- what stands for a fixed output in the place of its derivation's text: `fixed:out:<algorithm>:<hash>:<path>`
+-- what stands for a fixed output in the place of its derivation's text:
+-- `fixed:out:<algorithm>:<hash>:<path>`
 abbrev pub fixed_text : Output → List ℕ
-fixed_text output = codes "fixed:out:" ++ output.algo ++ codes ":" ++ output.hash ++ codes ":" ++ output.path
+fixed_text output = codes "fixed:out:" ++ output.algo ++ codes ":" ++ output.hash ++ codes ":"
+    ++ output.path
 
--- a derivation's modulo hash, by its kind, from those of its inputs: of a fixed output's own text, else of the modulo text
+-- a derivation's modulo hash, by its kind, from those of its inputs: of a fixed output's own text,
+-- else of the modulo text
 abbrev pub IsHashBy : Kind → Drv → (hashes : List (List ℕ)) → (hash : List ℕ) → Type 0
-IsHashBy Addressed drv hashes hash = (bytes : List ℕ) × IsModuloText drv hashes false bytes × (hash ≡ sha256 bytes)
-IsHashBy (Fixed method digest) drv hashes hash = (output : Output) × (drv.outputs ≡ output ∷ []) × (hash ≡ sha256 (fixed_text output))
+IsHashBy Addressed drv hashes hash = (bytes : List ℕ) × IsModuloText drv hashes false bytes
+    × (hash ≡ sha256 bytes)
+IsHashBy (Fixed method digest) drv hashes hash = (output : Output) × (drv.outputs ≡ output ∷ [])
+    × (hash ≡ sha256 (fixed_text output))
 
 -- The modulo hashes of the nodes at some paths, in their order.
 pub data AreHashes (nodes : List Node) : (paths hashes : List (List ℕ)) → Type 0 where
   no_hashes : AreHashes nodes [] []
-  one_more_hash : (node : Node) (kind : Kind) (of_inputs : List (List ℕ)) (hash : List ℕ) (paths hashes : List (List ℕ))
+  one_more_hash : (node : Node) (kind : Kind) (of_inputs : List (List ℕ)) (hash : List ℕ)
+      (paths hashes : List (List ℕ))
       → Contains nodes node → HasKind node.drv kind → AreHashes nodes (inputs_of node.drv) of_inputs
       → IsHashBy kind node.drv of_inputs hash → AreHashes nodes paths hashes
       → AreHashes nodes (node.path ∷ paths) (hash ∷ hashes)

@@ -1,4 +1,5 @@
--- What is right of a derivation's outputs, and the first thing that is wrong (Nix manual, "Store Derivation"; the order of faults is this product's own).
+-- What is right of a derivation's outputs, and the first thing that is wrong (Nix manual, "Store
+-- Derivation"; the order of faults is this product's own).
 use Rattle.std.specs.Prelude.{◌≡◌, ◌⊎◌, ◌++◌, ⊤, ℕ, List, [], ◌∷◌, map, All, Contains, IsTrue, Result, Ok, Err}
 use Rattle.nix_names.specs.Names.{is_name}
 use Rattle.nix_drv.specs.Derivation.{Drv, Output, Input, EnvEntry}
@@ -17,17 +18,20 @@ pub record IsFirst {A : Type 0} (Holds : A → Type 0) (xs : List A) (x : A) : T
   pub holds : Holds x
   pub none : All (λ y. Holds y → ⊥) before
 
--- One output that a derivation uses: the path of the input derivation, the output's name, and that derivation.
+-- One output that a derivation uses: the path of the input derivation, the output's name, and that
+-- derivation.
 pub record Use : Type 0 where
   pub input : List ℕ
   pub output : List ℕ
   pub drv : Drv
 
--- the outputs that are used of some inputs, in the text's order; beside the inputs stand their derivations
+-- the outputs that are used of some inputs, in the text's order; beside the inputs stand their
+-- derivations
 abbrev pub uses : List Input → List Drv → List Use
 uses [] drvs = []
 uses (i ∷ is) [] = []
-uses (i ∷ is) (drv ∷ drvs) = map (λ name. record { input = i.path; output = name; drv = drv }) i.names ++ uses is drvs
+uses (i ∷ is) (drv ∷ drvs) = map (λ name. record { input = i.path; output = name; drv = drv })
+    i.names ++ uses is drvs
 
 -- the derivation has the output that is used
 abbrev pub IsKnownUse : Use → Type 0
@@ -35,9 +39,11 @@ IsKnownUse u = Contains (names_of u.drv.outputs) u.output
 
 -- an output's name, and that of its path, are names
 abbrev pub IsWellNamed : (name : List ℕ) → Output → Type 0
-IsWellNamed name output = IsTrue (is_name output.name) × IsTrue (is_name (path_name name output.name))
+IsWellNamed name output = IsTrue (is_name output.name)
+    × IsTrue (is_name (path_name name output.name))
 
--- how a value in a derivation's text stands to the path that is expected: it is that path; or in a draft it may be empty
+-- how a value in a derivation's text stands to the path that is expected: it is that path; or in a
+-- draft it may be empty
 abbrev pub IsThePath : (value path : List ℕ) → Type 0
 IsThePath value path = value ≡ path
 
@@ -51,34 +57,47 @@ pub record AreSound (name : List ℕ) (drv : Drv) (used : List Drv) (kind : Kind
   pub known : All IsKnownUse (uses drv.inputs used)
 
 -- each output's path fits the one that is expected
-abbrev pub PathsFit : (Fits : List ℕ → List ℕ → Type 0) → (Expected : Output → List ℕ → Type 0) → Drv → Type 0
-PathsFit Fits Expected drv = All (λ (o : Output). (path : List ℕ) × Expected o path × Fits o.path path) drv.outputs
+abbrev pub PathsFit : (Fits : List ℕ → List ℕ → Type 0) → (Expected : Output → List ℕ → Type 0)
+    → Drv → Type 0
+PathsFit Fits Expected drv =
+    All (λ (o : Output). (path : List ℕ) × Expected o path × Fits o.path path) drv.outputs
 
 -- an entry under the output's name has a value that doesn't fit the path that is expected
-abbrev pub HasOtherEntry : (Fits : List ℕ → List ℕ → Type 0) → (Expected : Output → List ℕ → Type 0) → Drv → Output → Type 0
+abbrev pub HasOtherEntry : (Fits : List ℕ → List ℕ → Type 0) → (Expected : Output → List ℕ → Type 0)
+    → Drv → Output → Type 0
 HasOtherEntry Fits Expected drv output =
-    (entry : EnvEntry) × (path : List ℕ) × Contains drv.env entry × (entry.key ≡ output.name) × Expected output path × (Fits entry.value path → ⊥)
+    (entry : EnvEntry) × (path : List ℕ) × Contains drv.env entry × (entry.key ≡ output.name)
+    × Expected output path × (Fits entry.value path → ⊥)
 
--- What the check of a derivation's outputs answers, by its name, its inputs' derivations and their hashes. The first of these that
--- holds: mixed outputs; a method or a hash that isn't known; a name that is none; the first use of an output that isn't there; the
--- first output with a path that doesn't fit the expected one; the first output with such an entry. Want of memory may come in any's place.
-abbrev pub IsOutputsCheck : (Fits : List ℕ → List ℕ → Type 0) → (dir name : List ℕ) → Drv → (used : List Drv) → (hashes : List (List ℕ)) → Result Kind OutputFault → Type 0
+-- What the check of a derivation's outputs answers, by its name, its inputs' derivations and their
+-- hashes. The first of these that holds: mixed outputs; a method or a hash that isn't known; a name
+-- that is none; the first use of an output that isn't there; the first output with a path that
+-- doesn't fit the expected one; the first output with such an entry. Want of memory may come in any's place.
+abbrev pub IsOutputsCheck : (Fits : List ℕ → List ℕ → Type 0) → (dir name : List ℕ) → Drv
+    → (used : List Drv) → (hashes : List (List ℕ)) → Result Kind OutputFault → Type 0
 IsOutputsCheck Fits dir name drv used hashes (Ok kind) =
     AreSound name drv used kind × PathsFit Fits (IsExpected dir name kind drv hashes) drv
     × All (λ o. HasOtherEntry Fits (IsExpected dir name kind drv hashes) drv o → ⊥) drv.outputs
 IsOutputsCheck Fits dir name drv used hashes (Err MixedOutputs) = AreMixed drv
 IsOutputsCheck Fits dir name drv used hashes (Err (UnknownMethod output)) =
-    (AreMixed drv → ⊥) × ((o : Output) × Contains drv.outputs o × IsUnknown o × (output.items ≡ o.name))
+    (AreMixed drv → ⊥)
+    × ((o : Output) × Contains drv.outputs o × IsUnknown o × (output.items ≡ o.name))
 IsOutputsCheck Fits dir name drv used hashes (Err BadName) =
-    (kind : Kind) × HasKind drv kind × ((o : Output) × Contains drv.outputs o × (IsWellNamed name o → ⊥))
+    (kind : Kind) × HasKind drv kind
+    × ((o : Output) × Contains drv.outputs o × (IsWellNamed name o → ⊥))
 IsOutputsCheck Fits dir name drv used hashes (Err (UnknownOutput input output)) =
     (kind : Kind) × HasKind drv kind × All (IsWellNamed name) drv.outputs
-    × ((u : Use) × IsFirst (λ other. IsKnownUse other → ⊥) (uses drv.inputs used) u × (input ≡ u.input) × (output.items ≡ u.output))
+    × ((u : Use) × IsFirst (λ other. IsKnownUse other → ⊥) (uses drv.inputs used) u
+    × (input ≡ u.input) × (output.items ≡ u.output))
 IsOutputsCheck Fits dir name drv used hashes (Err (OutputMismatch output expected)) =
     (kind : Kind) × AreSound name drv used kind
-    × ((o : Output) × IsFirst (λ (p : Output). (path : List ℕ) × IsExpected dir name kind drv hashes p path × (Fits p.path path → ⊥)) drv.outputs o
+    × ((o : Output)
+    × IsFirst (λ (p : Output). (path : List ℕ) × IsExpected dir name kind drv hashes p path
+    × (Fits p.path path → ⊥)) drv.outputs o
     × IsExpected dir name kind drv hashes o expected × (output.items ≡ o.name))
 IsOutputsCheck Fits dir name drv used hashes (Err (EnvMismatch output)) =
-    (kind : Kind) × AreSound name drv used kind × PathsFit Fits (IsExpected dir name kind drv hashes) drv
-    × ((o : Output) × IsFirst (HasOtherEntry Fits (IsExpected dir name kind drv hashes) drv) drv.outputs o × (output.items ≡ o.name))
+    (kind : Kind) × AreSound name drv used kind
+    × PathsFit Fits (IsExpected dir name kind drv hashes) drv
+    × ((o : Output) × IsFirst (HasOtherEntry Fits (IsExpected dir name kind drv hashes) drv)
+    drv.outputs o × (output.items ≡ o.name))
 IsOutputsCheck Fits dir name drv used hashes (Err NoMemory) = ⊤

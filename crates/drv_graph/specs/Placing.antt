@@ -11,18 +11,26 @@ placed (byte ∷ bytes) path = byte ∷ bytes
 
 -- an output with a path in its place, where that is empty
 abbrev pub placed_output : Output → (path : List ℕ) → Output
-placed_output output path = record { name = output.name; path = placed output.path path; algo = output.algo; hash = output.hash }
+placed_output output path = record {
+  name = output.name;
+  path = placed output.path path;
+  algo = output.algo;
+  hash = output.hash;
+}
 
 -- outputs with these paths in their places, for as many as there are paths
 abbrev pub placed_outputs : List Output → (paths : List (List ℕ)) → List Output
 placed_outputs outputs [] = outputs
 placed_outputs [] (path ∷ paths) = []
-placed_outputs (output ∷ outputs) (path ∷ paths) = placed_output output path ∷ placed_outputs outputs paths
+placed_outputs (output ∷ outputs) (path ∷ paths) = placed_output output path
+    ∷ placed_outputs outputs paths
 
--- An entry under one of some names with the path beside that name, where its value is empty; another as it was.
+-- An entry under one of some names with the path beside that name, where its value is empty;
+-- another as it was.
 pub record IsPlacedEntry (names paths : List (List ℕ)) (draft filled : EnvEntry) : Type 0 where
   pub key : filled.key ≡ draft.key
-  pub named : (place : ℕ) (path : List ℕ) → slice_get names place ≡ Some draft.key → slice_get paths place ≡ Some path → filled.value ≡ placed draft.value path
+  pub named : (place : ℕ) (path : List ℕ) → slice_get names place ≡ Some draft.key
+      → slice_get paths place ≡ Some path → filled.value ≡ placed draft.value path
   pub other : (Contains names draft.key → ⊥) → filled.value ≡ draft.value
 
 -- A draft with these paths, one beside each output, in its empty places.

@@ -1,4 +1,5 @@
--- *Plan*: the derivations that some roots reach, inputs before users (Dolstra's thesis, section 5.4; Nix manual, "Store Derivation").
+-- *Plan*: the derivations that some roots reach, inputs before users (Dolstra's thesis, section
+-- 5.4; Nix manual, "Store Derivation").
 use Rattle.std.specs.Prelude.{◌≡◌, ◌≤◌, ◌++◌, ⊤, ℕ, List, [], ◌∷◌, length, map, not, filter, All, Contains, Result, Ok, slice_get, Some}
 use Rattle.nix_names.specs.Names.{same_bytes}
 use Rattle.nix_drv.specs.Checked.{IsFoundAt}
@@ -10,18 +11,21 @@ use Rattle.drv_graph.specs.Nodes.{Node, AreHashes, inputs_of, paths_of}
 use Rattle.drv_graph.specs.Outputs.{IsOutputsCheck, IsThePath}
 use Rattle.drv_graph.specs.declared.fault.OutputFault.{OutputFault}
 
--- What a plan is seen as: its nodes in plan order, and the numbers of its roots; a node's number is its place, counted from 0.
+-- What a plan is seen as: its nodes in plan order, and the numbers of its roots; a node's number is
+-- its place, counted from 0.
 pub record Graph : Type 0 where
   pub nodes : List Node
   pub roots : List ℕ
 
 -- a list of steps leads from one path to another
-abbrev pub Leads : (Step : List ℕ → List ℕ → Type 0) → (from to : List ℕ) → (steps : List (List ℕ)) → Type 0
+abbrev pub Leads : (Step : List ℕ → List ℕ → Type 0) → (from to : List ℕ) → (steps : List (List ℕ))
+    → Type 0
 Leads Step from to [] = from ≡ to
 Leads Step from to (next ∷ steps) = Step from next × Leads Step next to steps
 
 -- A path is reached from one of some roots by a list of steps.
-pub record IsReached (Step : List ℕ → List ℕ → Type 0) (roots : List (List ℕ)) (path : List ℕ) : Type 0 where
+pub record IsReached (Step : List ℕ → List ℕ → Type 0) (roots : List (List ℕ)) (path : List ℕ)
+    : Type 0 where
   pub root : List ℕ
   pub is_root : Contains roots root
   pub steps : List (List ℕ)
@@ -35,23 +39,27 @@ pub record Uses (nodes : List Node) (from next : List ℕ) : Type 0 where
   pub is_input : Contains (inputs_of node.drv) next
 
 -- A source may give, at a path, the text of a derivation whose own path that is.
-pub record MayStand (dir : List ℕ) (gives : List ℕ → Answer → Type 0) (path : List ℕ) (drv : Drv) : Type 0 where
+pub record MayStand (dir : List ℕ) (gives : List ℕ → Answer → Type 0) (path : List ℕ) (drv : Drv)
+    : Type 0 where
   pub bytes : List ℕ
   pub given : gives path (Ok bytes)
   pub found : IsFoundAt dir path bytes drv path
 
 -- A step from a user to an input by some answer of the source.
-pub record MayUse (dir : List ℕ) (gives : List ℕ → Answer → Type 0) (from next : List ℕ) : Type 0 where
+pub record MayUse (dir : List ℕ) (gives : List ℕ → Answer → Type 0) (from next : List ℕ)
+    : Type 0 where
   pub drv : Drv
   pub stands : MayStand dir gives from drv
   pub is_input : Contains (inputs_of drv) next
 
--- *Plan order*: some paths are left in turn, behind those that were left before. A path that was left already is passed over; another
--- is left behind its inputs, which are left in their text's order.
+-- *Plan order*: some paths are left in turn, behind those that were left before. A path that was
+-- left already is passed over; another is left behind its inputs, which are left in their text's
+-- order.
 pub data AreLeft (nodes : List Node) : (before paths after : List (List ℕ)) → Type 0 where
   none_left : (before : List (List ℕ)) → AreLeft nodes before [] before
   passed_over : (path : List ℕ) (before paths after : List (List ℕ))
-      → Contains before path → AreLeft nodes before paths after → AreLeft nodes before (path ∷ paths) after
+      → Contains before path → AreLeft nodes before paths after
+      → AreLeft nodes before (path ∷ paths) after
   left_behind_inputs : (node : Node) (before inputs paths after : List (List ℕ))
       → Contains nodes node → (Contains before node.path → ⊥)
       → AreLeft nodes before (inputs_of node.drv) inputs → (Contains inputs node.path → ⊥)
@@ -63,10 +71,12 @@ abbrev pub AreDrvsOf : (nodes : List Node) → (paths : List (List ℕ)) → Lis
 AreDrvsOf nodes [] [] = ⊤
 AreDrvsOf nodes [] (drv ∷ drvs) = ⊥
 AreDrvsOf nodes (path ∷ paths) [] = ⊥
-AreDrvsOf nodes (path ∷ paths) (drv ∷ drvs) = Contains nodes (record { path = path; drv = drv }) × AreDrvsOf nodes paths drvs
+AreDrvsOf nodes (path ∷ paths) (drv ∷ drvs) = Contains nodes (record { path = path; drv = drv })
+    × AreDrvsOf nodes paths drvs
 
 -- What the check of a node's outputs may answer, behind other nodes that have its inputs.
-pub record MayAnswer (dir : List ℕ) (before : List Node) (node : Node) (answer : Result Kind OutputFault) : Type 0 where
+pub record MayAnswer (dir : List ℕ) (before : List Node) (node : Node)
+    (answer : Result Kind OutputFault) : Type 0 where
   pub used : List Drv
   pub hashes : List (List ℕ)
   pub are_used : AreDrvsOf before (inputs_of node.drv) used
@@ -77,7 +87,8 @@ pub record MayAnswer (dir : List ℕ) (before : List Node) (node : Node) (answer
 abbrev pub ShareOutput : Drv → Drv → Type 0
 ShareOutput a b = (x y : Output) × Contains a.outputs x × Contains b.outputs y × (x.path ≡ y.path)
 
--- *Lawful*: a node's inputs stand before it, its outputs are right, and it shares no output with a node before it.
+-- *Lawful*: a node's inputs stand before it, its outputs are right, and it shares no output with a
+-- node before it.
 pub record IsLawful (dir : List ℕ) (before : List Node) (node : Node) : Type 0 where
   pub kind : Kind
   pub right : MayAnswer dir before node (Ok kind)
@@ -85,7 +96,8 @@ pub record IsLawful (dir : List ℕ) (before : List Node) (node : Node) : Type 0
 
 -- each node is lawful behind those before it
 abbrev pub AreLawful : (dir : List ℕ) → List Node → Type 0
-AreLawful dir nodes = (before after : List Node) (node : Node) → nodes ≡ before ++ node ∷ after → IsLawful dir before node
+AreLawful dir nodes = (before after : List Node) (node : Node) → nodes ≡ before ++ node ∷ after
+    → IsLawful dir before node
 
 -- the elements of a list, each at its first place
 abbrev pub each_once : List (List ℕ) → List (List ℕ)
@@ -96,12 +108,16 @@ each_once (x ∷ xs) = x ∷ filter (λ y. not (same_bytes x y)) (each_once xs)
 abbrev pub AreNumbers : List Node → (numbers : List ℕ) → (paths : List (List ℕ)) → Type 0
 AreNumbers nodes numbers paths = map (λ n. slice_get (paths_of nodes) n) numbers ≡ map Some paths
 
--- The plan of some roots, from a source's answers. The nodes are just the paths reached from a root within the plan, each once.
-pub record IsPlan (dir : List ℕ) (gives : List ℕ → Answer → Type 0) (roots : List (List ℕ)) (graph : Graph) : Type 0 where
+-- The plan of some roots, from a source's answers. The nodes are just the paths reached from a root
+-- within the plan, each once.
+pub record IsPlan (dir : List ℕ) (gives : List ℕ → Answer → Type 0) (roots : List (List ℕ))
+    (graph : Graph) : Type 0 where
   pub given : All (λ (n : Node). MayStand dir gives n.path n.drv) graph.nodes
   pub in_order : AreLeft graph.nodes [] roots (paths_of graph.nodes)
-  pub reached : (path : List ℕ) → Contains (paths_of graph.nodes) path → IsReached (Uses graph.nodes) roots path
-  pub whole : (path : List ℕ) → IsReached (Uses graph.nodes) roots path → Contains (paths_of graph.nodes) path
+  pub reached : (path : List ℕ) → Contains (paths_of graph.nodes) path
+      → IsReached (Uses graph.nodes) roots path
+  pub whole : (path : List ℕ) → IsReached (Uses graph.nodes) roots path
+      → Contains (paths_of graph.nodes) path
   pub lawful : AreLawful dir graph.nodes
   pub few : length graph.nodes ≤ 65536
   pub is_roots : AreNumbers graph.nodes graph.roots (each_once roots)

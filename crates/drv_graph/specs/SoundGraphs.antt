@@ -7,9 +7,9 @@ use Rattle.drv_graph.specs.PlanNodes.{output_paths_of}
 use Rattle.drv_graph.specs.Plans.{Graph, AreLawful}
 use Rattle.drv_graph.specs.Loading.{AreDistinct}
 
--- No two derivations have one path; each is lawful, in some folder, behind those before it, so its inputs have smaller numbers; the
--- roots are numbers of derivations, none twice. Each derivation's path is that of a derivation's file, and no two of its outputs have
--- one path.
+-- No two derivations have one path; each is lawful, in some folder, behind those before it, so its
+-- inputs have smaller numbers; the roots are numbers of derivations, none twice. Each derivation's
+-- path is that of a derivation's file, and no two of its outputs have one path.
 pub record IsSound (graph : Graph) : Type 0 where
   pub dir : List ℕ
   pub lawful : AreLawful dir graph.nodes

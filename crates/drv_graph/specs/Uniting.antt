@@ -8,10 +8,12 @@ use Rattle.drv_graph.specs.Modulo.{IsNamed}
 abbrev pub input_paths : List Input → List (List ℕ)
 input_paths inputs = map (λ (i : Input). i.path) inputs
 
--- Inputs gathered: each path of the given ones once, in rising order, with all names that it has there.
+-- Inputs gathered: each path of the given ones once, in rising order, with all names that it has
+-- there.
 pub record IsGathered (given gathered : List Input) : Type 0 where
   pub rising : IsRising (input_paths gathered)
-  pub paths : (path : List ℕ) → (Contains (input_paths gathered) path ↔ Contains (input_paths given) path)
+  pub paths : (path : List ℕ)
+      → (Contains (input_paths gathered) path ↔ Contains (input_paths given) path)
   pub names : (path name : List ℕ) → (IsNamed gathered path name ↔ IsNamed given path name)
 
 -- An input's names have gone to the last of some others, which has its path.
@@ -24,7 +26,8 @@ pub record IsJoined (old : List Input) (input : Input) (new : List Input) : Type
 
 -- An input stands behind some others, of which the last, if there is one, has another path.
 pub record IsAppended (old : List Input) (input : Input) (new : List Input) : Type 0 where
-  pub other : (front : List Input) (last : Input) → old ≡ front ++ last ∷ [] → last.path ≢ input.path
+  pub other : (front : List Input) (last : Input) → old ≡ front ++ last ∷ []
+      → last.path ≢ input.path
   pub is : new ≡ old ++ input ∷ []
 
 -- an input is added to some others

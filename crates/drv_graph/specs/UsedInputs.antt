@@ -1,4 +1,5 @@
--- The inputs of a derivation, in its text's order: their paths, their derivations and their modulo hashes.
+-- The inputs of a derivation, in its text's order: their paths, their derivations and their modulo
+-- hashes.
 use Rattle.std.specs.Prelude.{ℕ, List, map}
 use Rattle.nix_drv.specs.Derivation.{Drv}
 use Rattle.drv_graph.specs.Outputs.{Use}

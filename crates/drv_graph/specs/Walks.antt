@@ -29,7 +29,8 @@ use Rattle.drv_graph.specs.declared.walk.Met.{Met}
 use Rattle.drv_graph.specs.declared.walk.Met.TheVariants.{Done, New}
 use Rattle.drv_graph.specs.declared.node.PlanNode.{PlanNode}
 
--- what marks say of paths: nothing of one that wasn't met, no number of one that is open, its number of one that was left
+-- what marks say of paths: nothing of one that wasn't met, no number of one that is open, its
+-- number of one that was left
 abbrev pub marked : {S : Type 0} → IndexMap (List ℕ) (Option ℕ) S → List ℕ → Option (Option ℕ)
 marked marks = get (pointwise nat_eq) marks
 
@@ -38,20 +39,28 @@ abbrev pub owned : {S : Type 0} → IndexMap (List ℕ) ℕ S → List ℕ → O
 owned owners = get (pointwise nat_eq) owners
 
 -- One path has this entry now, and each other the one that it had.
-pub record SetsEntry {X : Type 0} (before after : List ℕ → Option X) (path : List ℕ) (entry : X) : Type 0 where
+pub record SetsEntry {X : Type 0} (before after : List ℕ → Option X) (path : List ℕ) (entry : X)
+    : Type 0 where
   pub here : after path ≡ Some entry
   pub others : (other : List ℕ) → other ≢ path → after other ≡ before other
 
 -- The marks of paths that were left, in their order, and of open ones are right.
-pub record AreMarks (marks : List ℕ → Option (Option ℕ)) (left pending : List (List ℕ)) : Type 0 where
-  pub numbered : (path : List ℕ) (number : ℕ) → (marks path ≡ Some (Some number) ↔ slice_get left number ≡ Some path)
+pub record AreMarks (marks : List ℕ → Option (Option ℕ)) (left pending : List (List ℕ))
+    : Type 0 where
+  pub numbered : (path : List ℕ) (number : ℕ)
+      → (marks path ≡ Some (Some number) ↔ slice_get left number ≡ Some path)
   pub is_pending : (path : List ℕ) → (marks path ≡ Some None ↔ Contains pending path)
 
--- The owners of paths are right, where the derivations that were left have these outputs, and the next one has these so far.
-pub record AreOwners (owners : List ℕ → Option ℕ) (left : List (List (List ℕ))) (own : List (List ℕ)) : Type 0 where
-  pub none : (path : List ℕ) → owners path ≡ None → (Contains own path → ⊥) × ((n : ℕ) (outputs : List (List ℕ)) → slice_get left n ≡ Some outputs → Contains outputs path → ⊥)
+-- The owners of paths are right, where the derivations that were left have these outputs, and the
+-- next one has these so far.
+pub record AreOwners (owners : List ℕ → Option ℕ) (left : List (List (List ℕ)))
+    (own : List (List ℕ)) : Type 0 where
+  pub none : (path : List ℕ) → owners path ≡ None → (Contains own path → ⊥)
+      × ((n : ℕ) (outputs : List (List ℕ)) → slice_get left n ≡ Some outputs → Contains outputs path
+      → ⊥)
   pub some : (path : List ℕ) (n : ℕ) → owners path ≡ Some n
-      → ((outputs : List (List ℕ)) × (slice_get left n ≡ Some outputs) × Contains outputs path) ⊎ ((n ≡ length left) × Contains own path)
+      → ((outputs : List (List ℕ)) × (slice_get left n ≡ Some outputs) × Contains outputs path)
+      ⊎ ((n ≡ length left) × Contains own path)
 
 -- the outputs of derivations
 abbrev pub outputs_of : List PlanNode → List (List (List ℕ))
@@ -59,7 +68,8 @@ outputs_of kept = map (λ (k : PlanNode). output_paths_of k.drv) kept
 
 -- no output of earlier derivations is among these
 abbrev pub AreAlone : (left : List (List (List ℕ))) → (own : List (List ℕ)) → Type 0
-AreAlone left own = (path : List ℕ) → Contains own path → (n : ℕ) (outputs : List (List ℕ)) → slice_get left n ≡ Some outputs → Contains outputs path → ⊥
+AreAlone left own = (path : List ℕ) → Contains own path → (n : ℕ) (outputs : List (List ℕ))
+    → slice_get left n ≡ Some outputs → Contains outputs path → ⊥
 
 -- a derivation that is open, as the plan's definition has it
 abbrev pub visited : Visit → Node
@@ -68,15 +78,25 @@ visited visit = record { path = visit.path; drv = visit.drv }
 abbrev pub pending_of : List Visit → List (List ℕ)
 pending_of visits = map (λ (v : Visit). v.path) visits
 
--- What is kept of an open derivation is right: the paths of its inputs, and the numbers of the first of them.
+-- What is kept of an open derivation is right: the paths of its inputs, and the numbers of the
+-- first of them.
 pub record IsVisit (nodes : List Node) (visit : Visit) : Type 0 where
   pub inputs : visit.inputs.items ≡ inputs_of visit.drv
-  pub numbers : AreNumbers nodes visit.numbers.items (take (length visit.numbers.items) (inputs_of visit.drv))
+  pub numbers : AreNumbers nodes visit.numbers.items
+      (take (length visit.numbers.items) (inputs_of visit.drv))
 
 -- an open derivation as it is kept when it is left
 abbrev pub kept_visit : Visit → Kind → (hash : List ℕ) → (outputs sources : Vec (List ℕ)) → PlanNode
 kept_visit visit kind hash outputs sources =
-    record { path = visit.path; drv = visit.drv; kind = kind; hash = hash; inputs = visit.numbers; outputs = outputs; sources = sources }
+    record {
+      path = visit.path;
+      drv = visit.drv;
+      kind = kind;
+      hash = hash;
+      inputs = visit.numbers;
+      outputs = outputs;
+      sources = sources;
+    }
 
 -- What was left is right.
 pub record IsFound (dir : List ℕ) (found : Found) : Type 0 where
@@ -89,15 +109,19 @@ pub record IsFound (dir : List ℕ) (found : Found) : Type 0 where
 pub record Leaves (dir : List ℕ) (before after : Found) (visit : Visit) : Type 0 where
   pub nodes : nodes_of after.nodes.items ≡ nodes_of before.nodes.items ++ visited visit ∷ []
   pub found : IsFound dir after
-  pub marks : SetsEntry (marked before.marks) (marked after.marks) visit.path (Some (length before.nodes.items))
+  pub marks : SetsEntry (marked before.marks) (marked after.marks) visit.path
+      (Some (length before.nodes.items))
   pub count : length (keys after.marks) ≡ length (keys before.marks)
 
 -- a fault that is answered where a derivation is left is true of it
 abbrev pub IsLeavingFault : (dir : List ℕ) → (kept : List PlanNode) → Visit → GraphFault → Type 0
 IsLeavingFault dir kept visit NoMemory = ⊤
-IsLeavingFault dir kept visit (At path (Outputs fault)) = (path ≡ visit.path) × (fault ≢ NoRoom) × MayAnswer dir (nodes_of kept) (visited visit) (Err fault)
+IsLeavingFault dir kept visit (At path (Outputs fault)) = (path ≡ visit.path) × (fault ≢ NoRoom)
+    × MayAnswer dir (nodes_of kept) (visited visit) (Err fault)
 IsLeavingFault dir kept visit (At path (SharedOutput earlier)) =
-    (path ≡ visit.path) × ((other : Node) × Contains (nodes_of kept) other × (earlier ≡ other.path) × ShareOutput other.drv visit.drv)
+    (path ≡ visit.path)
+    × ((other : Node) × Contains (nodes_of kept) other × (earlier ≡ other.path)
+    × ShareOutput other.drv visit.drv)
 IsLeavingFault dir kept visit (At path Unreadable) = ⊥
 IsLeavingFault dir kept visit (At path TooMany) = ⊥
 IsLeavingFault dir kept visit (At path (Text fault)) = ⊥
@@ -105,7 +129,8 @@ IsLeavingFault dir kept visit (At path Cycle) = ⊥
 IsLeavingFault dir kept visit (Draft fault) = ⊥
 IsLeavingFault dir kept visit Name = ⊥
 
-abbrev pub IsLeaving : (dir : List ℕ) → (before after : Found) → Visit → Result ⊤ GraphFault → Type 0
+abbrev pub IsLeaving : (dir : List ℕ) → (before after : Found) → Visit → Result ⊤ GraphFault
+    → Type 0
 IsLeaving dir before after visit (Ok _) = Leaves dir before after visit
 IsLeaving dir before after visit (Err fault) = IsLeavingFault dir before.nodes.items visit fault
 
@@ -117,13 +142,17 @@ pub record IsUsed (kept : List PlanNode) (number : ℕ) (used : UsedInput) : Typ
   pub drv : used.drv.now ≡ node.drv
   pub hash : used.hash ≡ node.hash
 
--- what the check of an open derivation's outputs answers: their kind, and the derivation's modulo hash
-abbrev pub IsChecking : (dir : List ℕ) → (kept : List PlanNode) → Visit → Result (Kind × List ℕ) GraphFault → Type 0
-IsChecking dir kept visit (Ok made) = MayAnswer dir (nodes_of kept) (visited visit) (Ok made.0) × HasHash (nodes_of kept) visit.drv made.0 made.1
+-- what the check of an open derivation's outputs answers: their kind, and the derivation's modulo
+-- hash
+abbrev pub IsChecking : (dir : List ℕ) → (kept : List PlanNode) → Visit
+    → Result (Kind × List ℕ) GraphFault → Type 0
+IsChecking dir kept visit (Ok made) = MayAnswer dir (nodes_of kept) (visited visit) (Ok made.0)
+    × HasHash (nodes_of kept) visit.drv made.0 made.1
 IsChecking dir kept visit (Err fault) = IsLeavingFault dir kept visit fault
 
 -- One of some outputs is that of a derivation that was left before.
-pub record IsShared (kept : List PlanNode) (outputs : List (List ℕ)) (earlier : List ℕ) : Type 0 where
+pub record IsShared (kept : List PlanNode) (outputs : List (List ℕ)) (earlier : List ℕ)
+    : Type 0 where
   pub number : ℕ
   pub node : PlanNode
   pub is_node : slice_get kept number ≡ Some node
@@ -133,10 +162,13 @@ pub record IsShared (kept : List PlanNode) (outputs : List (List ℕ)) (earlier 
   pub is_own : Contains outputs output
 
 -- what entering the outputs of the derivation at a path among their owners answers
-abbrev pub IsOwning : (kept : List PlanNode) → (path : List ℕ) → (outputs : List (List ℕ)) → (owners : List ℕ → Option ℕ) → Result ⊤ GraphFault → Type 0
-IsOwning kept path outputs owners (Ok _) = AreOwners owners (outputs_of kept) outputs × AreAlone (outputs_of kept) outputs
+abbrev pub IsOwning : (kept : List PlanNode) → (path : List ℕ) → (outputs : List (List ℕ))
+    → (owners : List ℕ → Option ℕ) → Result ⊤ GraphFault → Type 0
+IsOwning kept path outputs owners (Ok _) = AreOwners owners (outputs_of kept) outputs
+    × AreAlone (outputs_of kept) outputs
 IsOwning kept path outputs owners (Err NoMemory) = ⊤
-IsOwning kept path outputs owners (Err (At at (SharedOutput earlier))) = (at ≡ path) × IsShared kept outputs earlier
+IsOwning kept path outputs owners (Err (At at (SharedOutput earlier))) = (at ≡ path)
+    × IsShared kept outputs earlier
 IsOwning kept path outputs owners (Err (At at (Outputs fault))) = ⊥
 IsOwning kept path outputs owners (Err (At at Unreadable)) = ⊥
 IsOwning kept path outputs owners (Err (At at TooMany)) = ⊥
@@ -179,11 +211,14 @@ IsTextFaultAt path fault (Draft found) = ⊥
 IsTextFaultAt path fault Name = ⊥
 
 -- a fault that is answered where so many paths were met before, and this one is read, is true of it
-abbrev pub IsReadingFault : (dir : List ℕ) → (gives : List ℕ → Answer → Type 0) → (path : List ℕ) → (count : ℕ) → GraphFault → Type 0
+abbrev pub IsReadingFault : (dir : List ℕ) → (gives : List ℕ → Answer → Type 0) → (path : List ℕ)
+    → (count : ℕ) → GraphFault → Type 0
 IsReadingFault dir gives path count NoMemory = ⊤
-IsReadingFault dir gives path count (At at Unreadable) = (at ≡ path) × (gives path (Err Missing) ⊎ gives path (Err Device))
+IsReadingFault dir gives path count (At at Unreadable) = (at ≡ path)
+    × (gives path (Err Missing) ⊎ gives path (Err Device))
 IsReadingFault dir gives path count (At at TooMany) = (at ≡ path) × (max_nodes ≤ count)
-IsReadingFault dir gives path count (At at (Text fault)) = (at ≡ path) × (fault ≢ NoSpace) × ((bytes : List ℕ) × gives path (Ok bytes) × IsCheck dir path bytes (Err fault))
+IsReadingFault dir gives path count (At at (Text fault)) = (at ≡ path) × (fault ≢ NoSpace)
+    × ((bytes : List ℕ) × gives path (Ok bytes) × IsCheck dir path bytes (Err fault))
 IsReadingFault dir gives path count (At at Cycle) = ⊥
 IsReadingFault dir gives path count (At at (Outputs fault)) = ⊥
 IsReadingFault dir gives path count (At at (SharedOutput earlier)) = ⊥
@@ -191,10 +226,12 @@ IsReadingFault dir gives path count (Draft fault) = ⊥
 IsReadingFault dir gives path count Name = ⊥
 
 -- what fetching the bytes at a path answers
-abbrev pub IsFetching : (gives : Answer → Type 0) → (path : List ℕ) → Result (Vec ℕ) GraphFault → Type 0
+abbrev pub IsFetching : (gives : Answer → Type 0) → (path : List ℕ) → Result (Vec ℕ) GraphFault
+    → Type 0
 IsFetching gives path (Ok bytes) = gives (Ok bytes.items)
 IsFetching gives path (Err NoMemory) = ⊤
-IsFetching gives path (Err (At at Unreadable)) = (at ≡ path) × (gives (Err Missing) ⊎ gives (Err Device))
+IsFetching gives path (Err (At at Unreadable)) = (at ≡ path)
+    × (gives (Err Missing) ⊎ gives (Err Device))
 IsFetching gives path (Err (At at TooMany)) = ⊥
 IsFetching gives path (Err (At at (Text fault))) = ⊥
 IsFetching gives path (Err (At at Cycle)) = ⊥
@@ -204,12 +241,14 @@ IsFetching gives path (Err (Draft fault)) = ⊥
 IsFetching gives path (Err Name) = ⊥
 
 -- what reading the derivation at a path answers
-abbrev pub IsReadingOf : (dir : List ℕ) → (gives : List ℕ → Answer → Type 0) → (path : List ℕ) → (count : ℕ) → Result Drv GraphFault → Type 0
+abbrev pub IsReadingOf : (dir : List ℕ) → (gives : List ℕ → Answer → Type 0) → (path : List ℕ)
+    → (count : ℕ) → Result Drv GraphFault → Type 0
 IsReadingOf dir gives path count (Ok drv) = MayStand dir gives path drv × (count < max_nodes)
 IsReadingOf dir gives path count (Err fault) = IsReadingFault dir gives path count fault
 
 -- A derivation was opened, and its path is marked as open.
-pub record Opens {S : Type 0} (dir : List ℕ) (gives : List ℕ → Answer → Type 0) (before after : IndexMap (List ℕ) (Option ℕ) S) (path : List ℕ) (visit : Visit) : Type 0 where
+pub record Opens {S : Type 0} (dir : List ℕ) (gives : List ℕ → Answer → Type 0)
+    (before after : IndexMap (List ℕ) (Option ℕ) S) (path : List ℕ) (visit : Visit) : Type 0 where
   pub is_path : visit.path ≡ path
   pub stands : MayStand dir gives path visit.drv
   pub inputs : visit.inputs.items ≡ inputs_of visit.drv
@@ -220,24 +259,34 @@ pub record Opens {S : Type 0} (dir : List ℕ) (gives : List ℕ → Answer → 
   pub count : length (keys after) ≡ length (keys before) + 1
 
 -- what opening the derivation at a path answers
-abbrev pub IsOpening : {S : Type 0} → (dir : List ℕ) → (gives : List ℕ → Answer → Type 0) → (before after : IndexMap (List ℕ) (Option ℕ) S) → (path : List ℕ) → Result Visit GraphFault → Type 0
+abbrev pub IsOpening : {S : Type 0} → (dir : List ℕ) → (gives : List ℕ → Answer → Type 0)
+    → (before after : IndexMap (List ℕ) (Option ℕ) S) → (path : List ℕ) → Result Visit GraphFault
+    → Type 0
 IsOpening dir gives before after path (Ok visit) = Opens dir gives before after path visit
-IsOpening dir gives before after path (Err fault) = IsReadingFault dir gives path (length (keys before)) fault × AreDistinct (keys before)
+IsOpening dir gives before after path (Err fault) =
+    IsReadingFault dir gives path (length (keys before)) fault × AreDistinct (keys before)
 
 -- a fault that is answered where a path is met is true of it
-abbrev pub IsMeetingFault : {S : Type 0} → (dir : List ℕ) → (gives : List ℕ → Answer → Type 0) → (before : IndexMap (List ℕ) (Option ℕ) S) → (path : List ℕ) → GraphFault → Type 0
+abbrev pub IsMeetingFault : {S : Type 0} → (dir : List ℕ) → (gives : List ℕ → Answer → Type 0)
+    → (before : IndexMap (List ℕ) (Option ℕ) S) → (path : List ℕ) → GraphFault → Type 0
 IsMeetingFault dir gives before path fault =
     (IsFaultAt path Cycle fault × (marked before path ≡ Some None))
-    ⊎ (IsReadingFault dir gives path (length (keys before)) fault × (marked before path ≡ None) × AreDistinct (keys before))
+    ⊎ (IsReadingFault dir gives path (length (keys before)) fault × (marked before path ≡ None)
+    × AreDistinct (keys before))
 
--- what meeting a path answers: its number where it was left, or the derivation that is opened for it
-abbrev pub IsMeeting : {S : Type 0} → (dir : List ℕ) → (gives : List ℕ → Answer → Type 0) → (before after : IndexMap (List ℕ) (Option ℕ) S) → (path : List ℕ) → Result Met GraphFault → Type 0
-IsMeeting dir gives before after path (Ok (Done number)) = (after ≡ before) × (marked before path ≡ Some (Some number))
+-- what meeting a path answers: its number where it was left, or the derivation that is opened for
+-- it
+abbrev pub IsMeeting : {S : Type 0} → (dir : List ℕ) → (gives : List ℕ → Answer → Type 0)
+    → (before after : IndexMap (List ℕ) (Option ℕ) S) → (path : List ℕ) → Result Met GraphFault
+    → Type 0
+IsMeeting dir gives before after path (Ok (Done number)) = (after ≡ before)
+    × (marked before path ≡ Some (Some number))
 IsMeeting dir gives before after path (Ok (New visit)) = Opens dir gives before after path visit
 IsMeeting dir gives before after path (Err fault) = IsMeetingFault dir gives before path fault
 
 -- The next input of an open derivation was left before: its number is added.
-pub record Advances {S : Type 0} (before after : IndexMap (List ℕ) (Option ℕ) S) (visit next : Visit) : Type 0 where
+pub record Advances {S : Type 0} (before after : IndexMap (List ℕ) (Option ℕ) S)
+    (visit next : Visit) : Type 0 where
   pub input : List ℕ
   pub number : ℕ
   pub is_input : slice_get visit.inputs.items (length visit.numbers.items) ≡ Some input
@@ -249,23 +298,30 @@ pub record Advances {S : Type 0} (before after : IndexMap (List ℕ) (Option ℕ
   pub numbers : next.numbers.items ≡ visit.numbers.items ++ number ∷ []
 
 -- The next input of an open derivation is opened.
-pub record Descends {S : Type 0} (dir : List ℕ) (gives : List ℕ → Answer → Type 0) (before after : IndexMap (List ℕ) (Option ℕ) S) (visit next child : Visit) : Type 0 where
+pub record Descends {S : Type 0} (dir : List ℕ) (gives : List ℕ → Answer → Type 0)
+    (before after : IndexMap (List ℕ) (Option ℕ) S) (visit next child : Visit) : Type 0 where
   pub input : List ℕ
   pub is_input : slice_get visit.inputs.items (length visit.numbers.items) ≡ Some input
   pub opens : Opens dir gives before after input child
   pub same : next ≡ visit
 
 -- A fault is true of the next input of an open derivation.
-pub record IsInputFault {S : Type 0} (dir : List ℕ) (gives : List ℕ → Answer → Type 0) (before : IndexMap (List ℕ) (Option ℕ) S) (visit : Visit) (fault : GraphFault) : Type 0 where
+pub record IsInputFault {S : Type 0} (dir : List ℕ) (gives : List ℕ → Answer → Type 0)
+    (before : IndexMap (List ℕ) (Option ℕ) S) (visit : Visit) (fault : GraphFault) : Type 0 where
   pub input : List ℕ
   pub is_input : slice_get visit.inputs.items (length visit.numbers.items) ≡ Some input
   pub is_true : IsMeetingFault dir gives before input fault
 
--- what meeting the next input of an open derivation answers: the derivation that is opened for it, if any
-abbrev pub IsStepping : {S : Type 0} → (dir : List ℕ) → (gives : List ℕ → Answer → Type 0) → (before after : IndexMap (List ℕ) (Option ℕ) S) → (visit next : Visit) → Result (Option Visit) GraphFault → Type 0
+-- what meeting the next input of an open derivation answers: the derivation that is opened for it,
+-- if any
+abbrev pub IsStepping : {S : Type 0} → (dir : List ℕ) → (gives : List ℕ → Answer → Type 0)
+    → (before after : IndexMap (List ℕ) (Option ℕ) S) → (visit next : Visit)
+    → Result (Option Visit) GraphFault → Type 0
 IsStepping dir gives before after visit next (Ok None) = Advances before after visit next
-IsStepping dir gives before after visit next (Ok (Some child)) = Descends dir gives before after visit next child
-IsStepping dir gives before after visit next (Err fault) = (fault ≡ NoMemory) ⊎ IsInputFault dir gives before visit fault
+IsStepping dir gives before after visit next (Ok (Some child)) =
+    Descends dir gives before after visit next child
+IsStepping dir gives before after visit next (Err fault) = (fault ≡ NoMemory)
+    ⊎ IsInputFault dir gives before visit fault
 
 -- all inputs of an open derivation were left
 abbrev pub HasAllNumbers : Visit → Type 0
@@ -276,17 +332,25 @@ pub record LeavesNone (before after : Found) : Type 0 where
   pub nodes : after.nodes ≡ before.nodes
   pub owners : after.owners ≡ before.owners
 
--- what going on with the innermost open derivation answers; the others, outermost first, stay below it
-abbrev pub IsGoingOn : (dir : List ℕ) → (gives : List ℕ → Answer → Type 0) → (before after : Found) → (below : List Visit) → (visit : Visit) → (visits : List Visit) → Result ⊤ GraphFault → Type 0
+-- what going on with the innermost open derivation answers; the others, outermost first, stay below
+-- it
+abbrev pub IsGoingOn : (dir : List ℕ) → (gives : List ℕ → Answer → Type 0) → (before after : Found)
+    → (below : List Visit) → (visit : Visit) → (visits : List Visit) → Result ⊤ GraphFault → Type 0
 IsGoingOn dir gives before after below visit visits (Ok _) =
     (HasAllNumbers visit × Leaves dir before after visit × (visits ≡ below))
-    ⊎ ((next : Visit) × LeavesNone before after × Advances before.marks after.marks visit next × (visits ≡ below ++ next ∷ []))
-    ⊎ ((child : Visit) × LeavesNone before after × Descends dir gives before.marks after.marks visit visit child × (visits ≡ (below ++ visit ∷ []) ++ child ∷ []))
+    ⊎ ((next : Visit) × LeavesNone before after × Advances before.marks after.marks visit next
+    × (visits ≡ below ++ next ∷ []))
+    ⊎ ((child : Visit) × LeavesNone before after
+    × Descends dir gives before.marks after.marks visit visit child
+    × (visits ≡ (below ++ visit ∷ []) ++ child ∷ []))
 IsGoingOn dir gives before after below visit visits (Err fault) =
-    (fault ≡ NoMemory) ⊎ (HasAllNumbers visit × IsLeavingFault dir before.nodes.items visit fault) ⊎ IsInputFault dir gives before.marks visit fault
+    (fault ≡ NoMemory) ⊎ (HasAllNumbers visit × IsLeavingFault dir before.nodes.items visit fault)
+    ⊎ IsInputFault dir gives before.marks visit fault
 
--- What was left and what is open is right: it is what the source may give, and reached from the roots.
-pub record IsWalked (dir : List ℕ) (gives : List ℕ → Answer → Type 0) (roots : List (List ℕ)) (found : Found) (pending : List (List ℕ)) : Type 0 where
+-- What was left and what is open is right: it is what the source may give, and reached from the
+-- roots.
+pub record IsWalked (dir : List ℕ) (gives : List ℕ → Answer → Type 0) (roots : List (List ℕ))
+    (found : Found) (pending : List (List ℕ)) : Type 0 where
   pub right : IsFound dir found
   pub given : All (λ (n : Node). MayStand dir gives n.path n.drv) (nodes_of found.nodes.items)
   pub reached : All (IsReached (MayUse dir gives) roots) (paths_of (nodes_of found.nodes.items))
@@ -298,31 +362,41 @@ pub record IsWalked (dir : List ℕ) (gives : List ℕ → Answer → Type 0) (r
 pub record LeavesInOrder (before after : List Node) (paths : List (List ℕ)) : Type 0 where
   pub more : List Node
   pub grown : after ≡ before ++ more
-  pub in_order : (nodes : List Node) → All (Contains nodes) after → AreLeft nodes (paths_of before) paths (paths_of after)
+  pub in_order : (nodes : List Node) → All (Contains nodes) after
+      → AreLeft nodes (paths_of before) paths (paths_of after)
 
 -- A root and all that it reaches are left.
-pub record IsVisited (dir : List ℕ) (gives : List ℕ → Answer → Type 0) (roots : List (List ℕ)) (root : List ℕ) (before after : Found) (number : ℕ) : Type 0 where
+pub record IsVisited (dir : List ℕ) (gives : List ℕ → Answer → Type 0) (roots : List (List ℕ))
+    (root : List ℕ) (before after : Found) (number : ℕ) : Type 0 where
   pub walked : IsWalked dir gives roots after []
-  pub in_order : LeavesInOrder (nodes_of before.nodes.items) (nodes_of after.nodes.items) (root ∷ [])
+  pub in_order : LeavesInOrder (nodes_of before.nodes.items) (nodes_of after.nodes.items)
+      (root ∷ [])
   pub is_number : slice_get (paths_of (nodes_of after.nodes.items)) number ≡ Some root
 
 -- what walking from a root answers
-abbrev pub IsWalking : (dir : List ℕ) → (gives : List ℕ → Answer → Type 0) → (roots : List (List ℕ)) → (root : List ℕ) → (before after : Found) → Result ℕ GraphFault → Type 0
-IsWalking dir gives roots root before after (Ok number) = IsVisited dir gives roots root before after number
+abbrev pub IsWalking : (dir : List ℕ) → (gives : List ℕ → Answer → Type 0) → (roots : List (List ℕ))
+    → (root : List ℕ) → (before after : Found) → Result ℕ GraphFault → Type 0
+IsWalking dir gives roots root before after (Ok number) =
+    IsVisited dir gives roots root before after number
 IsWalking dir gives roots root before after (Err fault) = IsLoading dir gives roots (Err fault)
 
 -- nothing was met
 abbrev pub IsEmptyFound : Found → Type 0
-IsEmptyFound found = (found.nodes.items ≡ []) × (found.marks.entries ≡ []) × (found.owners.entries ≡ [])
+IsEmptyFound found = (found.nodes.items ≡ []) × (found.marks.entries ≡ [])
+    × (found.owners.entries ≡ [])
 
 -- All that roots reach was left, in plan order, and these are the roots' numbers.
-pub record IsReachedAll (dir : List ℕ) (gives : List ℕ → Answer → Type 0) (roots : List (List ℕ)) (found : Found) (numbers : List ℕ) : Type 0 where
+pub record IsReachedAll (dir : List ℕ) (gives : List ℕ → Answer → Type 0) (roots : List (List ℕ))
+    (found : Found) (numbers : List ℕ) : Type 0 where
   pub walked : IsWalked dir gives roots found []
-  pub in_order : (nodes : List Node) → All (Contains nodes) (nodes_of found.nodes.items) → AreLeft nodes [] roots (paths_of (nodes_of found.nodes.items))
+  pub in_order : (nodes : List Node) → All (Contains nodes) (nodes_of found.nodes.items)
+      → AreLeft nodes [] roots (paths_of (nodes_of found.nodes.items))
   pub are_numbers : AreNumbers (nodes_of found.nodes.items) numbers (each_once roots)
   pub once : IsDistinct nat_eq numbers
 
 -- what walking from all roots answers
-abbrev pub IsWalkingAll : (dir : List ℕ) → (gives : List ℕ → Answer → Type 0) → (roots : List (List ℕ)) → Result Reached GraphFault → Type 0
-IsWalkingAll dir gives roots (Ok reached) = IsReachedAll dir gives roots reached.found reached.roots.keys
+abbrev pub IsWalkingAll : (dir : List ℕ) → (gives : List ℕ → Answer → Type 0)
+    → (roots : List (List ℕ)) → Result Reached GraphFault → Type 0
+IsWalkingAll dir gives roots (Ok reached) = IsReachedAll dir gives roots reached.found
+    reached.roots.keys
 IsWalkingAll dir gives roots (Err fault) = IsLoading dir gives roots (Err fault)

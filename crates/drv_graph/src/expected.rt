@@ -31,7 +31,8 @@ pub(crate) fn expected_paths(
 ) -> Result<Vec<StorePath>, AllocError>
     requires kind { HasKind drv.now kind }
     requires hashes { length hashes.now ≡ length drv.now.inputs }
-    ensures { IfOk result (λ paths. AreExpected dir.now name.now kind drv.now hashes.now paths.items) }
+    ensures { IfOk result
+        (λ paths. AreExpected dir.now name.now kind drv.now hashes.now paths.items) }
 {
     match kind {
         Kind::Addressed => {
@@ -66,7 +67,8 @@ fn output_paths(
     outputs: &[Output],
     inner: &[u8; 32],
 ) -> Result<Vec<StorePath>, AllocError>
-    ensures { IfOk result (λ paths. paths.items ≡ map (output_path dir.now name.now inner.now) (map output_of outputs.now)) }
+    ensures { IfOk result (λ paths. paths.items
+        ≡ map (output_path dir.now name.now inner.now) (map output_of outputs.now)) }
 {
     let mut paths = Vec::with_capacity(alloc, outputs.len())?;
     for output in outputs {
@@ -83,7 +85,9 @@ fn addressed_path(
     output: &[u8],
     inner: &[u8; 32],
 ) -> Result<StorePath, AllocError>
-    ensures { IfOk result (λ path. path ≡ store_path (codes "output:" ++ output.now) inner.now dir.now (path_name name.now output.now)) }
+    ensures { IfOk result
+        (λ path. path ≡ store_path (codes "output:" ++ output.now) inner.now dir.now
+        (path_name name.now output.now)) }
 {
     let mut kind = Vec::from_slice(alloc, b"output:")?;
     kind.extend_from_slice(output)?;

@@ -93,7 +93,8 @@ fn draft_references(
     dir: &StoreDir,
     draft: &Derivation,
 ) -> Result<Vec<StorePath>, GraphFault>
-    ensures ok { IfOk result (λ refs. All (IsPathOf dir.now) (paths_of draft.now) × IsReferencesOf (paths_of draft.now) refs.items) }
+    ensures ok { IfOk result (λ refs. All (IsPathOf dir.now) (paths_of draft.now)
+        × IsReferencesOf (paths_of draft.now) refs.items) }
     ensures err { IfErr result (IsStrayRefused dir.now (paths_of draft.now)) }
 {
     match references(alloc, dir, draft) {
@@ -145,8 +146,11 @@ fn draft_paths(
     used: &[UsedInput],
 ) -> Result<Vec<StorePath>, GraphFault>
     requires { used_paths_of used.now ≡ inputs_of draft.now }
-    ensures ok { IfOk result (λ paths. AreDraftPaths dir.now name.now draft.now (drvs_of used.now) (hashes_of used.now) paths.items) }
-    ensures err { IfErr result (AreOutputsRefused dir.now name.now draft.now (drvs_of used.now) (hashes_of used.now)) }
+    ensures ok { IfOk result
+        (λ paths. AreDraftPaths dir.now name.now draft.now (drvs_of used.now) (hashes_of used.now)
+        paths.items) }
+    ensures err { IfErr result
+        (AreOutputsRefused dir.now name.now draft.now (drvs_of used.now) (hashes_of used.now)) }
 {
     match expected_outputs(alloc, dir, name, draft, used, true) {
         Ok((_, paths)) => Ok(paths),
@@ -163,7 +167,8 @@ fn own_path(
     filled: &Derivation,
 ) -> Result<StorePath, GraphFault>
     requires { IsRising target.now.refs.items }
-    ensures ok { IfOk result (IsTextPath dir.now target.now.file.items target.now.refs.items filled.now) }
+    ensures ok { IfOk result
+        (IsTextPath dir.now target.now.file.items target.now.refs.items filled.now) }
     ensures err { IfErr result (IsTextRefused filled.now) }
 {
     let text = filled_text(alloc, filled)?;
@@ -176,7 +181,8 @@ fn own_path(
 
 // The text of a filled derivation, within the limit.
 fn filled_text(alloc: Global, filled: &Derivation) -> Result<Vec<u8>, GraphFault>
-    ensures ok { IfOk result (λ text. IsDrvText filled.now text.items × (length text.items ≤ max_len)) }
+    ensures ok { IfOk result (λ text. IsDrvText filled.now text.items
+        × (length text.items ≤ max_len)) }
     ensures err { IfErr result (IsTextRefused filled.now) }
 {
     let Ok(text) = write(alloc, filled) else {

@@ -176,9 +176,12 @@ fn keep(
     sources: Vec<StorePath>,
 ) -> Result<(), GraphFault>
     requires { marked found.old.marks visit.path ≡ Some None }
-    ensures nodes { OnOk result (found.new.nodes.items ≡ found.old.nodes.items ++ kept_visit visit kind hash outputs sources ∷ []) }
+    ensures nodes { OnOk result (found.new.nodes.items ≡ found.old.nodes.items
+        ++ kept_visit visit kind hash outputs sources ∷ []) }
     ensures owners { OnOk result (found.new.owners ≡ found.old.owners) }
-    ensures marks { OnOk result (SetsEntry (marked found.old.marks) (marked found.new.marks) visit.path (Some (length found.old.nodes.items))) }
+    ensures marks { OnOk result
+        (SetsEntry (marked found.old.marks) (marked found.new.marks) visit.path
+        (Some (length found.old.nodes.items))) }
     ensures count { OnOk result (length (keys found.new.marks) ≡ length (keys found.old.marks)) }
     ensures err { IfErr result (λ fault. fault ≡ GraphFault.NoMemory) }
 {

@@ -14,8 +14,8 @@ use hex::FromHex;
 use nix_drv::{Derivation, Output};
 use std::alloc::{AllocError, Global};
 
-// The kind of a derivation's outputs. `MixedOutputs` where they are of none, and else `UnknownMethod`
-// where the only output has a method or a hash that isn't known.
+// The kind of a derivation's outputs. `MixedOutputs` where they are of none, and else
+// `UnknownMethod` where the only output has a method or a hash that isn't known.
 pub(crate) fn kind_of(alloc: Global, drv: &Derivation) -> Result<Kind, OutputFault>
     ensures ok { IfOk result (HasKind drv.now) }
     ensures err { IfErr result (IsKindFault drv.now) }
@@ -35,7 +35,8 @@ pub(crate) fn kind_of(alloc: Global, drv: &Derivation) -> Result<Kind, OutputFau
 
 // Whether no output says anything of its content.
 fn are_addressed(outputs: &[Output]) -> bool
-    ensures { MatchBool result (All IsAddressed (map output_of outputs.now)) (SaysSome (map output_of outputs.now)) }
+    ensures { MatchBool result (All IsAddressed (map output_of outputs.now))
+        (SaysSome (map output_of outputs.now)) }
 {
     for output in outputs {
         if !is_addressed(output) {
@@ -47,14 +48,17 @@ fn are_addressed(outputs: &[Output]) -> bool
 
 // Whether an output says nothing of its content.
 fn is_addressed(output: &Output) -> bool
-    ensures { MatchBool result (IsAddressed (output_of output.now)) (IsAddressed (output_of output.now) → ⊥) }
+    ensures { MatchBool result (IsAddressed (output_of output.now))
+        (IsAddressed (output_of output.now) → ⊥) }
 {
     output.algo.is_empty() && output.hash.is_empty()
 }
 
 // The output that is the only one and named `out`, if there is one.
 fn only_out(outputs: &[Output]) -> Option<&Output>
-    ensures { MatchOption result ((o : DrvOutput) → map output_of outputs.now ≡ o ∷ [] → o.name ≡ codes "out" → ⊥) (λ only. (map output_of outputs.now ≡ output_of only.now ∷ []) × (only.now.name.items ≡ codes "out")) }
+    ensures { MatchOption result ((o : DrvOutput) → map output_of outputs.now ≡ o ∷ [] → o.name
+        ≡ codes "out" → ⊥) (λ only. (map output_of outputs.now ≡ output_of only.now ∷ [])
+        × (only.now.name.items ≡ codes "out")) }
 {
     let [output] = outputs else {
         return None;
@@ -88,7 +92,8 @@ fn unknown_method(alloc: Global, output: &Output) -> Result<OutputFault, AllocEr
 
 // The method that is spelled so, if there is one.
 fn method_of(algo: &[u8]) -> Option<Method>
-    ensures { MatchOption result ((method : HashMethod) → algo.now ≡ algo_of method → ⊥) (λ method. algo.now ≡ algo_of method) }
+    ensures { MatchOption result ((method : HashMethod) → algo.now ≡ algo_of method → ⊥)
+        (λ method. algo.now ≡ algo_of method) }
 {
     if algo == b"sha256".as_slice() {
         Some(Method::Flat)
@@ -101,7 +106,8 @@ fn method_of(algo: &[u8]) -> Option<Method>
 
 // The digest whose 64 lower-case hex digits these are, if they are one's.
 fn digest_of(text: &[u8]) -> Option<[u8; 32]>
-    ensures { MatchOption result ((digest : List ℕ) → IsDigest digest → text.now ≡ encode_lower digest → ⊥) (λ digest. IsDigest digest × (text.now ≡ encode_lower digest)) }
+    ensures { MatchOption result ((digest : List ℕ) → IsDigest digest → text.now
+        ≡ encode_lower digest → ⊥) (λ digest. IsDigest digest × (text.now ≡ encode_lower digest)) }
 {
     let Ok(digest) = <[u8; 32] as FromHex>::from_hex(text) else {
         return None;

@@ -1,4 +1,5 @@
-//! Plans of derivations: which are reached, in which order, and which paths their outputs must have.
+//! Plans of derivations: which are reached, in which order, and which paths their outputs must
+//! have.
 //!
 //! | Module | What is in it |
 //! |---|---|

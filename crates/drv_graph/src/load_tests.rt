@@ -348,7 +348,8 @@ fn add_link(
     Ok(path)
 }
 
-// Adds a chain of so many derivations, of which `LEAF` is the first, and gives the path of the last.
+// Adds a chain of so many derivations, of which `LEAF` is the first, and gives the path of the
+// last.
 fn add_chain(
     alloc: Global,
     dir: &StoreDir,

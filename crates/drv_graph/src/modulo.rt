@@ -16,9 +16,9 @@ use crate::kind_of::digits_of;
 use nix_drv::{Derivation, EnvEntry, Input, Output, Parts};
 use std::alloc::{AllocError, Global};
 
-/// The derivation's modulo text, by the hashes of its input derivations in the text's order: the text
-/// in which each of them stands by its hash in hex digits. Inputs of one hash are one entry with
-/// the names of all. Where it is masked, the paths of the outputs are left out, at the outputs
+/// The derivation's modulo text, by the hashes of its input derivations in the text's order: the
+/// text in which each of them stands by its hash in hex digits. Inputs of one hash are one entry
+/// with the names of all. Where it is masked, the paths of the outputs are left out, at the outputs
 /// and in the environment. Answers `GraphFault::NoMemory` where memory is refused, and no other
 /// fault. Costs one copy of the derivation, and one sort of its inputs and of their names
 /// (Nix manual, "Derivation paths: hash modulo").
@@ -57,7 +57,8 @@ pub(crate) fn text_by_hashes(
 
 // The text of a derivation without the paths of its outputs, and with these inputs.
 fn masked_text(alloc: Global, drv: &Derivation, inputs: &[Input]) -> Result<Vec<u8>, AllocError>
-    ensures { IfOk result (λ text. IsLooseText (with_inputs (masked drv.now) (map input_of inputs.now)) text.items) }
+    ensures { IfOk result
+        (λ text. IsLooseText (with_inputs (masked drv.now) (map input_of inputs.now)) text.items) }
 {
     masked(alloc, drv)?.text_with_inputs(alloc, inputs)
 }
@@ -65,7 +66,8 @@ fn masked_text(alloc: Global, drv: &Derivation, inputs: &[Input]) -> Result<Vec<
 // Input derivations with their hashes, in hex digits, in the place of their paths.
 fn replaced(alloc: Global, inputs: &[Input], hashes: &[[u8; 32]]) -> Result<Vec<Input>, AllocError>
     requires { length hashes.now ≡ length inputs.now }
-    ensures { IfOk result (λ placed. map input_of placed.items ≡ replaced (map input_of inputs.now) hashes.now) }
+    ensures { IfOk result (λ placed. map input_of placed.items
+        ≡ replaced (map input_of inputs.now) hashes.now) }
 {
     let mut placed = Vec::with_capacity(alloc, inputs.len())?;
     for (place, input) in inputs.iter().enumerate() {
@@ -78,7 +80,8 @@ fn replaced(alloc: Global, inputs: &[Input], hashes: &[[u8; 32]]) -> Result<Vec<
 // An input derivation with a hash, in hex digits, in the place of its path.
 fn with_hash(alloc: Global, input: &Input, hash: &[u8; 32]) -> Result<Input, AllocError>
     ensures path { IfOk result (λ placed. placed.path.items ≡ encode_lower hash.now) }
-    ensures names { IfOk result (λ placed. map bytes_of placed.names.items ≡ map bytes_of input.now.names.items) }
+    ensures names { IfOk result (λ placed. map bytes_of placed.names.items
+        ≡ map bytes_of input.now.names.items) }
 {
     let path = Vec::from_slice(alloc, &digits_of(hash))?;
     let names = copy_names(alloc, &input.names)?;
@@ -96,10 +99,11 @@ fn copy_names(alloc: Global, names: &[Vec<u8>]) -> Result<Vec<Vec<u8>>, AllocErr
     Ok(copy)
 }
 
-// Inputs in rising order of their paths, those of one path as one, with their names in rising order,
-// each once.
+// Inputs in rising order of their paths, those of one path as one, with their names in rising
+// order, each once.
 fn united(alloc: Global, mut inputs: Vec<Input>) -> Result<Vec<Input>, AllocError>
-    ensures { IfOk result (λ united. IsUnited (map input_of inputs.items) (map input_of united.items)) }
+    ensures { IfOk result
+        (λ united. IsUnited (map input_of inputs.items) (map input_of united.items)) }
 {
     inputs.sort_unstable_by(|a, b| a.path.cmp(&b.path));
     let mut gathered = gather(alloc, inputs)?;
@@ -110,7 +114,8 @@ fn united(alloc: Global, mut inputs: Vec<Input>) -> Result<Vec<Input>, AllocErro
 // Inputs that are sorted by path, those of one path as one, with the names of all.
 fn gather(alloc: Global, inputs: Vec<Input>) -> Result<Vec<Input>, AllocError>
     requires { IsSorted (slice_cmp nat_cmp) (map path_of inputs.items) }
-    ensures { IfOk result (λ gathered. IsGathered (map input_of inputs.items) (map input_of gathered.items)) }
+    ensures { IfOk result
+        (λ gathered. IsGathered (map input_of inputs.items) (map input_of gathered.items)) }
 {
     let mut gathered = Vec::with_capacity(alloc, inputs.len())?;
     for input in inputs {
@@ -121,7 +126,9 @@ fn gather(alloc: Global, inputs: Vec<Input>) -> Result<Vec<Input>, AllocError>
 
 // Adds an input behind others; its names go to the last of them where that has its path.
 fn add_input(gathered: &mut Vec<Input>, mut input: Input) -> Result<(), AllocError>
-    ensures { OnOk result (IsAdded (map input_of gathered.old.items) (input_of input) (map input_of gathered.new.items)) }
+    ensures { OnOk result
+        (IsAdded (map input_of gathered.old.items) (input_of input)
+        (map input_of gathered.new.items)) }
 {
     let Some(last) = gathered.last_mut() else {
         gathered.push(input)?;
@@ -172,7 +179,8 @@ fn mask_outputs(outputs: &mut [Output])
 
 // Takes the values out that stand under names of a derivation's outputs.
 fn mask_env(drv: &Derivation, env: &mut [EnvEntry])
-    ensures { map entry_of env.new ≡ map (masked_entry (names_of drv.now.outputs)) (map entry_of env.old) }
+    ensures { map entry_of env.new ≡ map (masked_entry (names_of drv.now.outputs))
+        (map entry_of env.old) }
 {
     for entry in env.iter_mut() {
         if drv.output_place(&entry.key).is_some() {

@@ -1,4 +1,5 @@
-//! What is wrong first with a derivation's outputs, and the hash by which it stands in its users' texts.
+//! What is wrong first with a derivation's outputs, and the hash by which it stands in its users'
+//! texts.
 ghost use Rattle.std.specs.Prelude.{◌≡◌, ◌↔◌, map, All, IsTrue, IfOk, IfErr, OnOk};
 ghost use Rattle.sha2.specs.Sha256.{sha256};
 ghost use Rattle.nix_names.specs.Names.{is_name};
@@ -32,8 +33,8 @@ pub(crate) struct UsedInput<'a> {
     pub(crate) hash: [u8; 32],
 }
 
-// The kind of a derivation's outputs, or what is wrong with them first. Beside the derivation, which
-// has this name, stand its inputs in their text's order.
+// The kind of a derivation's outputs, or what is wrong with them first. Beside the derivation,
+// which has this name, stand its inputs in their text's order.
 pub(crate) fn check_outputs(
     alloc: Global,
     dir: &StoreDir,
@@ -42,7 +43,8 @@ pub(crate) fn check_outputs(
     used: &[UsedInput],
 ) -> Result<Kind, OutputFault>
     requires { paths_of used.now ≡ inputs_of drv.now }
-    ensures { IsOutputsCheck IsThePath dir.now name.now drv.now (drvs_of used.now) (hashes_of used.now) result }
+    ensures { IsOutputsCheck IsThePath dir.now name.now drv.now (drvs_of used.now)
+        (hashes_of used.now) result }
 {
     let (kind, _) = expected_outputs(alloc, dir, name, drv, used, false)?;
     Ok(kind)
@@ -59,7 +61,8 @@ pub(crate) fn expected_outputs(
     in_draft: bool,
 ) -> Result<(Kind, Vec<StorePath>), OutputFault>
     requires { paths_of used.now ≡ inputs_of drv.now }
-    ensures { IsExpecting in_draft dir.now name.now drv.now (drvs_of used.now) (hashes_of used.now) result }
+    ensures { IsExpecting in_draft dir.now name.now drv.now (drvs_of used.now) (hashes_of used.now)
+        result }
 {
     let kind = check_sound(alloc, name, drv, used)?;
     let hashes = hashes(alloc, used)?;
@@ -113,7 +116,8 @@ fn check_names(alloc: Global, name: &[u8], outputs: &[Output]) -> Result<(), Out
 
 // Whether an output's name, and that of its path, are names.
 fn is_well_named(alloc: Global, name: &[u8], output: &[u8]) -> Result<bool, AllocError>
-    ensures { IfOk result (λ named. IsTrue named ↔ (IsTrue (is_name output.now) × IsTrue (is_name (path_name name.now output.now)))) }
+    ensures { IfOk result (λ named. IsTrue named
+        ↔ (IsTrue (is_name output.now) × IsTrue (is_name (path_name name.now output.now)))) }
 {
     let path = path_name(alloc, name, output)?;
     Ok(is_name(output) && is_name(&path))
@@ -134,8 +138,10 @@ fn check_uses(alloc: Global, inputs: &[Input], used: &[UsedInput]) -> Result<(),
 
 // Tests that an input has the outputs with these names.
 fn check_used(alloc: Global, used: &UsedInput, names: &[Vec<u8>]) -> Result<(), OutputFault>
-    ensures ok { OnOk result (All IsKnownUse (uses_of used.now.path.now used.now.drv.now (map bytes_of names.now))) }
-    ensures err { IfErr result (IsUseFault (uses_of used.now.path.now used.now.drv.now (map bytes_of names.now))) }
+    ensures ok { OnOk result
+        (All IsKnownUse (uses_of used.now.path.now used.now.drv.now (map bytes_of names.now))) }
+    ensures err { IfErr result
+        (IsUseFault (uses_of used.now.path.now used.now.drv.now (map bytes_of names.now))) }
 {
     for name in names {
         let name = name.as_slice();

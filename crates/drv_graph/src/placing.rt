@@ -31,7 +31,8 @@ pub(crate) fn place(
 // Puts these paths into the outputs' empty places.
 fn place_outputs(outputs: &mut [Output], paths: &[StorePath]) -> Result<(), AllocError>
     requires { length paths.now ≡ length outputs.old }
-    ensures { OnOk result (map output_of outputs.new ≡ placed_outputs (map output_of outputs.old) paths.now) }
+    ensures { OnOk result (map output_of outputs.new
+        ≡ placed_outputs (map output_of outputs.old) paths.now) }
 {
     for (place, path) in paths.iter().enumerate() {
         place_value(&mut outputs[place].path, path)?;
@@ -46,7 +47,9 @@ fn place_env(
     paths: &[StorePath],
 ) -> Result<(), AllocError>
     requires { length paths.now ≡ length draft.now.outputs }
-    ensures { OnOk result (AllZip (IsPlacedEntry (names_of draft.now.outputs) paths.now) (map entry_of env.old) (map entry_of env.new)) }
+    ensures { OnOk result
+        (AllZip (IsPlacedEntry (names_of draft.now.outputs) paths.now) (map entry_of env.old)
+        (map entry_of env.new)) }
 {
     for entry in env.iter_mut() {
         if let Some(place) = draft.output_place(&entry.key) {

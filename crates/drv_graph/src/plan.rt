@@ -38,16 +38,17 @@ impl Model for Plan {
 
     ghost view = { λ plan. record { nodes = nodes_of plan.nodes.items; roots = plan.roots.items } };
 
-    ghost invariant = { λ plan. AreKept plan.nodes.items × IsSound (record { nodes = nodes_of plan.nodes.items; roots = plan.roots.items }) };
+    ghost invariant = { λ plan. AreKept plan.nodes.items × IsSound
+        (record { nodes = nodes_of plan.nodes.items; roots = plan.roots.items }) };
 }
 
 impl Plan {
-    /// The plan of the roots: what they reach by the source's answers, in the folder. A root that is
-    /// repeated counts once. A fault has the path at which it was found. At each derivation that is
-    /// met, in this order: `Unreadable`, `TooMany`, the faults of `check_text`, `Cycle`; behind its
-    /// inputs the faults of its outputs, `SharedOutput` last. Each path is fetched once, and each
-    /// derivation read, checked and digested once; the rest is linear in the pairs of a user and an
-    /// input, by look-ups by hash. Does not recurse.
+    /// The plan of the roots: what they reach by the source's answers, in the folder. A root that
+    /// is repeated counts once. A fault has the path at which it was found. At each derivation that
+    /// is met, in this order: `Unreadable`, `TooMany`, the faults of `check_text`, `Cycle`; behind
+    /// its inputs the faults of its outputs, `SharedOutput` last. Each path is fetched once, and
+    /// each derivation read, checked and digested once; the rest is linear in the pairs of a user
+    /// and an input, by look-ups by hash. Does not recurse.
     pub fn load<S: DrvSource>(
         alloc: Global,
         source: &mut S,
@@ -114,7 +115,8 @@ impl Plan {
     /// smaller.
     pub fn inputs(&self, number: usize) -> &[usize]
         requires { number < length self.now.nodes }
-        ensures numbers { IfSome (slice_get self.now.nodes number) (λ node. AreNumbers self.now.nodes result.now (inputs_of node.drv)) }
+        ensures numbers { IfSome (slice_get self.now.nodes number)
+            (λ node. AreNumbers self.now.nodes result.now (inputs_of node.drv)) }
         ensures smaller { All (λ input. input < number) result.now }
         ensures sound { IsSound self.now }
     {
@@ -132,7 +134,8 @@ impl Plan {
     /// The paths of the outputs of the derivation with this number, in its text's order.
     pub fn output_paths(&self, number: usize) -> &[StorePath]
         requires { number < length self.now.nodes }
-        ensures { IfSome (slice_get self.now.nodes number) (λ node. result.now ≡ output_paths_of node.drv) }
+        ensures { IfSome (slice_get self.now.nodes number)
+            (λ node. result.now ≡ output_paths_of node.drv) }
     {
         &self.nodes[number].outputs
     }

@@ -19,8 +19,11 @@ pub(crate) fn check_values(
     in_draft: bool,
 ) -> Result<(), OutputFault>
     requires { length paths.now ≡ length drv.now.outputs }
-    ensures paths { OnOk result (FitBefore (PathFits in_draft) drv.now.outputs paths.now (length drv.now.outputs)) }
-    ensures env { OnOk result (FitBefore (EntriesFit in_draft drv.now.env) drv.now.outputs paths.now (length drv.now.outputs)) }
+    ensures paths { OnOk result
+        (FitBefore (PathFits in_draft) drv.now.outputs paths.now (length drv.now.outputs)) }
+    ensures env { OnOk result
+        (FitBefore (EntriesFit in_draft drv.now.env) drv.now.outputs paths.now
+        (length drv.now.outputs)) }
     ensures err { IfErr result (IsValueFault in_draft drv.now paths.now) }
 {
     check_paths(alloc, drv.outputs(), paths, in_draft)?;
@@ -35,7 +38,8 @@ fn check_paths(
     in_draft: bool,
 ) -> Result<(), OutputFault>
     requires { length paths.now ≡ length outputs.now }
-    ensures ok { OnOk result (FitBefore (PathFits in_draft) (map output_of outputs.now) paths.now (length outputs.now)) }
+    ensures ok { OnOk result
+        (FitBefore (PathFits in_draft) (map output_of outputs.now) paths.now (length outputs.now)) }
     ensures err { IfErr result (IsPathFault in_draft (map output_of outputs.now) paths.now) }
 {
     for (place, output) in outputs.iter().enumerate() {
@@ -67,7 +71,9 @@ fn check_env(
     in_draft: bool,
 ) -> Result<(), OutputFault>
     requires { length paths.now ≡ length drv.now.outputs }
-    ensures ok { OnOk result (FitBefore (EntriesFit in_draft drv.now.env) drv.now.outputs paths.now (length drv.now.outputs)) }
+    ensures ok { OnOk result
+        (FitBefore (EntriesFit in_draft drv.now.env) drv.now.outputs paths.now
+        (length drv.now.outputs)) }
     ensures err { IfErr result (IsEnvFault in_draft drv.now.env drv.now.outputs paths.now) }
 {
     for (place, output) in drv.outputs().iter().enumerate() {
@@ -88,7 +94,8 @@ fn env_mismatch(alloc: Global, output: &Output) -> Result<OutputFault, AllocErro
 
 // Whether the entry under an output's name, if there is one, has this path, or none in a draft.
 fn entry_fits(drv: &Derivation, output: &Output, path: &StorePath, in_draft: bool) -> bool
-    ensures { MatchBool result (HasMisfit in_draft drv.now.env output.now.name.items path.now → ⊥) (HasMisfit in_draft drv.now.env output.now.name.items path.now) }
+    ensures { MatchBool result (HasMisfit in_draft drv.now.env output.now.name.items path.now → ⊥)
+        (HasMisfit in_draft drv.now.env output.now.name.items path.now) }
 {
     let name = output.name.as_slice();
     match drv.env_place(name) {
@@ -103,7 +110,8 @@ fn entry_fits(drv: &Derivation, output: &Output, path: &StorePath, in_draft: boo
 
 // Whether a value is this path, or empty in a draft.
 fn fits(value: &[u8], path: &StorePath, in_draft: bool) -> bool
-    ensures { MatchBool result (FitsIn in_draft value.now path.now) (FitsIn in_draft value.now path.now → ⊥) }
+    ensures { MatchBool result (FitsIn in_draft value.now path.now)
+        (FitsIn in_draft value.now path.now → ⊥) }
 {
     (in_draft && value.is_empty()) || value == path.text()
 }

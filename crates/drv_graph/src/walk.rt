@@ -41,7 +41,8 @@ pub(crate) fn walk<S: DrvSource>(
     requires walked { IsWalked dir.now (S.gives source.old) roots.now found.old [] }
     ensures keeps { GivesSame (S.gives source.old) (S.gives source.new) }
     ensures counts { S.failures source.old ≤ S.failures source.new }
-    ensures walking { (root : List ℕ) → slice_get roots.now place ≡ Some root → IsWalking dir.now (S.gives source.old) roots.now root found.old found.new result }
+    ensures walking { (root : List ℕ) → slice_get roots.now place ≡ Some root
+        → IsWalking dir.now (S.gives source.old) roots.now root found.old found.new result }
 {
     let root = &roots[place];
     let mut visits = Vec::new(alloc);
@@ -72,7 +73,8 @@ fn go_on<S: DrvSource>(
     requires is_new { Contains (paths_of (nodes_of found.old.nodes.items)) visit.path → ⊥ }
     ensures keeps { GivesSame (S.gives source.old) (S.gives source.new) }
     ensures counts { S.failures source.old ≤ S.failures source.new }
-    ensures going_on { IsGoingOn dir.now (S.gives source.old) found.old found.new visits.old.items visit visits.new.items result }
+    ensures going_on { IsGoingOn dir.now (S.gives source.old) found.old found.new visits.old.items visit
+        visits.new.items result }
 {
     if visit.inputs.len() <= visit.numbers.len() {
         return leave(alloc, dir, found, visit);

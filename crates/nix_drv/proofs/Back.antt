@@ -11,7 +11,12 @@ use Rattle.nix_drv.specs.Parts.{drv_of, parts_value}
 use Rattle.nix_drv.proofs.Derivations.{derivation_clear, parts_value_is}
 
 abbrev output_back : Value output_form → Output
-output_back v = record { name = v.1.0; path = v.1.1.1.0; algo = v.1.1.1.1.1.0; hash = v.1.1.1.1.1.1.1.0 }
+output_back v = record {
+  name = v.1.0;
+  path = v.1.1.1.0;
+  algo = v.1.1.1.1.1.0;
+  hash = v.1.1.1.1.1.1.1.0;
+}
 
 abbrev input_back : Value input_form → Input
 input_back v = record { path = v.1.0; names = v.1.1.1.0 }
@@ -30,27 +35,37 @@ drv_back v = record {
   env = map entry_back v.1.1.1.1.1.1.1.1.1.1.1.1.1.0;
 }
 
-all_back : {A B : Type 0} (to : A → B) (back : B → A) → ((x : A) → back (to x) ≡ x) → (xs : List A) → map back (map to xs) ≡ xs
+all_back : {A B : Type 0} (to : A → B) (back : B → A) → ((x : A) → back (to x) ≡ x) → (xs : List A)
+    → map back (map to xs) ≡ xs
 all_back to back same [] = refl
-all_back to back same (x ∷ xs) = ap (λ (y : _). y ∷ map back (map to xs)) (same x) ∙ ap (λ (ys : List _). x ∷ ys) (all_back to back same xs)
+all_back to back same (x ∷ xs) = ap (λ (y : _). y ∷ map back (map to xs)) (same x)
+    ∙ ap (λ (ys : List _). x ∷ ys) (all_back to back same xs)
 
 drv_back_value : (d : Drv) → drv_back (drv_value d) ≡ d
 drv_back_value d =
-    rw (all_back output_value output_back (λ o. refl) d.outputs, all_back input_value input_back (λ i. refl) d.inputs, all_back entry_value entry_back (λ e. refl) d.env) refl
+    rw (
+      all_back output_value output_back (λ o. refl) d.outputs,
+      all_back input_value input_back (λ i. refl) d.inputs,
+      all_back entry_value entry_back (λ e. refl) d.env,
+    ) refl
 
 -- no bytes are the text of two derivations
 pub one_drv : (d e : Drv) (text : List ℕ) → IsLooseText d text → IsLooseText e text → d ≡ e
 one_drv d e text is also =
-    let same : drv_value d ≡ drv_value e = one_value_each derivation_form derivation_clear (drv_value d) (drv_value e) text is also in
+    let same : drv_value d ≡ drv_value e = one_value_each derivation_form derivation_clear
+    (drv_value d) (drv_value e) text is also in
     sym (drv_back_value d) ∙ ap drv_back same ∙ drv_back_value e
 
 pub reads_back : ReadsBack
-reads_back drv text (Ok d) is within reading = inl (ap (λ (x : Drv). Ok x) (one_drv d drv text reading.1.is_text is.is_text))
+reads_back drv text (Ok d) is within reading =
+    inl (ap (λ (x : Drv). Ok x) (one_drv d drv text reading.1.is_text is.is_text))
 reads_back drv text (Err NoMemory) is within reading = inr refl
 reads_back drv text (Err (Syntax place)) is within reading = absurd (reading.1 drv is.is_text)
 reads_back drv text (Err (Order place)) is within reading =
     let same : reading.1.0 ≡ drv = one_drv reading.1.0 drv text reading.1.1 is.is_text in
-    absurd (is.in_order place (subst (λ (d : Drv). IsViolation derivation_form 0 (drv_value d) place) same reading.1.2.is_violation))
+    absurd (is.in_order place
+    (subst (λ (d : Drv). IsViolation derivation_form 0 (drv_value d) place) same
+    reading.1.2.is_violation))
 reads_back drv text (Err TooLong) is within reading = absurd (omega arith)
 reads_back drv text (Err NotSorted) is within reading = absurd reading
 reads_back drv text (Err (TextPathMismatch expected)) is within reading = absurd reading
@@ -60,10 +75,12 @@ reads_back drv text (Err (BadReference spelled)) is within reading = absurd read
 -- parts of one value are one derivation
 pub same_parts : (p q : Parts) → parts_value p ≡ parts_value q → drv_of p ≡ drv_of q
 same_parts p q e =
-    let values : drv_value (drv_of p) ≡ drv_value (drv_of q) = sym (parts_value_is p) ∙ e ∙ parts_value_is q in
+    let values : drv_value (drv_of p) ≡ drv_value (drv_of q) = sym (parts_value_is p) ∙ e
+    ∙ parts_value_is q in
     sym (drv_back_value (drv_of p)) ∙ ap drv_back values ∙ drv_back_value (drv_of q)
 
 -- a copy of parts is the same derivation
-pub copied_parts : {E : Type 0} (r : Result Parts E) (p : Parts) → IfOk r (λ copy. parts_value copy ≡ parts_value p) → IfOk r (λ copy. drv_of copy ≡ drv_of p)
+pub copied_parts : {E : Type 0} (r : Result Parts E) (p : Parts)
+    → IfOk r (λ copy. parts_value copy ≡ parts_value p) → IfOk r (λ copy. drv_of copy ≡ drv_of p)
 copied_parts (Ok copy) p same = same_parts copy p same
 copied_parts (Err e) p same = tt

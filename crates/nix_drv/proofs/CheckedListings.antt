@@ -21,20 +21,32 @@ same_after old path (Err Device) = (λ h. h, λ h. h)
 same_after old path (Err NoMemory) = (λ h. h, λ h. h)
 
 -- a fetch changes nothing of what is given
-pub keeps_gives : (old new : Listing) → new ≡ after_fetch old → GivesSame (listing_gives old) (listing_gives new)
-keeps_gives old new is_after = subst (λ (l : Listing). GivesSame (listing_gives old) (listing_gives l)) (sym is_after) (same_after old)
+pub keeps_gives : (old new : Listing) → new ≡ after_fetch old
+    → GivesSame (listing_gives old) (listing_gives new)
+keeps_gives old new is_after =
+    subst (λ (l : Listing). GivesSame (listing_gives old) (listing_gives l)) (sym is_after)
+    (same_after old)
 
-given_for : (old : Listing) (path : List ℕ) (failing : Bool) (found : Option (List ℕ)) → bytes_at old.files path ≡ found → (result : Result (Vec ℕ) SourceFault) → Answers (cond failing (Err Device) (found_answer found)) result → IsGiven (listing_gives old path) result
+given_for : (old : Listing) (path : List ℕ) (failing : Bool) (found : Option (List ℕ))
+    → bytes_at old.files path ≡ found → (result : Result (Vec ℕ) SourceFault)
+    → Answers (cond failing (Err Device) (found_answer found)) result
+    → IsGiven (listing_gives old path) result
 given_for old path true found at (Ok fetched) answer = absurd answer
-given_for old path true found at (Err fault) answer = subst (λ (f : SourceFault). IsGiven (listing_gives old path) (Err f)) (sym answer) tt
-given_for old path false (Some bytes) at (Ok fetched) answer = at ∙ ap (λ (b : List ℕ). Some b) (sym answer)
-given_for old path false (Some bytes) at (Err fault) answer = subst (λ (f : SourceFault). IsGiven (listing_gives old path) (Err f)) (sym answer) tt
+given_for old path true found at (Err fault) answer =
+    subst (λ (f : SourceFault). IsGiven (listing_gives old path) (Err f)) (sym answer) tt
+given_for old path false (Some bytes) at (Ok fetched) answer = at
+    ∙ ap (λ (b : List ℕ). Some b) (sym answer)
+given_for old path false (Some bytes) at (Err fault) answer =
+    subst (λ (f : SourceFault). IsGiven (listing_gives old path) (Err f)) (sym answer) tt
 given_for old path false None at (Ok fetched) answer = absurd answer
-given_for old path false None at (Err fault) answer = subst (λ (f : SourceFault). IsGiven (listing_gives old path) (Err f)) (sym answer) at
+given_for old path false None at (Err fault) answer =
+    subst (λ (f : SourceFault). IsGiven (listing_gives old path) (Err f)) (sym answer) at
 
 -- what the next fetch answers is given
-pub answer_is_given : (old : Listing) (path : List ℕ) (result : Result (Vec ℕ) SourceFault) → Answers (next_answer old path) result → IsGiven (listing_gives old path) result
-answer_is_given old path result answer = given_for old path (is_failing old) (bytes_at old.files path) refl result answer
+pub answer_is_given : (old : Listing) (path : List ℕ) (result : Result (Vec ℕ) SourceFault)
+    → Answers (next_answer old path) result → IsGiven (listing_gives old path) result
+answer_is_given old path result answer = given_for old path (is_failing old)
+    (bytes_at old.files path) refl result answer
 
 counted_above : (n : ℕ) → (n < counted n) ⊎ (counted n ≡ most_failures)
 counted_above n =
@@ -43,26 +55,37 @@ counted_above n =
       | inr e ↦ inl (rw e (omega arith))
     ]
 
-counted_for : (failing : Bool) (found : Option (List ℕ)) (before : ℕ) (result : Result (Vec ℕ) SourceFault) → Answers (cond failing (Err Device) (found_answer found)) result → IsCounted before (cond failing (counted before) before) result
+counted_for : (failing : Bool) (found : Option (List ℕ)) (before : ℕ)
+    (result : Result (Vec ℕ) SourceFault) → Answers (cond failing (Err Device) (found_answer found))
+    result → IsCounted before (cond failing (counted before) before) result
 counted_for true found before (Ok fetched) answer = absurd answer
-counted_for true found before (Err fault) answer = subst (λ (f : SourceFault). IsCounted before (counted before) (Err f)) (sym answer) (counted_above before)
+counted_for true found before (Err fault) answer =
+    subst (λ (f : SourceFault). IsCounted before (counted before) (Err f)) (sym answer)
+    (counted_above before)
 counted_for false (Some bytes) before (Ok fetched) answer = tt
-counted_for false (Some bytes) before (Err fault) answer = subst (λ (f : SourceFault). IsCounted before before (Err f)) (sym answer) tt
+counted_for false (Some bytes) before (Err fault) answer =
+    subst (λ (f : SourceFault). IsCounted before before (Err f)) (sym answer) tt
 counted_for false None before (Ok fetched) answer = absurd answer
-counted_for false None before (Err fault) answer = subst (λ (f : SourceFault). IsCounted before before (Err f)) (sym answer) tt
+counted_for false None before (Err fault) answer =
+    subst (λ (f : SourceFault). IsCounted before before (Err f)) (sym answer) tt
 
 -- a failed fetch is counted
-pub device_is_counted : (old new : Listing) (path : List ℕ) (result : Result (Vec ℕ) SourceFault) → new ≡ after_fetch old → Answers (next_answer old path) result → IsCounted old.failures new.failures result
+pub device_is_counted : (old new : Listing) (path : List ℕ) (result : Result (Vec ℕ) SourceFault)
+    → new ≡ after_fetch old → Answers (next_answer old path) result
+    → IsCounted old.failures new.failures result
 device_is_counted old new path result is_after answer =
-    subst (λ (l : Listing). IsCounted old.failures l.failures result) (sym is_after) (counted_for (is_failing old) (bytes_at old.files path) old.failures result answer)
+    subst (λ (l : Listing). IsCounted old.failures l.failures result) (sym is_after)
+    (counted_for (is_failing old) (bytes_at old.files path) old.failures result answer)
 
 rises : (failing : Bool) (before : ℕ) → before ≤ cond failing (counted before) before
-rises true before = elim (cases_Bool (eqb before most_failures)) [ inl e ↦ rw e (omega arith) | inr e ↦ rw e (omega arith) ]
+rises true before = elim (cases_Bool (eqb before most_failures))
+    [ inl e ↦ rw e (omega arith) | inr e ↦ rw e (omega arith) ]
 rises false before = omega arith
 
 -- the count of failures never falls
 pub failures_rise : (old new : Listing) → new ≡ after_fetch old → old.failures ≤ new.failures
-failures_rise old new is_after = subst (λ (l : Listing). old.failures ≤ l.failures) (sym is_after) (rises (is_failing old) old.failures)
+failures_rise old new is_after = subst (λ (l : Listing). old.failures ≤ l.failures) (sym is_after)
+    (rises (is_failing old) old.failures)
 
 -- ---- files by their paths
 
@@ -72,20 +95,35 @@ or_else (Some x) other = Some x
 or_else None other = other
 
 -- what is found by a view of the keys and values
-lookup_mapped : (test : List ℕ → Bool) (entries : List (Vec ℕ × Vec ℕ)) → lookup test (entries_of entries) ≡ option_map (λ v. v.items) (lookup (λ k. test k.items) entries)
+lookup_mapped : (test : List ℕ → Bool) (entries : List (Vec ℕ × Vec ℕ))
+    → lookup test (entries_of entries) ≡ option_map (λ v. v.items)
+    (lookup (λ k. test k.items) entries)
 lookup_mapped test [] = refl
-lookup_mapped test (e ∷ entries) = elim (test e.0.items) as (λ b. cond b (Some e.1.items) (lookup test (entries_of entries)) ≡ option_map (λ (v : Vec ℕ). v.items) (cond b (Some e.1) (lookup (λ k. test k.items) entries))) [ true ↦ refl | false ↦ lookup_mapped test entries ]
+lookup_mapped test (e ∷ entries) = elim (test e.0.items) as
+    (λ b. cond b (Some e.1.items) (lookup test (entries_of entries))
+    ≡ option_map (λ (v : Vec ℕ). v.items) (cond b (Some e.1) (lookup (λ k. test k.items) entries)))
+    [ true ↦ refl | false ↦ lookup_mapped test entries ]
 
 -- the bytes of the entry that is found
-pub bytes_found : (test : List ℕ → Bool) (entries : List (Vec ℕ × Vec ℕ)) (found : Option (Vec ℕ)) → found ≡ lookup (λ k. test k.items) entries → option_map (λ v. v.items) found ≡ lookup test (entries_of entries)
-bytes_found test entries found e = ap (option_map (λ (v : Vec ℕ). v.items)) e ∙ sym (lookup_mapped test entries)
+pub bytes_found : (test : List ℕ → Bool) (entries : List (Vec ℕ × Vec ℕ)) (found : Option (Vec ℕ))
+    → found ≡ lookup (λ k. test k.items) entries → option_map (λ v. v.items) found
+    ≡ lookup test (entries_of entries)
+bytes_found test entries found e = ap (option_map (λ (v : Vec ℕ). v.items)) e
+    ∙ sym (lookup_mapped test entries)
 
 -- files in front decide before the one behind them
-lookup_push : (test : List ℕ → Bool) (files : List (List ℕ × List ℕ)) (path bytes : List ℕ) (other : Option (List ℕ))
-    → or_else (lookup test (files ++ (path, bytes) ∷ [])) other ≡ or_else (lookup test files) (cond (test path) (Some bytes) other)
-lookup_push test [] path bytes other = elim (test path) as (λ b. or_else (cond b (Some bytes) None) other ≡ cond b (Some bytes) other) [ true ↦ refl | false ↦ refl ]
+lookup_push : (test : List ℕ → Bool) (files : List (List ℕ × List ℕ)) (path bytes : List ℕ)
+    (other : Option (List ℕ))
+    → or_else (lookup test (files ++ (path, bytes) ∷ [])) other
+    ≡ or_else (lookup test files) (cond (test path) (Some bytes) other)
+lookup_push test [] path bytes other = elim (test path) as
+    (λ b. or_else (cond b (Some bytes) None) other ≡ cond b (Some bytes) other)
+    [ true ↦ refl | false ↦ refl ]
 lookup_push test (e ∷ files) path bytes other =
-    elim (test e.0) as (λ b. or_else (cond b (Some e.1) (lookup test (files ++ (path, bytes) ∷ []))) other ≡ or_else (cond b (Some e.1) (lookup test files)) (cond (test path) (Some bytes) other)) [ true ↦ refl | false ↦ lookup_push test files path bytes other ]
+    elim (test e.0) as
+    (λ b. or_else (cond b (Some e.1) (lookup test (files ++ (path, bytes) ∷ []))) other
+    ≡ or_else (cond b (Some e.1) (lookup test files)) (cond (test path) (Some bytes) other))
+    [ true ↦ refl | false ↦ lookup_push test files path bytes other ]
 
 -- an entry that takes the place of one with the same key
 same_twice : (b : Bool) (x y z : Option (List ℕ)) → cond b x z ≡ cond b x (cond b y z)
@@ -93,37 +131,61 @@ same_twice true x y z = refl
 same_twice false x y z = refl
 
 -- two tests that can't both pass
-either_first : (a b : Bool) (x y z : Option (List ℕ)) → (a ≡ true → b ≡ true → ⊥) → cond a x (cond b y z) ≡ cond b y (cond a x z)
+either_first : (a b : Bool) (x y z : Option (List ℕ)) → (a ≡ true → b ≡ true → ⊥)
+    → cond a x (cond b y z) ≡ cond b y (cond a x z)
 either_first true true x y z apart = absurd (apart refl refl)
 either_first true false x y z apart = refl
 either_first false b x y z apart = refl
 
 -- a new entry is found by its key, and hides no other
 pub lookup_inserted : (wanted : List ℕ) (entries : List (Vec ℕ × Vec ℕ)) (k v : Vec ℕ)
-    → lookup (same_bytes wanted) (entries_of (insert_entry (λ x y. same_bytes x.items y.items) entries k v)) ≡ cond (same_bytes wanted k.items) (Some v.items) (lookup (same_bytes wanted) (entries_of entries))
+    → lookup (same_bytes wanted)
+    (entries_of (insert_entry (λ x y. same_bytes x.items y.items) entries k v))
+    ≡ cond (same_bytes wanted k.items) (Some v.items)
+    (lookup (same_bytes wanted) (entries_of entries))
 lookup_inserted wanted [] k v = refl
 lookup_inserted wanted (e ∷ entries) k v =
     elim (cases_Bool (same_bytes k.items e.0.items)) [
       | inl same ↦
           let keys : k.items ≡ e.0.items = (bytes_eq-Decides k.items e.0.items).0 same in
-          rw (same, keys) (same_twice (same_bytes wanted e.0.items) (Some v.items) (Some e.1.items) (lookup (same_bytes wanted) (entries_of entries)))
+          rw (same, keys)
+          (same_twice (same_bytes wanted e.0.items) (Some v.items) (Some e.1.items)
+          (lookup (same_bytes wanted) (entries_of entries)))
       | inr other ↦
           let apart : same_bytes wanted e.0.items ≡ true → same_bytes wanted k.items ≡ true → ⊥ =
-          λ is also. let keys : k.items ≡ e.0.items = sym ((bytes_eq-Decides wanted k.items).0 also) ∙ (bytes_eq-Decides wanted e.0.items).0 is in
-          let yes : same_bytes k.items e.0.items ≡ true = (bytes_eq-Decides k.items e.0.items).1 keys in cc in
-          rw (other, lookup_inserted wanted entries k v) (either_first (same_bytes wanted e.0.items) (same_bytes wanted k.items) (Some e.1.items) (Some v.items) (lookup (same_bytes wanted) (entries_of entries)) apart)
+          λ is also. let keys : k.items ≡ e.0.items = sym ((bytes_eq-Decides wanted k.items).0 also)
+          ∙ (bytes_eq-Decides wanted e.0.items).0 is in
+          let yes : same_bytes k.items e.0.items
+          ≡ true = (bytes_eq-Decides k.items e.0.items).1 keys in cc in
+          rw (other, lookup_inserted wanted entries k v)
+          (either_first (same_bytes wanted e.0.items) (same_bytes wanted k.items)
+          (Some e.1.items) (Some v.items) (lookup (same_bytes wanted) (entries_of entries))
+          apart)
     ]
 
 -- the files that are left decide before those by path
 abbrev pub AreByPath : List ListedFile → List (Vec ℕ × Vec ℕ) → List ListedFile → Type 0
-AreByPath left entries files = (wanted : List ℕ) → or_else (bytes_at (pairs_of left) wanted) (bytes_at (entries_of entries) wanted) ≡ bytes_at (pairs_of files) wanted
+AreByPath left entries files = (wanted : List ℕ)
+    → or_else (bytes_at (pairs_of left) wanted) (bytes_at (entries_of entries) wanted)
+    ≡ bytes_at (pairs_of files) wanted
 
 -- the last of the files that are left goes to those by path
-pub one_by_path : (left rest : List ListedFile) (entries more : List (Vec ℕ × Vec ℕ)) (files : List ListedFile) (file : ListedFile) → AreByPath left entries files → left ≡ rest ++ file ∷ []
-    → more ≡ insert_entry (λ x y. same_bytes x.items y.items) entries file.path file.bytes → AreByPath rest more files
+pub one_by_path : (left rest : List ListedFile) (entries more : List (Vec ℕ × Vec ℕ))
+    (files : List ListedFile) (file : ListedFile) → AreByPath left entries files → left ≡ rest
+    ++ file ∷ []
+    → more ≡ insert_entry (λ x y. same_bytes x.items y.items) entries file.path file.bytes
+    → AreByPath rest more files
 one_by_path left rest entries more files file are split inserted wanted =
-    let pairs : pairs_of left ≡ pairs_of rest ++ (file.path.items, file.bytes.items) ∷ [] = ap pairs_of split ∙ map-append (λ (f : ListedFile). (f.path.items, f.bytes.items)) rest (file ∷ []) in
-    let here : bytes_at (entries_of more) wanted ≡ cond (same_bytes wanted file.path.items) (Some file.bytes.items) (bytes_at (entries_of entries) wanted) =
-    ap (λ (es : List (Vec ℕ × Vec ℕ)). bytes_at (entries_of es) wanted) inserted ∙ lookup_inserted wanted entries file.path file.bytes in
-    ap (or_else (bytes_at (pairs_of rest) wanted)) here ∙ sym (lookup_push (same_bytes wanted) (pairs_of rest) file.path.items file.bytes.items (bytes_at (entries_of entries) wanted))
-    ∙ ap (λ (fs : List (List ℕ × List ℕ)). or_else (bytes_at fs wanted) (bytes_at (entries_of entries) wanted)) (sym pairs) ∙ are wanted
+    let pairs : pairs_of left ≡ pairs_of rest ++ (file.path.items, file.bytes.items)
+    ∷ [] = ap pairs_of split ∙ map-append (λ (f : ListedFile). (f.path.items, f.bytes.items))
+    rest (file ∷ []) in
+    let here : bytes_at (entries_of more) wanted
+    ≡ cond (same_bytes wanted file.path.items) (Some file.bytes.items)
+    (bytes_at (entries_of entries) wanted) =
+    ap (λ (es : List (Vec ℕ × Vec ℕ)). bytes_at (entries_of es) wanted) inserted
+    ∙ lookup_inserted wanted entries file.path file.bytes in
+    ap (or_else (bytes_at (pairs_of rest) wanted)) here
+    ∙ sym (lookup_push (same_bytes wanted) (pairs_of rest) file.path.items file.bytes.items
+    (bytes_at (entries_of entries) wanted))
+    ∙ ap (λ (fs : List (List ℕ × List ℕ)). or_else (bytes_at fs wanted)
+    (bytes_at (entries_of entries) wanted)) (sym pairs) ∙ are wanted

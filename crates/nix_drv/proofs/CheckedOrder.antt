@@ -8,8 +8,15 @@ use Rattle.nix_names.proofs.RisingLists.{members_of_dedup, rising_dedup}
 use Rattle.nix_drv.specs.References.{IsReferencesOf}
 
 -- what a sort and a `dedup` leave of some paths
-pub references_from : (paths pushed sorted kept : List (List ℕ)) → pushed ≡ paths → IsPermutation pushed sorted → IsSorted (slice_cmp nat_cmp) sorted → kept ≡ dedup (pointwise nat_eq) sorted → IsReferencesOf paths kept
+pub references_from : (paths pushed sorted kept : List (List ℕ)) → pushed ≡ paths
+    → IsPermutation pushed sorted → IsSorted (slice_cmp nat_cmp) sorted → kept
+    ≡ dedup (pointwise nat_eq) sorted → IsReferencesOf paths kept
 references_from paths pushed sorted kept same moved ordered is_kept =
-    let moved_here : IsPermutation paths sorted = subst (λ (all : List (List ℕ)). IsPermutation all sorted) same moved in
-    let all_kept : IsReferencesOf paths (dedup (pointwise nat_eq) sorted) = record { rising = rising_dedup sorted ordered; same = members_of_dedup paths sorted moved_here } in
+    let moved_here : IsPermutation paths sorted =
+    subst (λ (all : List (List ℕ)). IsPermutation all sorted) same moved in
+    let all_kept : IsReferencesOf paths (dedup (pointwise nat_eq) sorted) =
+    record {
+      rising = rising_dedup sorted ordered;
+      same = members_of_dedup paths sorted moved_here;
+    } in
     subst (λ (refs : List (List ℕ)). IsReferencesOf paths refs) (sym is_kept) all_kept

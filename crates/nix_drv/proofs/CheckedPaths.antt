@@ -19,12 +19,15 @@ use Rattle.nix_drv.specs.declared.fault.DrvFault.{DrvFault}
 use Rattle.nix_drv.specs.declared.fault.DrvFault.TheVariants as fault
 
 -- a text that parsing blames is no path of the folder
-pub blamed_is_stray : (dir text : List ℕ) (blame : NameFault) → (path_fault dir text ≡ Some blame) ⊎ ((path_fault dir text ≡ None) × (blame ≡ NoMemory)) → blame ≢ NoMemory → IsPathOf dir text → ⊥
-blamed_is_stray dir text blame (inl blamed) other path = let none : path_fault dir text ≡ None = no_fault_of_path dir text path in cc
+pub blamed_is_stray : (dir text : List ℕ) (blame : NameFault) → (path_fault dir text ≡ Some blame)
+    ⊎ ((path_fault dir text ≡ None) × (blame ≡ NoMemory)) → blame ≢ NoMemory → IsPathOf dir text → ⊥
+blamed_is_stray dir text blame (inl blamed) other path = let none : path_fault dir text
+    ≡ None = no_fault_of_path dir text path in cc
 blamed_is_stray dir text blame (inr refused) other path = other refused.1
 
 -- a stray text alone
-pub stray_alone : (dir text spelled : List ℕ) → spelled ≡ text → (IsPathOf dir text → ⊥) → IsFirstStray dir (text ∷ []) spelled
+pub stray_alone : (dir text spelled : List ℕ) → spelled ≡ text → (IsPathOf dir text → ⊥)
+    → IsFirstStray dir (text ∷ []) spelled
 stray_alone dir text spelled same stray = record {
   before = [];
   after = [];
@@ -39,10 +42,13 @@ no_more (y ∷ before) after x e = cc
 
 alone : {A : Type 0} (before after : List A) (x y : A) → x ∷ [] ≡ before ++ y ∷ after → y ≡ x
 alone [] after x y e = cc
-alone (z ∷ before) after x y e = let rest : [] ≡ before ++ y ∷ after = cc in absurd (no_more before after y rest)
+alone (z ∷ before) after x y e = let rest : [] ≡ before ++ y ∷ after = cc
+    in absurd (no_more before after y rest)
 
 -- the first stray text behind good ones
-pub stray_behind : (dir text : List ℕ) (before after : List (List ℕ)) (spelled : List ℕ) → All (IsPathOf dir) before → IsFirstStray dir (text ∷ []) spelled → IsFirstStray dir (before ++ text ∷ after) spelled
+pub stray_behind : (dir text : List ℕ) (before after : List (List ℕ)) (spelled : List ℕ)
+    → All (IsPathOf dir) before → IsFirstStray dir (text ∷ []) spelled
+    → IsFirstStray dir (before ++ text ∷ after) spelled
 stray_behind dir text before after spelled good stray =
     let same : spelled ≡ text = alone stray.before stray.after text spelled stray.parts in
     record {
@@ -54,8 +60,11 @@ stray_behind dir text before after spelled good stray =
     }
 
 -- what is wrong with one text is what is wrong with all, where those before it are good
-pub fault_behind : (dir text : List ℕ) (before after : List (List ℕ)) (found : DrvFault) → All (IsPathOf dir) before → IsStrayFault dir (text ∷ []) found → IsStrayFault dir (before ++ text ∷ after) found
-fault_behind dir text before after (fault.BadReference spelled) good stray = stray_behind dir text before after spelled.items good stray
+pub fault_behind : (dir text : List ℕ) (before after : List (List ℕ)) (found : DrvFault)
+    → All (IsPathOf dir) before → IsStrayFault dir (text ∷ []) found
+    → IsStrayFault dir (before ++ text ∷ after) found
+fault_behind dir text before after (fault.BadReference spelled) good stray =
+    stray_behind dir text before after spelled.items good stray
 fault_behind dir text before after fault.NoMemory good stray = tt
 fault_behind dir text before after (fault.Syntax place) good stray = stray
 fault_behind dir text before after (fault.Order place) good stray = stray
@@ -65,19 +74,26 @@ fault_behind dir text before after fault.NotADrvName good stray = stray
 fault_behind dir text before after fault.NotSorted good stray = stray
 
 -- the first stray text of a list, with more lists round it
-stray_within : (dir : List ℕ) (before texts after : List (List ℕ)) (spelled : List ℕ) → All (IsPathOf dir) before → IsFirstStray dir texts spelled → IsFirstStray dir (before ++ texts ++ after) spelled
+stray_within : (dir : List ℕ) (before texts after : List (List ℕ)) (spelled : List ℕ)
+    → All (IsPathOf dir) before → IsFirstStray dir texts spelled
+    → IsFirstStray dir (before ++ texts ++ after) spelled
 stray_within dir before texts after spelled good stray = record {
   before = before ++ stray.before;
   after = stray.after ++ after;
-  parts = ap (λ (t : List (List ℕ)). before ++ t ++ after) stray.parts ∙ ap (λ (t : List (List ℕ)). t ++ after) (sym (append_assoc before stray.before (spelled ∷ stray.after)))
+  parts = ap (λ (t : List (List ℕ)). before ++ t ++ after) stray.parts
+      ∙ ap (λ (t : List (List ℕ)). t ++ after)
+      (sym (append_assoc before stray.before (spelled ∷ stray.after)))
       ∙ append_assoc (before ++ stray.before) (spelled ∷ stray.after) after;
   good = All-append (IsPathOf dir) before stray.before good stray.good;
   is_stray = stray.is_stray;
 }
 
 -- what is wrong with some texts is what is wrong with all, where those before them are good
-pub fault_within : (dir : List ℕ) (before texts after : List (List ℕ)) (found : DrvFault) → All (IsPathOf dir) before → IsStrayFault dir texts found → IsStrayFault dir (before ++ texts ++ after) found
-fault_within dir before texts after (fault.BadReference spelled) good stray = stray_within dir before texts after spelled.items good stray
+pub fault_within : (dir : List ℕ) (before texts after : List (List ℕ)) (found : DrvFault)
+    → All (IsPathOf dir) before → IsStrayFault dir texts found
+    → IsStrayFault dir (before ++ texts ++ after) found
+fault_within dir before texts after (fault.BadReference spelled) good stray =
+    stray_within dir before texts after spelled.items good stray
 fault_within dir before texts after fault.NoMemory good stray = tt
 fault_within dir before texts after (fault.Syntax place) good stray = stray
 fault_within dir before texts after (fault.Order place) good stray = stray
@@ -86,60 +102,99 @@ fault_within dir before texts after (fault.TextPathMismatch expected) good stray
 fault_within dir before texts after fault.NotADrvName good stray = stray
 fault_within dir before texts after fault.NotSorted good stray = stray
 
-items_at : {A : Type 0} (view : A → List ℕ) (items : List A) (i : ℕ) (d : A) → i < length items → map view items ≡ map view (take i items) ++ view (get_or items i d) ∷ map view (drop (suc i) items)
-items_at view items i d below = ap (map view) (split_at items i d below) ∙ map-append view (take i items) (get_or items i d ∷ drop (suc i) items)
+items_at : {A : Type 0} (view : A → List ℕ) (items : List A) (i : ℕ) (d : A) → i < length items
+    → map view items ≡ map view (take i items) ++ view (get_or items i d)
+    ∷ map view (drop (suc i) items)
+items_at view items i d below = ap (map view) (split_at items i d below)
+    ∙ map-append view (take i items) (get_or items i d ∷ drop (suc i) items)
 
 -- the same of the item at a place, seen as its text
-pub fault_at : {A : Type 0} (view : A → List ℕ) (dir text : List ℕ) (items : List A) (i : ℕ) (d : A) (found : DrvFault) → i < length items → d ≡ get_or items i d → text ≡ view d → All (IsPathOf dir) (map view (take i items)) → IsStrayFault dir (text ∷ []) found → IsStrayFault dir (map view items) found
+pub fault_at : {A : Type 0} (view : A → List ℕ) (dir text : List ℕ) (items : List A) (i : ℕ) (d : A)
+    (found : DrvFault) → i < length items → d ≡ get_or items i d → text ≡ view d
+    → All (IsPathOf dir) (map view (take i items)) → IsStrayFault dir (text ∷ []) found
+    → IsStrayFault dir (map view items) found
 fault_at {A} view dir text items i d found below at same good stray =
     let whole : map view items ≡ map view (take i items) ++ text ∷ map view (drop (suc i) items) =
-    items_at view items i d below ∙ ap (λ (t : List ℕ). map view (take i items) ++ t ∷ map view (drop (suc i) items)) (ap view (sym at) ∙ sym same) in
-    subst (λ (all : List (List ℕ)). IsStrayFault dir all found) (sym whole) (fault_behind dir text (map view (take i items)) (map view (drop (suc i) items)) found good stray)
+    items_at view items i d below
+    ∙ ap (λ (t : List ℕ). map view (take i items) ++ t ∷ map view (drop (suc i) items))
+    (ap view (sym at) ∙ sym same) in
+    subst (λ (all : List (List ℕ)). IsStrayFault dir all found) (sym whole)
+    (fault_behind dir text (map view (take i items)) (map view (drop (suc i) items)) found good
+    stray)
 
 -- one more item
-items_more : {A : Type 0} (view : A → List ℕ) (items : List A) (i : ℕ) (d : A) → i < length items → d ≡ get_or items i d → map view (take (i + 1) items) ≡ map view (take i items) ++ view d ∷ []
+items_more : {A : Type 0} (view : A → List ℕ) (items : List A) (i : ℕ) (d : A) → i < length items
+    → d ≡ get_or items i d → map view (take (i + 1) items) ≡ map view (take i items) ++ view d ∷ []
 items_more {A} view items i d below at =
-    ap (map view) (take_more items i d below) ∙ map-append view (take i items) (get_or items i d ∷ [])
+    ap (map view) (take_more items i d below)
+    ∙ map-append view (take i items) (get_or items i d ∷ [])
     ∙ ap (λ (v : A). map view (take i items) ++ view v ∷ []) (sym at)
 
 -- one more path of the folder
-pub good_more : {A : Type 0} (view : A → List ℕ) (dir text : List ℕ) (items : List A) (i : ℕ) (d : A) → i < length items → d ≡ get_or items i d → text ≡ view d → All (IsPathOf dir) (map view (take i items)) → IsPathOf dir text → All (IsPathOf dir) (map view (take (i + 1) items))
+pub good_more : {A : Type 0} (view : A → List ℕ) (dir text : List ℕ) (items : List A) (i : ℕ)
+    (d : A) → i < length items → d ≡ get_or items i d → text ≡ view d
+    → All (IsPathOf dir) (map view (take i items)) → IsPathOf dir text
+    → All (IsPathOf dir) (map view (take (i + 1) items))
 good_more view dir text items i d below at same good here =
-    subst (λ (all : List (List ℕ)). All (IsPathOf dir) all) (sym (items_more view items i d below at))
-    (All-push (IsPathOf dir) (map view (take i items)) (view d) good (subst (λ (t : List ℕ). IsPathOf dir t) same here))
+    subst (λ (all : List (List ℕ)). All (IsPathOf dir) all)
+    (sym (items_more view items i d below at))
+    (All-push (IsPathOf dir) (map view (take i items)) (view d) good
+    (subst (λ (t : List ℕ). IsPathOf dir t) same here))
 
 -- the list with one more text
-pub added_more : {A : Type 0} (view : A → List ℕ) (front refs after : List (List ℕ)) (text : List ℕ) (items : List A) (i : ℕ) (d : A) → i < length items → d ≡ get_or items i d → text ≡ view d → refs ≡ front ++ map view (take i items) → after ≡ refs ++ text ∷ [] → after ≡ front ++ map view (take (i + 1) items)
+pub added_more : {A : Type 0} (view : A → List ℕ) (front refs after : List (List ℕ)) (text : List ℕ)
+    (items : List A) (i : ℕ) (d : A) → i < length items → d ≡ get_or items i d → text ≡ view d
+    → refs ≡ front ++ map view (take i items) → after ≡ refs ++ text ∷ [] → after ≡ front
+    ++ map view (take (i + 1) items)
 added_more view front refs after text items i d below at same before pushed =
-    pushed ∙ ap (λ (r : List (List ℕ)). r ++ text ∷ []) before ∙ append_assoc front (map view (take i items)) (text ∷ [])
+    pushed ∙ ap (λ (r : List (List ℕ)). r ++ text ∷ []) before
+    ∙ append_assoc front (map view (take i items)) (text ∷ [])
     ∙ ap (λ (t : List ℕ). front ++ (map view (take i items) ++ t ∷ [])) same
     ∙ ap (λ (all : List (List ℕ)). front ++ all) (sym (items_more view items i d below at))
 
 -- a derivation's paths begin with those of its inputs
-inputs_first : (drv : Drv) (inputs : List Input) → map input_of inputs ≡ drv.inputs → paths_of drv ≡ map path_of inputs ++ drv.sources
+inputs_first : (drv : Drv) (inputs : List Input) → map input_of inputs ≡ drv.inputs → paths_of drv
+    ≡ map path_of inputs ++ drv.sources
 unfolding paths_of
 inputs_first drv inputs same =
-    ap (λ (front : List (List ℕ)). front ++ drv.sources) (ap (map (λ (input : DrvInput). input.path)) (sym same) ∙ map-map (λ (input : DrvInput). input.path) input_of inputs)
+    ap (λ (front : List (List ℕ)). front ++ drv.sources)
+    (ap (map (λ (input : DrvInput). input.path)) (sym same)
+    ∙ map-map (λ (input : DrvInput). input.path) input_of inputs)
 
 -- a derivation's paths are those of its inputs, then its sources
-pub paths_are : (drv : Drv) (inputs : List Input) (sources : List (Vec ℕ)) → map input_of inputs ≡ drv.inputs → map bytes_of sources ≡ drv.sources → paths_of drv ≡ map path_of inputs ++ map bytes_of sources
-paths_are drv inputs sources same_inputs same_sources = inputs_first drv inputs same_inputs ∙ ap (λ (behind : List (List ℕ)). map path_of inputs ++ behind) (sym same_sources)
+pub paths_are : (drv : Drv) (inputs : List Input) (sources : List (Vec ℕ)) → map input_of inputs
+    ≡ drv.inputs → map bytes_of sources ≡ drv.sources → paths_of drv ≡ map path_of inputs
+    ++ map bytes_of sources
+paths_are drv inputs sources same_inputs same_sources = inputs_first drv inputs same_inputs
+    ∙ ap (λ (behind : List (List ℕ)). map path_of inputs ++ behind) (sym same_sources)
 
 -- what is wrong with the inputs' paths is what is wrong with the derivation's
-pub inputs_fault : (dir : List ℕ) (drv : Drv) (inputs : List Input) (found : DrvFault) → map input_of inputs ≡ drv.inputs → IsStrayFault dir (map path_of inputs) found → IsStrayFault dir (paths_of drv) found
+pub inputs_fault : (dir : List ℕ) (drv : Drv) (inputs : List Input) (found : DrvFault)
+    → map input_of inputs ≡ drv.inputs → IsStrayFault dir (map path_of inputs) found
+    → IsStrayFault dir (paths_of drv) found
 inputs_fault dir drv inputs found same stray =
     subst (λ (all : List (List ℕ)). IsStrayFault dir all found) (sym (inputs_first drv inputs same))
-    (fault_within dir [] (map path_of inputs) drv.sources found (λ k d below. absurd (omega (arith, below))) stray)
+    (fault_within dir [] (map path_of inputs) drv.sources found
+    (λ k d below. absurd (omega (arith, below))) stray)
 
--- what is wrong with the sources is what is wrong with the derivation's paths, where those of the inputs are good
-pub sources_fault : (dir : List ℕ) (drv : Drv) (inputs : List Input) (sources : List (Vec ℕ)) (found : DrvFault) → map input_of inputs ≡ drv.inputs → map bytes_of sources ≡ drv.sources → All (IsPathOf dir) (map path_of inputs) → IsStrayFault dir (map bytes_of sources) found → IsStrayFault dir (paths_of drv) found
+-- what is wrong with the sources is what is wrong with the derivation's paths, where those of the
+-- inputs are good
+pub sources_fault : (dir : List ℕ) (drv : Drv) (inputs : List Input) (sources : List (Vec ℕ))
+    (found : DrvFault) → map input_of inputs ≡ drv.inputs → map bytes_of sources ≡ drv.sources
+    → All (IsPathOf dir) (map path_of inputs) → IsStrayFault dir (map bytes_of sources) found
+    → IsStrayFault dir (paths_of drv) found
 sources_fault dir drv inputs sources found same_inputs same_sources good stray =
     subst (λ (all : List (List ℕ)). IsStrayFault dir all found)
-    (sym (paths_are drv inputs sources same_inputs same_sources ∙ sym (append-nil (map path_of inputs ++ map bytes_of sources))))
+    (sym (paths_are drv inputs sources same_inputs same_sources
+    ∙ sym (append-nil (map path_of inputs ++ map bytes_of sources))))
     (fault_within dir (map path_of inputs) (map bytes_of sources) [] found good stray)
 
 -- all paths are good where those of the inputs and of the sources are
-pub all_good : (dir : List ℕ) (drv : Drv) (inputs : List Input) (sources : List (Vec ℕ)) → map input_of inputs ≡ drv.inputs → map bytes_of sources ≡ drv.sources → All (IsPathOf dir) (map path_of inputs) → All (IsPathOf dir) (map bytes_of sources) → All (IsPathOf dir) (paths_of drv)
+pub all_good : (dir : List ℕ) (drv : Drv) (inputs : List Input) (sources : List (Vec ℕ))
+    → map input_of inputs ≡ drv.inputs → map bytes_of sources ≡ drv.sources
+    → All (IsPathOf dir) (map path_of inputs) → All (IsPathOf dir) (map bytes_of sources)
+    → All (IsPathOf dir) (paths_of drv)
 all_good dir drv inputs sources same_inputs same_sources good_inputs good_sources =
-    subst (λ (all : List (List ℕ)). All (IsPathOf dir) all) (sym (paths_are drv inputs sources same_inputs same_sources))
+    subst (λ (all : List (List ℕ)). All (IsPathOf dir) all)
+    (sym (paths_are drv inputs sources same_inputs same_sources))
     (All-append (IsPathOf dir) (map path_of inputs) (map bytes_of sources) good_inputs good_sources)

@@ -9,7 +9,9 @@ use Rattle.nix_drv.specs.OwnPath.{IsOwnPath, paths_of, text_path}
 use Rattle.nix_drv.specs.References.{IsReferencesOf}
 
 -- the text path with the references of a text is its own path
-pub own_path_of : (dir name bytes : List ℕ) (drv : Drv) (refs lent : List (List ℕ)) (own : List ℕ) → IsReferencesOf (paths_of drv) refs → lent ≡ refs → own ≡ text_path dir name bytes lent → IsOwnPath dir name drv bytes own
+pub own_path_of : (dir name bytes : List ℕ) (drv : Drv) (refs lent : List (List ℕ)) (own : List ℕ)
+    → IsReferencesOf (paths_of drv) refs → lent ≡ refs → own ≡ text_path dir name bytes lent
+    → IsOwnPath dir name drv bytes own
 own_path_of dir name bytes drv refs lent own is_refs same is_own = record {
   refs = refs;
   rising = is_refs.rising;
@@ -18,13 +20,22 @@ own_path_of dir name bytes drv refs lent own is_refs same is_own = record {
 }
 
 -- a text that was read is found at its own path
-pub found_at : (dir path bytes name : List ℕ) (drv : Drv) (own : List ℕ) → name ≡ name_of path → is_drv_name name ≡ true → length bytes ≤ max_len → IsDrvText drv bytes → All (IsPathOf dir) (paths_of drv) → IsOwnPath dir name drv bytes own → IsFoundAt dir path bytes drv own
+pub found_at : (dir path bytes name : List ℕ) (drv : Drv) (own : List ℕ) → name ≡ name_of path
+    → is_drv_name name ≡ true → length bytes ≤ max_len → IsDrvText drv bytes
+    → All (IsPathOf dir) (paths_of drv) → IsOwnPath dir name drv bytes own
+    → IsFoundAt dir path bytes drv own
 found_at dir path bytes name drv own named is_drv within is_text good is_own = record {
-  read = record { named = subst (λ (n : List ℕ). is_drv_name n ≡ true) named is_drv; within = within; is_text = is_text };
+  read = record {
+    named = subst (λ (n : List ℕ). is_drv_name n ≡ true) named is_drv;
+    within = within;
+    is_text = is_text;
+  };
   in_store = good;
   own_path = subst (λ (n : List ℕ). IsOwnPath dir n drv bytes own) named is_own;
 }
 
 -- what is found at its own path stands there
-pub found_here : (dir path bytes : List ℕ) (drv : Drv) (own : List ℕ) → own ≡ path → IsFoundAt dir path bytes drv own → IsFoundAt dir path bytes drv path
-found_here dir path bytes drv own same found = subst (λ (p : List ℕ). IsFoundAt dir path bytes drv p) same found
+pub found_here : (dir path bytes : List ℕ) (drv : Drv) (own : List ℕ) → own ≡ path
+    → IsFoundAt dir path bytes drv own → IsFoundAt dir path bytes drv path
+found_here dir path bytes drv own same found =
+    subst (λ (p : List ℕ). IsFoundAt dir path bytes drv p) same found

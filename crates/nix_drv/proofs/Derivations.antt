@@ -15,38 +15,74 @@ use Rattle.nix_drv.proofs.Passing.{pass_in_order, pass_out_of_order, pass_first}
 pub derivation_clear : IsClear derivation_form
 derivation_clear = search rules
 
-map_twice : {A B C : Type 0} (f : B → C) (g : A → B) (xs : List A) → map (λ (x : A). f (g x)) xs ≡ map f (map g xs)
+map_twice : {A B C : Type 0} (f : B → C) (g : A → B) (xs : List A) → map (λ (x : A). f (g x)) xs
+    ≡ map f (map g xs)
 map_twice f g [] = refl
 map_twice f g (x ∷ xs) = ap (λ (ys : List _). f (g x) ∷ ys) (map_twice f g xs)
 
 pub parts_value_is : (p : Parts) → parts_value p ≡ drv_value (drv_of p)
-parts_value_is p = rw (map_twice output_value output_of p.outputs.items, map_twice input_value input_of p.inputs.items, map_twice entry_value entry_of p.env.items) refl
+parts_value_is p = rw (
+  map_twice output_value output_of p.outputs.items,
+  map_twice input_value input_of p.inputs.items,
+  map_twice entry_value entry_of p.env.items,
+) refl
 
 -- parts with other input derivations as a value of the language
 pub with_inputs_value : (p : Parts) (inputs : List InputStruct)
-    → drv_value (record (drv_of p) { inputs = map input_of inputs }) ≡ (tt, (map (λ (o : OutputStruct). output_value (output_of o)) p.outputs.items, (tt, (map (λ (i : InputStruct). input_value (input_of i)) inputs, (tt, (map bytes_of p.sources.items, (tt, parts_build p)))))))
-with_inputs_value p inputs = sym (rw (map_twice output_value output_of p.outputs.items, map_twice input_value input_of inputs, map_twice entry_value entry_of p.env.items) refl)
+    → drv_value (record (drv_of p) { inputs = map input_of inputs })
+    ≡ (
+      tt,
+      (
+        map (λ (o : OutputStruct). output_value (output_of o)) p.outputs.items,
+        (
+          tt,
+          (
+            map (λ (i : InputStruct). input_value (input_of i)) inputs,
+            (tt, (map bytes_of p.sources.items, (tt, parts_build p))),
+          ),
+        ),
+      ),
+    )
+with_inputs_value p inputs =
+    sym (rw (
+      map_twice output_value output_of p.outputs.items,
+      map_twice input_value input_of inputs,
+      map_twice entry_value entry_of p.env.items,
+    ) refl)
 
-pub ordered : (p : Parts) (end : ℕ) → pass derivation_form 0 (parts_value p) ≡ Ok end → InOrder derivation_form (drv_value (drv_of p))
-ordered p end e = pass_in_order derivation_form (drv_value (drv_of p)) end (rw (parts_value_is p) at e)
+pub ordered : (p : Parts) (end : ℕ) → pass derivation_form 0 (parts_value p) ≡ Ok end
+    → InOrder derivation_form (drv_value (drv_of p))
+ordered p end e = pass_in_order derivation_form (drv_value (drv_of p)) end
+    (rw (parts_value_is p) at e)
 
-pub disordered : (p : Parts) (place : ℕ) → pass derivation_form 0 (parts_value p) ≡ Err place → pass derivation_form 0 (drv_value (drv_of p)) ≡ Err place
+pub disordered : (p : Parts) (place : ℕ) → pass derivation_form 0 (parts_value p) ≡ Err place
+    → pass derivation_form 0 (drv_value (drv_of p)) ≡ Err place
 disordered p place e = rw (parts_value_is p) at e
 
-pub not_in_order : (parts : Drv) (place : ℕ) → pass derivation_form 0 (drv_value parts) ≡ Err place → InOrder derivation_form (drv_value parts) → ⊥
+pub not_in_order : (parts : Drv) (place : ℕ) → pass derivation_form 0 (drv_value parts) ≡ Err place
+    → InOrder derivation_form (drv_value parts) → ⊥
 not_in_order parts place = pass_out_of_order derivation_form (drv_value parts) place
 
-whole_text : (p : Parts) (s rest : List ℕ) → read derivation_form s ≡ Ok (parts_value p, rest) → length rest ≡ 0 → IsLooseText (drv_of p) s
-whole_text p s rest e none = read_whole derivation_form derivation_clear s (drv_value (drv_of p)) rest (rw (parts_value_is p) at e) none
+whole_text : (p : Parts) (s rest : List ℕ) → read derivation_form s ≡ Ok (parts_value p, rest)
+    → length rest ≡ 0 → IsLooseText (drv_of p) s
+whole_text p s rest e none = read_whole derivation_form derivation_clear s (drv_value (drv_of p))
+    rest (rw (parts_value_is p) at e) none
 
 -- bytes that were read whole, and whose parts are in order
-pub read_in_order : (drv : Drv) (p : Parts) (s rest : List ℕ) → read derivation_form s ≡ Ok (parts_value p, rest) → length rest ≡ 0 → drv ≡ drv_of p → InOrder derivation_form (drv_value (drv_of p)) → IsDrvText drv s
-read_in_order drv p s rest e none is in_order = subst (λ (d : Drv). IsDrvText d s) (sym is) (record { is_text = whole_text p s rest e none; in_order = in_order })
+pub read_in_order : (drv : Drv) (p : Parts) (s rest : List ℕ) → read derivation_form s
+    ≡ Ok (parts_value p, rest) → length rest ≡ 0 → drv ≡ drv_of p
+    → InOrder derivation_form (drv_value (drv_of p)) → IsDrvText drv s
+read_in_order drv p s rest e none is in_order =
+    subst (λ (d : Drv). IsDrvText d s) (sym is)
+    (record { is_text = whole_text p s rest e none; in_order = in_order })
 
 -- bytes that were read whole, and whose parts are not
-pub read_first : (p : Parts) (s rest : List ℕ) (place : ℕ) → read derivation_form s ≡ Ok (parts_value p, rest) → length rest ≡ 0 → length s ≤ 4194304 → pass derivation_form 0 (drv_value (drv_of p)) ≡ Err place
+pub read_first : (p : Parts) (s rest : List ℕ) (place : ℕ) → read derivation_form s
+    ≡ Ok (parts_value p, rest) → length rest ≡ 0 → length s ≤ 4194304
+    → pass derivation_form 0 (drv_value (drv_of p)) ≡ Err place
     → (drv : Drv) × IsLooseText drv s × IsFirstViolation derivation_form (drv_value drv) place
 read_first p s rest place e none within passes =
     let is : IsLooseText (drv_of p) s = whole_text p s rest e none in
-    let small : length (text derivation_form (drv_value (drv_of p))) < 2 ^ 64 = omega (arith, ap length is) in
+    let small : length (text derivation_form (drv_value (drv_of p)))
+    < 2 ^ 64 = omega (arith, ap length is) in
     (drv_of p, is, pass_first derivation_form (drv_value (drv_of p)) place small passes)

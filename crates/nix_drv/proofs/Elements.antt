@@ -10,45 +10,68 @@ use Rattle.nix_drv.proofs.Readers.{IsReader, reader_shrinks}
 
 -- ---- nothing is given back
 
-next_shrinks : {A : Type 0} (others : List ℕ → Result (List A × List ℕ) ℕ) (v : A) (t : List ℕ) → ((s : List ℕ) → left_of (others s) ≤ length s) → left_of (next_at others v t) ≤ length t
+next_shrinks : {A : Type 0} (others : List ℕ → Result (List A × List ℕ) ℕ) (v : A) (t : List ℕ)
+    → ((s : List ℕ) → left_of (others s) ≤ length s) → left_of (next_at others v t) ≤ length t
 next_shrinks others v [] h = omega arith
 next_shrinks others v (b ∷ s) h =
-    let later : left_of (before (v ∷ []) (others s)) ≤ suc (length s) = rw left-before (omega (arith, h s)) in
+    let later : left_of (before (v ∷ []) (others s))
+    ≤ suc (length s) = rw left-before (omega (arith, h s)) in
     let end : left_of (cond (eqb b 93) (Ok (v ∷ [], s)) (Err (suc (length s)))) ≤ suc (length s) =
-    cond_both (eqb b 93) (Ok (v ∷ [], s)) (Err (suc (length s))) (λ r. left_of r ≤ suc (length s)) (λ _. omega arith) (λ _. omega arith) in
-    cond_both (eqb b 44) (before (v ∷ []) (others s)) (cond (eqb b 93) (Ok (v ∷ [], s)) (Err (suc (length s)))) (λ r. left_of r ≤ suc (length s)) (λ _. later) (λ _. end)
+    cond_both (eqb b 93) (Ok (v ∷ [], s)) (Err (suc (length s))) (λ r. left_of r ≤ suc (length s))
+    (λ _. omega arith) (λ _. omega arith) in
+    cond_both (eqb b 44) (before (v ∷ []) (others s))
+    (cond (eqb b 93) (Ok (v ∷ [], s)) (Err (suc (length s)))) (λ r. left_of r ≤ suc (length s))
+    (λ _. later) (λ _. end)
 
-elements_at-shrinks : {A : Type 0} (one : List ℕ → Result (A × List ℕ) ℕ) → ((s : List ℕ) → left_of (one s) ≤ length s) → (n : ℕ) (s : List ℕ) → left_of (elements_at one n s) ≤ length s
+elements_at-shrinks : {A : Type 0} (one : List ℕ → Result (A × List ℕ) ℕ)
+    → ((s : List ℕ) → left_of (one s) ≤ length s) → (n : ℕ) (s : List ℕ)
+    → left_of (elements_at one n s) ≤ length s
 unfolding elements_at
 elements_at-shrinks one h zero s = omega arith
 elements_at-shrinks one h (suc n) s =
-    omega (arith, bind_shrinks (one s) (λ x. next_at (elements_at one n) x.0 x.1) (λ x. next_shrinks (elements_at one n) x.0 x.1 (elements_at-shrinks one h n)), h s)
+    omega (
+      arith,
+      bind_shrinks (one s) (λ x. next_at (elements_at one n) x.0 x.1)
+          (λ x. next_shrinks (elements_at one n) x.0 x.1 (elements_at-shrinks one h n)),
+      h s,
+    )
 
 -- ---- the bound on how many elements there are is never met
 
-same_bind : {A B : Type 0} (r : Result (A × List ℕ) ℕ) (f h : A × List ℕ → Result (B × List ℕ) ℕ) → ((x : A × List ℕ) → length x.1 ≤ left_of r → f x ≡ h x) → (r >>= f) ≡ (r >>= h)
+same_bind : {A B : Type 0} (r : Result (A × List ℕ) ℕ) (f h : A × List ℕ → Result (B × List ℕ) ℕ)
+    → ((x : A × List ℕ) → length x.1 ≤ left_of r → f x ≡ h x) → (r >>= f) ≡ (r >>= h)
 same_bind (Ok x) f h e = e x (omega arith)
 same_bind (Err left) f h e = refl
 
-same_next : {A : Type 0} (f h : List ℕ → Result (List A × List ℕ) ℕ) (v : A) (t : List ℕ) → ((s : List ℕ) → length s < length t → f s ≡ h s) → next_at f v t ≡ next_at h v t
+same_next : {A : Type 0} (f h : List ℕ → Result (List A × List ℕ) ℕ) (v : A) (t : List ℕ)
+    → ((s : List ℕ) → length s < length t → f s ≡ h s) → next_at f v t ≡ next_at h v t
 same_next f h v [] e = refl
 same_next f h v (b ∷ s) e =
-    ap (λ (r : Result (List _ × List ℕ) ℕ). cond (eqb b 44) (before (v ∷ []) r) (cond (eqb b 93) (Ok (v ∷ [], s)) (Err (suc (length s))))) (e s (omega arith))
+    ap (λ (r : Result (List _ × List ℕ) ℕ). cond (eqb b 44) (before (v ∷ []) r)
+    (cond (eqb b 93) (Ok (v ∷ [], s)) (Err (suc (length s))))) (e s (omega arith))
 
-same_bound : {A : Type 0} (one : List ℕ → Result (A × List ℕ) ℕ) → ((s : List ℕ) → left_of (one s) ≤ length s) → (n m : ℕ) (s : List ℕ) → length s < n → length s < m → elements_at one n s ≡ elements_at one m s
+same_bound : {A : Type 0} (one : List ℕ → Result (A × List ℕ) ℕ)
+    → ((s : List ℕ) → left_of (one s) ≤ length s) → (n m : ℕ) (s : List ℕ) → length s < n → length s
+    < m → elements_at one n s ≡ elements_at one m s
 unfolding elements_at
 same_bound one h zero m s ln lm = absurd (omega arith)
 same_bound one h (suc n) zero s ln lm = absurd (omega arith)
 same_bound one h (suc n) (suc m) s ln lm =
-    same_bind (one s) (λ x. next_at (elements_at one n) x.0 x.1) (λ x. next_at (elements_at one m) x.0 x.1)
-    (λ x short. same_next (elements_at one n) (elements_at one m) x.0 x.1 (λ t lt. same_bound one h n m t (omega (arith, h s)) (omega (arith, h s))))
+    same_bind (one s) (λ x. next_at (elements_at one n) x.0 x.1)
+    (λ x. next_at (elements_at one m) x.0 x.1)
+    (λ x short. same_next (elements_at one n) (elements_at one m) x.0 x.1
+    (λ t lt. same_bound one h n m t (omega (arith, h s)) (omega (arith, h s))))
 
 -- an element and what follows it
-pub elements_open : {A : Type 0} (one : List ℕ → Result (A × List ℕ) ℕ) → ((s : List ℕ) → left_of (one s) ≤ length s) → (s : List ℕ) → elements_of one s ≡ (one s >>= λ x. next_at (elements_of one) x.0 x.1)
+pub elements_open : {A : Type 0} (one : List ℕ → Result (A × List ℕ) ℕ)
+    → ((s : List ℕ) → left_of (one s) ≤ length s) → (s : List ℕ) → elements_of one s
+    ≡ (one s >>= λ x. next_at (elements_of one) x.0 x.1)
 unfolding elements_at
 elements_open one h s =
-    same_bind (one s) (λ x. next_at (elements_at one (length s)) x.0 x.1) (λ x. next_at (elements_of one) x.0 x.1)
-    (λ x short. same_next (elements_at one (length s)) (elements_of one) x.0 x.1 (λ t lt. same_bound one h (length s) (suc (length t)) t (omega (arith, h s)) (omega arith)))
+    same_bind (one s) (λ x. next_at (elements_at one (length s)) x.0 x.1)
+    (λ x. next_at (elements_of one) x.0 x.1)
+    (λ x short. same_next (elements_at one (length s)) (elements_of one) x.0 x.1
+    (λ t lt. same_bound one h (length s) (suc (length t)) t (omega (arith, h s)) (omega arith)))
 
 -- ---- what is read
 
@@ -59,21 +82,37 @@ elements_text text_of vs = separated text_of vs ++ 93 ∷ []
 -- a front of one or more elements
 abbrev pub FrontOfSome : {A : Type 0} → (A → List ℕ) → (List ℕ → Type 0) → List ℕ → Type 0
 FrontOfSome {A} text_of IsFrontOf front =
-    ((whole : List A) × (last : List ℕ) × (front ≡ each_with_comma text_of whole ++ last) × IsFrontOf last)
-    ⊎ ((v : A) × (whole : List A) × (last : List ℕ) × (front ≡ separated text_of (v ∷ whole) ++ last) × Begins last (93 ∷ []))
+    ((whole : List A) × (last : List ℕ) × (front ≡ each_with_comma text_of whole ++ last)
+    × IsFrontOf last)
+    ⊎ ((v : A) × (whole : List A) × (last : List ℕ)
+    × (front ≡ separated text_of (v ∷ whole) ++ last) × Begins last (93 ∷ []))
 
-abbrev pub ToldSome : {A : Type 0} → (A → List ℕ) → (List ℕ → Type 0) → List ℕ → Result (List A × List ℕ) ℕ → Type 0
+abbrev pub ToldSome : {A : Type 0} → (A → List ℕ) → (List ℕ → Type 0) → List ℕ
+    → Result (List A × List ℕ) ℕ → Type 0
 ToldSome text_of IsFrontOf s (Ok ([], rest)) = ⊥
 ToldSome text_of IsFrontOf s (Ok (v ∷ vs, rest)) = s ≡ elements_text text_of (v ∷ vs) ++ rest
 ToldSome text_of IsFrontOf s (Err left) = StopsAt (FrontOfSome text_of IsFrontOf) s left
 
-comma_front : {A : Type 0} (text_of : A → List ℕ) (IsFrontOf : List ℕ → Type 0) (v : A) (front : List ℕ) → FrontOfSome text_of IsFrontOf front → FrontOfSome text_of IsFrontOf (text_of v ++ 44 ∷ front)
-comma_front text_of IsFrontOf v front (inl at) = inl (v ∷ at.0, at.1, ap (λ (t : List ℕ). text_of v ++ 44 ∷ t) at.2 ∙ simp append_assoc, at.3)
-comma_front text_of IsFrontOf v front (inr at) = inr (v, at.0 ∷ at.1, at.2, ap (λ (t : List ℕ). text_of v ++ 44 ∷ t) at.3 ∙ simp append_assoc, at.4)
+comma_front : {A : Type 0} (text_of : A → List ℕ) (IsFrontOf : List ℕ → Type 0) (v : A)
+    (front : List ℕ) → FrontOfSome text_of IsFrontOf front
+    → FrontOfSome text_of IsFrontOf (text_of v ++ 44 ∷ front)
+comma_front text_of IsFrontOf v front (inl at) =
+    inl (v ∷ at.0, at.1, ap (λ (t : List ℕ). text_of v ++ 44 ∷ t) at.2 ∙ simp append_assoc, at.3)
+comma_front text_of IsFrontOf v front (inr at) =
+    inr (
+      v,
+      at.0 ∷ at.1,
+      at.2,
+      ap (λ (t : List ℕ). text_of v ++ 44 ∷ t) at.3 ∙ simp append_assoc,
+      at.4,
+    )
 
-told_comma : {A : Type 0} (text_of : A → List ℕ) (IsFrontOf : List ℕ → Type 0) (v : A) (s : List ℕ) (r : Result (List A × List ℕ) ℕ) → ToldSome text_of IsFrontOf s r → ToldSome text_of IsFrontOf (text_of v ++ 44 ∷ s) (before (v ∷ []) r)
+told_comma : {A : Type 0} (text_of : A → List ℕ) (IsFrontOf : List ℕ → Type 0) (v : A) (s : List ℕ)
+    (r : Result (List A × List ℕ) ℕ) → ToldSome text_of IsFrontOf s r
+    → ToldSome text_of IsFrontOf (text_of v ++ 44 ∷ s) (before (v ∷ []) r)
 told_comma text_of IsFrontOf v s (Ok ([], rest)) told = absurd told
-told_comma text_of IsFrontOf v s (Ok (w ∷ ws, rest)) told = ap (λ (t : List ℕ). text_of v ++ 44 ∷ t) told ∙ simp append_assoc
+told_comma text_of IsFrontOf v s (Ok (w ∷ ws, rest)) told =
+    ap (λ (t : List ℕ). text_of v ++ 44 ∷ t) told ∙ simp append_assoc
 told_comma text_of IsFrontOf v s (Err left) told = record {
   front = text_of v ++ 44 ∷ told.front;
   rest = told.rest;
@@ -83,61 +122,136 @@ told_comma text_of IsFrontOf v s (Err left) told = record {
 }
 
 -- behind an element stands neither a comma nor the bracket
-stops_there : {A : Type 0} (text_of : A → List ℕ) (IsFrontOf : List ℕ → Type 0) (v : A) (t : List ℕ) → StopsAt (FrontOfSome text_of IsFrontOf) (text_of v ++ t) (length t)
-stops_there text_of IsFrontOf v t = record { front = text_of v; rest = t; parts = refl; is_front = inr (v, [], [], sym (append-nil (text_of v)), (93 ∷ [], refl)); is_left = refl }
+stops_there : {A : Type 0} (text_of : A → List ℕ) (IsFrontOf : List ℕ → Type 0) (v : A) (t : List ℕ)
+    → StopsAt (FrontOfSome text_of IsFrontOf) (text_of v ++ t) (length t)
+stops_there text_of IsFrontOf v t = record {
+  front = text_of v;
+  rest = t;
+  parts = refl;
+  is_front = inr (v, [], [], sym (append-nil (text_of v)), (93 ∷ [], refl));
+  is_left = refl;
+}
 
-next_told : {A : Type 0} (text_of : A → List ℕ) (IsFrontOf : List ℕ → Type 0) (others : List ℕ → Result (List A × List ℕ) ℕ) (v : A) (t : List ℕ)
-    → ((s : List ℕ) → length s < length t → ToldSome text_of IsFrontOf s (others s)) → ToldSome text_of IsFrontOf (text_of v ++ t) (next_at others v t)
+next_told : {A : Type 0} (text_of : A → List ℕ) (IsFrontOf : List ℕ → Type 0)
+    (others : List ℕ → Result (List A × List ℕ) ℕ) (v : A) (t : List ℕ)
+    → ((s : List ℕ) → length s < length t → ToldSome text_of IsFrontOf s (others s))
+    → ToldSome text_of IsFrontOf (text_of v ++ t) (next_at others v t)
 next_told text_of IsFrontOf others v [] h = stops_there text_of IsFrontOf v []
 next_told text_of IsFrontOf others v (b ∷ s) h =
-    let P : Result (List _ × List ℕ) ℕ → Type 0 = λ r. ToldSome text_of IsFrontOf (text_of v ++ b ∷ s) r in
-    cond_both (eqb b 44) (before (v ∷ []) (others s)) (cond (eqb b 93) (Ok (v ∷ [], s)) (Err (suc (length s)))) P
-    (λ e. subst (λ (x : ℕ). ToldSome text_of IsFrontOf (text_of v ++ x ∷ s) (before (v ∷ []) (others s))) (sym (eqb-true b 44 e)) (told_comma text_of IsFrontOf v s (others s) (h s (omega arith))))
+    let P : Result (List _ × List ℕ) ℕ → Type 0 = λ r.
+    ToldSome text_of IsFrontOf (text_of v ++ b ∷ s) r in
+    cond_both (eqb b 44) (before (v ∷ []) (others s))
+    (cond (eqb b 93) (Ok (v ∷ [], s)) (Err (suc (length s)))) P
+    (λ e. subst (λ (x : ℕ). ToldSome text_of IsFrontOf (text_of v ++ x ∷ s)
+    (before (v ∷ []) (others s))) (sym (eqb-true b 44 e))
+    (told_comma text_of IsFrontOf v s (others s) (h s (omega arith))))
     (λ _. cond_both (eqb b 93) (Ok (v ∷ [], s)) (Err (suc (length s))) P
     (λ e. ap (λ (x : ℕ). text_of v ++ x ∷ s) (eqb-true b 93 e) ∙ simp append_assoc)
     (λ _. stops_there text_of IsFrontOf v (b ∷ s)))
 
-some_told : {A : Type 0} (text_of : A → List ℕ) (IsFrontOf : List ℕ → Type 0) (s : List ℕ) (r : Result (A × List ℕ) ℕ) (next : A × List ℕ → Result (List A × List ℕ) ℕ) → Told text_of IsFrontOf s r
-    → ((x : A × List ℕ) → s ≡ text_of x.0 ++ x.1 → ToldSome text_of IsFrontOf (text_of x.0 ++ x.1) (next x)) → ToldSome text_of IsFrontOf s (r >>= next)
-some_told text_of IsFrontOf s (Ok x) next told h = subst (λ (t : List ℕ). ToldSome text_of IsFrontOf t (next x)) (sym told) (h x told)
-some_told text_of IsFrontOf s (Err left) next told h = record { front = told.front; rest = told.rest; parts = told.parts; is_front = inl ([], told.front, refl, told.is_front); is_left = told.is_left }
+some_told : {A : Type 0} (text_of : A → List ℕ) (IsFrontOf : List ℕ → Type 0) (s : List ℕ)
+    (r : Result (A × List ℕ) ℕ) (next : A × List ℕ → Result (List A × List ℕ) ℕ)
+    → Told text_of IsFrontOf s r
+    → ((x : A × List ℕ) → s ≡ text_of x.0 ++ x.1
+    → ToldSome text_of IsFrontOf (text_of x.0 ++ x.1) (next x))
+    → ToldSome text_of IsFrontOf s (r >>= next)
+some_told text_of IsFrontOf s (Ok x) next told h =
+    subst (λ (t : List ℕ). ToldSome text_of IsFrontOf t (next x)) (sym told) (h x told)
+some_told text_of IsFrontOf s (Err left) next told h =
+    record {
+      front = told.front;
+      rest = told.rest;
+      parts = told.parts;
+      is_front = inl ([], told.front, refl, told.is_front);
+      is_left = told.is_left;
+    }
 
-pub elements_told : {A : Type 0} (text_of : A → List ℕ) (IsFrontOf : List ℕ → Type 0) (one : List ℕ → Result (A × List ℕ) ℕ) → ((s : List ℕ) → Told text_of IsFrontOf s (one s)) → (n : ℕ) (s : List ℕ) → length s < n → ToldSome text_of IsFrontOf s (elements_at one n s)
+pub elements_told : {A : Type 0} (text_of : A → List ℕ) (IsFrontOf : List ℕ → Type 0)
+    (one : List ℕ → Result (A × List ℕ) ℕ) → ((s : List ℕ) → Told text_of IsFrontOf s (one s))
+    → (n : ℕ) (s : List ℕ) → length s < n → ToldSome text_of IsFrontOf s (elements_at one n s)
 unfolding elements_at
 elements_told text_of IsFrontOf one told zero s lt = absurd (omega arith)
 elements_told text_of IsFrontOf one told (suc n) s lt =
     some_told text_of IsFrontOf s (one s) (λ x. next_at (elements_at one n) x.0 x.1) (told s)
-    (λ x e. next_told text_of IsFrontOf (elements_at one n) x.0 x.1 (λ t short. elements_told text_of IsFrontOf one told n t (omega (arith, ap length e, length-append (text_of x.0) x.1))))
+    (λ x e. next_told text_of IsFrontOf (elements_at one n) x.0 x.1
+    (λ t short. elements_told text_of IsFrontOf one told n t
+    (omega (arith, ap length e, length-append (text_of x.0) x.1))))
 
 -- ---- what is written is read, and nothing more
 
-pub elements-again : {A : Type 0} {text_of : A → List ℕ} {IsFrontOf : List ℕ → Type 0} {one : List ℕ → Result (A × List ℕ) ℕ} → IsReader text_of IsFrontOf one → (v : A) (vs : List A) (rest : List ℕ) → elements_of one (elements_text text_of (v ∷ vs) ++ rest) ≡ Ok (v ∷ vs, rest)
+pub elements-again : {A : Type 0} {text_of : A → List ℕ} {IsFrontOf : List ℕ → Type 0}
+    {one : List ℕ → Result (A × List ℕ) ℕ} → IsReader text_of IsFrontOf one
+    → (v : A) (vs : List A) (rest : List ℕ) → elements_of one
+    (elements_text text_of (v ∷ vs) ++ rest) ≡ Ok (v ∷ vs, rest)
 elements-again {A} {text_of} {IsFrontOf} {one} r v [] rest =
-    rw (append_assoc, elements_open one (reader_shrinks r) (text_of v ++ 93 ∷ rest), r.again v (93 ∷ rest)) refl
+    rw (
+      append_assoc,
+      elements_open one (reader_shrinks r) (text_of v ++ 93 ∷ rest),
+      r.again v (93 ∷ rest),
+    ) refl
 elements-again {A} {text_of} {IsFrontOf} {one} r v (w ∷ ws) rest =
-    let regrouped : elements_text text_of (v ∷ w ∷ ws) ++ rest ≡ text_of v ++ 44 ∷ (elements_text text_of (w ∷ ws) ++ rest) = simp append_assoc in
-    rw (regrouped, elements_open one (reader_shrinks r) (text_of v ++ 44 ∷ (elements_text text_of (w ∷ ws) ++ rest)), r.again v (44 ∷ (elements_text text_of (w ∷ ws) ++ rest)))
+    let regrouped : elements_text text_of (v ∷ w ∷ ws) ++ rest ≡ text_of v ++ 44
+    ∷ (elements_text text_of (w ∷ ws) ++ rest) = simp append_assoc in
+    rw (
+      regrouped,
+      elements_open one (reader_shrinks r)
+          (text_of v ++ 44 ∷ (elements_text text_of (w ∷ ws) ++ rest)),
+      r.again v (44 ∷ (elements_text text_of (w ∷ ws) ++ rest)),
+    )
     (ap (before (v ∷ [])) (elements-again r w ws rest))
 
 -- reading goes on behind an element
-open_again : {A : Type 0} {text_of : A → List ℕ} {IsFrontOf : List ℕ → Type 0} {one : List ℕ → Result (A × List ℕ) ℕ} → IsReader text_of IsFrontOf one → (v : A) (t : List ℕ) → elements_of one (text_of v ++ t) ≡ next_at (elements_of one) v t
-open_again {A} {text_of} {IsFrontOf} {one} r v t = rw (elements_open one (reader_shrinks r) (text_of v ++ t), r.again v t) refl
+open_again : {A : Type 0} {text_of : A → List ℕ} {IsFrontOf : List ℕ → Type 0}
+    {one : List ℕ → Result (A × List ℕ) ℕ} → IsReader text_of IsFrontOf one → (v : A) (t : List ℕ)
+    → elements_of one (text_of v ++ t) ≡ next_at (elements_of one) v t
+open_again {A} {text_of} {IsFrontOf} {one} r v t =
+    rw (elements_open one (reader_shrinks r) (text_of v ++ t), r.again v t) refl
 
-pub elements_shrinks : {A : Type 0} {text_of : A → List ℕ} {IsFrontOf : List ℕ → Type 0} {one : List ℕ → Result (A × List ℕ) ℕ} → IsReader text_of IsFrontOf one → (s : List ℕ) → left_of (elements_of one s) ≤ length s
-elements_shrinks {A} {text_of} {IsFrontOf} {one} r s = elements_at-shrinks one (reader_shrinks r) (suc (length s)) s
+pub elements_shrinks : {A : Type 0} {text_of : A → List ℕ} {IsFrontOf : List ℕ → Type 0}
+    {one : List ℕ → Result (A × List ℕ) ℕ} → IsReader text_of IsFrontOf one → (s : List ℕ)
+    → left_of (elements_of one s) ≤ length s
+elements_shrinks {A} {text_of} {IsFrontOf} {one} r s =
+    elements_at-shrinks one (reader_shrinks r) (suc (length s)) s
 
-pub part-longest : {A : Type 0} {text_of : A → List ℕ} {IsFrontOf : List ℕ → Type 0} {one : List ℕ → Result (A × List ℕ) ℕ} → IsReader text_of IsFrontOf one → (whole : List A) (last rest : List ℕ) → IsFrontOf last → left_of (elements_of one ((each_with_comma text_of whole ++ last) ++ rest)) ≤ length rest
+pub part-longest : {A : Type 0} {text_of : A → List ℕ} {IsFrontOf : List ℕ → Type 0}
+    {one : List ℕ → Result (A × List ℕ) ℕ} → IsReader text_of IsFrontOf one
+    → (whole : List A) (last rest : List ℕ) → IsFrontOf last
+    → left_of (elements_of one ((each_with_comma text_of whole ++ last) ++ rest)) ≤ length rest
 part-longest {A} {text_of} {IsFrontOf} {one} r [] last rest at =
     rw (elements_open one (reader_shrinks r) (last ++ rest))
-    (omega (arith, bind_shrinks (one (last ++ rest)) (λ x. next_at (elements_of one) x.0 x.1) (λ x. next_shrinks (elements_of one) x.0 x.1 (elements_shrinks r)), r.longest last rest at))
+    (omega (
+      arith,
+      bind_shrinks (one (last ++ rest)) (λ x. next_at (elements_of one) x.0 x.1)
+          (λ x. next_shrinks (elements_of one) x.0 x.1 (elements_shrinks r)),
+      r.longest last rest at,
+    ))
 part-longest {A} {text_of} {IsFrontOf} {one} r (v ∷ whole) last rest at =
-    let regrouped : (each_with_comma text_of (v ∷ whole) ++ last) ++ rest ≡ text_of v ++ 44 ∷ ((each_with_comma text_of whole ++ last) ++ rest) = simp append_assoc in
-    rw (regrouped, open_again r v (44 ∷ ((each_with_comma text_of whole ++ last) ++ rest)), left-before (v ∷ []) (elements_of one ((each_with_comma text_of whole ++ last) ++ rest))) (part-longest r whole last rest at)
+    let regrouped : (each_with_comma text_of (v ∷ whole) ++ last) ++ rest ≡ text_of v ++ 44
+    ∷ ((each_with_comma text_of whole ++ last) ++ rest) = simp append_assoc in
+    rw (
+      regrouped,
+      open_again r v (44 ∷ ((each_with_comma text_of whole ++ last) ++ rest)),
+      left-before (v ∷ []) (elements_of one ((each_with_comma text_of whole ++ last) ++ rest)),
+    )
+    (part-longest r whole last rest at)
 
-pub end-longest : {A : Type 0} {text_of : A → List ℕ} {IsFrontOf : List ℕ → Type 0} {one : List ℕ → Result (A × List ℕ) ℕ} → IsReader text_of IsFrontOf one → (v : A) (whole : List A) (last rest : List ℕ) → Begins last (93 ∷ []) → left_of (elements_of one ((separated text_of (v ∷ whole) ++ last) ++ rest)) ≤ length rest
+pub end-longest : {A : Type 0} {text_of : A → List ℕ} {IsFrontOf : List ℕ → Type 0}
+    {one : List ℕ → Result (A × List ℕ) ℕ} → IsReader text_of IsFrontOf one
+    → (v : A) (whole : List A) (last rest : List ℕ) → Begins last (93 ∷ [])
+    → left_of (elements_of one ((separated text_of (v ∷ whole) ++ last) ++ rest)) ≤ length rest
 end-longest {A} {text_of} {IsFrontOf} {one} r v [] last rest at =
     rw (append_assoc, open_again r v (last ++ rest))
-    (elim (fronts_of_one 93 last at.0 at.1) [ inl e ↦ rw e (next_shrinks (elements_of one) v rest (elements_shrinks r)) | inr e ↦ rw e (omega arith) ])
+    (elim (fronts_of_one 93 last at.0 at.1) [
+      | inl e ↦ rw e (next_shrinks (elements_of one) v rest (elements_shrinks r))
+      | inr e ↦ rw e
+          (omega arith)
+    ])
 end-longest {A} {text_of} {IsFrontOf} {one} r v (w ∷ ws) last rest at =
-    let regrouped : (separated text_of (v ∷ w ∷ ws) ++ last) ++ rest ≡ text_of v ++ 44 ∷ ((separated text_of (w ∷ ws) ++ last) ++ rest) = simp append_assoc in
-    rw (regrouped, open_again r v (44 ∷ ((separated text_of (w ∷ ws) ++ last) ++ rest)), left-before (v ∷ []) (elements_of one ((separated text_of (w ∷ ws) ++ last) ++ rest))) (end-longest r w ws last rest at)
+    let regrouped : (separated text_of (v ∷ w ∷ ws) ++ last) ++ rest ≡ text_of v ++ 44
+    ∷ ((separated text_of (w ∷ ws) ++ last) ++ rest) = simp append_assoc in
+    rw (
+      regrouped,
+      open_again r v (44 ∷ ((separated text_of (w ∷ ws) ++ last) ++ rest)),
+      left-before (v ∷ []) (elements_of one ((separated text_of (w ∷ ws) ++ last) ++ rest)),
+    )
+    (end-longest r w ws last rest at)

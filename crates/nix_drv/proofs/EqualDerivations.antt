@@ -8,8 +8,10 @@ use Rattle.nix_drv.specs.Equality.{EqualDerivationsAreSame, same_build, same_drv
 
 -- two tests, each of one part
 both : {P Q : Type 0} (a b : Bool) → Decides a P → Decides b Q → Decides (a && b) (P × Q)
-both a b first second =
-    (λ h. let parts = and_parts a b h in (first.0 parts.0, second.0 parts.1), λ r. and_from a b (first.1 r.0) (second.1 r.1))
+both a b first second = (
+  λ h. let parts = and_parts a b h in (first.0 parts.0, second.0 parts.1),
+  λ r. and_from a b (first.1 r.0) (second.1 r.1),
+)
 
 -- a test of a statement is one of another that says the same
 also : {P Q : Type 0} (a : Bool) → Decides a P → (P → Q) → (Q → P) → Decides a Q
@@ -18,13 +20,22 @@ also a test on back = (λ h. on (test.0 h), λ q. test.1 (back q))
 outputs_decide : (a b : Output) → Decides (same_output a b) (a ≡ b)
 outputs_decide a b =
     also (same_output a b)
-    (both ((pointwise nat_eq a.name b.name && pointwise nat_eq a.path b.path) && pointwise nat_eq a.algo b.algo) (pointwise nat_eq a.hash b.hash)
-    (both (pointwise nat_eq a.name b.name && pointwise nat_eq a.path b.path) (pointwise nat_eq a.algo b.algo)
-    (both (pointwise nat_eq a.name b.name) (pointwise nat_eq a.path b.path) (bytes_decides a.name b.name) (bytes_decides a.path b.path))
+    (both ((pointwise nat_eq a.name b.name && pointwise nat_eq a.path b.path)
+    && pointwise nat_eq a.algo b.algo) (pointwise nat_eq a.hash b.hash)
+    (both (pointwise nat_eq a.name b.name && pointwise nat_eq a.path b.path)
+    (pointwise nat_eq a.algo b.algo)
+    (both (pointwise nat_eq a.name b.name) (pointwise nat_eq a.path b.path)
+    (bytes_decides a.name b.name) (bytes_decides a.path b.path))
     (bytes_decides a.algo b.algo))
     (bytes_decides a.hash b.hash))
     (λ p j. record { name = p.0.0.0 j; path = p.0.0.1 j; algo = p.0.1 j; hash = p.1 j })
-    (λ e. (((ap (λ (o : Output). o.name) e, ap (λ (o : Output). o.path) e), ap (λ (o : Output). o.algo) e), ap (λ (o : Output). o.hash) e))
+    (λ e. (
+      (
+        (ap (λ (o : Output). o.name) e, ap (λ (o : Output). o.path) e),
+        ap (λ (o : Output). o.algo) e,
+      ),
+      ap (λ (o : Output). o.hash) e,
+    ))
 
 inputs_decide : (a b : Input) → Decides (same_input a b) (a ≡ b)
 inputs_decide a b =
@@ -37,20 +48,26 @@ inputs_decide a b =
 entries_decide : (a b : EnvEntry) → Decides (same_entry a b) (a ≡ b)
 entries_decide a b =
     also (same_entry a b)
-    (both (pointwise nat_eq a.key b.key) (pointwise nat_eq a.value b.value) (bytes_decides a.key b.key) (bytes_decides a.value b.value))
+    (both (pointwise nat_eq a.key b.key) (pointwise nat_eq a.value b.value)
+    (bytes_decides a.key b.key) (bytes_decides a.value b.value))
     (λ p j. record { key = p.0 j; value = p.1 j })
     (λ e. (ap (λ (x : EnvEntry). x.key) e, ap (λ (x : EnvEntry). x.value) e))
 
-paths_decide : (a b : Drv) → Decides (same_paths a b) (((a.outputs ≡ b.outputs) × (a.inputs ≡ b.inputs)) × (a.sources ≡ b.sources))
+paths_decide : (a b : Drv) → Decides (same_paths a b)
+    (((a.outputs ≡ b.outputs) × (a.inputs ≡ b.inputs)) × (a.sources ≡ b.sources))
 paths_decide a b =
-    both (pointwise same_output a.outputs b.outputs && pointwise same_input a.inputs b.inputs) (pointwise (pointwise nat_eq) a.sources b.sources)
+    both (pointwise same_output a.outputs b.outputs && pointwise same_input a.inputs b.inputs)
+    (pointwise (pointwise nat_eq) a.sources b.sources)
     (both (pointwise same_output a.outputs b.outputs) (pointwise same_input a.inputs b.inputs)
-    (pointwise_decides outputs_decide a.outputs b.outputs) (pointwise_decides inputs_decide a.inputs b.inputs))
+    (pointwise_decides outputs_decide a.outputs b.outputs)
+    (pointwise_decides inputs_decide a.inputs b.inputs))
     (pointwise_decides bytes_decides a.sources b.sources)
 
-build_decide : (a b : Drv) → Decides (same_build a b) ((((a.system ≡ b.system) × (a.builder ≡ b.builder)) × (a.args ≡ b.args)) × (a.env ≡ b.env))
+build_decide : (a b : Drv) → Decides (same_build a b)
+    ((((a.system ≡ b.system) × (a.builder ≡ b.builder)) × (a.args ≡ b.args)) × (a.env ≡ b.env))
 build_decide a b =
-    both (same_program a b && pointwise (pointwise nat_eq) a.args b.args) (pointwise same_entry a.env b.env)
+    both (same_program a b && pointwise (pointwise nat_eq) a.args b.args)
+    (pointwise same_entry a.env b.env)
     (both (same_program a b) (pointwise (pointwise nat_eq) a.args b.args)
     (both (pointwise nat_eq a.system b.system) (pointwise nat_eq a.builder b.builder)
     (bytes_decides a.system b.system) (bytes_decides a.builder b.builder))
@@ -59,7 +76,8 @@ build_decide a b =
 
 pub drvs_decide : (a b : Drv) → Decides (same_drv a b) (a ≡ b)
 drvs_decide a b =
-    also (same_drv a b) (both (same_paths a b) (same_build a b) (paths_decide a b) (build_decide a b))
+    also (same_drv a b)
+    (both (same_paths a b) (same_build a b) (paths_decide a b) (build_decide a b))
     (λ p j. record {
       outputs = p.0.0.0 j;
       inputs = p.0.0.1 j;
@@ -70,15 +88,24 @@ drvs_decide a b =
       env = p.1.1 j;
     })
     (λ e. (
-      ((ap (λ (d : Drv). d.outputs) e, ap (λ (d : Drv). d.inputs) e), ap (λ (d : Drv). d.sources) e),
-      (((ap (λ (d : Drv). d.system) e, ap (λ (d : Drv). d.builder) e), ap (λ (d : Drv). d.args) e), ap (λ (d : Drv). d.env) e),
+      (
+        (ap (λ (d : Drv). d.outputs) e, ap (λ (d : Drv). d.inputs) e),
+        ap (λ (d : Drv). d.sources) e,
+      ),
+      (
+        ((ap (λ (d : Drv). d.system) e, ap (λ (d : Drv). d.builder) e), ap (λ (d : Drv). d.args) e),
+        ap (λ (d : Drv). d.env) e,
+      ),
     ))
 
 -- lists are equal as they are seen
-pub seen_alike : {A B : Type 0} (same : B → B → Bool) (view : A → B) (xs ys : List A) (seen others : List B) (r : Bool)
-    → map view xs ≡ seen → map view ys ≡ others → r ≡ pointwise (λ a b. same (view a) (view b)) xs ys → r ≡ pointwise same seen others
+pub seen_alike : {A B : Type 0} (same : B → B → Bool) (view : A → B) (xs ys : List A)
+    (seen others : List B) (r : Bool)
+    → map view xs ≡ seen → map view ys ≡ others → r
+    ≡ pointwise (λ a b. same (view a) (view b)) xs ys → r ≡ pointwise same seen others
 seen_alike same view xs ys seen others r first second is =
-    is ∙ sym (pointwise-map view same xs ys) ∙ ap (λ l. pointwise same l (map view ys)) first ∙ ap (λ l. pointwise same seen l) second
+    is ∙ sym (pointwise-map view same xs ys) ∙ ap (λ l. pointwise same l (map view ys)) first
+    ∙ ap (λ l. pointwise same seen l) second
 
 -- the law, as it is stated
 pub equal_derivations_are_same : EqualDerivationsAreSame

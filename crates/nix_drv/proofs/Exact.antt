@@ -24,19 +24,30 @@ pub reader : (g : Grammar) → IsClear g → IsReader (text g) (IsFront g) (read
 unfolding read text IsFront
 reader (Fixed bytes) clear = fixed_reader bytes
 reader Str clear = behind_reader 34 bytes_text IsFrontOfBytes (bytes_at false) bytes_reader
-reader (Then a b) clear = both_reader (text a) (text b) (IsFront a) (IsFront b) (read a) (read b) (reader a clear.0) (reader b clear.1)
+reader (Then a b) clear = both_reader (text a) (text b) (IsFront a) (IsFront b) (read a) (read b)
+    (reader a clear.0) (reader b clear.1)
 reader (Many order g) clear =
-    behind_reader 91 (elements_text (text g)) (IsFrontOfElements (text g) (IsFront g)) (list_at (read g))
+    behind_reader 91 (elements_text (text g)) (IsFrontOfElements (text g) (IsFront g))
+    (list_at (read g))
     (list_reader (text g) (IsFront g) (read g) (reader g clear.0) (refuses_bracket g clear.1))
 
 -- ---- what the public call cites
 
-stops : (g : Grammar) → ((v : Value g) → IsFront g (text g v)) → (s : List ℕ) (r : Result (Value g × List ℕ) ℕ) → Told (text g) (IsFront g) s r → StopsAt (IsFront g) s (left_of r)
-stops g whole s (Ok x) told = record { front = text g x.0; rest = x.1; parts = told; is_front = whole x.0; is_left = refl }
+stops : (g : Grammar) → ((v : Value g) → IsFront g (text g v))
+    → (s : List ℕ) (r : Result (Value g × List ℕ) ℕ) → Told (text g) (IsFront g) s r
+    → StopsAt (IsFront g) s (left_of r)
+stops g whole s (Ok x) told = record {
+  front = text g x.0;
+  rest = x.1;
+  parts = told;
+  is_front = whole x.0;
+  is_left = refl;
+}
 stops g whole s (Err left) told = told
 
 -- before what is left lies the longest front
-pub read-longest : (g : Grammar) → IsClear g → (s : List ℕ) → IsLongestFront g s (length s - left_of (read g s))
+pub read-longest : (g : Grammar) → IsClear g → (s : List ℕ)
+    → IsLongestFront g s (length s - left_of (read g s))
 read-longest g clear s =
     let r = reader g clear in
     let stop = stops g r.whole s (read g s) (r.told s) in
@@ -45,7 +56,12 @@ read-longest g clear s =
       rest = stop.rest;
       parts = stop.parts;
       is_front = stop.is_front;
-      is_place = omega (arith, ap length stop.parts, length-append stop.front stop.rest, stop.is_left);
+      is_place = omega (
+        arith,
+        ap length stop.parts,
+        length-append stop.front stop.rest,
+        stop.is_left,
+      );
       longest = λ other more at e.
           let bound : left_of (read g s) ≤ length more = rw e (r.longest other more at) in
           omega (arith, ap length e, length-append other more, bound);
@@ -54,11 +70,13 @@ read-longest g clear s =
 pub read-shrinks : (g : Grammar) → IsClear g → (s : List ℕ) → left_of (read g s) ≤ length s
 read-shrinks g clear s = reader_shrinks (reader g clear) s
 
-pub read-again : (g : Grammar) → IsClear g → (v : Value g) (rest : List ℕ) → read g (text g v ++ rest) ≡ Ok (v, rest)
+pub read-again : (g : Grammar) → IsClear g → (v : Value g) (rest : List ℕ)
+    → read g (text g v ++ rest) ≡ Ok (v, rest)
 read-again g clear v rest = (reader g clear).again v rest
 
 -- a text is read whole
-pub read-text : (g : Grammar) → IsClear g → (v : Value g) (s : List ℕ) → IsText g v s → read g s ≡ Ok (v, [])
+pub read-text : (g : Grammar) → IsClear g → (v : Value g) (s : List ℕ) → IsText g v s → read g s
+    ≡ Ok (v, [])
 read-text g clear v s is = ap (read g) (is ∙ sym (append-nil (text g v))) ∙ read-again g clear v []
 
 -- what was read, and what is left
@@ -75,27 +93,43 @@ pub rest_is : {A : Type 0} (x y : A × List ℕ) → done x ≡ done y → x.1 �
 rest_is {A} x y e = ap (λ (p : A × List ℕ). p.1) (ok_is x y e)
 
 -- of a text nothing is left
-pub read_whole : (g : Grammar) → IsClear g → (s : List ℕ) (v : Value g) (rest : List ℕ) → read g s ≡ Ok (v, rest) → length rest ≡ 0 → IsText g v s
+pub read_whole : (g : Grammar) → IsClear g → (s : List ℕ) (v : Value g) (rest : List ℕ) → read g s
+    ≡ Ok (v, rest) → length rest ≡ 0 → IsText g v s
 read_whole g clear s v rest e none =
-    let told : Told (text g) (IsFront g) s (Ok (v, rest)) = subst (λ (r : Result (Value g × List ℕ) ℕ). Told (text g) (IsFront g) s r) e ((reader g clear).told s) in
+    let told : Told (text g) (IsFront g) s (Ok (v, rest)) =
+    subst (λ (r : Result (Value g × List ℕ) ℕ). Told (text g) (IsFront g) s r) e
+    ((reader g clear).told s) in
     told ∙ ap (λ (t : List ℕ). text g v ++ t) (nil_from_length rest none) ∙ append-nil (text g v)
 
 -- what leaves bytes is no text, and stands behind the longest front
-pub surplus_no_text : (g : Grammar) → IsClear g → (s : List ℕ) (w : Value g) (rest : List ℕ) → read g s ≡ Ok (w, rest) → length rest ≢ 0 → (v : Value g) → IsText g v s → ⊥
-surplus_no_text g clear s w rest e some v is = some (ap length (rest_is (w, rest) (v, []) (sym e ∙ read-text g clear v s is)))
+pub surplus_no_text : (g : Grammar) → IsClear g → (s : List ℕ) (w : Value g) (rest : List ℕ)
+    → read g s ≡ Ok (w, rest) → length rest ≢ 0 → (v : Value g) → IsText g v s → ⊥
+surplus_no_text g clear s w rest e some v is =
+    some (ap length (rest_is (w, rest) (v, []) (sym e ∙ read-text g clear v s is)))
 
-pub surplus_fits : (g : Grammar) → IsClear g → (s : List ℕ) (v : Value g) (rest : List ℕ) → read g s ≡ Ok (v, rest) → length rest ≤ length s
-surplus_fits g clear s v rest e = subst (λ (r : Result (Value g × List ℕ) ℕ). left_of r ≤ length s) e (read-shrinks g clear s)
+pub surplus_fits : (g : Grammar) → IsClear g → (s : List ℕ) (v : Value g) (rest : List ℕ) → read g s
+    ≡ Ok (v, rest) → length rest ≤ length s
+surplus_fits g clear s v rest e = subst (λ (r : Result (Value g × List ℕ) ℕ). left_of r ≤ length s)
+    e (read-shrinks g clear s)
 
-pub surplus_front : (g : Grammar) → IsClear g → (s : List ℕ) (v : Value g) (rest : List ℕ) → read g s ≡ Ok (v, rest) → IsLongestFront g s (length s - length rest)
-surplus_front g clear s v rest e = subst (λ (r : Result (Value g × List ℕ) ℕ). IsLongestFront g s (length s - left_of r)) e (read-longest g clear s)
+pub surplus_front : (g : Grammar) → IsClear g → (s : List ℕ) (v : Value g) (rest : List ℕ)
+    → read g s ≡ Ok (v, rest) → IsLongestFront g s (length s - length rest)
+surplus_front g clear s v rest e =
+    subst (λ (r : Result (Value g × List ℕ) ℕ). IsLongestFront g s (length s - left_of r)) e
+    (read-longest g clear s)
 
 -- where reading stops lies no text, and the longest front before it
-pub stop_no_text : (g : Grammar) → IsClear g → (s : List ℕ) (left : ℕ) → read g s ≡ Err left → (v : Value g) → IsText g v s → ⊥
+pub stop_no_text : (g : Grammar) → IsClear g → (s : List ℕ) (left : ℕ) → read g s ≡ Err left
+    → (v : Value g) → IsText g v s → ⊥
 stop_no_text g clear s left e v is = let whole = read-text g clear v s is in absurd cc
 
-pub stop_fits : (g : Grammar) → IsClear g → (s : List ℕ) (left : ℕ) → read g s ≡ Err left → left ≤ length s
-stop_fits g clear s left e = subst (λ (r : Result (Value g × List ℕ) ℕ). left_of r ≤ length s) e (read-shrinks g clear s)
+pub stop_fits : (g : Grammar) → IsClear g → (s : List ℕ) (left : ℕ) → read g s ≡ Err left → left
+    ≤ length s
+stop_fits g clear s left e = subst (λ (r : Result (Value g × List ℕ) ℕ). left_of r ≤ length s) e
+    (read-shrinks g clear s)
 
-pub stop_front : (g : Grammar) → IsClear g → (s : List ℕ) (left : ℕ) → read g s ≡ Err left → IsLongestFront g s (length s - left)
-stop_front g clear s left e = subst (λ (r : Result (Value g × List ℕ) ℕ). IsLongestFront g s (length s - left_of r)) e (read-longest g clear s)
+pub stop_front : (g : Grammar) → IsClear g → (s : List ℕ) (left : ℕ) → read g s ≡ Err left
+    → IsLongestFront g s (length s - left)
+stop_front g clear s left e =
+    subst (λ (r : Result (Value g × List ℕ) ℕ). IsLongestFront g s (length s - left_of r)) e
+    (read-longest g clear s)

@@ -12,7 +12,8 @@ eqb_same b = eq-eqb b b refl
 abbrev Fronts : List ℕ → List ℕ → Type 0
 Fronts bytes front = Begins front bytes
 
-told_more : (b : ℕ) (bytes s : List ℕ) (r : Result (Unit {0} × List ℕ) ℕ) → Told (λ _. bytes) (Fronts bytes) s r → Told (λ _. b ∷ bytes) (Fronts (b ∷ bytes)) (b ∷ s) r
+told_more : (b : ℕ) (bytes s : List ℕ) (r : Result (Unit {0} × List ℕ) ℕ)
+    → Told (λ _. bytes) (Fronts bytes) s r → Told (λ _. b ∷ bytes) (Fronts (b ∷ bytes)) (b ∷ s) r
 told_more b bytes s (Ok x) told = ap (λ (t : List ℕ). b ∷ t) told
 told_more b bytes s (Err left) told = record {
   front = b ∷ told.front;
@@ -24,22 +25,40 @@ told_more b bytes s (Err left) told = record {
 
 pub fixed-told : (bytes s : List ℕ) → Told (λ _. bytes) (Fronts bytes) s (fixed_at bytes s)
 fixed-told [] s = refl
-fixed-told (b ∷ bytes) [] = record { front = []; rest = []; parts = refl; is_front = (b ∷ bytes, refl); is_left = refl }
+fixed-told (b ∷ bytes) [] = record {
+  front = [];
+  rest = [];
+  parts = refl;
+  is_front = (b ∷ bytes, refl);
+  is_left = refl;
+}
 fixed-told (b ∷ bytes) (c ∷ s) =
-    cond_both (eqb b c) (fixed_at bytes s) (Err (suc (length s))) (Told (λ _. b ∷ bytes) (Fronts (b ∷ bytes)) (c ∷ s))
-    (λ e. subst (λ (x : ℕ). Told (λ _. b ∷ bytes) (Fronts (b ∷ bytes)) (x ∷ s) (fixed_at bytes s)) (eqb-true b c e) (told_more b bytes s (fixed_at bytes s) (fixed-told bytes s)))
-    (λ _. record { front = []; rest = c ∷ s; parts = refl; is_front = (b ∷ bytes, refl); is_left = refl })
+    cond_both (eqb b c) (fixed_at bytes s) (Err (suc (length s)))
+    (Told (λ _. b ∷ bytes) (Fronts (b ∷ bytes)) (c ∷ s))
+    (λ e. subst (λ (x : ℕ). Told (λ _. b ∷ bytes) (Fronts (b ∷ bytes)) (x ∷ s) (fixed_at bytes s))
+    (eqb-true b c e) (told_more b bytes s (fixed_at bytes s) (fixed-told bytes s)))
+    (λ _. record {
+      front = [];
+      rest = c ∷ s;
+      parts = refl;
+      is_front = (b ∷ bytes, refl);
+      is_left = refl;
+    })
 
 pub fixed-again : (bytes rest : List ℕ) → fixed_at bytes (bytes ++ rest) ≡ Ok (tt, rest)
 fixed-again [] rest = refl
 fixed-again (b ∷ bytes) rest = rw (eqb_same b) (fixed-again bytes rest)
 
 pub fixed-shrinks : (bytes s : List ℕ) → left_of (fixed_at bytes s) ≤ length s
-fixed-shrinks bytes s = told_shrinks (λ _. bytes) (Fronts bytes) s (fixed_at bytes s) (fixed-told bytes s)
+fixed-shrinks bytes s = told_shrinks (λ _. bytes) (Fronts bytes) s (fixed_at bytes s)
+    (fixed-told bytes s)
 
-within : (front more rest : List ℕ) → left_of (fixed_at (front ++ more) (front ++ rest)) ≤ length rest
+within : (front more rest : List ℕ) → left_of (fixed_at (front ++ more) (front ++ rest))
+    ≤ length rest
 within [] more rest = fixed-shrinks more rest
 within (x ∷ front) more rest = rw (eqb_same x) (within front more rest)
 
 pub fixed-longest : (bytes : List ℕ) → Longest (Fronts bytes) (fixed_at bytes)
-fixed-longest bytes front rest h = subst (λ (b : List ℕ). left_of (fixed_at b (front ++ rest)) ≤ length rest) (sym h.1) (within front h.0 rest)
+fixed-longest bytes front rest h =
+    subst (λ (b : List ℕ). left_of (fixed_at b (front ++ rest)) ≤ length rest) (sym h.1)
+    (within front h.0 rest)

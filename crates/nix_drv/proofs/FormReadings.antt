@@ -20,64 +20,91 @@ abbrev with_two : {A B : Type 0} → A → B × List ℕ → Result ((Unit {0} �
 with_two v z = Ok ((tt, (v, z.0)), z.1)
 
 -- a part and the one behind it, both behind fixed bytes
-abbrev then_of : {A B : Type 0} → Result (A × List ℕ) ℕ → (List ℕ → Result (B × List ℕ) ℕ) → Result ((Unit {0} × (A × B)) × List ℕ) ℕ
+abbrev then_of : {A B : Type 0} → Result (A × List ℕ) ℕ → (List ℕ → Result (B × List ℕ) ℕ)
+    → Result ((Unit {0} × (A × B)) × List ℕ) ℕ
 then_of first second = first >>= λ y. second y.1 >>= with_two y.0
 
-after_second : {A B : Type 0} (r : Result (B × List ℕ) ℕ) (v : A) → ((r >>= with_one v) >>= with_fixed) ≡ (r >>= with_two v)
+after_second : {A B : Type 0} (r : Result (B × List ℕ) ℕ) (v : A)
+    → ((r >>= with_one v) >>= with_fixed) ≡ (r >>= with_two v)
 after_second (Ok z) v = refl
 after_second (Err left) v = refl
 
-after_first : {A B : Type 0} (r : Result (A × List ℕ) ℕ) (second : List ℕ → Result (B × List ℕ) ℕ) → ((r >>= λ y. second y.1 >>= with_one y.0) >>= with_fixed) ≡ then_of r second
+after_first : {A B : Type 0} (r : Result (A × List ℕ) ℕ) (second : List ℕ → Result (B × List ℕ) ℕ)
+    → ((r >>= λ y. second y.1 >>= with_one y.0) >>= with_fixed) ≡ then_of r second
 after_first (Ok y) second = after_second (second y.1) y.0
 after_first (Err left) second = refl
 
-after_fixed : {A B : Type 0} (r : Result (Unit {0} × List ℕ) ℕ) (first : List ℕ → Result (A × List ℕ) ℕ) (second : List ℕ → Result (B × List ℕ) ℕ)
-    → (r >>= λ x. (first x.1 >>= λ y. second y.1 >>= with_one y.0) >>= with_one x.0) ≡ then_of (r >>= λ x. first x.1) second
+after_fixed : {A B : Type 0} (r : Result (Unit {0} × List ℕ) ℕ)
+    (first : List ℕ → Result (A × List ℕ) ℕ) (second : List ℕ → Result (B × List ℕ) ℕ)
+    → (r >>= λ x. (first x.1 >>= λ y. second y.1 >>= with_one y.0) >>= with_one x.0)
+    ≡ then_of (r >>= λ x. first x.1) second
 after_fixed (Ok x) first second = after_first (first x.1) second
 after_fixed (Err left) first second = refl
 
-string_then : (bytes : List ℕ) (b : Grammar) (s : List ℕ) → read (Then (Fixed bytes) (Then Str b)) s ≡ then_of (string_behind bytes s) (read b)
+string_then : (bytes : List ℕ) (b : Grammar) (s : List ℕ) → read (Then (Fixed bytes) (Then Str b)) s
+    ≡ then_of (string_behind bytes s) (read b)
 unfolding read string_behind
 string_then bytes b s = after_fixed (fixed_at bytes s) (read Str) (read b)
 
-list_then : (bytes : List ℕ) (order : ListOrder) (g b : Grammar) (s : List ℕ) → read (Then (Fixed bytes) (Then (Many order g) b)) s ≡ then_of (list_behind bytes (read g) s) (read b)
+list_then : (bytes : List ℕ) (order : ListOrder) (g b : Grammar) (s : List ℕ)
+    → read (Then (Fixed bytes) (Then (Many order g) b)) s
+    ≡ then_of (list_behind bytes (read g) s) (read b)
 unfolding read list_behind
 list_then bytes order g b s = after_fixed (fixed_at bytes s) (read (Many order g)) (read b)
 
-fails_on : {X Y : Type 0} (stop : Stop) (r : Result X ℕ) (f : X → Result Y ℕ) → Fails stop r → Fails stop (r >>= f)
+fails_on : {X Y : Type 0} (stop : Stop) (r : Result X ℕ) (f : X → Result Y ℕ) → Fails stop r
+    → Fails stop (r >>= f)
 fails_on Memory r f fails = tt
 fails_on (Left left) r f fails = rw fails refl
 
 -- ---- fixed bytes
 
-pub fixed_fails : (stop : Stop) (bytes s : List ℕ) → Fails stop (fixed_at bytes s) → Fails stop (read (Fixed bytes) s)
+pub fixed_fails : (stop : Stop) (bytes s : List ℕ) → Fails stop (fixed_at bytes s)
+    → Fails stop (read (Fixed bytes) s)
 unfolding read
 fixed_fails stop bytes s fails = fails
 
-pub fixed_read : (bytes s rest : List ℕ) → fixed_at bytes s ≡ Ok (tt, rest) → read (Fixed bytes) s ≡ Ok (tt, rest)
+pub fixed_read : (bytes s rest : List ℕ) → fixed_at bytes s ≡ Ok (tt, rest) → read (Fixed bytes) s
+    ≡ Ok (tt, rest)
 unfolding read
 fixed_read bytes s rest e = e
 
 -- ---- a string and what follows it
 
-pub string_fails : (stop : Stop) (bytes : List ℕ) (b : Grammar) (s : List ℕ) → Fails stop (string_behind bytes s) → Fails stop (read (Then (Fixed bytes) (Then Str b)) s)
-string_fails stop bytes b s fails = rw (string_then bytes b s) (fails_on stop (string_behind bytes s) (λ y. read b y.1 >>= with_two y.0) fails)
+pub string_fails : (stop : Stop) (bytes : List ℕ) (b : Grammar) (s : List ℕ)
+    → Fails stop (string_behind bytes s) → Fails stop (read (Then (Fixed bytes) (Then Str b)) s)
+string_fails stop bytes b s fails = rw (string_then bytes b s)
+    (fails_on stop (string_behind bytes s) (λ y. read b y.1 >>= with_two y.0) fails)
 
-pub string_later : (stop : Stop) (bytes : List ℕ) (b : Grammar) (s v rest : List ℕ) → string_behind bytes s ≡ Ok (v, rest) → Fails stop (read b rest) → Fails stop (read (Then (Fixed bytes) (Then Str b)) s)
-string_later stop bytes b s v rest e fails = rw (string_then bytes b s, e) (fails_on stop (read b rest) (with_two v) fails)
+pub string_later : (stop : Stop) (bytes : List ℕ) (b : Grammar) (s v rest : List ℕ)
+    → string_behind bytes s ≡ Ok (v, rest) → Fails stop (read b rest)
+    → Fails stop (read (Then (Fixed bytes) (Then Str b)) s)
+string_later stop bytes b s v rest e fails = rw (string_then bytes b s, e)
+    (fails_on stop (read b rest) (with_two v) fails)
 
-pub string_read : (bytes : List ℕ) (b : Grammar) (s v rest : List ℕ) (w : Value b) (end : List ℕ) → string_behind bytes s ≡ Ok (v, rest) → read b rest ≡ Ok (w, end) → read (Then (Fixed bytes) (Then Str b)) s ≡ Ok ((tt, (v, w)), end)
+pub string_read : (bytes : List ℕ) (b : Grammar) (s v rest : List ℕ) (w : Value b) (end : List ℕ)
+    → string_behind bytes s ≡ Ok (v, rest) → read b rest ≡ Ok (w, end)
+    → read (Then (Fixed bytes) (Then Str b)) s ≡ Ok ((tt, (v, w)), end)
 string_read bytes b s v rest w end e more = rw (string_then bytes b s, e, more) refl
 
 -- ---- a list and what follows it
 
-pub list_fails : (stop : Stop) (bytes : List ℕ) (order : ListOrder) (g b : Grammar) (s : List ℕ) → Fails stop (list_behind bytes (read g) s) → Fails stop (read (Then (Fixed bytes) (Then (Many order g) b)) s)
-list_fails stop bytes order g b s fails = rw (list_then bytes order g b s) (fails_on stop (list_behind bytes (read g) s) (λ y. read b y.1 >>= with_two y.0) fails)
+pub list_fails : (stop : Stop) (bytes : List ℕ) (order : ListOrder) (g b : Grammar) (s : List ℕ)
+    → Fails stop (list_behind bytes (read g) s)
+    → Fails stop (read (Then (Fixed bytes) (Then (Many order g) b)) s)
+list_fails stop bytes order g b s fails = rw (list_then bytes order g b s)
+    (fails_on stop (list_behind bytes (read g) s) (λ y. read b y.1 >>= with_two y.0) fails)
 
-pub list_later : (stop : Stop) (bytes : List ℕ) (order : ListOrder) (g b : Grammar) (s : List ℕ) (v : List (Value g)) (rest : List ℕ) → list_behind bytes (read g) s ≡ Ok (v, rest) → Fails stop (read b rest) → Fails stop (read (Then (Fixed bytes) (Then (Many order g) b)) s)
-list_later stop bytes order g b s v rest e fails = rw (list_then bytes order g b s, e) (fails_on stop (read b rest) (with_two v) fails)
+pub list_later : (stop : Stop) (bytes : List ℕ) (order : ListOrder) (g b : Grammar) (s : List ℕ)
+    (v : List (Value g)) (rest : List ℕ) → list_behind bytes (read g) s ≡ Ok (v, rest)
+    → Fails stop (read b rest) → Fails stop (read (Then (Fixed bytes) (Then (Many order g) b)) s)
+list_later stop bytes order g b s v rest e fails =
+    rw (list_then bytes order g b s, e) (fails_on stop (read b rest) (with_two v) fails)
 
-pub list_read : (bytes : List ℕ) (order : ListOrder) (g b : Grammar) (s : List ℕ) (v : List (Value g)) (rest : List ℕ) (w : Value b) (end : List ℕ) → list_behind bytes (read g) s ≡ Ok (v, rest) → read b rest ≡ Ok (w, end) → read (Then (Fixed bytes) (Then (Many order g) b)) s ≡ Ok ((tt, (v, w)), end)
+pub list_read : (bytes : List ℕ) (order : ListOrder) (g b : Grammar) (s : List ℕ)
+    (v : List (Value g)) (rest : List ℕ) (w : Value b) (end : List ℕ) → list_behind bytes (read g) s
+    ≡ Ok (v, rest) → read b rest ≡ Ok (w, end) → read (Then (Fixed bytes) (Then (Many order g) b)) s
+    ≡ Ok ((tt, (v, w)), end)
 list_read bytes order g b s v rest w end e more = rw (list_then bytes order g b s, e, more) refl
 
 -- ---- two strings and what follows them
@@ -89,35 +116,53 @@ abbrev second_of : List ℕ × List ℕ → Result ((List ℕ × List ℕ) × Li
 second_of x = string_behind (44 ∷ []) x.1 >>= with_one x.0
 
 -- the two that were read, and what follows them
-abbrev strings_with : (b : Grammar) → (List ℕ × List ℕ) × List ℕ → Result (Value (TwoStrings [] b) × List ℕ) ℕ
+abbrev strings_with : (b : Grammar) → (List ℕ × List ℕ) × List ℕ
+    → Result (Value (TwoStrings [] b) × List ℕ) ℕ
 strings_with b p = read b p.1 >>= λ z. Ok ((tt, (p.0.0, (tt, (p.0.1, z.0)))), z.1)
 
-after_last : {B : Type 0} (r : Result (B × List ℕ) ℕ) (v u : List ℕ) (f : B × List ℕ → Result ((Unit {0} × (List ℕ × (Unit {0} × (List ℕ × B)))) × List ℕ) ℕ) → ((z : B × List ℕ) → Ok ((tt, (v, (tt, (u, z.0)))), z.1) ≡ f z)
+after_last : {B : Type 0} (r : Result (B × List ℕ) ℕ) (v u : List ℕ)
+    (f : B × List ℕ → Result ((Unit {0} × (List ℕ × (Unit {0} × (List ℕ × B)))) × List ℕ) ℕ)
+    → ((z : B × List ℕ) → Ok ((tt, (v, (tt, (u, z.0)))), z.1) ≡ f z)
     → ((r >>= with_two u) >>= with_two v) ≡ (r >>= f)
 after_last (Ok z) v u f same = same z
 after_last (Err left) v u f same = refl
 
-after_string : (b : Grammar) (r : Result (List ℕ × List ℕ) ℕ) (v : List ℕ) → (then_of r (read b) >>= with_two v) ≡ ((r >>= with_one v) >>= strings_with b)
-after_string b (Ok u) v = after_last (read b u.1) v u.0 (λ z. Ok ((tt, (v, (tt, (u.0, z.0)))), z.1)) (λ z. refl)
+after_string : (b : Grammar) (r : Result (List ℕ × List ℕ) ℕ) (v : List ℕ)
+    → (then_of r (read b) >>= with_two v) ≡ ((r >>= with_one v) >>= strings_with b)
+after_string b (Ok u) v = after_last (read b u.1) v u.0 (λ z. Ok ((tt, (v, (tt, (u.0, z.0)))), z.1))
+    (λ z. refl)
 after_string b (Err left) v = refl
 
-after_strings : (b : Grammar) (r : Result (List ℕ × List ℕ) ℕ) → then_of r (read (Then (Fixed (44 ∷ [])) (Then Str b))) ≡ ((r >>= second_of) >>= strings_with b)
-after_strings b (Ok y) = rw (string_then (44 ∷ []) b y.1) (after_string b (string_behind (44 ∷ []) y.1) y.0)
+after_strings : (b : Grammar) (r : Result (List ℕ × List ℕ) ℕ)
+    → then_of r (read (Then (Fixed (44 ∷ [])) (Then Str b)))
+    ≡ ((r >>= second_of) >>= strings_with b)
+after_strings b (Ok y) = rw (string_then (44 ∷ []) b y.1)
+    (after_string b (string_behind (44 ∷ []) y.1) y.0)
 after_strings b (Err left) = refl
 
-strings_then : (bytes : List ℕ) (b : Grammar) (s : List ℕ) → read (TwoStrings bytes b) s ≡ (strings_behind bytes s >>= strings_with b)
+strings_then : (bytes : List ℕ) (b : Grammar) (s : List ℕ) → read (TwoStrings bytes b) s
+    ≡ (strings_behind bytes s >>= strings_with b)
 unfolding strings_behind
-strings_then bytes b s = rw (string_then bytes (Then (Fixed (44 ∷ [])) (Then Str b)) s) (after_strings b (string_behind bytes s))
+strings_then bytes b s = rw (string_then bytes (Then (Fixed (44 ∷ [])) (Then Str b)) s)
+    (after_strings b (string_behind bytes s))
 
-pub strings_fails : (stop : Stop) (bytes : List ℕ) (b : Grammar) (s : List ℕ) → Fails stop (strings_behind bytes s) → Fails stop (read (Then (Fixed bytes) (Then Str (Then (Fixed (44 ∷ [])) (Then Str b)))) s)
-strings_fails stop bytes b s fails = rw (strings_then bytes b s) (fails_on stop (strings_behind bytes s) (strings_with b) fails)
+pub strings_fails : (stop : Stop) (bytes : List ℕ) (b : Grammar) (s : List ℕ)
+    → Fails stop (strings_behind bytes s) → Fails stop
+    (read (Then (Fixed bytes) (Then Str (Then (Fixed (44 ∷ [])) (Then Str b)))) s)
+strings_fails stop bytes b s fails = rw (strings_then bytes b s)
+    (fails_on stop (strings_behind bytes s) (strings_with b) fails)
 
-pub strings_later : (stop : Stop) (bytes : List ℕ) (b : Grammar) (s v u rest : List ℕ) → strings_behind bytes s ≡ Ok ((v, u), rest) → Fails stop (read b rest)
+pub strings_later : (stop : Stop) (bytes : List ℕ) (b : Grammar) (s v u rest : List ℕ)
+    → strings_behind bytes s ≡ Ok ((v, u), rest) → Fails stop (read b rest)
     → Fails stop (read (Then (Fixed bytes) (Then Str (Then (Fixed (44 ∷ [])) (Then Str b)))) s)
-strings_later stop bytes b s v u rest e fails = rw (strings_then bytes b s, e) (fails_on stop (read b rest) (λ z. Ok ((tt, (v, (tt, (u, z.0)))), z.1)) fails)
+strings_later stop bytes b s v u rest e fails =
+    rw (strings_then bytes b s, e)
+    (fails_on stop (read b rest) (λ z. Ok ((tt, (v, (tt, (u, z.0)))), z.1)) fails)
 
-pub strings_read : (bytes : List ℕ) (b : Grammar) (s v u rest : List ℕ) (w : Value b) (end : List ℕ) → strings_behind bytes s ≡ Ok ((v, u), rest) → read b rest ≡ Ok (w, end)
-    → read (Then (Fixed bytes) (Then Str (Then (Fixed (44 ∷ [])) (Then Str b)))) s ≡ Ok ((tt, (v, (tt, (u, w)))), end)
+pub strings_read : (bytes : List ℕ) (b : Grammar) (s v u rest : List ℕ) (w : Value b) (end : List ℕ)
+    → strings_behind bytes s ≡ Ok ((v, u), rest) → read b rest ≡ Ok (w, end)
+    → read (Then (Fixed bytes) (Then Str (Then (Fixed (44 ∷ [])) (Then Str b)))) s
+    ≡ Ok ((tt, (v, (tt, (u, w)))), end)
 strings_read bytes b s v u rest w end e more = rw (strings_then bytes b s, e, more) refl
 
 -- ---- the ends of the forms

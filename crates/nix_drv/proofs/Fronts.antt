@@ -8,15 +8,25 @@ use Rattle.nix_drv.specs.Laws.{FrontsAreBeginnings}
 use Rattle.nix_drv.proofs.Elements.{FrontOfSome}
 
 -- a beginning of two parts is one of the first, or the first and a beginning of the second
-begins_parts : (front x y rest : List ℕ) → x ++ y ≡ front ++ rest → Begins front x ⊎ ((more : List ℕ) × (front ≡ x ++ more) × Begins more y)
+begins_parts : (front x y rest : List ℕ) → x ++ y ≡ front ++ rest → Begins front x
+    ⊎ ((more : List ℕ) × (front ≡ x ++ more) × Begins more y)
 begins_parts front [] y rest e = inr (front, refl, (rest, e))
 begins_parts [] (b ∷ x) y rest e = inl (b ∷ x, refl)
 begins_parts (c ∷ front) (b ∷ x) y rest e =
     let head : b ≡ c = cc in
     let tail : x ++ y ≡ front ++ rest = cc in
     elim (begins_parts front x y rest tail) [
-      | inl at ↦ inl (at.0, ap (λ (t : List ℕ). b ∷ t) at.1 ∙ ap (λ (k : ℕ). k ∷ (front ++ at.0)) head)
-      | inr at ↦ inr (at.0, ap (λ (t : List ℕ). c ∷ t) at.1 ∙ ap (λ (k : ℕ). k ∷ (x ++ at.0)) (sym head), at.2)
+      | inl at ↦ inl (
+        at.0,
+        ap (λ (t : List ℕ). b ∷ t) at.1
+            ∙ ap (λ (k : ℕ). k ∷ (front ++ at.0)) head,
+      )
+      | inr at ↦ inr (
+        at.0,
+        ap (λ (t : List ℕ). c ∷ t) at.1
+            ∙ ap (λ (k : ℕ). k ∷ (x ++ at.0)) (sym head),
+        at.2,
+      )
     ]
 
 begins_more : (front x y : List ℕ) → Begins front x → Begins front (x ++ y)
@@ -24,63 +34,105 @@ begins_more front x y at = (at.0 ++ y, ap (λ (t : List ℕ). t ++ y) at.1 ∙ a
 
 -- ---- a beginning is a front
 
-begins_bytes : (v more rest : List ℕ) → flat_map spelling v ++ 34 ∷ [] ≡ more ++ rest → IsFrontOfBytes more
+begins_bytes : (v more rest : List ℕ) → flat_map spelling v ++ 34 ∷ [] ≡ more ++ rest
+    → IsFrontOfBytes more
 begins_bytes [] more rest e = ([], more, refl, inr (rest, e))
 begins_bytes (b ∷ v) more rest e =
-    elim (begins_parts more (spelling b) (flat_map spelling v ++ 34 ∷ []) rest (sym (append_assoc (spelling b) (flat_map spelling v) (34 ∷ [])) ∙ e)) [
+    elim (begins_parts more (spelling b) (flat_map spelling v ++ 34 ∷ []) rest
+    (sym (append_assoc (spelling b) (flat_map spelling v) (34 ∷ [])) ∙ e)) [
       | inl at ↦ ([], more, refl, inl (b, at))
-      | inr at ↦ let later : IsFrontOfBytes at.0 = begins_bytes v at.0 at.2.0 at.2.1 in
-          (b ∷ later.0, later.1, at.1 ∙ ap (λ (t : List ℕ). spelling b ++ t) later.2 ∙ sym (append_assoc (spelling b) (flat_map spelling later.0) later.1), later.3)
+      | inr at ↦ let later : IsFrontOfBytes at.0 = begins_bytes v at.0 at.2.0 at.2.1 in (
+        b ∷ later.0,
+        later.1,
+        at.1 ∙ ap (λ (t : List ℕ). spelling b ++ t) later.2
+            ∙ sym (append_assoc (spelling b) (flat_map spelling later.0) later.1),
+        later.3,
+      )
     ]
 
 -- behind the text of an element stands a comma, and a beginning of the others
-begins_behind : {A : Type 0} (text_of : A → List ℕ) (IsFrontOf : List ℕ → Type 0) (v w : A) (vs : List A) (behind rest : List ℕ) → 44 ∷ separated text_of (w ∷ vs) ++ 93 ∷ [] ≡ behind ++ rest
-    → ((more later : List ℕ) → separated text_of (w ∷ vs) ++ 93 ∷ [] ≡ more ++ later → FrontOfSome text_of IsFrontOf more) → FrontOfSome text_of IsFrontOf (text_of v ++ behind)
+begins_behind : {A : Type 0} (text_of : A → List ℕ) (IsFrontOf : List ℕ → Type 0) (v w : A)
+    (vs : List A) (behind rest : List ℕ) → 44 ∷ separated text_of (w ∷ vs) ++ 93 ∷ [] ≡ behind
+    ++ rest
+    → ((more later : List ℕ) → separated text_of (w ∷ vs) ++ 93 ∷ [] ≡ more ++ later
+    → FrontOfSome text_of IsFrontOf more) → FrontOfSome text_of IsFrontOf (text_of v ++ behind)
 begins_behind text_of IsFrontOf v w vs [] rest e others = inr (v, [], [], refl, (93 ∷ [], refl))
 begins_behind {A} text_of IsFrontOf v w vs (c ∷ behind) rest e others =
     let comma : 44 ≡ c = cc in
     let tail : separated text_of (w ∷ vs) ++ 93 ∷ [] ≡ behind ++ rest = cc in
-    let here : (t : List ℕ) → behind ≡ t → text_of v ++ c ∷ behind ≡ text_of v ++ 44 ∷ t = λ t is. ap (λ (s : List ℕ). text_of v ++ c ∷ s) is ∙ ap (λ (k : ℕ). text_of v ++ k ∷ t) (sym comma) in
+    let here : (t : List ℕ) → behind ≡ t → text_of v ++ c ∷ behind ≡ text_of v ++ 44
+    ∷ t = λ t is. ap (λ (s : List ℕ). text_of v ++ c ∷ s) is
+    ∙ ap (λ (k : ℕ). text_of v ++ k ∷ t) (sym comma) in
     elim (others behind rest tail) [
-      | inl at ↦ inl (v ∷ at.0, at.1, here (each_with_comma text_of at.0 ++ at.1) at.2 ∙ simp append_assoc, at.3)
-      | inr at ↦ inr (v, at.0 ∷ at.1, at.2, here (separated text_of (at.0 ∷ at.1) ++ at.2) at.3 ∙ simp append_assoc, at.4)
+      | inl at ↦ inl (
+        v ∷ at.0,
+        at.1,
+        here (each_with_comma text_of at.0 ++ at.1) at.2
+            ∙ simp append_assoc,
+        at.3,
+      )
+      | inr at ↦ inr (
+        v,
+        at.0 ∷ at.1,
+        at.2,
+        here (separated text_of (at.0 ∷ at.1) ++ at.2) at.3
+            ∙ simp append_assoc,
+        at.4,
+      )
     ]
 
-begins_some : {A : Type 0} (text_of : A → List ℕ) (IsFrontOf : List ℕ → Type 0) → ((v : A) (f : List ℕ) → Begins f (text_of v) → IsFrontOf f) → (v : A) (vs : List A) (more rest : List ℕ) → separated text_of (v ∷ vs) ++ 93 ∷ [] ≡ more ++ rest → FrontOfSome text_of IsFrontOf more
+begins_some : {A : Type 0} (text_of : A → List ℕ) (IsFrontOf : List ℕ → Type 0)
+    → ((v : A) (f : List ℕ) → Begins f (text_of v) → IsFrontOf f)
+    → (v : A) (vs : List A) (more rest : List ℕ) → separated text_of (v ∷ vs) ++ 93 ∷ [] ≡ more
+    ++ rest → FrontOfSome text_of IsFrontOf more
 begins_some text_of IsFrontOf one v [] more rest e =
-    elim (begins_parts more (text_of v) (93 ∷ []) rest e) [ inl at ↦ inl ([], more, refl, one v more at) | inr at ↦ inr (v, [], at.0, at.1, at.2) ]
+    elim (begins_parts more (text_of v) (93 ∷ []) rest e)
+    [ inl at ↦ inl ([], more, refl, one v more at) | inr at ↦ inr (v, [], at.0, at.1, at.2) ]
 begins_some {A} text_of IsFrontOf one v (w ∷ vs) more rest e =
-    elim (begins_parts more (text_of v) (44 ∷ separated text_of (w ∷ vs) ++ 93 ∷ []) rest (sym (append_assoc (text_of v) (44 ∷ separated text_of (w ∷ vs)) (93 ∷ [])) ∙ e)) [
+    elim (begins_parts more (text_of v) (44 ∷ separated text_of (w ∷ vs) ++ 93 ∷ []) rest
+    (sym (append_assoc (text_of v) (44 ∷ separated text_of (w ∷ vs)) (93 ∷ [])) ∙ e)) [
       | inl at ↦ inl ([], more, refl, one v more at)
       | inr at ↦
-          let some : FrontOfSome text_of IsFrontOf (text_of v ++ at.0) = begins_behind text_of IsFrontOf v w vs at.0 at.2.0 at.2.1 (λ t later is. begins_some text_of IsFrontOf one w vs t later is) in
+          let some : FrontOfSome text_of IsFrontOf (text_of v ++ at.0) =
+          begins_behind text_of IsFrontOf v w vs at.0 at.2.0 at.2.1
+          (λ t later is. begins_some text_of IsFrontOf one w vs t later is) in
           rw at.1 some
     ]
 
-begins_elements : {A : Type 0} (text_of : A → List ℕ) (IsFrontOf : List ℕ → Type 0) → ((v : A) (f : List ℕ) → Begins f (text_of v) → IsFrontOf f) → (vs : List A) (more rest : List ℕ) → separated text_of vs ++ 93 ∷ [] ≡ more ++ rest → IsFrontOfElements text_of IsFrontOf more
+begins_elements : {A : Type 0} (text_of : A → List ℕ) (IsFrontOf : List ℕ → Type 0)
+    → ((v : A) (f : List ℕ) → Begins f (text_of v) → IsFrontOf f)
+    → (vs : List A) (more rest : List ℕ) → separated text_of vs ++ 93 ∷ [] ≡ more ++ rest
+    → IsFrontOfElements text_of IsFrontOf more
 begins_elements text_of IsFrontOf one [] more rest e = inr ([], more, refl, (rest, e))
 begins_elements {A} text_of IsFrontOf one (v ∷ vs) more rest e =
-    elim (begins_some text_of IsFrontOf one v vs more rest e) [ inl at ↦ inl at | inr at ↦ inr (at.0 ∷ at.1, at.2, at.3, at.4) ]
+    elim (begins_some text_of IsFrontOf one v vs more rest e)
+    [ inl at ↦ inl at | inr at ↦ inr (at.0 ∷ at.1, at.2, at.3, at.4) ]
 
 -- a beginning of a byte and more is none, or the byte and a beginning of the rest
-begins_byte : (b : ℕ) (s front rest : List ℕ) (P : List ℕ → Type 0) → ((more later : List ℕ) → s ≡ more ++ later → P more) → b ∷ s ≡ front ++ rest → Begins front (b ∷ []) ⊎ ((more : List ℕ) × (front ≡ b ∷ more) × P more)
+begins_byte : (b : ℕ) (s front rest : List ℕ) (P : List ℕ → Type 0)
+    → ((more later : List ℕ) → s ≡ more ++ later → P more) → b ∷ s ≡ front ++ rest
+    → Begins front (b ∷ []) ⊎ ((more : List ℕ) × (front ≡ b ∷ more) × P more)
 begins_byte b s [] rest P others e = inl (b ∷ [], refl)
 begins_byte b s (c ∷ more) rest P others e =
     let head : b ≡ c = cc in
     let tail : s ≡ more ++ rest = cc in
     inr (more, ap (λ (k : ℕ). k ∷ more) (sym head), others more rest tail)
 
-begins_front : (g : Grammar) (v : Value g) (front : List ℕ) → Begins front (text g v) → IsFront g front
+begins_front : (g : Grammar) (v : Value g) (front : List ℕ) → Begins front (text g v)
+    → IsFront g front
 unfolding text IsFront
 begins_front (Fixed bytes) v front at = at
-begins_front Str v front at = begins_byte 34 (flat_map spelling v ++ 34 ∷ []) front at.0 IsFrontOfBytes (begins_bytes v) at.1
+begins_front Str v front at = begins_byte 34 (flat_map spelling v ++ 34 ∷ []) front at.0
+    IsFrontOfBytes (begins_bytes v) at.1
 begins_front (Then a b) v front at =
     elim (begins_parts front (text a v.0) (text b v.1) at.0 at.1) [
       | inl first ↦ inl (begins_front a v.0 front first)
       | inr second ↦ inr (v.0, second.0, second.1, begins_front b v.1 second.0 second.2)
     ]
 begins_front (Many order g) vs front at =
-    begins_byte 91 (separated (text g) vs ++ 93 ∷ []) front at.0 (IsFrontOfElements (text g) (IsFront g)) (begins_elements (text g) (IsFront g) (begins_front g) vs) at.1
+    begins_byte 91 (separated (text g) vs ++ 93 ∷ []) front at.0
+    (IsFrontOfElements (text g) (IsFront g))
+    (begins_elements (text g) (IsFront g) (begins_front g) vs) at.1
 
 -- ---- a front is a beginning
 
@@ -91,47 +143,98 @@ some_value Str = []
 some_value (Then a b) = (some_value a, some_value b)
 some_value (Many order g) = []
 
-spellings-append : (v w : List ℕ) → flat_map spelling (v ++ w) ≡ flat_map spelling v ++ flat_map spelling w
+spellings-append : (v w : List ℕ) → flat_map spelling (v ++ w) ≡ flat_map spelling v
+    ++ flat_map spelling w
 spellings-append [] w = refl
-spellings-append (b ∷ v) w = ap (λ (t : List ℕ). spelling b ++ t) (spellings-append v w) ∙ sym (append_assoc (spelling b) (flat_map spelling v) (flat_map spelling w))
+spellings-append (b ∷ v) w = ap (λ (t : List ℕ). spelling b ++ t) (spellings-append v w)
+    ∙ sym (append_assoc (spelling b) (flat_map spelling v) (flat_map spelling w))
 
-bytes_begin : (more : List ℕ) → IsFrontOfBytes more → (v : List ℕ) × Begins more (flat_map spelling v ++ 34 ∷ [])
+bytes_begin : (more : List ℕ) → IsFrontOfBytes more → (v : List ℕ)
+    × Begins more (flat_map spelling v ++ 34 ∷ [])
 bytes_begin more (at0, at1, at2, inl at) =
-    let one : flat_map spelling (at.0 ∷ []) ≡ at1 ++ at.1.0 = append-nil (spelling at.0) ∙ at.1.1 in
-    (at0 ++ at.0 ∷ [], (at.1.0 ++ 34 ∷ [], rw (spellings-append at0 (at.0 ∷ []), one, at2) (simp append_assoc)))
-bytes_begin more (at0, at1, at2, inr at) = (at0, (at.0, ap (λ (t : List ℕ). flat_map spelling at0 ++ t) at.1 ∙ sym (append_assoc (flat_map spelling at0) at1 at.0) ∙ ap (λ (t : List ℕ). t ++ at.0) (sym at2)))
+    let one : flat_map spelling (at.0 ∷ []) ≡ at1 ++ at.1.0 = append-nil (spelling at.0) ∙ at.1.1 in (
+      at0 ++ at.0 ∷ [],
+      (at.1.0 ++ 34 ∷ [], rw (spellings-append at0 (at.0 ∷ []), one, at2) (simp append_assoc)),
+    )
+bytes_begin more (at0, at1, at2, inr at) = (
+  at0,
+  (
+    at.0,
+    ap (λ (t : List ℕ). flat_map spelling at0 ++ t) at.1
+        ∙ sym (append_assoc (flat_map spelling at0) at1 at.0)
+        ∙ ap (λ (t : List ℕ). t ++ at.0) (sym at2),
+  ),
+)
 
 -- elements with one more behind them
-separated-last : {A : Type 0} (text_of : A → List ℕ) (whole : List A) (v : A) → separated text_of (whole ++ v ∷ []) ≡ each_with_comma text_of whole ++ text_of v
+separated-last : {A : Type 0} (text_of : A → List ℕ) (whole : List A) (v : A)
+    → separated text_of (whole ++ v ∷ []) ≡ each_with_comma text_of whole ++ text_of v
 separated-last text_of [] v = refl
 separated-last text_of (w ∷ []) v = sym (append_assoc (text_of w) (44 ∷ []) (text_of v))
 separated-last text_of (w ∷ u ∷ whole) v =
-    ap (λ (t : List ℕ). text_of w ++ 44 ∷ t) (separated-last text_of (u ∷ whole) v) ∙ sym (append_assoc (text_of w) (44 ∷ each_with_comma text_of (u ∷ whole)) (text_of v))
+    ap (λ (t : List ℕ). text_of w ++ 44 ∷ t) (separated-last text_of (u ∷ whole) v)
+    ∙ sym (append_assoc (text_of w) (44 ∷ each_with_comma text_of (u ∷ whole)) (text_of v))
 
-elements_begin : {A : Type 0} (text_of : A → List ℕ) (IsFrontOf : List ℕ → Type 0) → ((f : List ℕ) → IsFrontOf f → (v : A) × Begins f (text_of v)) → (more : List ℕ) → IsFrontOfElements text_of IsFrontOf more → (vs : List A) × Begins more (separated text_of vs ++ 93 ∷ [])
+elements_begin : {A : Type 0} (text_of : A → List ℕ) (IsFrontOf : List ℕ → Type 0)
+    → ((f : List ℕ) → IsFrontOf f → (v : A) × Begins f (text_of v)) → (more : List ℕ)
+    → IsFrontOfElements text_of IsFrontOf more → (vs : List A)
+    × Begins more (separated text_of vs ++ 93 ∷ [])
 elements_begin text_of IsFrontOf one more (inl at) =
-    let last = one at.1 at.3 in
-    (at.0 ++ last.0 ∷ [], (last.1.0 ++ 93 ∷ [], rw (separated-last text_of at.0 last.0, last.1.1, at.2) (simp append_assoc)))
-elements_begin text_of IsFrontOf one more (inr at) =
-    (at.0, (at.3.0, ap (λ (t : List ℕ). separated text_of at.0 ++ t) at.3.1 ∙ sym (append_assoc (separated text_of at.0) at.1 at.3.0) ∙ ap (λ (t : List ℕ). t ++ at.3.0) (sym at.2)))
+    let last = one at.1 at.3 in (
+      at.0 ++ last.0 ∷ [],
+      (
+        last.1.0 ++ 93 ∷ [],
+        rw (separated-last text_of at.0 last.0, last.1.1, at.2)
+            (simp append_assoc),
+      ),
+    )
+elements_begin text_of IsFrontOf one more (inr at) = (
+  at.0,
+  (
+    at.3.0,
+    ap (λ (t : List ℕ). separated text_of at.0 ++ t) at.3.1
+        ∙ sym (append_assoc (separated text_of at.0) at.1 at.3.0)
+        ∙ ap (λ (t : List ℕ). t ++ at.3.0) (sym at.2),
+  ),
+)
 
-front_begins : (g : Grammar) (front : List ℕ) → IsFront g front → (v : Value g) × Begins front (text g v)
+front_begins : (g : Grammar) (front : List ℕ) → IsFront g front → (v : Value g)
+    × Begins front (text g v)
 unfolding text IsFront
 front_begins (Fixed bytes) front at = (tt, at)
 front_begins Str front (inl at) = ([], begins_more front (34 ∷ []) (34 ∷ []) at)
 front_begins Str front (inr at) =
-    let whole = bytes_begin at.0 at.2 in
-    (whole.0, (whole.1.0, ap (λ (t : List ℕ). 34 ∷ t) whole.1.1 ∙ ap (λ (t : List ℕ). t ++ whole.1.0) (sym at.1)))
+    let whole = bytes_begin at.0 at.2 in (
+      whole.0,
+      (
+        whole.1.0,
+        ap (λ (t : List ℕ). 34 ∷ t) whole.1.1
+            ∙ ap (λ (t : List ℕ). t ++ whole.1.0) (sym at.1),
+      ),
+    )
 front_begins (Then a b) front (inl at) =
     let first = front_begins a front at in
     ((first.0, some_value b), begins_more front (text a first.0) (text b (some_value b)) first.1)
 front_begins (Then a b) front (inr at) =
-    let second = front_begins b at.1 at.3 in
-    ((at.0, second.0), (second.1.0, ap (λ (t : List ℕ). text a at.0 ++ t) second.1.1 ∙ sym (append_assoc (text a at.0) at.1 second.1.0) ∙ ap (λ (t : List ℕ). t ++ second.1.0) (sym at.2)))
+    let second = front_begins b at.1 at.3 in (
+      (at.0, second.0),
+      (
+        second.1.0,
+        ap (λ (t : List ℕ). text a at.0 ++ t) second.1.1
+            ∙ sym (append_assoc (text a at.0) at.1 second.1.0)
+            ∙ ap (λ (t : List ℕ). t ++ second.1.0) (sym at.2),
+      ),
+    )
 front_begins (Many order g) front (inl at) = ([], begins_more front (91 ∷ []) (93 ∷ []) at)
 front_begins (Many order g) front (inr at) =
-    let whole = elements_begin (text g) (IsFront g) (front_begins g) at.0 at.2 in
-    (whole.0, (whole.1.0, ap (λ (t : List ℕ). 91 ∷ t) whole.1.1 ∙ ap (λ (t : List ℕ). t ++ whole.1.0) (sym at.1)))
+    let whole = elements_begin (text g) (IsFront g) (front_begins g) at.0 at.2 in (
+      whole.0,
+      (
+        whole.1.0,
+        ap (λ (t : List ℕ). 91 ∷ t) whole.1.1
+            ∙ ap (λ (t : List ℕ). t ++ whole.1.0) (sym at.1),
+      ),
+    )
 
 pub fronts_are_beginnings : (g : Grammar) → FrontsAreBeginnings g
 fronts_are_beginnings g front = (front_begins g front, λ (v, at). begins_front g v front at)

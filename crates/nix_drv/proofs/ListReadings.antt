@@ -16,11 +16,13 @@ use Rattle.nix_drv.proofs.Elements.{elements_open}
 use Rattle.nix_drv.proofs.Exact.{reader}
 
 -- what follows an element by the sign behind it
-abbrev follow : {A : Type 0} → (List ℕ → Result (List A × List ℕ) ℕ) → A → Next × List ℕ → Result (List A × List ℕ) ℕ
+abbrev follow : {A : Type 0} → (List ℕ → Result (List A × List ℕ) ℕ) → A → Next × List ℕ
+    → Result (List A × List ℕ) ℕ
 follow others v (Comma, rest) = before (v ∷ []) (others rest)
 follow others v (End, rest) = Ok (v ∷ [], rest)
 
-next_open : {A : Type 0} (others : List ℕ → Result (List A × List ℕ) ℕ) (v : A) (s : List ℕ) → next_at others v s ≡ (sign_at s >>= follow others v)
+next_open : {A : Type 0} (others : List ℕ → Result (List A × List ℕ) ℕ) (v : A) (s : List ℕ)
+    → next_at others v s ≡ (sign_at s >>= follow others v)
 next_open others v [] = refl
 next_open others v (b ∷ s) =
     elim (cases_Bool (eqb b 44)) [
@@ -45,55 +47,93 @@ sign_shorter : (s : List ℕ) (x : Next × List ℕ) → sign_at s ≡ Ok x → 
 sign_shorter s x e = subst (OneLess (length s)) e (sign_is_one s)
 
 -- reading an element leaves no more
-pub form_shrinks : (g : Grammar) → IsClear (Many Free g) → (s : List ℕ) → left_of (read g s) ≤ length s
+pub form_shrinks : (g : Grammar) → IsClear (Many Free g) → (s : List ℕ) → left_of (read g s)
+    ≤ length s
 form_shrinks g clear s = reader_shrinks (reader g clear.0) s
 
-abbrev with_sign : {A : Type 0} → (List ℕ → Result (A × List ℕ) ℕ) → A × List ℕ → Result (List A × List ℕ) ℕ
+abbrev with_sign : {A : Type 0} → (List ℕ → Result (A × List ℕ) ℕ) → A × List ℕ
+    → Result (List A × List ℕ) ℕ
 with_sign one x = sign_at x.1 >>= follow (elements_of one) x.0
 
-open_sign : {A : Type 0} (one : List ℕ → Result (A × List ℕ) ℕ) → ((s : List ℕ) → left_of (one s) ≤ length s) → (s : List ℕ) → elements_of one s ≡ (one s >>= with_sign one)
+open_sign : {A : Type 0} (one : List ℕ → Result (A × List ℕ) ℕ)
+    → ((s : List ℕ) → left_of (one s) ≤ length s) → (s : List ℕ) → elements_of one s
+    ≡ (one s >>= with_sign one)
 open_sign {A} one h s =
-    let same : (r : Result (A × List ℕ) ℕ) → (r >>= λ x. next_at (elements_of one) x.0 x.1) ≡ (r >>= with_sign one) = λ r. elim r as (λ q. (q >>= λ x. next_at (elements_of one) x.0 x.1) ≡ (q >>= with_sign one)) [
+    let same : (r : Result (A × List ℕ) ℕ) → (r >>= λ x. next_at (elements_of one) x.0 x.1)
+    ≡ (r >>= with_sign one) = λ r. elim r as
+    (λ q. (q >>= λ x. next_at (elements_of one) x.0 x.1) ≡ (q >>= with_sign one)) [
       | Ok x ↦ next_open (elements_of one) x.0 x.1
       | Err left ↦ refl
     ] in
     elements_open one h s ∙ same (one s)
 
 -- no element was read, and so no list
-pub element_fails : {A : Type 0} (one : List ℕ → Result (A × List ℕ) ℕ) → ((s : List ℕ) → left_of (one s) ≤ length s) → (stop : Stop) (items : List A) (s : List ℕ) (total : Result (List A × List ℕ) ℕ)
+pub element_fails : {A : Type 0} (one : List ℕ → Result (A × List ℕ) ℕ)
+    → ((s : List ℕ) → left_of (one s) ≤ length s)
+    → (stop : Stop) (items : List A) (s : List ℕ) (total : Result (List A × List ℕ) ℕ)
     → before items (elements_of one s) ≡ total → Fails stop (one s) → Fails stop total
 element_fails one h Memory items s total so_far fails = tt
-element_fails {A} one h (Left left) items s total so_far fails = sym so_far ∙ ap (before items) (open_sign one h s ∙ ap (λ (r : Result (A × List ℕ) ℕ). r >>= with_sign one) fails)
+element_fails {A} one h (Left left) items s total so_far fails = sym so_far
+    ∙ ap (before items)
+    (open_sign one h s ∙ ap (λ (r : Result (A × List ℕ) ℕ). r >>= with_sign one) fails)
 
-after_element : {A : Type 0} (one : List ℕ → Result (A × List ℕ) ℕ) → ((s : List ℕ) → left_of (one s) ≤ length s) → (items : List A) (s : List ℕ) (v : A) (after : List ℕ) (total : Result (List A × List ℕ) ℕ)
-    → before items (elements_of one s) ≡ total → one s ≡ Ok (v, after) → before items (sign_at after >>= follow (elements_of one) v) ≡ total
-after_element {A} one h items s v after total so_far e = ap (before items) (sym (open_sign one h s ∙ ap (λ (r : Result (A × List ℕ) ℕ). r >>= with_sign one) e)) ∙ so_far
+after_element : {A : Type 0} (one : List ℕ → Result (A × List ℕ) ℕ)
+    → ((s : List ℕ) → left_of (one s) ≤ length s)
+    → (items : List A) (s : List ℕ) (v : A) (after : List ℕ) (total : Result (List A × List ℕ) ℕ)
+    → before items (elements_of one s) ≡ total → one s ≡ Ok (v, after)
+    → before items (sign_at after >>= follow (elements_of one) v) ≡ total
+after_element {A} one h items s v after total so_far e =
+    ap (before items)
+    (sym (open_sign one h s ∙ ap (λ (r : Result (A × List ℕ) ℕ). r >>= with_sign one) e)) ∙ so_far
 
 -- neither a comma nor the end stands behind the element
-pub sign_fails : {A : Type 0} (one : List ℕ → Result (A × List ℕ) ℕ) → ((s : List ℕ) → left_of (one s) ≤ length s) → (stop : Stop) (items : List A) (s : List ℕ) (v : A) (after : List ℕ) (total : Result (List A × List ℕ) ℕ)
-    → before items (elements_of one s) ≡ total → one s ≡ Ok (v, after) → Fails stop (sign_at after) → Fails stop total
+pub sign_fails : {A : Type 0} (one : List ℕ → Result (A × List ℕ) ℕ)
+    → ((s : List ℕ) → left_of (one s) ≤ length s)
+    → (stop : Stop) (items : List A) (s : List ℕ) (v : A) (after : List ℕ)
+    (total : Result (List A × List ℕ) ℕ)
+    → before items (elements_of one s) ≡ total → one s ≡ Ok (v, after) → Fails stop (sign_at after)
+    → Fails stop total
 sign_fails one h Memory items s v after total so_far e fails = tt
 sign_fails {A} one h (Left left) items s v after total so_far e fails =
-    sym (after_element one h items s v after total so_far e) ∙ ap (λ (r : Result (Next × List ℕ) ℕ). before items (r >>= follow (elements_of one) v)) fails
+    sym (after_element one h items s v after total so_far e)
+    ∙ ap (λ (r : Result (Next × List ℕ) ℕ). before items (r >>= follow (elements_of one) v))
+    fails
 
 -- one more element, and a comma
-pub element_more : {A : Type 0} (one : List ℕ → Result (A × List ℕ) ℕ) → ((s : List ℕ) → left_of (one s) ≤ length s) → (items : List A) (s : List ℕ) (v : A) (after rest : List ℕ) (total : Result (List A × List ℕ) ℕ)
-    → before items (elements_of one s) ≡ total → one s ≡ Ok (v, after) → sign_at after ≡ Ok (Comma, rest) → before (items ++ v ∷ []) (elements_of one rest) ≡ total
+pub element_more : {A : Type 0} (one : List ℕ → Result (A × List ℕ) ℕ)
+    → ((s : List ℕ) → left_of (one s) ≤ length s)
+    → (items : List A) (s : List ℕ) (v : A) (after rest : List ℕ)
+    (total : Result (List A × List ℕ) ℕ)
+    → before items (elements_of one s) ≡ total → one s ≡ Ok (v, after) → sign_at after
+    ≡ Ok (Comma, rest) → before (items ++ v ∷ []) (elements_of one rest) ≡ total
 element_more one h items s v after rest total so_far e sign =
-    sym (before-before items (v ∷ []) (elements_of one rest)) ∙ sym (ap (λ (r : Result (Next × List ℕ) ℕ). before items (r >>= follow (elements_of one) v)) sign) ∙ after_element one h items s v after total so_far e
+    sym (before-before items (v ∷ []) (elements_of one rest))
+    ∙ sym (ap (λ (r : Result (Next × List ℕ) ℕ).
+    before items (r >>= follow (elements_of one) v)) sign)
+    ∙ after_element one h items s v after total so_far e
 
 -- the last element, and the end of the list
-pub element_last : {A : Type 0} (one : List ℕ → Result (A × List ℕ) ℕ) → ((s : List ℕ) → left_of (one s) ≤ length s) → (items : List A) (s : List ℕ) (v : A) (after rest : List ℕ) (total : Result (List A × List ℕ) ℕ)
-    → before items (elements_of one s) ≡ total → one s ≡ Ok (v, after) → sign_at after ≡ Ok (End, rest) → total ≡ Ok (items ++ v ∷ [], rest)
+pub element_last : {A : Type 0} (one : List ℕ → Result (A × List ℕ) ℕ)
+    → ((s : List ℕ) → left_of (one s) ≤ length s)
+    → (items : List A) (s : List ℕ) (v : A) (after rest : List ℕ)
+    (total : Result (List A × List ℕ) ℕ)
+    → before items (elements_of one s) ≡ total → one s ≡ Ok (v, after) → sign_at after
+    ≡ Ok (End, rest) → total ≡ Ok (items ++ v ∷ [], rest)
 element_last one h items s v after rest total so_far e sign =
-    sym (after_element one h items s v after total so_far e) ∙ ap (λ (r : Result (Next × List ℕ) ℕ). before items (r >>= follow (elements_of one) v)) sign
+    sym (after_element one h items s v after total so_far e)
+    ∙ ap (λ (r : Result (Next × List ℕ) ℕ). before items (r >>= follow (elements_of one) v))
+    sign
 
 -- an element and its sign leave less
-pub element_shorter : {A : Type 0} (one : List ℕ → Result (A × List ℕ) ℕ) → ((s : List ℕ) → left_of (one s) ≤ length s) → (s : List ℕ) (v : A) (after : List ℕ) (x : Next × List ℕ) → one s ≡ Ok (v, after) → sign_at after ≡ Ok x → suc (length x.1) ≤ length s
+pub element_shorter : {A : Type 0} (one : List ℕ → Result (A × List ℕ) ℕ)
+    → ((s : List ℕ) → left_of (one s) ≤ length s)
+    → (s : List ℕ) (v : A) (after : List ℕ) (x : Next × List ℕ) → one s ≡ Ok (v, after)
+    → sign_at after ≡ Ok x → suc (length x.1) ≤ length s
 element_shorter {A} one h s v after x e sign =
     let within : length after ≤ length s = let r : left_of (one s) ≤ length s = h s in rw e at r in
     omega (arith, sign_shorter after x sign)
 
 -- the values of the elements with one more
-pub more_values : {A B : Type 0} (value : A → B) (old new : List A) (x : A) → new ≡ old ++ x ∷ [] → map value new ≡ map value old ++ value x ∷ []
+pub more_values : {A B : Type 0} (value : A → B) (old new : List A) (x : A) → new ≡ old ++ x ∷ []
+    → map value new ≡ map value old ++ value x ∷ []
 more_values value old new x e = ap (map value) e ∙ map-append value old (x ∷ [])

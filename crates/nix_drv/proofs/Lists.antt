@@ -1,4 +1,5 @@
--- A list behind its first bracket is read exactly, where its elements don't begin with the last bracket.
+-- A list behind its first bracket is read exactly, where its elements don't begin with the last
+-- bracket.
 use Rattle.std.proofs.Common.{◌≡◌, ℕ, suc, ◌≤◌, eqb, List, [], ◌∷◌, ◌++◌, length, Result, Ok, Err, refl, ap, arith, inl, inr}
 use Rattle.std.proofs.lemmas.Bool.{eqb-true, cond_both}
 use Rattle.nix_drv.specs.Grammar.{IsFrontOfElements}
@@ -12,59 +13,104 @@ use Rattle.nix_drv.proofs.Elements.{elements_text, FrontOfSome, ToldSome, elemen
 abbrev pub RefusesBracket : {A : Type 0} → (List ℕ → Result (A × List ℕ) ℕ) → Type 0
 RefusesBracket one = (s : List ℕ) → one (93 ∷ s) ≡ Err (suc (length s))
 
-widened : {A : Type 0} (text_of : A → List ℕ) (IsFrontOf : List ℕ → Type 0) (front : List ℕ) → FrontOfSome text_of IsFrontOf front → IsFrontOfElements text_of IsFrontOf front
+widened : {A : Type 0} (text_of : A → List ℕ) (IsFrontOf : List ℕ → Type 0) (front : List ℕ)
+    → FrontOfSome text_of IsFrontOf front → IsFrontOfElements text_of IsFrontOf front
 widened text_of IsFrontOf front (inl at) = inl at
 widened text_of IsFrontOf front (inr at) = inr (at.0 ∷ at.1, at.2, at.3, at.4)
 
-widened_told : {A : Type 0} (text_of : A → List ℕ) (IsFrontOf : List ℕ → Type 0) (s : List ℕ) (r : Result (List A × List ℕ) ℕ) → ToldSome text_of IsFrontOf s r → Told (elements_text text_of) (IsFrontOfElements text_of IsFrontOf) s r
+widened_told : {A : Type 0} (text_of : A → List ℕ) (IsFrontOf : List ℕ → Type 0) (s : List ℕ)
+    (r : Result (List A × List ℕ) ℕ) → ToldSome text_of IsFrontOf s r
+    → Told (elements_text text_of) (IsFrontOfElements text_of IsFrontOf) s r
 widened_told text_of IsFrontOf s (Ok ([], rest)) told = absurd told
 widened_told text_of IsFrontOf s (Ok (v ∷ vs, rest)) told = told
-widened_told text_of IsFrontOf s (Err left) told = record { front = told.front; rest = told.rest; parts = told.parts; is_front = widened text_of IsFrontOf told.front told.is_front; is_left = told.is_left }
+widened_told text_of IsFrontOf s (Err left) told =
+    record {
+      front = told.front;
+      rest = told.rest;
+      parts = told.parts;
+      is_front = widened text_of IsFrontOf told.front told.is_front;
+      is_left = told.is_left;
+    }
 
-some_list_told : {A : Type 0} {text_of : A → List ℕ} {IsFrontOf : List ℕ → Type 0} {one : List ℕ → Result (A × List ℕ) ℕ} → IsReader text_of IsFrontOf one → (s : List ℕ) → Told (elements_text text_of) (IsFrontOfElements text_of IsFrontOf) s (elements_of one s)
-some_list_told {A} {text_of} {IsFrontOf} {one} r s = widened_told text_of IsFrontOf s (elements_of one s) (elements_told text_of IsFrontOf one r.told (suc (length s)) s (omega arith))
+some_list_told : {A : Type 0} {text_of : A → List ℕ} {IsFrontOf : List ℕ → Type 0}
+    {one : List ℕ → Result (A × List ℕ) ℕ} → IsReader text_of IsFrontOf one → (s : List ℕ)
+    → Told (elements_text text_of) (IsFrontOfElements text_of IsFrontOf) s (elements_of one s)
+some_list_told {A} {text_of} {IsFrontOf} {one} r s =
+    widened_told text_of IsFrontOf s (elements_of one s)
+    (elements_told text_of IsFrontOf one r.told (suc (length s)) s (omega arith))
 
-list-told : {A : Type 0} {text_of : A → List ℕ} {IsFrontOf : List ℕ → Type 0} {one : List ℕ → Result (A × List ℕ) ℕ} → IsReader text_of IsFrontOf one → (s : List ℕ) → Told (elements_text text_of) (IsFrontOfElements text_of IsFrontOf) s (list_at one s)
+list-told : {A : Type 0} {text_of : A → List ℕ} {IsFrontOf : List ℕ → Type 0}
+    {one : List ℕ → Result (A × List ℕ) ℕ} → IsReader text_of IsFrontOf one → (s : List ℕ)
+    → Told (elements_text text_of) (IsFrontOfElements text_of IsFrontOf) s (list_at one s)
 list-told {A} {text_of} {IsFrontOf} {one} r [] = some_list_told r []
 list-told {A} {text_of} {IsFrontOf} {one} r (b ∷ s) =
-    cond_both (eqb b 93) (Ok ([], s)) (elements_of one (b ∷ s)) (Told (elements_text text_of) (IsFrontOfElements text_of IsFrontOf) (b ∷ s))
+    cond_both (eqb b 93) (Ok ([], s)) (elements_of one (b ∷ s))
+    (Told (elements_text text_of) (IsFrontOfElements text_of IsFrontOf) (b ∷ s))
     (λ e. ap (λ (x : ℕ). x ∷ s) (eqb-true b 93 e))
     (λ _. some_list_told r (b ∷ s))
 
-refused_elements : {A : Type 0} {text_of : A → List ℕ} {IsFrontOf : List ℕ → Type 0} {one : List ℕ → Result (A × List ℕ) ℕ} → IsReader text_of IsFrontOf one → RefusesBracket one → (s : List ℕ) → elements_of one (93 ∷ s) ≡ Err (suc (length s))
-refused_elements {A} {text_of} {IsFrontOf} {one} r refuses s = rw (elements_open one (reader_shrinks r) (93 ∷ s), refuses s) refl
+refused_elements : {A : Type 0} {text_of : A → List ℕ} {IsFrontOf : List ℕ → Type 0}
+    {one : List ℕ → Result (A × List ℕ) ℕ} → IsReader text_of IsFrontOf one → RefusesBracket one
+    → (s : List ℕ) → elements_of one (93 ∷ s) ≡ Err (suc (length s))
+refused_elements {A} {text_of} {IsFrontOf} {one} r refuses s =
+    rw (elements_open one (reader_shrinks r) (93 ∷ s), refuses s) refl
 
 -- where elements are read the list isn't empty
-list_opens : {A : Type 0} {text_of : A → List ℕ} {IsFrontOf : List ℕ → Type 0} {one : List ℕ → Result (A × List ℕ) ℕ} → IsReader text_of IsFrontOf one → RefusesBracket one → (s : List ℕ) (y : List A × List ℕ) → elements_of one s ≡ Ok y → list_at one s ≡ Ok y
+list_opens : {A : Type 0} {text_of : A → List ℕ} {IsFrontOf : List ℕ → Type 0}
+    {one : List ℕ → Result (A × List ℕ) ℕ} → IsReader text_of IsFrontOf one → RefusesBracket one
+    → (s : List ℕ) (y : List A × List ℕ) → elements_of one s ≡ Ok y → list_at one s ≡ Ok y
 list_opens r refuses [] y e = e
 list_opens {A} {text_of} {IsFrontOf} {one} r refuses (b ∷ s) y e =
     cond_both (eqb b 93) (Ok ([], s)) (elements_of one (b ∷ s)) (λ x. x ≡ Ok y)
-    (λ t. let bracket : elements_of one (b ∷ s) ≡ Err (suc (length s)) = rw (eqb-true b 93 t) (refused_elements r refuses s) in absurd cc)
+    (λ t. let bracket : elements_of one (b ∷ s)
+    ≡ Err (suc (length s)) = rw (eqb-true b 93 t) (refused_elements r refuses s) in absurd cc)
     (λ _. e)
 
-list_left : {A : Type 0} {text_of : A → List ℕ} {IsFrontOf : List ℕ → Type 0} {one : List ℕ → Result (A × List ℕ) ℕ} → IsReader text_of IsFrontOf one → RefusesBracket one → (s : List ℕ) → left_of (list_at one s) ≤ left_of (elements_of one s)
+list_left : {A : Type 0} {text_of : A → List ℕ} {IsFrontOf : List ℕ → Type 0}
+    {one : List ℕ → Result (A × List ℕ) ℕ} → IsReader text_of IsFrontOf one → RefusesBracket one
+    → (s : List ℕ) → left_of (list_at one s) ≤ left_of (elements_of one s)
 list_left r refuses [] = omega arith
 list_left {A} {text_of} {IsFrontOf} {one} r refuses (b ∷ s) =
-    cond_both (eqb b 93) (Ok ([], s)) (elements_of one (b ∷ s)) (λ x. left_of x ≤ left_of (elements_of one (b ∷ s)))
+    cond_both (eqb b 93) (Ok ([], s)) (elements_of one (b ∷ s))
+    (λ x. left_of x ≤ left_of (elements_of one (b ∷ s)))
     (λ t. rw (eqb-true b 93 t, refused_elements r refuses s) (omega arith))
     (λ _. omega arith)
 
-list-longest : {A : Type 0} {text_of : A → List ℕ} {IsFrontOf : List ℕ → Type 0} {one : List ℕ → Result (A × List ℕ) ℕ} → IsReader text_of IsFrontOf one → RefusesBracket one → (front rest : List ℕ) → IsFrontOfElements text_of IsFrontOf front → left_of (list_at one (front ++ rest)) ≤ length rest
+list-longest : {A : Type 0} {text_of : A → List ℕ} {IsFrontOf : List ℕ → Type 0}
+    {one : List ℕ → Result (A × List ℕ) ℕ} → IsReader text_of IsFrontOf one → RefusesBracket one
+    → (front rest : List ℕ) → IsFrontOfElements text_of IsFrontOf front
+    → left_of (list_at one (front ++ rest)) ≤ length rest
 list-longest {A} {text_of} {IsFrontOf} {one} r refuses front rest (inl at) =
-    omega (arith, list_left r refuses (front ++ rest), let part : left_of (elements_of one (front ++ rest)) ≤ length rest = rw at.2 (part-longest r at.0 at.1 rest at.3) in part)
+    omega (
+      arith,
+      list_left r refuses (front ++ rest),
+      let part : left_of (elements_of one (front ++ rest))
+          ≤ length rest = rw at.2 (part-longest r at.0 at.1 rest at.3) in part,
+    )
 list-longest {A} {text_of} {IsFrontOf} {one} r refuses front rest (inr ([], last, e, at)) =
     rw e (elim (fronts_of_one 93 last at.0 at.1) [
       | inl none ↦ rw none (omega (arith, list_left r refuses rest, elements_shrinks r rest))
       | inr one ↦ rw one (omega arith)
     ])
 list-longest {A} {text_of} {IsFrontOf} {one} r refuses front rest (inr (v ∷ vs, last, e, at)) =
-    omega (arith, list_left r refuses (front ++ rest), let ended : left_of (elements_of one (front ++ rest)) ≤ length rest = rw e (end-longest r v vs last rest at) in ended)
+    omega (
+      arith,
+      list_left r refuses (front ++ rest),
+      let ended : left_of (elements_of one (front ++ rest))
+          ≤ length rest = rw e (end-longest r v vs last rest at) in ended,
+    )
 
-list-again : {A : Type 0} {text_of : A → List ℕ} {IsFrontOf : List ℕ → Type 0} {one : List ℕ → Result (A × List ℕ) ℕ} → IsReader text_of IsFrontOf one → RefusesBracket one → (vs : List A) (rest : List ℕ) → list_at one (elements_text text_of vs ++ rest) ≡ Ok (vs, rest)
+list-again : {A : Type 0} {text_of : A → List ℕ} {IsFrontOf : List ℕ → Type 0}
+    {one : List ℕ → Result (A × List ℕ) ℕ} → IsReader text_of IsFrontOf one → RefusesBracket one
+    → (vs : List A) (rest : List ℕ) → list_at one (elements_text text_of vs ++ rest) ≡ Ok (vs, rest)
 list-again r refuses [] rest = refl
-list-again {A} {text_of} {IsFrontOf} {one} r refuses (v ∷ vs) rest = list_opens r refuses (elements_text text_of (v ∷ vs) ++ rest) (v ∷ vs, rest) (elements-again r v vs rest)
+list-again {A} {text_of} {IsFrontOf} {one} r refuses (v ∷ vs) rest =
+    list_opens r refuses (elements_text text_of (v ∷ vs) ++ rest) (v ∷ vs, rest)
+    (elements-again r v vs rest)
 
-pub list_reader : {A : Type 0} (text_of : A → List ℕ) (IsFrontOf : List ℕ → Type 0) (one : List ℕ → Result (A × List ℕ) ℕ) → IsReader text_of IsFrontOf one → RefusesBracket one → IsReader (elements_text text_of) (IsFrontOfElements text_of IsFrontOf) (list_at one)
+pub list_reader : {A : Type 0} (text_of : A → List ℕ) (IsFrontOf : List ℕ → Type 0)
+    (one : List ℕ → Result (A × List ℕ) ℕ) → IsReader text_of IsFrontOf one → RefusesBracket one
+    → IsReader (elements_text text_of) (IsFrontOfElements text_of IsFrontOf) (list_at one)
 list_reader text_of IsFrontOf one r refuses = record {
   told = list-told r;
   again = list-again r refuses;

@@ -16,18 +16,29 @@ use Rattle.nix_drv.proofs.OwnPathLaws.{one_own_path}
 
 -- ---- reading
 
-one_place : (g : Grammar) (input : List ℕ) (p q : ℕ) → IsLongestFront g input p → IsLongestFront g input q → p ≡ q
+one_place : (g : Grammar) (input : List ℕ) (p q : ℕ) → IsLongestFront g input p
+    → IsLongestFront g input q → p ≡ q
 one_place g input p q one other =
-    omega (arith, one.is_place, other.is_place, one.longest other.front other.rest other.is_front other.parts, other.longest one.front one.rest one.is_front one.parts)
+    omega (
+      arith,
+      one.is_place,
+      other.is_place,
+      one.longest other.front other.rest other.is_front other.parts,
+      other.longest one.front one.rest one.is_front one.parts,
+    )
 
-one_violation : (d e : Drv) (p q : ℕ) → d ≡ e → IsFirstViolation derivation_form (drv_value d) p → IsFirstViolation derivation_form (drv_value e) q → p ≡ q
+one_violation : (d e : Drv) (p q : ℕ) → d ≡ e → IsFirstViolation derivation_form (drv_value d) p
+    → IsFirstViolation derivation_form (drv_value e) q → p ≡ q
 one_violation d e p q same one other =
-    let here : IsFirstViolation derivation_form (drv_value d) q = subst (λ (x : Drv). IsFirstViolation derivation_form (drv_value x) q) (sym same) other in
+    let here : IsFirstViolation derivation_form (drv_value d) q =
+    subst (λ (x : Drv). IsFirstViolation derivation_form (drv_value x) q) (sym same) other in
     omega (arith, one.least q here.is_violation, here.least p one.is_violation)
 
-no_violation : (d e : Drv) (input : List ℕ) (q : ℕ) → IsReading input (Ok d) → IsReading input (Err (Order q)) → d ≡ e → IsFirstViolation derivation_form (drv_value e) q → ⊥
+no_violation : (d e : Drv) (input : List ℕ) (q : ℕ) → IsReading input (Ok d)
+    → IsReading input (Err (Order q)) → d ≡ e → IsFirstViolation derivation_form (drv_value e) q → ⊥
 no_violation d e input q is also same other =
-    let here : IsFirstViolation derivation_form (drv_value d) q = subst (λ (x : Drv). IsFirstViolation derivation_form (drv_value x) q) (sym same) other in
+    let here : IsFirstViolation derivation_form (drv_value d) q =
+    subst (λ (x : Drv). IsFirstViolation derivation_form (drv_value x) q) (sym same) other in
     is.1.in_order q here.is_violation
 
 pub one_reading : HasOneReading
@@ -41,31 +52,43 @@ one_reading input answer (Err NotSorted) is also a b = absurd also
 one_reading input answer (Err (TextPathMismatch own)) is also a b = absurd also
 one_reading input answer (Err NotADrvName) is also a b = absurd also
 one_reading input answer (Err (BadReference spelled)) is also a b = absurd also
-one_reading input (Ok d) (Ok e) is also a b = ap (λ (x : Drv). Ok x) (one_drv d e input is.1.is_text also.1.is_text)
+one_reading input (Ok d) (Ok e) is also a b =
+    ap (λ (x : Drv). Ok x) (one_drv d e input is.1.is_text also.1.is_text)
 one_reading input (Ok d) (Err TooLong) is also a b = absurd (omega (arith, is.0, also))
 one_reading input (Ok d) (Err (Syntax q)) is also a b = absurd (also.1 d is.1.is_text)
-one_reading input (Ok d) (Err (Order q)) is also a b = absurd (no_violation d also.1.0 input q is also (one_drv d also.1.0 input is.1.is_text also.1.1) also.1.2)
+one_reading input (Ok d) (Err (Order q)) is also a b =
+    absurd (no_violation d also.1.0 input q is also (one_drv d also.1.0 input is.1.is_text also.1.1)
+    also.1.2)
 one_reading input (Err TooLong) (Ok e) is also a b = absurd (omega (arith, also.0, is))
 one_reading input (Err TooLong) (Err TooLong) is also a b = refl
 one_reading input (Err TooLong) (Err (Syntax q)) is also a b = absurd (omega (arith, also.0, is))
 one_reading input (Err TooLong) (Err (Order q)) is also a b = absurd (omega (arith, also.0, is))
 one_reading input (Err (Syntax p)) (Ok e) is also a b = absurd (is.1 e also.1.is_text)
 one_reading input (Err (Syntax p)) (Err TooLong) is also a b = absurd (omega (arith, is.0, also))
-one_reading input (Err (Syntax p)) (Err (Syntax q)) is also a b = ap (λ (n : ℕ). Err (Syntax n)) (one_place derivation_form input p q is.2 also.2)
+one_reading input (Err (Syntax p)) (Err (Syntax q)) is also a b =
+    ap (λ (n : ℕ). Err (Syntax n)) (one_place derivation_form input p q is.2 also.2)
 one_reading input (Err (Syntax p)) (Err (Order q)) is also a b = absurd (is.1 also.1.0 also.1.1)
-one_reading input (Err (Order p)) (Ok e) is also a b = absurd (no_violation e is.1.0 input p also is (one_drv e is.1.0 input also.1.is_text is.1.1) is.1.2)
+one_reading input (Err (Order p)) (Ok e) is also a b =
+    absurd (no_violation e is.1.0 input p also is (one_drv e is.1.0 input also.1.is_text is.1.1)
+    is.1.2)
 one_reading input (Err (Order p)) (Err TooLong) is also a b = absurd (omega (arith, is.0, also))
 one_reading input (Err (Order p)) (Err (Syntax q)) is also a b = absurd (also.1 is.1.0 is.1.1)
 one_reading input (Err (Order p)) (Err (Order q)) is also a b =
-    ap (λ (n : ℕ). Err (Order n)) (one_violation is.1.0 also.1.0 p q (one_drv is.1.0 also.1.0 input is.1.1 also.1.1) is.1.2 also.1.2)
+    ap (λ (n : ℕ). Err (Order n))
+    (one_violation is.1.0 also.1.0 p q (one_drv is.1.0 also.1.0 input is.1.1 also.1.1) is.1.2
+    also.1.2)
 
 -- ---- the first stray path
 
-good_at : (P : List ℕ → Type 0) (before after : List (List ℕ)) (x : List ℕ) → All P (before ++ x ∷ after) → P x
+good_at : (P : List ℕ → Type 0) (before after : List (List ℕ)) (x : List ℕ)
+    → All P (before ++ x ∷ after) → P x
 good_at P [] after x all = all 0 x (omega arith)
-good_at P (y ∷ before) after x all = good_at P before after x (λ k d lt. all (suc k) d (omega arith))
+good_at P (y ∷ before) after x all = good_at P before after x
+    (λ k d lt. all (suc k) d (omega arith))
 
-one_stray : (P : List ℕ → Type 0) (before others after behind : List (List ℕ)) (x y : List ℕ) → before ++ x ∷ after ≡ others ++ y ∷ behind → All P before → All P others → (P x → ⊥) → (P y → ⊥) → x ≡ y
+one_stray : (P : List ℕ → Type 0) (before others after behind : List (List ℕ)) (x y : List ℕ)
+    → before ++ x ∷ after ≡ others ++ y ∷ behind → All P before → All P others → (P x → ⊥)
+    → (P y → ⊥) → x ≡ y
 one_stray P [] [] after behind x y e good fine bad wrong = cc
 one_stray P [] (z ∷ others) after behind x y e good fine bad wrong =
     let same : z ≡ x = cc in
@@ -75,15 +98,20 @@ one_stray P (w ∷ before) [] after behind x y e good fine bad wrong =
     absurd (wrong (subst P same (good 0 w (omega arith))))
 one_stray P (w ∷ before) (z ∷ others) after behind x y e good fine bad wrong =
     let tail : before ++ x ∷ after ≡ others ++ y ∷ behind = cc in
-    one_stray P before others after behind x y tail (λ k d lt. good (suc k) d (omega arith)) (λ k d lt. fine (suc k) d (omega arith)) bad wrong
+    one_stray P before others after behind x y tail (λ k d lt. good (suc k) d (omega arith))
+    (λ k d lt. fine (suc k) d (omega arith)) bad wrong
 
-first_stray_is : (dir : List ℕ) (paths : List (List ℕ)) (x y : List ℕ) → IsFirstStray dir paths x → IsFirstStray dir paths y → x ≡ y
+first_stray_is : (dir : List ℕ) (paths : List (List ℕ)) (x y : List ℕ) → IsFirstStray dir paths x
+    → IsFirstStray dir paths y → x ≡ y
 first_stray_is dir paths x y one other =
-    one_stray (IsPathOf dir) one.before other.before one.after other.after x y (sym one.parts ∙ other.parts) one.good other.good one.is_stray other.is_stray
+    one_stray (IsPathOf dir) one.before other.before one.after other.after x y
+    (sym one.parts ∙ other.parts) one.good other.good one.is_stray other.is_stray
 
-no_stray : (dir : List ℕ) (paths : List (List ℕ)) (x : List ℕ) → IsFirstStray dir paths x → All (IsPathOf dir) paths → ⊥
+no_stray : (dir : List ℕ) (paths : List (List ℕ)) (x : List ℕ) → IsFirstStray dir paths x
+    → All (IsPathOf dir) paths → ⊥
 no_stray dir paths x one all =
-    one.is_stray (good_at (IsPathOf dir) one.before one.after x (subst (λ (ps : List (List ℕ)). All (IsPathOf dir) ps) one.parts all))
+    one.is_stray (good_at (IsPathOf dir) one.before one.after x
+    (subst (λ (ps : List (List ℕ)). All (IsPathOf dir) ps) one.parts all))
 
 -- ---- the check
 
@@ -103,14 +131,17 @@ says_same a b e = subst (λ (x : Result Drv DrvFault). SaysSame a x) e (says_its
 
 -- the answer where all paths are in the folder and the text's own path is known
 abbrev IsByOwn : (path : List ℕ) → Drv → List ℕ → Result Drv DrvFault → Type 0
-IsByOwn path drv own answer = ((answer ≡ Ok drv) × (own ≡ path)) ⊎ ((answer ≡ Err (TextPathMismatch own)) × (own ≢ path))
+IsByOwn path drv own answer = ((answer ≡ Ok drv) × (own ≡ path))
+    ⊎ ((answer ≡ Err (TextPathMismatch own)) × (own ≢ path))
 
 -- the answer once the bytes were read
 abbrev Follows : (dir path bytes : List ℕ) → Result Drv DrvFault → Result Drv DrvFault → Type 0
 Follows dir path bytes (Err fault) answer = answer ≡ Err fault
 Follows dir path bytes (Ok drv) answer =
-    ((spelled : Vec ℕ) × (answer ≡ Err (BadReference spelled)) × IsFirstStray dir (paths_of drv) spelled.items)
-    ⊎ ((own : List ℕ) × All (IsPathOf dir) (paths_of drv) × IsOwnPath dir (name_of path) drv bytes own × IsByOwn path drv own answer)
+    ((spelled : Vec ℕ) × (answer ≡ Err (BadReference spelled))
+    × IsFirstStray dir (paths_of drv) spelled.items)
+    ⊎ ((own : List ℕ) × All (IsPathOf dir) (paths_of drv)
+    × IsOwnPath dir (name_of path) drv bytes own × IsByOwn path drv own answer)
 
 record Settled (dir path bytes : List ℕ) (answer : Result Drv DrvFault) : Type 0 where
   read : Result Drv DrvFault
@@ -119,7 +150,9 @@ record Settled (dir path bytes : List ℕ) (answer : Result Drv DrvFault) : Type
   no_want : read ≢ Err NoMemory
   follows : Follows dir path bytes read answer
 
-settle : (dir path bytes : List ℕ) (answer : Result Drv DrvFault) → IsCheck dir path bytes answer → answer ≢ Err NoMemory → ((answer ≡ Err NotADrvName) × (IsDrvPath path → ⊥)) ⊎ Settled dir path bytes answer
+settle : (dir path bytes : List ℕ) (answer : Result Drv DrvFault) → IsCheck dir path bytes answer
+    → answer ≢ Err NoMemory → ((answer ≡ Err NotADrvName) × (IsDrvPath path → ⊥))
+    ⊎ Settled dir path bytes answer
 settle dir path bytes (Ok drv) is a = inr (record {
   read = Ok drv;
   named = is.read.named;
@@ -128,9 +161,24 @@ settle dir path bytes (Ok drv) is a = inr (record {
   follows = inr (path, is.in_store, is.own_path, inl (refl, refl));
 })
 settle dir path bytes (Err NotADrvName) is a = inl (refl, is)
-settle dir path bytes (Err TooLong) is a = inr (record { read = Err TooLong; named = is.0; is_reading = is.1; no_want = a; follows = refl })
-settle dir path bytes (Err (Syntax place)) is a = inr (record { read = Err (Syntax place); named = is.0; is_reading = is.1; no_want = a; follows = refl })
-settle dir path bytes (Err (Order place)) is a = inr (record { read = Err (Order place); named = is.0; is_reading = is.1; no_want = a; follows = refl })
+settle dir path bytes (Err TooLong) is a = inr
+    (record { read = Err TooLong; named = is.0; is_reading = is.1; no_want = a; follows = refl })
+settle dir path bytes (Err (Syntax place)) is a =
+    inr (record {
+      read = Err (Syntax place);
+      named = is.0;
+      is_reading = is.1;
+      no_want = a;
+      follows = refl;
+    })
+settle dir path bytes (Err (Order place)) is a =
+    inr (record {
+      read = Err (Order place);
+      named = is.0;
+      is_reading = is.1;
+      no_want = a;
+      follows = refl;
+    })
 settle dir path bytes (Err (BadReference spelled)) is a = inr (record {
   read = Ok is.0;
   named = is.1.named;
@@ -148,20 +196,28 @@ settle dir path bytes (Err (TextPathMismatch own)) is a = inr (record {
 settle dir path bytes (Err NoMemory) is a = absurd (a refl)
 settle dir path bytes (Err NotSorted) is a = absurd is
 
-by_own : (path : List ℕ) (drv : Drv) (own also : List ℕ) (a b : Result Drv DrvFault) → own ≡ also → IsByOwn path drv own a → IsByOwn path drv also b → SaysSame a b
+by_own : (path : List ℕ) (drv : Drv) (own also : List ℕ) (a b : Result Drv DrvFault) → own ≡ also
+    → IsByOwn path drv own a → IsByOwn path drv also b → SaysSame a b
 by_own path drv own also a b same (inl p) (inl q) = says_same a b (p.0 ∙ sym q.0)
 by_own path drv own also a b same (inl p) (inr q) = absurd (q.1 (sym same ∙ p.1))
 by_own path drv own also a b same (inr p) (inl q) = absurd (p.1 (same ∙ q.1))
-by_own path drv own also a b same (inr p) (inr q) = says_same a b (p.0 ∙ ap (λ (o : List ℕ). Err (TextPathMismatch o)) same ∙ sym q.0)
+by_own path drv own also a b same (inr p) (inr q) =
+    says_same a b (p.0 ∙ ap (λ (o : List ℕ). Err (TextPathMismatch o)) same ∙ sym q.0)
 
-follows_once : (dir path bytes : List ℕ) (read a b : Result Drv DrvFault) → Follows dir path bytes read a → Follows dir path bytes read b → SaysSame a b
+follows_once : (dir path bytes : List ℕ) (read a b : Result Drv DrvFault)
+    → Follows dir path bytes read a → Follows dir path bytes read b → SaysSame a b
 follows_once dir path bytes (Err fault) a b p q = says_same a b (p ∙ sym q)
 follows_once dir path bytes (Ok drv) a b (inl p) (inl q) =
-    let texts : SaysSame (Err (BadReference p.0)) (Err (BadReference q.0)) = first_stray_is dir (paths_of drv) p.0.items q.0.items p.2 q.2 in
-    subst (λ (x : Result Drv DrvFault). SaysSame x b) (sym p.1) (subst (λ (x : Result Drv DrvFault). SaysSame (Err (BadReference p.0)) x) (sym q.1) texts)
-follows_once dir path bytes (Ok drv) a b (inl p) (inr q) = absurd (no_stray dir (paths_of drv) p.0.items p.2 q.1)
-follows_once dir path bytes (Ok drv) a b (inr p) (inl q) = absurd (no_stray dir (paths_of drv) q.0.items q.2 p.1)
-follows_once dir path bytes (Ok drv) a b (inr p) (inr q) = by_own path drv p.0 q.0 a b (one_own_path dir (name_of path) drv bytes p.0 q.0 p.2 q.2) p.3 q.3
+    let texts : SaysSame (Err (BadReference p.0)) (Err (BadReference q.0)) =
+    first_stray_is dir (paths_of drv) p.0.items q.0.items p.2 q.2 in
+    subst (λ (x : Result Drv DrvFault). SaysSame x b) (sym p.1)
+    (subst (λ (x : Result Drv DrvFault). SaysSame (Err (BadReference p.0)) x) (sym q.1) texts)
+follows_once dir path bytes (Ok drv) a b (inl p) (inr q) =
+    absurd (no_stray dir (paths_of drv) p.0.items p.2 q.1)
+follows_once dir path bytes (Ok drv) a b (inr p) (inl q) =
+    absurd (no_stray dir (paths_of drv) q.0.items q.2 p.1)
+follows_once dir path bytes (Ok drv) a b (inr p) (inr q) =
+    by_own path drv p.0 q.0 a b (one_own_path dir (name_of path) drv bytes p.0 q.0 p.2 q.2) p.3 q.3
 
 pub one_check : HasOneCheck
 one_check dir path bytes answer other is also a b =
@@ -173,7 +229,10 @@ one_check dir path bytes answer other is also a b =
       | inr p ↦ elim (settle dir path bytes other also b) [
         | inl q ↦ absurd (q.1 p.named)
         | inr q ↦
-            let same : p.read ≡ q.read = one_reading bytes p.read q.read p.is_reading q.is_reading p.no_want q.no_want in
-            follows_once dir path bytes p.read answer other p.follows (subst (λ (r : Result Drv DrvFault). Follows dir path bytes r other) (sym same) q.follows)
+            let same : p.read ≡ q.read = one_reading bytes p.read q.read p.is_reading q.is_reading
+            p.no_want q.no_want in
+            follows_once dir path bytes p.read answer other p.follows
+            (subst (λ (r : Result Drv DrvFault). Follows dir path bytes r other) (sym same)
+            q.follows)
       ]
     ]

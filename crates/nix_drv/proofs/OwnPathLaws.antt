@@ -10,4 +10,5 @@ one_own_path dir name drv bytes path other is_path is_other =
       λ has. (is_other.same z).1 ((is_path.same z).0 has),
       λ has. (is_path.same z).1 ((is_other.same z).0 has),
     )) in
-    is_path.is_path ∙ ap (λ (r : List (List ℕ)). text_path dir name bytes r) refs ∙ sym is_other.is_path
+    is_path.is_path ∙ ap (λ (r : List (List ℕ)). text_path dir name bytes r) refs
+    ∙ sym is_other.is_path

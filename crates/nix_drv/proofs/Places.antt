@@ -38,7 +38,8 @@ always_answers {F} {X} {R} g P f answers = record { at = each }
   where
     each : (xs : List X) → ReturnsEach g P f xs
     each [] = tt
-    each (a ∷ xs) = λ r f' called. let h = answers a r f' called in (h.0, subst (λ (q : F). ReturnsEach g P q xs) (sym h.1) (each xs))
+    each (a ∷ xs) = λ r f' called. let h = answers a r f' called
+        in (h.0, subst (λ (q : F). ReturnsEach g P q xs) (sym h.1) (each xs))
 
 tied : (x y : List ℕ) → slice_cmp nat_cmp x y ≡ Equal → x ≡ y
 tied x y e = (bytes_decides x y).0 (texts_ties x y ∙ ap is_eq e)
@@ -48,74 +49,108 @@ element [] i below = absurd (omega arith)
 element (x ∷ xs) i below = x
 
 -- an element that ties has the key
-pub place_found : {X : Type 0} (key_of : X → List ℕ) (xs : List X) (wanted : List ℕ) (i : ℕ) → i < length xs
-    → HoldsAt (λ y. slice_cmp nat_cmp (key_of y) wanted ≡ Equal) xs i → IsPlaceOf (map key_of xs) wanted (Some i)
+pub place_found : {X : Type 0} (key_of : X → List ℕ) (xs : List X) (wanted : List ℕ) (i : ℕ) → i
+    < length xs
+    → HoldsAt (λ y. slice_cmp nat_cmp (key_of y) wanted ≡ Equal) xs i
+    → IsPlaceOf (map key_of xs) wanted (Some i)
 place_found key_of xs wanted i below ties =
     let d = element xs i below in
     let within : i < length (map key_of xs) = omega (arith, length-map xs key_of) in
     slice_get-get_or (map key_of xs) i [] within
-    ∙ ap (λ (k : List ℕ). Some k) (get_or-map key_of xs i d [] below ∙ tied (key_of (get_or xs i d)) wanted (ties d))
+    ∙ ap (λ (k : List ℕ). Some k) (get_or-map key_of xs i d [] below
+    ∙ tied (key_of (get_or xs i d)) wanted (ties d))
 
 -- keys that rise are in order
-sorted_keys : {X : Type 0} (key_of : X → List ℕ) (xs : List X) → IsRising (map key_of xs) → IsSortedBy (λ a b. is_lt (slice_cmp nat_cmp (key_of a) (key_of b))) xs
+sorted_keys : {X : Type 0} (key_of : X → List ℕ) (xs : List X) → IsRising (map key_of xs)
+    → IsSortedBy (λ a b. is_lt (slice_cmp nat_cmp (key_of a) (key_of b))) xs
 sorted_keys key_of xs rises k d low next =
     let within : k + 1 < length (map key_of xs) = omega (arith, length-map xs key_of) in
-    let less : slice_cmp nat_cmp (get_or (map key_of xs) k []) (get_or (map key_of xs) (k + 1) []) ≡ Less =
-    Less-from_sorted (slice_cmp nat_cmp) (map key_of xs) k (k + 1) [] (sorted_from_rising (map key_of xs) rises) (omega arith) within in
-    let here : get_or (map key_of xs) k [] ≡ key_of (get_or xs k d) = get_or-map key_of xs k d [] (omega arith) in
-    let there : get_or (map key_of xs) (k + 1) [] ≡ key_of (get_or xs (k + 1) d) = get_or-map key_of xs (k + 1) d [] next in
-    let less_here : slice_cmp nat_cmp (key_of (get_or xs k d)) (key_of (get_or xs (k + 1) d)) ≡ Less = rw (here, there) at less in
-    ap is_lt (nat_list_cmp_total.antisymm (key_of (get_or xs (k + 1) d)) (key_of (get_or xs k d)) ∙ ap ordering_reverse less_here)
+    let less : slice_cmp nat_cmp (get_or (map key_of xs) k []) (get_or (map key_of xs) (k + 1) [])
+    ≡ Less =
+    Less-from_sorted (slice_cmp nat_cmp) (map key_of xs) k (k + 1) []
+    (sorted_from_rising (map key_of xs) rises) (omega arith) within in
+    let here : get_or (map key_of xs) k [] ≡ key_of (get_or xs k d) =
+    get_or-map key_of xs k d [] (omega arith) in
+    let there : get_or (map key_of xs) (k + 1) [] ≡ key_of (get_or xs (k + 1) d) =
+    get_or-map key_of xs (k + 1) d [] next in
+    let less_here : slice_cmp nat_cmp (key_of (get_or xs k d)) (key_of (get_or xs (k + 1) d))
+    ≡ Less = rw (here, there) at less in
+    ap is_lt (nat_list_cmp_total.antisymm (key_of (get_or xs (k + 1) d)) (key_of (get_or xs k d))
+    ∙ ap ordering_reverse less_here)
 
 -- where all keys before a place are less, and all others greater, none is the wanted one
-pub place_none : {X : Type 0} (key_of : X → List ℕ) (xs : List X) (wanted : List ℕ) (i : ℕ) → IsRising (map key_of xs)
+pub place_none : {X : Type 0} (key_of : X → List ℕ) (xs : List X) (wanted : List ℕ) (i : ℕ)
+    → IsRising (map key_of xs)
     → (IsNonDecreasingBy (λ y. ordering_index (slice_cmp nat_cmp (key_of y) wanted)) xs
-    → IsPartitionPoint (λ y. slice_cmp nat_cmp (key_of y) wanted ≡ Less) (λ y. slice_cmp nat_cmp (key_of y) wanted ≡ Greater) xs i)
+    → IsPartitionPoint (λ y. slice_cmp nat_cmp (key_of y) wanted ≡ Less)
+    (λ y. slice_cmp nat_cmp (key_of y) wanted ≡ Greater) xs i)
     → IsPlaceOf (map key_of xs) wanted None
 place_none key_of xs wanted i rises parts (j, below, is) =
     let within : j < length xs = omega (arith, length-map xs key_of) in
     let d = element xs j within in
-    let point = parts (searchable_from_sorted nat_list_cmp_total key_of xs wanted (sorted_keys key_of xs rises)) in
-    let same : key_of (get_or xs j d) ≡ wanted = sym (get_or-map key_of xs j d wanted within) ∙ is in
-    let ties : slice_cmp nat_cmp (key_of (get_or xs j d)) wanted ≡ Equal = ap (λ (k : List ℕ). slice_cmp nat_cmp k wanted) same ∙ tied_itself nat_list_cmp_total wanted in
+    let point = parts
+    (searchable_from_sorted nat_list_cmp_total key_of xs wanted (sorted_keys key_of xs rises))
+    in
+    let same : key_of (get_or xs j d) ≡ wanted = sym (get_or-map key_of xs j d wanted within) ∙ is
+    in
+    let ties : slice_cmp nat_cmp (key_of (get_or xs j d)) wanted
+    ≡ Equal = ap (λ (k : List ℕ). slice_cmp nat_cmp k wanted) same
+    ∙ tied_itself nat_list_cmp_total wanted in
     elim (cases_lt j i) [
-      | inl before ↦ let less = point.0 j d (omega arith) before in let clash : Less ≡ Equal = sym less ∙ ties in cc
-      | inr behind ↦ let more = point.1 j d behind within in let clash : Greater ≡ Equal = sym more ∙ ties in cc
+      | inl before ↦ let less = point.0 j d (omega arith) before in let clash : Less
+          ≡ Equal = sym less ∙ ties in cc
+      | inr behind ↦ let more = point.1 j d behind within in let clash : Greater ≡ Equal = sym more
+          ∙ ties in cc
     ]
 
 -- ---- a derivation's keys
 
-pub outputs_rise : (drv : Drv) → InOrder derivation_form (drv_value drv) → IsRising (output_names drv)
+pub outputs_rise : (drv : Drv) → InOrder derivation_form (drv_value drv)
+    → IsRising (output_names drv)
 unfolding KeysRise
 outputs_rise drv ordered =
-    let same : map (key output_form) (map output_value drv.outputs) ≡ output_names drv = map-map (key output_form) output_value drv.outputs in
+    let same : map (key output_form) (map output_value drv.outputs)
+    ≡ output_names drv = map-map (key output_form) output_value drv.outputs in
     subst IsRising same ((order_means_rising derivation_form (drv_value drv)).0 ordered).1.0.0
 
 pub env_rises : (drv : Drv) → InOrder derivation_form (drv_value drv) → IsRising (env_keys drv)
 unfolding KeysRise
 env_rises drv ordered =
-    let same : map (key entry_form) (map entry_value drv.env) ≡ env_keys drv = map-map (key entry_form) entry_value drv.env in
-    subst IsRising same ((order_means_rising derivation_form (drv_value drv)).0 ordered).1.1.1.1.1.1.1.1.1.1.1.1.1.0.0
+    let same : map (key entry_form) (map entry_value drv.env)
+    ≡ env_keys drv = map-map (key entry_form) entry_value drv.env in
+    subst IsRising same
+    ((order_means_rising derivation_form (drv_value drv)).0
+    ordered).1.1.1.1.1.1.1.1.1.1.1.1.1.0.0
 
 -- the keys of the parts are those of the derivation
-pub output_keys : (parts : Parts) (drv : Drv) (outputs : List OutputStruct) → drv_of parts ≡ drv → outputs ≡ parts.outputs.items
+pub output_keys : (parts : Parts) (drv : Drv) (outputs : List OutputStruct) → drv_of parts ≡ drv
+    → outputs ≡ parts.outputs.items
     → map (λ (o : OutputStruct). o.name.items) outputs ≡ output_names drv
 output_keys parts drv outputs view same =
-    ap (map (λ (o : OutputStruct). o.name.items)) same ∙ sym (map-map (λ (o : Output). o.name) output_of parts.outputs.items) ∙ ap output_names view
+    ap (map (λ (o : OutputStruct). o.name.items)) same
+    ∙ sym (map-map (λ (o : Output). o.name) output_of parts.outputs.items)
+    ∙ ap output_names view
 
-pub entry_keys : (parts : Parts) (drv : Drv) (entries : List EnvEntryStruct) → drv_of parts ≡ drv → entries ≡ parts.env.items
+pub entry_keys : (parts : Parts) (drv : Drv) (entries : List EnvEntryStruct) → drv_of parts ≡ drv
+    → entries ≡ parts.env.items
     → map (λ (e : EnvEntryStruct). e.key.items) entries ≡ env_keys drv
 entry_keys parts drv entries view same =
-    ap (map (λ (e : EnvEntryStruct). e.key.items)) same ∙ sym (map-map (λ (e : EnvEntry). e.key) entry_of parts.env.items) ∙ ap env_keys view
+    ap (map (λ (e : EnvEntryStruct). e.key.items)) same
+    ∙ sym (map-map (λ (e : EnvEntry). e.key) entry_of parts.env.items) ∙ ap env_keys view
 
-pub outputs_rise_here : (parts : Parts) (drv : Drv) → drv_of parts ≡ drv → InOrder derivation_form (drv_value (drv_of parts)) → IsRising (output_names drv)
-outputs_rise_here parts drv view ordered = subst (λ (d : Drv). IsRising (output_names d)) view (outputs_rise (drv_of parts) ordered)
+pub outputs_rise_here : (parts : Parts) (drv : Drv) → drv_of parts ≡ drv
+    → InOrder derivation_form (drv_value (drv_of parts)) → IsRising (output_names drv)
+outputs_rise_here parts drv view ordered = subst (λ (d : Drv). IsRising (output_names d)) view
+    (outputs_rise (drv_of parts) ordered)
 
-pub env_rises_here : (parts : Parts) (drv : Drv) → drv_of parts ≡ drv → InOrder derivation_form (drv_value (drv_of parts)) → IsRising (env_keys drv)
-env_rises_here parts drv view ordered = subst (λ (d : Drv). IsRising (env_keys d)) view (env_rises (drv_of parts) ordered)
+pub env_rises_here : (parts : Parts) (drv : Drv) → drv_of parts ≡ drv
+    → InOrder derivation_form (drv_value (drv_of parts)) → IsRising (env_keys drv)
+env_rises_here parts drv view ordered = subst (λ (d : Drv). IsRising (env_keys d)) view
+    (env_rises (drv_of parts) ordered)
 
 -- what holds of each element holds of one
-each_at : {A : Type 0} (P : A → Type 0) (vs : List A) (k : ℕ) (v : A) → Each P vs → slice_get vs k ≡ Some v → P v
+each_at : {A : Type 0} (P : A → Type 0) (vs : List A) (k : ℕ) (v : A) → Each P vs → slice_get vs k
+    ≡ Some v → P v
 each_at P [] k v all at = absurd cc
 each_at P (w ∷ ws) zero v all at = let same : w ≡ v = cc in subst P same all.0
 each_at P (w ∷ ws) (suc k) v all at = each_at P ws k v all.1 at
@@ -125,35 +160,55 @@ map_itself [] = refl
 map_itself (n ∷ ns) = ap (λ (l : List (List ℕ)). n ∷ l) (map_itself ns)
 
 -- the names of an input rise
-pub names_rise : (drv : Drv) (k : ℕ) (input : Input) → InOrder derivation_form (drv_value drv) → slice_get drv.inputs k ≡ Some input → IsRising input.names
+pub names_rise : (drv : Drv) (k : ℕ) (input : Input) → InOrder derivation_form (drv_value drv)
+    → slice_get drv.inputs k ≡ Some input → IsRising input.names
 unfolding KeysRise
 names_rise drv k input ordered at =
     let each = ((order_means_rising derivation_form (drv_value drv)).0 ordered).1.1.1.0.1 in
-    let there : slice_get (map input_value drv.inputs) k ≡ Some (input_value input) = slice_get-map input_value drv.inputs k ∙ ap (option_map input_value) at in
-    let rises = each_at (KeysRise input_form) (map input_value drv.inputs) k (input_value input) each there in
+    let there : slice_get (map input_value drv.inputs) k ≡ Some (input_value input) =
+    slice_get-map input_value drv.inputs k ∙ ap (option_map input_value) at in
+    let rises = each_at (KeysRise input_form) (map input_value drv.inputs) k (input_value input)
+    each there in
     subst IsRising (map_itself input.names) rises.1.1.1.0.0
 
 -- an input of the derivation, as the parts have it
-pub input_at : (parts : Parts) (drv : Drv) (k : ℕ) (input : InputStruct) → drv_of parts ≡ drv → k < length drv.inputs
+pub input_at : (parts : Parts) (drv : Drv) (k : ℕ) (input : InputStruct) → drv_of parts ≡ drv → k
+    < length drv.inputs
     → input ≡ get_or parts.inputs.items k input → slice_get drv.inputs k ≡ Some (input_of input)
 input_at parts drv k input view low is =
     let same : map input_of parts.inputs.items ≡ drv.inputs = ap (λ (d : Drv). d.inputs) view in
-    let within : k < length parts.inputs.items = omega (arith, low, ap (length {A = Input}) same, length-map parts.inputs.items input_of) in
-    let here : slice_get parts.inputs.items k ≡ Some input = slice_get_read parts.inputs.items (length parts.inputs.items) k input refl within is in
-    ap (λ (l : List Input). slice_get l k) (sym same) ∙ slice_get-map input_of parts.inputs.items k ∙ ap (option_map input_of) here
+    let within : k < length parts.inputs.items =
+    omega (arith, low, ap (length {A = Input}) same, length-map parts.inputs.items input_of) in
+    let here : slice_get parts.inputs.items k
+    ≡ Some input = slice_get_read parts.inputs.items (length parts.inputs.items) k input refl
+    within is in
+    ap (λ (l : List Input). slice_get l k) (sym same) ∙ slice_get-map input_of parts.inputs.items k
+    ∙ ap (option_map input_of) here
 
-pub names_rise_here : (parts : Parts) (drv : Drv) (k : ℕ) (input : Input) → drv_of parts ≡ drv → InOrder derivation_form (drv_value (drv_of parts))
+pub names_rise_here : (parts : Parts) (drv : Drv) (k : ℕ) (input : Input) → drv_of parts ≡ drv
+    → InOrder derivation_form (drv_value (drv_of parts))
     → slice_get drv.inputs k ≡ Some input → IsRising input.names
-names_rise_here parts drv k input view ordered at = names_rise drv k input (subst (λ (d : Drv). InOrder derivation_form (drv_value d)) view ordered) at
+names_rise_here parts drv k input view ordered at =
+    names_rise drv k input (subst (λ (d : Drv). InOrder derivation_form (drv_value d)) view ordered)
+    at
 
 -- what a search among the names of an input tells
-pub used_found : (inputs : List Input) (k : ℕ) (input : Input) (name : List ℕ) (place : ℕ) → slice_get inputs k ≡ Some input → IsPlaceOf input.names name (Some place)
+pub used_found : (inputs : List Input) (k : ℕ) (input : Input) (name : List ℕ) (place : ℕ)
+    → slice_get inputs k ≡ Some input → IsPlaceOf input.names name (Some place)
     → IfSome (slice_get inputs k) (λ used. IsTrue true ↔ Contains used.names name)
 used_found inputs k input name place at found =
-    subst (λ (o : Option Input). IfSome o (λ used. IsTrue true ↔ Contains used.names name)) (sym at)
-    (λ _. (place, slice_get_within input.names place name found, get_or_from_slice_get input.names place name name found), λ _. refl)
+    subst (λ (o : Option Input). IfSome o (λ used. IsTrue true ↔ Contains used.names name)) (sym at) (
+      λ _. (
+        place,
+        slice_get_within input.names place name found,
+        get_or_from_slice_get input.names place name name found,
+      ),
+      λ _. refl,
+    )
 
-pub used_none : (inputs : List Input) (k : ℕ) (input : Input) (name : List ℕ) → slice_get inputs k ≡ Some input → IsPlaceOf input.names name None
+pub used_none : (inputs : List Input) (k : ℕ) (input : Input) (name : List ℕ) → slice_get inputs k
+    ≡ Some input → IsPlaceOf input.names name None
     → IfSome (slice_get inputs k) (λ used. IsTrue false ↔ Contains used.names name)
 used_none inputs k input name at none =
-    subst (λ (o : Option Input). IfSome o (λ used. IsTrue false ↔ Contains used.names name)) (sym at) (λ told. absurd (false≢true told), λ has. absurd (none has))
+    subst (λ (o : Option Input). IfSome o (λ used. IsTrue false ↔ Contains used.names name))
+    (sym at) (λ told. absurd (false≢true told), λ has. absurd (none has))

@@ -8,17 +8,23 @@ use Rattle.nix_drv.proofs.Fixed.{fixed-told, fixed-again, fixed-longest}
 use Rattle.nix_drv.proofs.Strings.{bytes_text, bytes-told, bytes-again, bytes-longest}
 
 -- reading answers with the value of the text before the rest, or stops behind the longest front
-pub record IsReader {A : Type 0} (text_of : A → List ℕ) (IsFrontOf : List ℕ → Type 0) (reading : List ℕ → Result (A × List ℕ) ℕ) : Type 0 where
+pub record IsReader {A : Type 0} (text_of : A → List ℕ) (IsFrontOf : List ℕ → Type 0)
+    (reading : List ℕ → Result (A × List ℕ) ℕ) : Type 0 where
   pub told : (s : List ℕ) → Told text_of IsFrontOf s (reading s)
   pub again : (v : A) (rest : List ℕ) → reading (text_of v ++ rest) ≡ Ok (v, rest)
-  pub longest : (front rest : List ℕ) → IsFrontOf front → left_of (reading (front ++ rest)) ≤ length rest
+  pub longest : (front rest : List ℕ) → IsFrontOf front → left_of (reading (front ++ rest))
+      ≤ length rest
   pub whole : (v : A) → IsFrontOf (text_of v)
   pub none : IsFrontOf []
 
-pub reader_shrinks : {A : Type 0} {text_of : A → List ℕ} {IsFrontOf : List ℕ → Type 0} {reading : List ℕ → Result (A × List ℕ) ℕ} → IsReader text_of IsFrontOf reading → (s : List ℕ) → left_of (reading s) ≤ length s
-reader_shrinks {A} {text_of} {IsFrontOf} {reading} r s = told_shrinks text_of IsFrontOf s (reading s) (r.told s)
+pub reader_shrinks : {A : Type 0} {text_of : A → List ℕ} {IsFrontOf : List ℕ → Type 0}
+    {reading : List ℕ → Result (A × List ℕ) ℕ} → IsReader text_of IsFrontOf reading → (s : List ℕ)
+    → left_of (reading s) ≤ length s
+reader_shrinks {A} {text_of} {IsFrontOf} {reading} r s =
+    told_shrinks text_of IsFrontOf s (reading s) (r.told s)
 
-pub fixed_reader : (bytes : List ℕ) → IsReader {A = Unit {0}} (λ _. bytes) (λ front. Begins front bytes) (fixed_at bytes)
+pub fixed_reader : (bytes : List ℕ) → IsReader {A = Unit {0}} (λ _. bytes)
+    (λ front. Begins front bytes) (fixed_at bytes)
 fixed_reader bytes = record {
   told = fixed-told bytes;
   again = λ v rest. fixed-again bytes rest;
@@ -39,12 +45,16 @@ bytes_reader = record {
 -- ---- behind one byte
 
 abbrev pub FrontBehind : ℕ → (List ℕ → Type 0) → List ℕ → Type 0
-FrontBehind b IsFrontOf front = Begins front (b ∷ []) ⊎ ((more : List ℕ) × (front ≡ b ∷ more) × IsFrontOf more)
+FrontBehind b IsFrontOf front = Begins front (b ∷ [])
+    ⊎ ((more : List ℕ) × (front ≡ b ∷ more) × IsFrontOf more)
 
-abbrev pub read_behind : {A : Type 0} → ℕ → (List ℕ → Result (A × List ℕ) ℕ) → List ℕ → Result (A × List ℕ) ℕ
+abbrev pub read_behind : {A : Type 0} → ℕ → (List ℕ → Result (A × List ℕ) ℕ) → List ℕ
+    → Result (A × List ℕ) ℕ
 read_behind b reading s = fixed_at (b ∷ []) s >>= λ x. reading x.1
 
-second_told : {A : Type 0} (b : ℕ) (text_of : A → List ℕ) (IsFrontOf : List ℕ → Type 0) (s t : List ℕ) (r : Result (A × List ℕ) ℕ) → s ≡ b ∷ t → Told text_of IsFrontOf t r → Told (λ v. b ∷ text_of v) (FrontBehind b IsFrontOf) s r
+second_told : {A : Type 0} (b : ℕ) (text_of : A → List ℕ) (IsFrontOf : List ℕ → Type 0)
+    (s t : List ℕ) (r : Result (A × List ℕ) ℕ) → s ≡ b ∷ t → Told text_of IsFrontOf t r
+    → Told (λ v. b ∷ text_of v) (FrontBehind b IsFrontOf) s r
 second_told b text_of IsFrontOf s t (Ok x) e told = e ∙ ap (λ (u : List ℕ). b ∷ u) told
 second_told b text_of IsFrontOf s t (Err left) e told = record {
   front = b ∷ told.front;
@@ -54,17 +64,37 @@ second_told b text_of IsFrontOf s t (Err left) e told = record {
   is_left = told.is_left;
 }
 
-behind_told : {A : Type 0} (b : ℕ) (text_of : A → List ℕ) (IsFrontOf : List ℕ → Type 0) (reading : List ℕ → Result (A × List ℕ) ℕ) → ((t : List ℕ) → Told text_of IsFrontOf t (reading t))
-    → (s : List ℕ) (first : Result (Unit {0} × List ℕ) ℕ) → Told (λ _. b ∷ []) (λ front. Begins front (b ∷ [])) s first → Told (λ v. b ∷ text_of v) (FrontBehind b IsFrontOf) s (first >>= λ x. reading x.1)
-behind_told b text_of IsFrontOf reading h s (Ok x) told = second_told b text_of IsFrontOf s x.1 (reading x.1) told (h x.1)
-behind_told b text_of IsFrontOf reading h s (Err left) told = record { front = told.front; rest = told.rest; parts = told.parts; is_front = inl told.is_front; is_left = told.is_left }
+behind_told : {A : Type 0} (b : ℕ) (text_of : A → List ℕ) (IsFrontOf : List ℕ → Type 0)
+    (reading : List ℕ → Result (A × List ℕ) ℕ)
+    → ((t : List ℕ) → Told text_of IsFrontOf t (reading t))
+    → (s : List ℕ) (first : Result (Unit {0} × List ℕ) ℕ)
+    → Told (λ _. b ∷ []) (λ front. Begins front (b ∷ [])) s first
+    → Told (λ v. b ∷ text_of v) (FrontBehind b IsFrontOf) s (first >>= λ x. reading x.1)
+behind_told b text_of IsFrontOf reading h s (Ok x) told =
+    second_told b text_of IsFrontOf s x.1 (reading x.1) told (h x.1)
+behind_told b text_of IsFrontOf reading h s (Err left) told =
+    record {
+      front = told.front;
+      rest = told.rest;
+      parts = told.parts;
+      is_front = inl told.is_front;
+      is_left = told.is_left;
+    }
 
-pub behind_reader : {A : Type 0} (b : ℕ) (text_of : A → List ℕ) (IsFrontOf : List ℕ → Type 0) (reading : List ℕ → Result (A × List ℕ) ℕ) → IsReader text_of IsFrontOf reading → IsReader (λ v. b ∷ text_of v) (FrontBehind b IsFrontOf) (read_behind b reading)
+pub behind_reader : {A : Type 0} (b : ℕ) (text_of : A → List ℕ) (IsFrontOf : List ℕ → Type 0)
+    (reading : List ℕ → Result (A × List ℕ) ℕ) → IsReader text_of IsFrontOf reading
+    → IsReader (λ v. b ∷ text_of v) (FrontBehind b IsFrontOf) (read_behind b reading)
 behind_reader b text_of IsFrontOf reading r = record {
-  told = λ s. behind_told b text_of IsFrontOf reading r.told s (fixed_at (b ∷ []) s) (fixed-told (b ∷ []) s);
+  told = λ s. behind_told b text_of IsFrontOf reading r.told s (fixed_at (b ∷ []) s)
+      (fixed-told (b ∷ []) s);
   again = λ v rest. rw (fixed-again (b ∷ []) (text_of v ++ rest)) (r.again v rest);
   longest = λ front rest at. elim at [
-    | inl begins ↦ omega (arith, bind_shrinks (fixed_at (b ∷ []) (front ++ rest)) (λ x. reading x.1) (λ x. reader_shrinks r x.1), fixed-longest (b ∷ []) front rest begins)
+    | inl begins ↦ omega (
+      arith,
+      bind_shrinks (fixed_at (b ∷ []) (front ++ rest)) (λ x. reading x.1)
+          (λ x. reader_shrinks r x.1),
+      fixed-longest (b ∷ []) front rest begins,
+    )
     | inr more ↦ rw (more.1, fixed-again (b ∷ []) (more.0 ++ rest)) (r.longest more.0 rest more.2)
   ];
   whole = λ v. inr (text_of v, refl, r.whole v);
@@ -73,40 +103,73 @@ behind_reader b text_of IsFrontOf reading r = record {
 
 -- ---- two parts in order
 
-abbrev pub FrontOfBoth : {A : Type 0} → (A → List ℕ) → (List ℕ → Type 0) → (List ℕ → Type 0) → List ℕ → Type 0
-FrontOfBoth {A} first_text IsFirst IsSecond front = IsFirst front ⊎ ((v : A) × (more : List ℕ) × (front ≡ first_text v ++ more) × IsSecond more)
+abbrev pub FrontOfBoth : {A : Type 0} → (A → List ℕ) → (List ℕ → Type 0) → (List ℕ → Type 0)
+    → List ℕ → Type 0
+FrontOfBoth {A} first_text IsFirst IsSecond front = IsFirst front
+    ⊎ ((v : A) × (more : List ℕ) × (front ≡ first_text v ++ more) × IsSecond more)
 
-abbrev pub read_both : {A B : Type 0} → (List ℕ → Result (A × List ℕ) ℕ) → (List ℕ → Result (B × List ℕ) ℕ) → List ℕ → Result ((A × B) × List ℕ) ℕ
+abbrev pub read_both : {A B : Type 0} → (List ℕ → Result (A × List ℕ) ℕ)
+    → (List ℕ → Result (B × List ℕ) ℕ) → List ℕ → Result ((A × B) × List ℕ) ℕ
 read_both first second s = first s >>= λ x. second x.1 >>= λ y. Ok ((x.0, y.0), y.1)
 
-later_told : {A B : Type 0} (first_text : A → List ℕ) (second_text : B → List ℕ) (IsFirst IsSecond : List ℕ → Type 0) (s t : List ℕ) (v : A) (r : Result (B × List ℕ) ℕ) → s ≡ first_text v ++ t → Told second_text IsSecond t r
-    → Told {A = A × B} (λ w. first_text w.0 ++ second_text w.1) (FrontOfBoth first_text IsFirst IsSecond) s (r >>= λ y. Ok ((v, y.0), y.1))
-later_told first_text second_text IsFirst IsSecond s t v (Ok y) e told = e ∙ ap (λ (u : List ℕ). first_text v ++ u) told ∙ sym (append_assoc (first_text v) (second_text y.0) y.1)
+later_told : {A B : Type 0} (first_text : A → List ℕ) (second_text : B → List ℕ)
+    (IsFirst IsSecond : List ℕ → Type 0) (s t : List ℕ) (v : A) (r : Result (B × List ℕ) ℕ) → s
+    ≡ first_text v ++ t → Told second_text IsSecond t r
+    → Told {A = A × B} (λ w. first_text w.0 ++ second_text w.1)
+    (FrontOfBoth first_text IsFirst IsSecond) s (r >>= λ y. Ok ((v, y.0), y.1))
+later_told first_text second_text IsFirst IsSecond s t v (Ok y) e told = e
+    ∙ ap (λ (u : List ℕ). first_text v ++ u) told
+    ∙ sym (append_assoc (first_text v) (second_text y.0) y.1)
 later_told first_text second_text IsFirst IsSecond s t v (Err left) e told = record {
   front = first_text v ++ told.front;
   rest = told.rest;
-  parts = e ∙ ap (λ (u : List ℕ). first_text v ++ u) told.parts ∙ sym (append_assoc (first_text v) told.front told.rest);
+  parts = e ∙ ap (λ (u : List ℕ). first_text v ++ u) told.parts
+      ∙ sym (append_assoc (first_text v) told.front told.rest);
   is_front = inr (v, told.front, refl, told.is_front);
   is_left = told.is_left;
 }
 
-both_told : {A B : Type 0} (first_text : A → List ℕ) (second_text : B → List ℕ) (IsFirst IsSecond : List ℕ → Type 0) (second : List ℕ → Result (B × List ℕ) ℕ) → ((t : List ℕ) → Told second_text IsSecond t (second t))
+both_told : {A B : Type 0} (first_text : A → List ℕ) (second_text : B → List ℕ)
+    (IsFirst IsSecond : List ℕ → Type 0) (second : List ℕ → Result (B × List ℕ) ℕ)
+    → ((t : List ℕ) → Told second_text IsSecond t (second t))
     → (s : List ℕ) (first : Result (A × List ℕ) ℕ) → Told first_text IsFirst s first
-    → Told {A = A × B} (λ w. first_text w.0 ++ second_text w.1) (FrontOfBoth first_text IsFirst IsSecond) s (first >>= λ x. second x.1 >>= λ y. Ok ((x.0, y.0), y.1))
-both_told first_text second_text IsFirst IsSecond second h s (Ok x) told = later_told first_text second_text IsFirst IsSecond s x.1 x.0 (second x.1) told (h x.1)
-both_told first_text second_text IsFirst IsSecond second h s (Err left) told = record { front = told.front; rest = told.rest; parts = told.parts; is_front = inl told.is_front; is_left = told.is_left }
+    → Told {A = A × B} (λ w. first_text w.0 ++ second_text w.1)
+    (FrontOfBoth first_text IsFirst IsSecond) s
+    (first >>= λ x. second x.1 >>= λ y. Ok ((x.0, y.0), y.1))
+both_told first_text second_text IsFirst IsSecond second h s (Ok x) told =
+    later_told first_text second_text IsFirst IsSecond s x.1 x.0 (second x.1) told (h x.1)
+both_told first_text second_text IsFirst IsSecond second h s (Err left) told =
+    record {
+      front = told.front;
+      rest = told.rest;
+      parts = told.parts;
+      is_front = inl told.is_front;
+      is_left = told.is_left;
+    }
 
-pub both_reader : {A B : Type 0} (first_text : A → List ℕ) (second_text : B → List ℕ) (IsFirst IsSecond : List ℕ → Type 0) (first : List ℕ → Result (A × List ℕ) ℕ) (second : List ℕ → Result (B × List ℕ) ℕ)
-    → IsReader first_text IsFirst first → IsReader second_text IsSecond second → IsReader {A = A × B} (λ w. first_text w.0 ++ second_text w.1) (FrontOfBoth first_text IsFirst IsSecond) (read_both first second)
+pub both_reader : {A B : Type 0} (first_text : A → List ℕ) (second_text : B → List ℕ)
+    (IsFirst IsSecond : List ℕ → Type 0) (first : List ℕ → Result (A × List ℕ) ℕ)
+    (second : List ℕ → Result (B × List ℕ) ℕ)
+    → IsReader first_text IsFirst first → IsReader second_text IsSecond second
+    → IsReader {A = A × B} (λ w. first_text w.0 ++ second_text w.1)
+    (FrontOfBoth first_text IsFirst IsSecond) (read_both first second)
 both_reader {A} {B} first_text second_text IsFirst IsSecond first second a b = record {
-  told = λ s. both_told first_text second_text IsFirst IsSecond second b.told s (first s) (a.told s);
+  told = λ s. both_told first_text second_text IsFirst IsSecond second b.told s (first s)
+      (a.told s);
   again = λ v rest. rw (append_assoc, a.again v.0 (second_text v.1 ++ rest), b.again v.1 rest) refl;
   longest = λ front rest at.
       let pair : A → B × List ℕ → Result ((A × B) × List ℕ) ℕ = λ v y. Ok ((v, y.0), y.1) in
-      let second_shrinks : (v : A) (t : List ℕ) → left_of (second t >>= pair v) ≤ left_of (second t) = λ v t. bind_shrinks (second t) (pair v) (λ y. omega arith) in
+      let second_shrinks : (v : A) (t : List ℕ) → left_of (second t >>= pair v)
+      ≤ left_of (second t) = λ v t. bind_shrinks (second t) (pair v) (λ y. omega arith) in
       elim at [
-        | inl begins ↦ omega (arith, bind_shrinks (first (front ++ rest)) (λ x. second x.1 >>= pair x.0) (λ x. omega (arith, second_shrinks x.0 x.1, reader_shrinks b x.1)), a.longest front rest begins)
-        | inr more ↦ rw (more.2, append_assoc, a.again more.0 (more.1 ++ rest)) (omega (arith, second_shrinks more.0 (more.1 ++ rest), b.longest more.1 rest more.3))
+        | inl begins ↦ omega (
+          arith,
+          bind_shrinks (first (front ++ rest)) (λ x. second x.1 >>= pair x.0)
+              (λ x. omega (arith, second_shrinks x.0 x.1, reader_shrinks b x.1)),
+          a.longest front rest begins,
+        )
+        | inr more ↦ rw (more.2, append_assoc, a.again more.0 (more.1 ++ rest))
+            (omega (arith, second_shrinks more.0 (more.1 ++ rest), b.longest more.1 rest more.3))
       ];
   whole = λ v. inr (v.0, second_text v.1, refl, b.whole v.1);
   none = inl a.none;

@@ -17,33 +17,45 @@ use Rattle.nix_drv.proofs.Strings.{IsPlain, by_byte, by_letter, bytes_at-plain, 
 
 -- ---- fixed bytes
 
-pub fixed_ends : (wanted rest : List ℕ) (i : ℕ) → i < length wanted → length rest < 1 → fixed_at (drop i wanted) rest ≡ Err 0
+pub fixed_ends : (wanted rest : List ℕ) (i : ℕ) → i < length wanted → length rest < 1
+    → fixed_at (drop i wanted) rest ≡ Err 0
 fixed_ends wanted rest i lt short =
     let none : rest ≡ [] = nil_from_length rest (omega arith) in
     rw (none, drop-cons wanted i 0) refl
 
-pub fixed_differs : (wanted rest : List ℕ) (i : ℕ) → i < length wanted → 1 ≤ length rest → (get_or rest 0 0 ≡ get_or wanted i 0 → ⊥) → fixed_at (drop i wanted) rest ≡ Err (length rest)
+pub fixed_differs : (wanted rest : List ℕ) (i : ℕ) → i < length wanted → 1 ≤ length rest
+    → (get_or rest 0 0 ≡ get_or wanted i 0 → ⊥) → fixed_at (drop i wanted) rest ≡ Err (length rest)
 fixed_differs wanted [] i lt long apart = absurd (omega arith)
 fixed_differs wanted (x ∷ rest) i lt long apart =
-    let other : eqb (get_or wanted i 0) x ≡ false = ne_eqb (get_or wanted i 0) x (λ e. apart (sym e)) in
+    let other : eqb (get_or wanted i 0) x ≡ false =
+    ne_eqb (get_or wanted i 0) x (λ e. apart (sym e)) in
     rw (drop-cons wanted i 0, other) refl
 
 -- ---- runs of plain bytes
 
 pub is_plain-true : (b : ℕ) → is_plain b ≡ true → IsPlain b
-is_plain-true = by_byte (λ b. is_plain b ≡ true → IsPlain b) (λ e. absurd cc) (λ e. absurd cc) (λ e. absurd cc) (λ e. absurd cc) (λ e. absurd cc) (λ b plain e. plain)
+is_plain-true = by_byte (λ b. is_plain b ≡ true → IsPlain b) (λ e. absurd cc) (λ e. absurd cc)
+    (λ e. absurd cc) (λ e. absurd cc) (λ e. absurd cc) (λ b plain e. plain)
 
 -- a run of plain bytes is read as itself
-pub bytes_at-run : (n : ℕ) (s : List ℕ) → n ≤ length s → ((k : ℕ) → k < n → is_plain (get_or s k 0) ≡ true) → bytes_at false s ≡ before (take n s) (bytes_at false (drop n s))
+pub bytes_at-run : (n : ℕ) (s : List ℕ) → n ≤ length s
+    → ((k : ℕ) → k < n → is_plain (get_or s k 0) ≡ true) → bytes_at false s
+    ≡ before (take n s) (bytes_at false (drop n s))
 bytes_at-run zero s fits plain = sym (before_none (bytes_at false s))
 bytes_at-run (suc n) [] fits plain = absurd (omega arith)
 bytes_at-run (suc n) (b ∷ s) fits plain =
-    let later : bytes_at false s ≡ before (take n s) (bytes_at false (drop n s)) = bytes_at-run n s (omega arith) (λ k lt. plain (suc k) (omega arith)) in
-    bytes_at-plain b s (is_plain-true b (plain 0 (omega arith))) ∙ ap (before (b ∷ [])) later ∙ before-before (b ∷ []) (take n s) (bytes_at false (drop n s))
+    let later : bytes_at false s ≡ before (take n s) (bytes_at false (drop n s)) =
+    bytes_at-run n s (omega arith) (λ k lt. plain (suc k) (omega arith)) in
+    bytes_at-plain b s (is_plain-true b (plain 0 (omega arith))) ∙ ap (before (b ∷ [])) later
+    ∙ before-before (b ∷ []) (take n s) (bytes_at false (drop n s))
 
-pub run_read : (items rest : List ℕ) (n : ℕ) (total : Result (List ℕ × List ℕ) ℕ) → n ≤ length rest → ((k : ℕ) → k < n → is_plain (get_or rest k 0) ≡ true)
-    → before items (bytes_at false rest) ≡ total → before (items ++ take n rest) (bytes_at false (drop n rest)) ≡ total
-run_read items rest n total fits plain so_far = sym (before-before items (take n rest) (bytes_at false (drop n rest))) ∙ ap (before items) (sym (bytes_at-run n rest fits plain)) ∙ so_far
+pub run_read : (items rest : List ℕ) (n : ℕ) (total : Result (List ℕ × List ℕ) ℕ) → n ≤ length rest
+    → ((k : ℕ) → k < n → is_plain (get_or rest k 0) ≡ true)
+    → before items (bytes_at false rest) ≡ total
+    → before (items ++ take n rest) (bytes_at false (drop n rest)) ≡ total
+run_read items rest n total fits plain so_far =
+    sym (before-before items (take n rest) (bytes_at false (drop n rest)))
+    ∙ ap (before items) (sym (bytes_at-run n rest fits plain)) ∙ so_far
 
 -- ---- one byte by its spelling
 
@@ -56,53 +68,78 @@ escape_open : (s : List ℕ) → bytes_at true s ≡ (escape_at s >>= λ x. foll
 unfolding bytes_at
 escape_open [] = refl
 escape_open (letter ∷ s) =
-    by_letter (λ x. bytes_at true (x ∷ s) ≡ (escape_at (x ∷ s) >>= λ y. follow y.0 y.1)) refl refl refl refl refl
+    by_letter (λ x. bytes_at true (x ∷ s) ≡ (escape_at (x ∷ s) >>= λ y. follow y.0 y.1)) refl refl
+    refl refl refl
     (λ x none. bytes_at-refused x s none ∙ rw none refl) letter
 
 byte_at-plain : (b : ℕ) (s : List ℕ) → IsPlain b → byte_at (b ∷ s) ≡ Ok (Some b, s)
-byte_at-plain b s plain = rw (plain.no_quote, plain.no_backslash, plain.no_newline, plain.no_return, plain.no_tab) refl
+byte_at-plain b s plain = rw (
+  plain.no_quote,
+  plain.no_backslash,
+  plain.no_newline,
+  plain.no_return,
+  plain.no_tab,
+) refl
 
 bytes_open : (s : List ℕ) → bytes_at false s ≡ (byte_at s >>= λ x. follow x.0 x.1)
 unfolding bytes_at
 bytes_open [] = refl
 bytes_open (b ∷ s) =
-    by_byte (λ x. bytes_at false (x ∷ s) ≡ (byte_at (x ∷ s) >>= λ y. follow y.0 y.1)) refl (escape_open s) refl refl refl
-    (λ x plain. bytes_at-plain x s plain ∙ ap (λ (r : Result (Option ℕ × List ℕ) ℕ). r >>= λ y. follow y.0 y.1) (sym (byte_at-plain x s plain))) b
+    by_byte (λ x. bytes_at false (x ∷ s) ≡ (byte_at (x ∷ s) >>= λ y. follow y.0 y.1)) refl
+    (escape_open s) refl refl refl
+    (λ x plain. bytes_at-plain x s plain ∙ ap
+    (λ (r : Result (Option ℕ × List ℕ) ℕ). r >>= λ y. follow y.0 y.1)
+    (sym (byte_at-plain x s plain))) b
 
 abbrev following : Result (Option ℕ × List ℕ) ℕ → Result (List ℕ × List ℕ) ℕ
 following r = r >>= λ x. follow x.0 x.1
 
 -- no byte was read, and so no string
-pub byte_fails : (stop : Stop) (items s : List ℕ) (total : Result (List ℕ × List ℕ) ℕ) → before items (bytes_at false s) ≡ total → Fails stop (byte_at s) → Fails stop total
+pub byte_fails : (stop : Stop) (items s : List ℕ) (total : Result (List ℕ × List ℕ) ℕ)
+    → before items (bytes_at false s) ≡ total → Fails stop (byte_at s) → Fails stop total
 byte_fails Memory items s total so_far fails = tt
-byte_fails (Left left) items s total so_far fails = sym so_far ∙ ap (before items) (bytes_open s ∙ ap following fails)
+byte_fails (Left left) items s total so_far fails = sym so_far
+    ∙ ap (before items) (bytes_open s ∙ ap following fails)
 
 -- one more byte
-pub byte_more : (items s : List ℕ) (b : ℕ) (rest : List ℕ) (total : Result (List ℕ × List ℕ) ℕ) → before items (bytes_at false s) ≡ total → byte_at s ≡ Ok (Some b, rest) → before (items ++ b ∷ []) (bytes_at false rest) ≡ total
+pub byte_more : (items s : List ℕ) (b : ℕ) (rest : List ℕ) (total : Result (List ℕ × List ℕ) ℕ)
+    → before items (bytes_at false s) ≡ total → byte_at s ≡ Ok (Some b, rest)
+    → before (items ++ b ∷ []) (bytes_at false rest) ≡ total
 byte_more items s b rest total so_far e =
-    sym (before-before items (b ∷ []) (bytes_at false rest)) ∙ ap (before items) (sym (bytes_open s ∙ ap following e)) ∙ so_far
+    sym (before-before items (b ∷ []) (bytes_at false rest))
+    ∙ ap (before items) (sym (bytes_open s ∙ ap following e)) ∙ so_far
 
 -- the last quote
-pub byte_none : (items s rest : List ℕ) (total : Result (List ℕ × List ℕ) ℕ) → before items (bytes_at false s) ≡ total → byte_at s ≡ Ok (None, rest) → total ≡ Ok (items, rest)
+pub byte_none : (items s rest : List ℕ) (total : Result (List ℕ × List ℕ) ℕ)
+    → before items (bytes_at false s) ≡ total → byte_at s ≡ Ok (None, rest) → total
+    ≡ Ok (items, rest)
 byte_none items s rest total so_far e =
-    sym so_far ∙ ap (before items) (bytes_open s ∙ ap following e) ∙ ap (λ (xs : List ℕ). Ok (xs, rest)) (append-nil items)
+    sym so_far ∙ ap (before items) (bytes_open s ∙ ap following e)
+    ∙ ap (λ (xs : List ℕ). Ok (xs, rest)) (append-nil items)
 
 -- ---- where a run ends
 
 -- the first place at which a test passes, or the end
-pub first_within : (test : ℕ → Bool) (s : List ℕ) (n : ℕ) (place : Option ℕ) → place ≡ position test s → n ≡ unwrap_or place (length s) → n ≤ length s
+pub first_within : (test : ℕ → Bool) (s : List ℕ) (n : ℕ) (place : Option ℕ) → place
+    ≡ position test s → n ≡ unwrap_or place (length s) → n ≤ length s
 first_within test s n None e is = omega arith
-first_within test s n (Some i) e is = let at = position-Some test s i 0 (sym e) in omega (arith, at.0)
+first_within test s n (Some i) e is = let at = position-Some test s i 0 (sym e)
+    in omega (arith, at.0)
 
-none_within : (test : ℕ → Bool) (s : List ℕ) → position test s ≡ None → (k : ℕ) → k < length s → test (get_or s k 0) ≡ false
+none_within : (test : ℕ → Bool) (s : List ℕ) → position test s ≡ None → (k : ℕ) → k < length s
+    → test (get_or s k 0) ≡ false
 none_within test s e k lt =
     let out : length s ≤ position_or_len test s = grind (arith, common_steps) in
     fails_before_first test s k 0 (omega arith)
 
-pub none_before : (test : ℕ → Bool) (s : List ℕ) (n : ℕ) (place : Option ℕ) → place ≡ position test s → n ≡ unwrap_or place (length s) → (k : ℕ) → k < n → test (get_or s k 0) ≡ false
+pub none_before : (test : ℕ → Bool) (s : List ℕ) (n : ℕ) (place : Option ℕ) → place
+    ≡ position test s → n ≡ unwrap_or place (length s) → (k : ℕ) → k < n → test (get_or s k 0)
+    ≡ false
 none_before test s n None e is k lt = none_within test s (sym e) k (omega arith)
-none_before test s n (Some i) e is k lt = let at = position-Some test s i 0 (sym e) in at.2 k (omega arith)
+none_before test s n (Some i) e is k lt = let at = position-Some test s i 0 (sym e)
+    in at.2 k (omega arith)
 
-pub passes_there : (test : ℕ → Bool) (s : List ℕ) (n : ℕ) (place : Option ℕ) → place ≡ position test s → n ≡ unwrap_or place (length s) → n < length s → test (get_or s n 0) ≡ true
+pub passes_there : (test : ℕ → Bool) (s : List ℕ) (n : ℕ) (place : Option ℕ) → place
+    ≡ position test s → n ≡ unwrap_or place (length s) → n < length s → test (get_or s n 0) ≡ true
 passes_there test s n None e is lt = absurd (omega arith)
 passes_there test s n (Some i) e is lt = let at = position-Some test s i 0 (sym e) in rw is at.1

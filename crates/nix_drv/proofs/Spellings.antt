@@ -12,50 +12,82 @@ use Rattle.nix_drv.proofs.Strings.{IsPlain, spelling-plain}
 use Rattle.nix_drv.proofs.Runs.{is_plain-true}
 
 letter-plain : (b : ℕ) → IsPlain b → letter b ≡ None
-letter-plain b plain = rw (plain.no_quote, plain.no_backslash, plain.no_newline, plain.no_return, plain.no_tab) refl
+letter-plain b plain = rw (
+  plain.no_quote,
+  plain.no_backslash,
+  plain.no_newline,
+  plain.no_return,
+  plain.no_tab,
+) refl
 
 pub by_letter_of : (b : ℕ) (l : Option ℕ) → l ≡ letter b → spelled b l ≡ spelling b
 unfolding spelling
 by_letter_of b l e = ap (spelled b) e
 
 -- a run of plain bytes is spelled as itself
-pub spelled_run : (n : ℕ) (s : List ℕ) → n ≤ length s → ((k : ℕ) → k < n → is_plain (get_or s k 0) ≡ true) → flat_map spelling s ≡ take n s ++ flat_map spelling (drop n s)
+pub spelled_run : (n : ℕ) (s : List ℕ) → n ≤ length s
+    → ((k : ℕ) → k < n → is_plain (get_or s k 0) ≡ true) → flat_map spelling s ≡ take n s
+    ++ flat_map spelling (drop n s)
 spelled_run zero s fits plain = refl
 spelled_run (suc n) [] fits plain = refl
 spelled_run (suc n) (b ∷ s) fits plain =
     let own : spelling b ≡ b ∷ [] = spelling-plain b (is_plain-true b (plain 0 (omega arith))) in
-    rw own (ap (λ (t : List ℕ). b ∷ t) (spelled_run n s (omega arith) (λ k lt. plain (suc k) (omega arith))))
+    rw own (ap (λ (t : List ℕ). b ∷ t)
+    (spelled_run n s (omega arith) (λ k lt. plain (suc k) (omega arith))))
 
-pub length-spellings : (v : List ℕ) → length (flat_map spelling v) ≡ length v + count_by (λ b. is_some (letter b)) v
+pub length-spellings : (v : List ℕ) → length (flat_map spelling v) ≡ length v
+    + count_by (λ b. is_some (letter b)) v
 length-spellings [] = refl
 length-spellings (b ∷ v) =
-    let one : (x : ℕ) (l : Option ℕ) → length (spelled x l) ≡ 1 + (if is_some l then 1 else 0) = λ x l. elim l as (λ o. length (spelled x o) ≡ 1 + (if is_some o then 1 else 0)) [ Some y ↦ refl | None ↦ refl ] in
-    omega (arith, length-append (spelling b) (flat_map spelling v), length-spellings v, ap length (by_letter_of b (letter b) refl), one b (letter b), sum_by-cons (λ (x : ℕ). cond (is_some (letter x)) 1 0) b v)
+    let one : (x : ℕ) (l : Option ℕ) → length (spelled x l) ≡ 1 + (if is_some l then 1 else 0) =
+    λ x l. elim l as (λ o. length (spelled x o) ≡ 1 + (if is_some o then 1 else 0))
+    [ Some y ↦ refl | None ↦ refl ] in
+    omega (
+      arith,
+      length-append (spelling b) (flat_map spelling v),
+      length-spellings v,
+      ap length (by_letter_of b (letter b) refl),
+      one b (letter b),
+      sum_by-cons (λ (x : ℕ). cond (is_some (letter x)) 1 0) b v,
+    )
 
-pub string_end : (place escapes first second last : ℕ) (v : List ℕ) → escapes ≡ count_by (λ b. is_some (letter b)) v
-    → first ≡ behind place (length v) → second ≡ behind first escapes → last ≡ behind second 2 → last ≡ behind place (length (string_text v))
+pub string_end : (place escapes first second last : ℕ) (v : List ℕ) → escapes
+    ≡ count_by (λ b. is_some (letter b)) v
+    → first ≡ behind place (length v) → second ≡ behind first escapes → last ≡ behind second 2
+    → last ≡ behind place (length (string_text v))
 string_end place escapes first second last v e one two three =
     omega (arith, length-spellings v, length-append (flat_map spelling v) (34 ∷ []))
 
 rest_behind : (s : List ℕ) → 1 ≤ length s → get_or s 0 0 ∷ take (length s - 1) (drop 1 s) ≡ s
 rest_behind [] long = absurd (omega arith)
-rest_behind (b ∷ s) long = ap (λ (t : List ℕ). b ∷ t) (take_all (length (b ∷ s) - 1) s (omega arith))
+rest_behind (b ∷ s) long = ap (λ (t : List ℕ). b ∷ t)
+    (take_all (length (b ∷ s) - 1) s (omega arith))
 
 -- a run and the byte behind it
-run_spelled : (part rest run special : List ℕ) (n byte : ℕ) (total : List ℕ) → n ≤ length rest → ((k : ℕ) → k < n → is_plain (get_or rest k 0) ≡ true)
-    → part ++ flat_map spelling rest ≡ total → run ≡ take n rest → special ≡ drop n rest → 1 ≤ length special → byte ≡ get_or special 0 0
-    → (part ++ run ++ spelling byte) ++ flat_map spelling (take (length special - 1) (drop 1 special)) ≡ total
+run_spelled : (part rest run special : List ℕ) (n byte : ℕ) (total : List ℕ) → n ≤ length rest
+    → ((k : ℕ) → k < n → is_plain (get_or rest k 0) ≡ true)
+    → part ++ flat_map spelling rest ≡ total → run ≡ take n rest → special ≡ drop n rest → 1
+    ≤ length special → byte ≡ get_or special 0 0
+    → (part ++ run ++ spelling byte) ++ flat_map spelling
+    (take (length special - 1) (drop 1 special)) ≡ total
 run_spelled part rest run special n byte total fits plain so_far run_is special_is long byte_is =
-    let whole : spelling byte ++ flat_map spelling (take (length special - 1) (drop 1 special)) ≡ flat_map spelling special =
-    ap (λ (b : ℕ). spelling b ++ flat_map spelling (take (length special - 1) (drop 1 special))) byte_is ∙ ap (flat_map spelling) (rest_behind special long) in
-    rw run_is (simp append_assoc (ap (λ (t : List ℕ). part ++ (take n rest ++ t)) (whole ∙ ap (flat_map spelling) special_is) ∙ ap (λ (t : List ℕ). part ++ t) (sym (spelled_run n rest fits plain)) ∙ so_far))
+    let whole : spelling byte ++ flat_map spelling (take (length special - 1) (drop 1 special))
+    ≡ flat_map spelling special =
+    ap (λ (b : ℕ). spelling b ++ flat_map spelling (take (length special - 1) (drop 1 special)))
+    byte_is ∙ ap (flat_map spelling) (rest_behind special long) in
+    rw run_is (simp append_assoc
+    (ap (λ (t : List ℕ). part ++ (take n rest ++ t)) (whole ∙ ap (flat_map spelling) special_is)
+    ∙ ap (λ (t : List ℕ). part ++ t) (sym (spelled_run n rest fits plain)) ∙ so_far))
 
 -- the last run, with nothing behind it
-last_spelled : (part rest run special : List ℕ) (n : ℕ) (total : List ℕ) → n ≤ length rest → ((k : ℕ) → k < n → is_plain (get_or rest k 0) ≡ true)
-    → part ++ flat_map spelling rest ≡ total → run ≡ take n rest → special ≡ drop n rest → length special < 1 → part ++ run ≡ total
+last_spelled : (part rest run special : List ℕ) (n : ℕ) (total : List ℕ) → n ≤ length rest
+    → ((k : ℕ) → k < n → is_plain (get_or rest k 0) ≡ true)
+    → part ++ flat_map spelling rest ≡ total → run ≡ take n rest → special ≡ drop n rest
+    → length special < 1 → part ++ run ≡ total
 last_spelled part rest run special n total fits plain so_far run_is special_is short =
     let none : drop n rest ≡ [] = sym special_is ∙ nil_from_length special (omega arith) in
-    let whole : flat_map spelling rest ≡ take n rest = spelled_run n rest fits plain ∙ ap (λ (t : List ℕ). take n rest ++ flat_map spelling t) none ∙ append-nil (take n rest) in
+    let whole : flat_map spelling rest ≡ take n rest = spelled_run n rest fits plain
+    ∙ ap (λ (t : List ℕ). take n rest ++ flat_map spelling t) none ∙ append-nil (take n rest) in
     ap (λ (t : List ℕ). part ++ t) (run_is ∙ sym whole) ∙ so_far
 
 -- of a string the quote and some spellings are written, and the rest is left
@@ -65,20 +97,35 @@ pub record IsBegun (old new : Option (List ℕ)) (rest bytes : List ℕ) : Type 
   pub left : part ++ flat_map spelling rest ≡ 34 ∷ flat_map spelling bytes
 
 -- a run and the byte behind it were written
-pub run_written : (a b c d : Option (List ℕ)) (rest bytes run special : List ℕ) (n byte : ℕ) → IsBegun a b rest bytes → n ≤ length rest → ((k : ℕ) → k < n → is_plain (get_or rest k 0) ≡ true)
-    → run ≡ take n rest → special ≡ drop n rest → 1 ≤ length special → byte ≡ get_or special 0 0 → Appends b c run → Appends c d (spelling byte)
+pub run_written : (a b c d : Option (List ℕ)) (rest bytes run special : List ℕ) (n byte : ℕ)
+    → IsBegun a b rest bytes → n ≤ length rest
+    → ((k : ℕ) → k < n → is_plain (get_or rest k 0) ≡ true)
+    → run ≡ take n rest → special ≡ drop n rest → 1 ≤ length special → byte ≡ get_or special 0 0
+    → Appends b c run → Appends c d (spelling byte)
     → IsBegun a d (take (length special - 1) (drop 1 special)) bytes
-run_written a b c d rest bytes run special n byte begun fits plain run_is special_is long byte_is more new = record {
-  part = begun.part ++ run ++ spelling byte;
-  written = Appends-trans a c d (begun.part ++ run) (spelling byte) (Appends-trans a b c begun.part run begun.written more) new;
-  left = run_spelled begun.part rest run special n byte (34 ∷ flat_map spelling bytes) fits plain begun.left run_is special_is long byte_is;
-}
+run_written a b c d rest bytes run special n byte begun fits plain run_is special_is long byte_is
+    more new = record {
+      part = begun.part ++ run ++ spelling byte;
+      written = Appends-trans a c d (begun.part ++ run) (spelling byte)
+          (Appends-trans a b c begun.part run begun.written more) new;
+      left = run_spelled begun.part rest run special n byte (34 ∷ flat_map spelling bytes) fits plain
+          begun.left run_is special_is long byte_is;
+    }
 
 -- the last run and the quote were written, where nothing failed
-pub last_written : {E : Type 0} (r : Result (Unit {0}) E) (a b c d : Option (List ℕ)) (rest bytes run special : List ℕ) (n : ℕ) → IsBegun a b rest bytes → n ≤ length rest → ((k : ℕ) → k < n → is_plain (get_or rest k 0) ≡ true)
-    → run ≡ take n rest → special ≡ drop n rest → length special < 1 → Appends b c run → OnOk r (Appends c d (34 ∷ []))
+pub last_written : {E : Type 0} (r : Result (Unit {0}) E) (a b c d : Option (List ℕ))
+    (rest bytes run special : List ℕ) (n : ℕ) → IsBegun a b rest bytes → n ≤ length rest
+    → ((k : ℕ) → k < n → is_plain (get_or rest k 0) ≡ true)
+    → run ≡ take n rest → special ≡ drop n rest → length special < 1 → Appends b c run
+    → OnOk r (Appends c d (34 ∷ []))
     → OnOk r (Appends a d (string_text bytes))
-last_written (Ok x) a b c d rest bytes run special n begun fits plain run_is special_is short more new =
-    let all : begun.part ++ run ≡ 34 ∷ flat_map spelling bytes = last_spelled begun.part rest run special n (34 ∷ flat_map spelling bytes) fits plain begun.left run_is special_is short in
-    subst (λ (t : List ℕ). Appends a d (t ++ 34 ∷ [])) all (Appends-trans a c d (begun.part ++ run) (34 ∷ []) (Appends-trans a b c begun.part run begun.written more) new)
-last_written (Err x) a b c d rest bytes run special n begun fits plain run_is special_is short more new = tt
+last_written (Ok x) a b c d rest bytes run special n begun fits plain run_is special_is short more
+    new =
+    let all : begun.part ++ run ≡ 34 ∷ flat_map spelling bytes =
+    last_spelled begun.part rest run special n (34 ∷ flat_map spelling bytes) fits plain
+    begun.left run_is special_is short in
+    subst (λ (t : List ℕ). Appends a d (t ++ 34 ∷ [])) all
+    (Appends-trans a c d (begun.part ++ run) (34 ∷ [])
+    (Appends-trans a b c begun.part run begun.written more) new)
+last_written (Err x) a b c d rest bytes run special n begun fits plain run_is special_is short more
+    new = tt

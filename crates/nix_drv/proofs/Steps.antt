@@ -12,13 +12,15 @@ pub record StopsAt (Front : List ℕ → Type 0) (s : List ℕ) (left : ℕ) : T
   pub is_left : length rest ≡ left
 
 -- what was read is the text before the rest, and a fault stands behind a front
-abbrev pub Told : {A : Type 0} → (A → List ℕ) → (List ℕ → Type 0) → List ℕ → Result (A × List ℕ) ℕ → Type 0
+abbrev pub Told : {A : Type 0} → (A → List ℕ) → (List ℕ → Type 0) → List ℕ → Result (A × List ℕ) ℕ
+    → Type 0
 Told text_of Front s (Ok x) = s ≡ text_of x.0 ++ x.1
 Told text_of Front s (Err left) = StopsAt Front s left
 
 -- no front leaves less than the reading
 abbrev pub Longest : {A : Type 0} → (List ℕ → Type 0) → (List ℕ → Result (A × List ℕ) ℕ) → Type 0
-Longest Front reading = (front rest : List ℕ) → Front front → left_of (reading (front ++ rest)) ≤ length rest
+Longest Front reading = (front rest : List ℕ) → Front front → left_of (reading (front ++ rest))
+    ≤ length rest
 
 -- a reading that never leaves more than it was given
 abbrev pub Shrinks : {A : Type 0} → (List ℕ → Result (A × List ℕ) ℕ) → Type 0
@@ -27,16 +29,21 @@ Shrinks reading = (s : List ℕ) → left_of (reading s) ≤ length s
 pub le_by_front : (s front rest : List ℕ) → s ≡ front ++ rest → length rest ≤ length s
 le_by_front s front rest e = omega (arith, ap length e, length-append front rest)
 
-pub told_shrinks : {A : Type 0} (text_of : A → List ℕ) (Front : List ℕ → Type 0) (s : List ℕ) (reading : Result (A × List ℕ) ℕ) → Told text_of Front s reading → left_of reading ≤ length s
+pub told_shrinks : {A : Type 0} (text_of : A → List ℕ) (Front : List ℕ → Type 0) (s : List ℕ)
+    (reading : Result (A × List ℕ) ℕ) → Told text_of Front s reading → left_of reading ≤ length s
 told_shrinks text_of Front s (Ok x) told = le_by_front s (text_of x.0) x.1 told
-told_shrinks text_of Front s (Err left) told = omega (arith, le_by_front s told.front told.rest told.parts, told.is_left)
+told_shrinks text_of Front s (Err left) told =
+    omega (arith, le_by_front s told.front told.rest told.parts, told.is_left)
 
 -- what follows leaves no more
-pub bind_shrinks : {A B : Type 0} (reading : Result (A × List ℕ) ℕ) (next : A × List ℕ → Result (B × List ℕ) ℕ) → ((x : A × List ℕ) → left_of (next x) ≤ length x.1) → left_of (reading >>= next) ≤ left_of reading
+pub bind_shrinks : {A B : Type 0} (reading : Result (A × List ℕ) ℕ)
+    (next : A × List ℕ → Result (B × List ℕ) ℕ) → ((x : A × List ℕ) → left_of (next x) ≤ length x.1)
+    → left_of (reading >>= next) ≤ left_of reading
 bind_shrinks (Ok x) next h = h x
 bind_shrinks (Err left) next h = omega arith
 
-pub left-before : {A : Type 0} (front : List A) (reading : Result (List A × List ℕ) ℕ) → left_of (before front reading) ≡ left_of reading
+pub left-before : {A : Type 0} (front : List A) (reading : Result (List A × List ℕ) ℕ)
+    → left_of (before front reading) ≡ left_of reading
 left-before front (Ok x) = refl
 left-before front (Err left) = refl
 
@@ -44,6 +51,7 @@ pub before_none : {A : Type 0} (reading : Result (List A × List ℕ) ℕ) → b
 before_none (Ok x) = refl
 before_none (Err left) = refl
 
-pub before-before : {A : Type 0} (front more : List A) (reading : Result (List A × List ℕ) ℕ) → before front (before more reading) ≡ before (front ++ more) reading
+pub before-before : {A : Type 0} (front more : List A) (reading : Result (List A × List ℕ) ℕ)
+    → before front (before more reading) ≡ before (front ++ more) reading
 before-before front more (Ok x) = ap (λ (xs : _). Ok (xs, x.1)) (sym (append_assoc front more x.0))
 before-before front more (Err left) = refl

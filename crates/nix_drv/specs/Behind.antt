@@ -10,8 +10,10 @@ string_behind bytes s = fixed_at bytes s >>= λ x. read Str x.1
 
 -- two strings with a comma between
 unfoldable pub strings_behind : List ℕ → List ℕ → Result ((List ℕ × List ℕ) × List ℕ) ℕ
-strings_behind bytes s = string_behind bytes s >>= λ x. string_behind (44 ∷ []) x.1 >>= λ y. Ok ((x.0, y.0), y.1)
+strings_behind bytes s = string_behind bytes s >>= λ x. string_behind (44 ∷ []) x.1 >>= λ y.
+    Ok ((x.0, y.0), y.1)
 
 -- a list
-unfoldable pub list_behind : {A : Type 0} → List ℕ → (List ℕ → Result (A × List ℕ) ℕ) → List ℕ → Result (List A × List ℕ) ℕ
+unfoldable pub list_behind : {A : Type 0} → List ℕ → (List ℕ → Result (A × List ℕ) ℕ) → List ℕ
+    → Result (List A × List ℕ) ℕ
 list_behind bytes one s = fixed_at bytes s >>= λ x. list_read one x.1

@@ -1,4 +1,5 @@
--- What it means that bytes are a derivation that stands at its own path, and the first thing that is wrong where they aren't.
+-- What it means that bytes are a derivation that stands at its own path, and the first thing that
+-- is wrong where they aren't.
 use Rattle.std.specs.Prelude.{◌≡◌, ◌≢◌, ◌≤◌, ℕ, List, ◌∷◌, ◌++◌, length, All, Result, Ok, Err}
 use Rattle.nix_names.specs.StorePaths.{IsDrvPath, IsPathOf, name_of}
 use Rattle.nix_drv.specs.Derivation.{Drv, IsDrvText}
@@ -21,23 +22,26 @@ pub record IsFirstStray (dir : List ℕ) (paths : List (List ℕ)) (text : List 
   pub good : All (IsPathOf dir) before
   pub is_stray : IsPathOf dir text → ⊥
 
--- The bytes at the path are the derivation's text, all of its paths are in the folder, and the text's own path is this one.
+-- The bytes at the path are the derivation's text, all of its paths are in the folder, and the
+-- text's own path is this one.
 pub record IsFoundAt (dir path bytes : List ℕ) (drv : Drv) (own : List ℕ) : Type 0 where
   pub read : IsReadAt path bytes drv
   pub in_store : All (IsPathOf dir) (paths_of drv)
   pub own_path : IsOwnPath dir (name_of path) drv bytes own
 
--- What the check of the bytes at a path of the folder answers. Each refusal comes exactly where it is the first of these that
--- holds: no derivation's name; too long, no text of the language, or out of order, as in reading; a reference outside the
--- folder; another own path. Want of memory comes only under a derivation's name,
--- and for bytes within the limit.
+-- What the check of the bytes at a path of the folder answers. Each refusal comes exactly where it
+-- is the first of these that holds: no derivation's name; too long, no text of the language, or out
+-- of order, as in reading; a reference outside the folder; another own path. Want of memory comes
+-- only under a derivation's name, and for bytes within the limit.
 abbrev pub IsCheck : (dir path bytes : List ℕ) → Result Drv DrvFault → Type 0
 IsCheck dir path bytes (Ok drv) = IsFoundAt dir path bytes drv path
 IsCheck dir path bytes (Err NotADrvName) = IsDrvPath path → ⊥
 IsCheck dir path bytes (Err TooLong) = IsDrvPath path × IsReading bytes (Err TooLong)
 IsCheck dir path bytes (Err (Syntax place)) = IsDrvPath path × IsReading bytes (Err (Syntax place))
 IsCheck dir path bytes (Err (Order place)) = IsDrvPath path × IsReading bytes (Err (Order place))
-IsCheck dir path bytes (Err (BadReference text)) = (drv : Drv) × IsReadAt path bytes drv × IsFirstStray dir (paths_of drv) text.items
-IsCheck dir path bytes (Err (TextPathMismatch expected)) = (drv : Drv) × IsFoundAt dir path bytes drv expected × (expected ≢ path)
+IsCheck dir path bytes (Err (BadReference text)) = (drv : Drv) × IsReadAt path bytes drv
+    × IsFirstStray dir (paths_of drv) text.items
+IsCheck dir path bytes (Err (TextPathMismatch expected)) = (drv : Drv)
+    × IsFoundAt dir path bytes drv expected × (expected ≢ path)
 IsCheck dir path bytes (Err NoMemory) = IsDrvPath path × (length bytes ≤ max_len)
 IsCheck dir path bytes (Err NotSorted) = ⊥

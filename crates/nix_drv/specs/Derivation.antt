@@ -1,4 +1,5 @@
--- The language of store derivations (Nix manual, "Store Derivation"; Dolstra, "The Purely Functional Software Deployment Model", 2006, section 5.4).
+-- The language of store derivations (Nix manual, "Store Derivation"; Dolstra, "The Purely
+-- Functional Software Deployment Model", 2006, section 5.4).
 use Rattle.std.specs.Prelude.{List, ℕ, map, codes}
 use Rattle.nix_drv.specs.Grammar.{Rising, Free, Grammar, Value, Fixed, Str, Then, Many, IsText}
 use Rattle.nix_drv.specs.Order.{InOrder}
@@ -10,11 +11,14 @@ comma = Fixed (codes ",")
 -- an output: `(` name, path, algorithm, hash `)`
 abbrev pub output_form : Grammar
 output_form =
-    Then (Fixed (codes "(")) (Then Str (Then comma (Then Str (Then comma (Then Str (Then comma (Then Str (Fixed (codes ")")))))))))
+    Then (Fixed (codes "("))
+    (Then Str
+    (Then comma (Then Str (Then comma (Then Str (Then comma (Then Str (Fixed (codes ")")))))))))
 
 -- an input derivation: `(` path, names of its outputs `)`
 abbrev pub input_form : Grammar
-input_form = Then (Fixed (codes "(")) (Then Str (Then comma (Then (Many Rising Str) (Fixed (codes ")")))))
+input_form = Then (Fixed (codes "("))
+    (Then Str (Then comma (Then (Many Rising Str) (Fixed (codes ")")))))
 
 -- an entry of the environment: `(` key, value `)`
 abbrev pub entry_form : Grammar
@@ -22,12 +26,20 @@ entry_form = Then (Fixed (codes "(")) (Then Str (Then comma (Then Str (Fixed (co
 
 -- how it is built: system, builder, arguments, environment
 abbrev pub build_form : Grammar
-build_form = Then Str (Then comma (Then Str (Then comma (Then (Many Free Str) (Then comma (Then (Many Rising entry_form) (Fixed (codes ")"))))))))
+build_form = Then Str
+    (Then comma
+    (Then Str
+    (Then comma
+    (Then (Many Free Str) (Then comma (Then (Many Rising entry_form) (Fixed (codes ")"))))))))
 
 -- `Derive(` outputs, input derivations, sources, and how it is built `)`
 abbrev pub derivation_form : Grammar
 derivation_form =
-    Then (Fixed (codes "Derive(")) (Then (Many Rising output_form) (Then comma (Then (Many Rising input_form) (Then comma (Then (Many Rising Str) (Then comma build_form))))))
+    Then (Fixed (codes "Derive("))
+    (Then (Many Rising output_form)
+    (Then comma
+    (Then (Many Rising input_form)
+    (Then comma (Then (Many Rising Str) (Then comma build_form))))))
 
 pub record Output : Type 0 where
   pub name : List ℕ
@@ -66,7 +78,13 @@ abbrev pub build_value : Drv → Value build_form
 build_value d = (d.system, (tt, (d.builder, (tt, (d.args, (tt, (map entry_value d.env, tt)))))))
 
 abbrev pub drv_value : Drv → Value derivation_form
-drv_value d = (tt, (map output_value d.outputs, (tt, (map input_value d.inputs, (tt, (d.sources, (tt, build_value d)))))))
+drv_value d = (
+  tt,
+  (
+    map output_value d.outputs,
+    (tt, (map input_value d.inputs, (tt, (d.sources, (tt, build_value d))))),
+  ),
+)
 
 -- the bytes are the derivation's text, whether or not it keeps the order rules
 abbrev pub IsLooseText : Drv → List ℕ → Type 0

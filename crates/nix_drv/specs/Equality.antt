@@ -11,7 +11,8 @@ use Rattle.nix_drv.specs.declared.derivation.Output.{Output as OutputStruct}
 -- of outputs
 abbrev pub same_output : Output → Output → Bool
 same_output a b =
-    ((pointwise nat_eq a.name b.name && pointwise nat_eq a.path b.path) && pointwise nat_eq a.algo b.algo) && pointwise nat_eq a.hash b.hash
+    ((pointwise nat_eq a.name b.name && pointwise nat_eq a.path b.path)
+    && pointwise nat_eq a.algo b.algo) && pointwise nat_eq a.hash b.hash
 
 -- of input derivations
 abbrev pub same_input : Input → Input → Bool
@@ -31,7 +32,8 @@ abbrev pub same_program : Drv → Drv → Bool
 same_program a b = pointwise nat_eq a.system b.system && pointwise nat_eq a.builder b.builder
 
 abbrev pub same_build : Drv → Drv → Bool
-same_build a b = (same_program a b && pointwise (pointwise nat_eq) a.args b.args) && pointwise same_entry a.env b.env
+same_build a b = (same_program a b && pointwise (pointwise nat_eq) a.args b.args)
+    && pointwise same_entry a.env b.env
 
 abbrev pub same_drv : Drv → Drv → Bool
 same_drv a b = same_paths a b && same_build a b
@@ -50,26 +52,31 @@ entries_equal a b = same_entry (entry_of a) (entry_of b)
 pub same_output_laws : IsEquivalence same_output
 same_output_laws =
     and_equiv
-    (and_equiv (and_equiv (on_equiv (λ (o : Output). o.name) nat_list_eq_equiv) (on_equiv (λ (o : Output). o.path) nat_list_eq_equiv))
+    (and_equiv (and_equiv (on_equiv (λ (o : Output). o.name) nat_list_eq_equiv)
+    (on_equiv (λ (o : Output). o.path) nat_list_eq_equiv))
     (on_equiv (λ (o : Output). o.algo) nat_list_eq_equiv))
     (on_equiv (λ (o : Output). o.hash) nat_list_eq_equiv)
 
 pub same_input_laws : IsEquivalence same_input
 same_input_laws =
-    and_equiv (on_equiv (λ (i : Input). i.path) nat_list_eq_equiv) (on_equiv (λ (i : Input). i.names) (lists_equiv nat_list_eq_equiv))
+    and_equiv (on_equiv (λ (i : Input). i.path) nat_list_eq_equiv)
+    (on_equiv (λ (i : Input). i.names) (lists_equiv nat_list_eq_equiv))
 
 pub same_entry_laws : IsEquivalence same_entry
 same_entry_laws =
-    and_equiv (on_equiv (λ (e : EnvEntry). e.key) nat_list_eq_equiv) (on_equiv (λ (e : EnvEntry). e.value) nat_list_eq_equiv)
+    and_equiv (on_equiv (λ (e : EnvEntry). e.key) nat_list_eq_equiv)
+    (on_equiv (λ (e : EnvEntry). e.value) nat_list_eq_equiv)
 
 pub same_drv_laws : IsEquivalence same_drv
 same_drv_laws =
     and_equiv
     (and_equiv
-    (and_equiv (on_equiv (λ (d : Drv). d.outputs) (lists_equiv same_output_laws)) (on_equiv (λ (d : Drv). d.inputs) (lists_equiv same_input_laws)))
+    (and_equiv (on_equiv (λ (d : Drv). d.outputs) (lists_equiv same_output_laws))
+    (on_equiv (λ (d : Drv). d.inputs) (lists_equiv same_input_laws)))
     (on_equiv (λ (d : Drv). d.sources) (lists_equiv nat_list_eq_equiv)))
     (and_equiv
-    (and_equiv (and_equiv (on_equiv (λ (d : Drv). d.system) nat_list_eq_equiv) (on_equiv (λ (d : Drv). d.builder) nat_list_eq_equiv))
+    (and_equiv (and_equiv (on_equiv (λ (d : Drv). d.system) nat_list_eq_equiv)
+    (on_equiv (λ (d : Drv). d.builder) nat_list_eq_equiv))
     (on_equiv (λ (d : Drv). d.args) (lists_equiv nat_list_eq_equiv)))
     (on_equiv (λ (d : Drv). d.env) (lists_equiv same_entry_laws)))
 

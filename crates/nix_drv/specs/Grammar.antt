@@ -1,4 +1,5 @@
--- Grammars of which a value has one text: fixed bytes, strings, parts in order and lists; their texts, and the beginnings that can still become one.
+-- Grammars of which a value has one text: fixed bytes, strings, parts in order and lists; their
+-- texts, and the beginnings that can still become one.
 use Rattle.std.specs.Prelude.{◌≡◌, ◌≢◌, ℕ, ◌≤◌, ◌⊎◌, List, [], ◌∷◌, ◌++◌, length, flat_map, Option, Some, None}
 use Rattle.nix_drv.specs.Strings.{spelling, string_text}
 
@@ -7,7 +8,8 @@ pub data ListOrder : Type 0 where
   Rising : ListOrder
   Free : ListOrder
 
--- fixed bytes; a string; two parts in order; a list, in brackets and with commas between its elements
+-- fixed bytes; a string; two parts in order; a list, in brackets and with commas between its
+-- elements
 pub data Grammar : Type 0 where
   Fixed : (bytes : List ℕ) → Grammar
   Str : Grammar
@@ -47,23 +49,32 @@ IsText g v bytes = bytes ≡ text g v
 abbrev pub Begins : List ℕ → List ℕ → Type 0
 Begins front whole = (rest : List ℕ) × (whole ≡ front ++ rest)
 
--- a front of a string behind its first quote: whole spellings, and then a beginning of one or of the last quote
+-- a front of a string behind its first quote: whole spellings, and then a beginning of one or of
+-- the last quote
 abbrev pub IsFrontOfBytes : List ℕ → Type 0
 IsFrontOfBytes front =
-    (whole last : List ℕ) × (front ≡ flat_map spelling whole ++ last) × (((byte : ℕ) × Begins last (spelling byte)) ⊎ Begins last (34 ∷ []))
+    (whole last : List ℕ) × (front ≡ flat_map spelling whole ++ last)
+    × (((byte : ℕ) × Begins last (spelling byte)) ⊎ Begins last (34 ∷ []))
 
--- a front of a list behind its first bracket: whole elements with a comma after each, and then a front of one more; or all elements, and then a beginning of the last bracket
+-- a front of a list behind its first bracket: whole elements with a comma after each, and then a
+-- front of one more; or all elements, and then a beginning of the last bracket
 abbrev pub IsFrontOfElements : {A : Type 0} → (A → List ℕ) → (List ℕ → Type 0) → List ℕ → Type 0
 IsFrontOfElements {A} text_of IsElementFront front =
-    ((whole : List A) × (last : List ℕ) × (front ≡ each_with_comma text_of whole ++ last) × IsElementFront last)
-    ⊎ ((whole : List A) × (last : List ℕ) × (front ≡ separated text_of whole ++ last) × Begins last (93 ∷ []))
+    ((whole : List A) × (last : List ℕ) × (front ≡ each_with_comma text_of whole ++ last)
+    × IsElementFront last)
+    ⊎ ((whole : List A) × (last : List ℕ) × (front ≡ separated text_of whole ++ last)
+    × Begins last (93 ∷ []))
 
--- a beginning that can still become a text: of fixed bytes each beginning; of parts in order a front of the first, or a whole text of the first and a front of the second
+-- a beginning that can still become a text: of fixed bytes each beginning; of parts in order a
+-- front of the first, or a whole text of the first and a front of the second
 unfoldable pub IsFront : (g : Grammar) → List ℕ → Type 0
 IsFront (Fixed bytes) front = Begins front bytes
-IsFront Str front = Begins front (34 ∷ []) ⊎ ((more : List ℕ) × (front ≡ 34 ∷ more) × IsFrontOfBytes more)
-IsFront (Then a b) front = IsFront a front ⊎ ((v : Value a) × (more : List ℕ) × (front ≡ text a v ++ more) × IsFront b more)
-IsFront (Many order g) front = Begins front (91 ∷ []) ⊎ ((more : List ℕ) × (front ≡ 91 ∷ more) × IsFrontOfElements (text g) (IsFront g) more)
+IsFront Str front = Begins front (34 ∷ [])
+    ⊎ ((more : List ℕ) × (front ≡ 34 ∷ more) × IsFrontOfBytes more)
+IsFront (Then a b) front = IsFront a front
+    ⊎ ((v : Value a) × (more : List ℕ) × (front ≡ text a v ++ more) × IsFront b more)
+IsFront (Many order g) front = Begins front (91 ∷ [])
+    ⊎ ((more : List ℕ) × (front ≡ 91 ∷ more) × IsFrontOfElements (text g) (IsFront g) more)
 
 -- the longest beginning of the input that is a front has this length
 pub record IsLongestFront (g : Grammar) (input : List ℕ) (place : ℕ) : Type 0 where
@@ -72,7 +83,8 @@ pub record IsLongestFront (g : Grammar) (input : List ℕ) (place : ℕ) : Type 
   pub parts : input ≡ front ++ rest
   pub is_front : IsFront g front
   pub is_place : length front ≡ place
-  pub longest : (other more : List ℕ) → IsFront g other → input ≡ other ++ more → length other ≤ place
+  pub longest : (other more : List ℕ) → IsFront g other → input ≡ other ++ more → length other
+      ≤ place
 
 -- the byte with which each text of the grammar begins, where the grammar shows one
 abbrev pub first_byte : Grammar → Option ℕ

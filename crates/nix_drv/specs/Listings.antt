@@ -17,13 +17,15 @@ others_text text_of [] = []
 others_text text_of (v ∷ vs) = 44 ∷ text_of v ++ others_text text_of vs
 
 -- a list from its first bracket on
-abbrev pub list_read : {A : Type 0} → (List ℕ → Result (A × List ℕ) ℕ) → List ℕ → Result (List A × List ℕ) ℕ
+abbrev pub list_read : {A : Type 0} → (List ℕ → Result (A × List ℕ) ℕ) → List ℕ
+    → Result (List A × List ℕ) ℕ
 list_read one s = fixed_at (91 ∷ []) s >>= λ x. list_at one x.1
 
 -- a comma or the bracket that ends the list, and the bytes behind it
 abbrev pub sign_at : List ℕ → Result (Next × List ℕ) ℕ
 sign_at [] = Err 0
-sign_at (b ∷ s) = if b == 44 then Ok (Comma, s) else if b == 93 then Ok (End, s) else Err (suc (length s))
+sign_at (b ∷ s) = if b == 44 then Ok (Comma, s) else if b == 93 then Ok (End, s)
+    else Err (suc (length s))
 
 abbrev pub order_of : Order → ListOrder
 order_of order.Rising = Rising

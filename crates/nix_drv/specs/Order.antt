@@ -1,4 +1,5 @@
--- The order rules: in a list that must rise, each element's key is greater by bytes than the key of the element before it.
+-- The order rules: in a list that must rise, each element's key is greater by bytes than the key of
+-- the element before it.
 use Rattle.std.specs.Prelude.{◌≡◌, ℕ, ◌+◌, ◌≤◌, ◌⊎◌, Bool, true, false, not, ◌||◌, if◌then◌else◌, List, [], ◌∷◌, length, Option, Some, None, map}
 use Rattle.std.specs.Cmp.Lexicographic.{slice_cmp}
 use Rattle.std.specs.Ordering.{nat_cmp, is_lt}
@@ -29,20 +30,26 @@ breaks Free before k = false
 breaks Rising None k = false
 breaks Rising (Some before) k = not (is_less before k)
 
--- among elements of which the first stands at p, behind one with the key before it, the one at the place breaks the order, or something within one does
-abbrev pub IsViolationAmong : {A : Type 0} → ListOrder → (A → List ℕ) → (A → List ℕ) → (ℕ → A → ℕ → Type 0) → Option (List ℕ) → ℕ → List A → ℕ → Type 0
+-- among elements of which the first stands at p, behind one with the key before it, the one at the
+-- place breaks the order, or something within one does
+abbrev pub IsViolationAmong : {A : Type 0} → ListOrder → (A → List ℕ) → (A → List ℕ)
+    → (ℕ → A → ℕ → Type 0) → Option (List ℕ) → ℕ → List A → ℕ → Type 0
 IsViolationAmong order key_of text_of Within before p [] place = ⊥
 IsViolationAmong order key_of text_of Within before p (v ∷ vs) place =
     ((breaks order before (key_of v) ≡ true) × (place ≡ p))
     ⊎ Within p v place
-    ⊎ IsViolationAmong order key_of text_of Within (Some (key_of v)) (p + length (text_of v) + 1) vs place
+    ⊎ IsViolationAmong order key_of text_of Within (Some (key_of v)) (p + length (text_of v) + 1) vs
+    place
 
--- in the text of the value, which stands at p, the element at the place breaks the order of its list
+-- in the text of the value, which stands at p, the element at the place breaks the order of its
+-- list
 unfoldable pub IsViolation : (g : Grammar) → ℕ → Value g → ℕ → Type 0
 IsViolation (Fixed bytes) p v place = ⊥
 IsViolation Str p v place = ⊥
-IsViolation (Then a b) p v place = IsViolation a p v.0 place ⊎ IsViolation b (p + length (text a v.0)) v.1 place
-IsViolation (Many order g) p vs place = IsViolationAmong order (key g) (text g) (IsViolation g) None (p + 1) vs place
+IsViolation (Then a b) p v place = IsViolation a p v.0 place
+    ⊎ IsViolation b (p + length (text a v.0)) v.1 place
+IsViolation (Many order g) p vs place = IsViolationAmong order (key g) (text g) (IsViolation g) None
+    (p + 1) vs place
 
 -- the value keeps the order rules
 abbrev pub InOrder : (g : Grammar) → Value g → Type 0

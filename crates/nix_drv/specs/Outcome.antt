@@ -11,12 +11,15 @@ use Rattle.nix_drv.specs.Derivation.{Drv, drv_value, derivation_form, IsLooseTex
 abbrev pub max_len : ℕ
 max_len = 4194304
 
--- A derivation exactly where the bytes are its text and not too many. Else too many; or no text of the language with its order rules left out, with the length of the longest beginning that can still become one; or a text that breaks them, with the place of the first element that does; or memory was refused.
+-- A derivation exactly where the bytes are its text and not too many. Else too many; or no text of
+-- the language with its order rules left out, with the length of the longest beginning that can still become one; or a text that breaks them, with the place of the first element that does; or memory was refused.
 abbrev pub IsReading : List ℕ → Result Drv DrvFault → Type 0
 IsReading input (Ok drv) = (length input ≤ max_len) × IsDrvText drv input
 IsReading input (Err TooLong) = max_len < length input
-IsReading input (Err (Syntax place)) = (length input ≤ max_len) × ((drv : Drv) → ¬ IsLooseText drv input) × IsLongestFront derivation_form input place
-IsReading input (Err (Order place)) = (length input ≤ max_len) × ((drv : Drv) × IsLooseText drv input × IsFirstViolation derivation_form (drv_value drv) place)
+IsReading input (Err (Syntax place)) = (length input ≤ max_len)
+    × ((drv : Drv) → ¬ IsLooseText drv input) × IsLongestFront derivation_form input place
+IsReading input (Err (Order place)) = (length input ≤ max_len)
+    × ((drv : Drv) × IsLooseText drv input × IsFirstViolation derivation_form (drv_value drv) place)
 IsReading input (Err NoMemory) = length input ≤ max_len
 IsReading input (Err NotSorted) = ⊥
 IsReading input (Err (TextPathMismatch expected)) = ⊥
@@ -40,7 +43,8 @@ IsCopying drv (Err fault) = fault ≡ NoMemory
 
 -- reading a derivation's text within the limit answers that derivation, unless memory is refused
 abbrev pub ReadsBack : Type 0
-ReadsBack = (drv : Drv) (text : List ℕ) (answer : Result Drv DrvFault) → IsDrvText drv text → length text ≤ max_len → IsReading text answer → (answer ≡ Ok drv) ⊎ (answer ≡ Err NoMemory)
+ReadsBack = (drv : Drv) (text : List ℕ) (answer : Result Drv DrvFault) → IsDrvText drv text
+    → length text ≤ max_len → IsReading text answer → (answer ≡ Ok drv) ⊎ (answer ≡ Err NoMemory)
 
 -- a fault's number in the table of faults
 abbrev pub number_of : DrvFault → ℕ

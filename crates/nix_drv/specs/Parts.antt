@@ -16,7 +16,12 @@ abbrev pub path_of : InputStruct → List ℕ
 path_of i = i.path.items
 
 abbrev pub output_of : OutputStruct → Output
-output_of o = record { name = o.name.items; path = o.path.items; algo = o.algo.items; hash = o.hash.items }
+output_of o = record {
+  name = o.name.items;
+  path = o.path.items;
+  algo = o.algo.items;
+  hash = o.hash.items;
+}
 
 abbrev pub input_of : InputStruct → Input
 input_of i = record { path = i.path.items; names = map bytes_of i.names.items }
@@ -37,12 +42,53 @@ drv_of p = record {
 
 -- the parts as a value of the language, with each list in one step
 abbrev pub parts_build : Parts → Value build_form
-parts_build p = (p.system.items, (tt, (p.builder.items, (tt, (map bytes_of p.args.items, (tt, (map (λ (e : EnvEntryStruct). entry_value (entry_of e)) p.env.items, tt)))))))
+parts_build p = (
+  p.system.items,
+  (
+    tt,
+    (
+      p.builder.items,
+      (
+        tt,
+        (
+          map bytes_of p.args.items,
+          (tt, (map (λ (e : EnvEntryStruct). entry_value (entry_of e)) p.env.items, tt)),
+        ),
+      ),
+    ),
+  ),
+)
 
 -- how it is built, by itself, as such a value
 abbrev pub build_of : Build → Value build_form
-build_of b = (b.system.items, (tt, (b.builder.items, (tt, (map bytes_of b.args.items, (tt, (map (λ (e : EnvEntryStruct). entry_value (entry_of e)) b.env.items, tt)))))))
+build_of b = (
+  b.system.items,
+  (
+    tt,
+    (
+      b.builder.items,
+      (
+        tt,
+        (
+          map bytes_of b.args.items,
+          (tt, (map (λ (e : EnvEntryStruct). entry_value (entry_of e)) b.env.items, tt)),
+        ),
+      ),
+    ),
+  ),
+)
 
 abbrev pub parts_value : Parts → Value derivation_form
-parts_value p =
-    (tt, (map (λ (o : OutputStruct). output_value (output_of o)) p.outputs.items, (tt, (map (λ (i : InputStruct). input_value (input_of i)) p.inputs.items, (tt, (map bytes_of p.sources.items, (tt, parts_build p)))))))
+parts_value p = (
+  tt,
+  (
+    map (λ (o : OutputStruct). output_value (output_of o)) p.outputs.items,
+    (
+      tt,
+      (
+        map (λ (i : InputStruct). input_value (input_of i)) p.inputs.items,
+        (tt, (map bytes_of p.sources.items, (tt, parts_build p))),
+      ),
+    ),
+  ),
+)

@@ -10,7 +10,8 @@ pub record IsReferencesOf (paths refs : List (List ℕ)) : Type 0 where
   pub rising : IsRising refs
   pub same : (ref : List ℕ) → (Contains refs ref ↔ Contains paths ref)
 
--- what is wrong with some paths in a folder: the first of them that is none of it, or memory was refused
+-- what is wrong with some paths in a folder: the first of them that is none of it, or memory was
+-- refused
 abbrev pub IsStrayFault : (dir : List ℕ) → (paths : List (List ℕ)) → DrvFault → Type 0
 IsStrayFault dir paths (BadReference text) = IsFirstStray dir paths text.items
 IsStrayFault dir paths NoMemory = Unit {0}

@@ -19,7 +19,8 @@ Answer = Result (List ℕ) SourceFault
 
 -- two sources may give the same answers
 abbrev pub GivesSame : (List ℕ → Answer → Type 0) → (List ℕ → Answer → Type 0) → Type 0
-GivesSame before after = (path : List ℕ) (answer : Answer) → (before path answer ↔ after path answer)
+GivesSame before after = (path : List ℕ) (answer : Answer)
+    → (before path answer ↔ after path answer)
 
 -- what was fetched is one of the answers that are given, want of memory aside
 abbrev pub IsGiven : (Answer → Type 0) → Result (Vec ℕ) SourceFault → Type 0
@@ -50,14 +51,17 @@ pub record Listing : Type 0 where
 abbrev pub bytes_at : List (List ℕ × List ℕ) → List ℕ → Option (List ℕ)
 bytes_at files path = lookup (λ own. same_bytes path own) files
 
--- The list of files in its first state: it has the same bytes at each path as these files, and the fetches with these numbers fail.
-pub record IsListingOf (files : List (List ℕ × List ℕ)) (failing : List ℕ) (listing : Listing) : Type 0 where
+-- The list of files in its first state: it has the same bytes at each path as these files, and the
+-- fetches with these numbers fail.
+pub record IsListingOf (files : List (List ℕ × List ℕ)) (failing : List ℕ) (listing : Listing)
+    : Type 0 where
   pub same : (path : List ℕ) → bytes_at listing.files path ≡ bytes_at files path
   pub fails : listing.failing ≡ failing
   pub no_fetches : listing.fetches ≡ 0
   pub no_failures : listing.failures ≡ 0
 
--- what a list of files may give: a path's first bytes, or that it is missing; the device may always fail
+-- what a list of files may give: a path's first bytes, or that it is missing; the device may always
+-- fail
 abbrev pub listing_gives : Listing → List ℕ → Answer → Type 0
 listing_gives listing path (Ok bytes) = bytes_at listing.files path ≡ Some bytes
 listing_gives listing path (Err Missing) = bytes_at listing.files path ≡ None
@@ -88,7 +92,8 @@ found_answer None = Err Missing
 
 -- what the next fetch of the path answers, want of memory aside
 abbrev pub next_answer : Listing → List ℕ → Answer
-next_answer listing path = if is_failing listing then Err Device else found_answer (bytes_at listing.files path)
+next_answer listing path = if is_failing listing then Err Device
+    else found_answer (bytes_at listing.files path)
 
 -- what was fetched is the answer; memory may be refused where the answer has bytes
 abbrev pub Answers : Answer → Result (Vec ℕ) SourceFault → Type 0

@@ -1,8 +1,10 @@
--- The strings of store derivations (Dolstra, "The Purely Functional Software Deployment Model", 2006, section 5.4; the escapes are those of Nix's ATerm form).
+-- The strings of store derivations (Dolstra, "The Purely Functional Software Deployment Model",
+-- 2006, section 5.4; the escapes are those of Nix's ATerm form).
 use Rattle.std.specs.Prelude.{ℕ, Bool, not, is_some, Option, Some, None, ◌==◌, List, [], ◌∷◌, ◌++◌, flat_map, map}
 use Rattle.std.specs.Map.{lookup}
 
--- the bytes that a string spells by an escape, each with the letter that stands for it behind a backslash: a quote, a backslash, a newline, a return and a tab
+-- the bytes that a string spells by an escape, each with the letter that stands for it behind a
+-- backslash: a quote, a backslash, a newline, a return and a tab
 abbrev pub escapes : List (ℕ × ℕ)
 escapes = (34, 34) ∷ (92, 92) ∷ (10, 110) ∷ (13, 114) ∷ (9, 116) ∷ []
 

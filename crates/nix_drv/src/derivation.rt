@@ -231,7 +231,8 @@ impl Derivation {
     /// memory, and compares names some log2(n) times, n being the number of that input's names.
     pub fn uses(&self, input: usize, name: &[u8]) -> bool
         requires { input < length self.now.inputs }
-        ensures { IfSome (slice_get self.now.inputs input) (λ used. IsTrue result ↔ Contains used.names name.now) }
+        ensures { IfSome (slice_get self.now.inputs input)
+            (λ used. IsTrue result ↔ Contains used.names name.now) }
     {
         let by_text = |used: &Vec<u8>| -> Ordering
             ensures { result ≡ slice_cmp nat_cmp used.now.items name.entry.now }

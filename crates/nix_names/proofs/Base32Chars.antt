@@ -9,28 +9,34 @@ use Rattle.nix_names.specs.Base32.{alphabet, digit_char, digit_of, is_digit}
 use Rattle.nix_names.proofs.Base32Runs.{each_from}
 
 -- a test that each digit passes
-each_digit : (p : ℕ → Bool) → list_all p (range_with_len 0 32) ≡ true → (d : ℕ) → d < 32 → p d ≡ true
+each_digit : (p : ℕ → Bool) → list_all p (range_with_len 0 32) ≡ true → (d : ℕ) → d < 32 → p d
+    ≡ true
 each_digit p all d h = each_from 0 32 p all d (omega arith) (omega arith)
 
 pub digit_char_ascii : (d : ℕ) → d < 32 → digit_char d < 128
-digit_char_ascii d h = ltb-true (digit_char d) 128 (each_digit (λ x. nat_lt (digit_char x) 128) refl d h)
+digit_char_ascii d h = ltb-true (digit_char d) 128
+    (each_digit (λ x. nat_lt (digit_char x) 128) refl d h)
 
 pub digit_of_digit_char : (d : ℕ) → d < 32 → digit_of (digit_char d) ≡ d
 unfolding digit_of
-digit_of_digit_char d h = eqb-true (digit_of (digit_char d)) d (each_digit (λ x. digit_of (digit_char x) == x) refl d h)
+digit_of_digit_char d h = eqb-true (digit_of (digit_char d)) d
+    (each_digit (λ x. digit_of (digit_char x) == x) refl d h)
 
 pub is_digit_digit_char : (d : ℕ) → d < 32 → is_digit (digit_char d) ≡ true
 is_digit_digit_char d h = each_digit (λ x. is_digit (digit_char x)) refl d h
 
 -- one element, and the place of the first that passes
-first_after : (b : Bool) (any : Bool) (first len : ℕ) → (any ≡ true → first < len) → (b || any) ≡ true → cond (not b) (1 + first) 0 < suc len
+first_after : (b : Bool) (any : Bool) (first len : ℕ) → (any ≡ true → first < len) → (b || any)
+    ≡ true → cond (not b) (1 + first) 0 < suc len
 first_after true any first len rest some = omega arith
 first_after false any first len rest some = omega (arith, rest some)
 
 -- a list with an element that passes has a first one
-first_of_any : {X : Type 0} (p : X → Bool) (xs : List X) → list_any p xs ≡ true → position_or_len p xs < length xs
+first_of_any : {X : Type 0} (p : X → Bool) (xs : List X) → list_any p xs ≡ true
+    → position_or_len p xs < length xs
 first_of_any p [] any = absurd (cc)
-first_of_any p (x ∷ xs) any = first_after (p x) (list_any p xs) (position_or_len p xs) (length xs) (first_of_any p xs) any
+first_of_any p (x ∷ xs) any = first_after (p x) (list_any p xs) (position_or_len p xs) (length xs)
+    (first_of_any p xs) any
 
 pub digit_of_below : (c : ℕ) → is_digit c ≡ true → digit_of c < 32
 unfolding digit_of
@@ -39,28 +45,39 @@ digit_of_below c is = first_of_any (λ a. a == c) alphabet is
 -- the character at the place where a character is found
 char_at_place : (c : ℕ) → digit_of c < 32 → digit_char (digit_of c) ≡ c
 unfolding digit_of
-char_at_place c below = eqb-true (digit_char (digit_of c)) c (passes_at_first (λ a. a == c) alphabet 0 below)
+char_at_place c below = eqb-true (digit_char (digit_of c)) c
+    (passes_at_first (λ a. a == c) alphabet 0 below)
 
 pub digit_char_digit_of : (c : ℕ) → is_digit c ≡ true → digit_char (digit_of c) ≡ c
 digit_char_digit_of c is = char_at_place c (digit_of_below c is)
 
 -- a character is one of the alphabet where its digit is below 32
 is_digit_where_below : (c : ℕ) → digit_of c < 32 → is_digit c ≡ true
-is_digit_where_below c below = subst (λ x. is_digit x ≡ true) (char_at_place c below) (is_digit_digit_char (digit_of c) below)
+is_digit_where_below c below = subst (λ x. is_digit x ≡ true) (char_at_place c below)
+    (is_digit_digit_char (digit_of c) below)
 
 pub is_digit_by_digit : (c : ℕ) → nat_lt (digit_of c) 32 ≡ is_digit c
 is_digit_by_digit c =
     elim (cases_Bool (is_digit c)) [
       | inl is ↦ lt-ltb (digit_of c) 32 (digit_of_below c is) ∙ sym is
-      | inr isnt ↦ false_from_ne_true (nat_lt (digit_of c) 32) (λ e. false≢true (sym isnt ∙ is_digit_where_below c (ltb-true (digit_of c) 32 e))) ∙ sym isnt
+      | inr isnt ↦ false_from_ne_true (nat_lt (digit_of c) 32)
+          (λ e. false≢true (sym isnt ∙ is_digit_where_below c (ltb-true (digit_of c) 32 e)))
+          ∙ sym isnt
     ]
 
 pub map_digit_of : (ds : List ℕ) → All (λ d. d < 32) ds → map digit_of (map digit_char ds) ≡ ds
 map_digit_of [] below = refl
 map_digit_of (d ∷ ds) below =
-    rw (digit_of_digit_char d (All-head (λ x. x < 32) d ds below), map_digit_of ds (All-tail (λ x. x < 32) d ds below))
+    rw (
+      digit_of_digit_char d (All-head (λ x. x < 32) d ds below),
+      map_digit_of ds (All-tail (λ x. x < 32) d ds below),
+    )
 
-pub map_digit_char : (text : List ℕ) → All (λ c. is_digit c ≡ true) text → map digit_char (map digit_of text) ≡ text
+pub map_digit_char : (text : List ℕ) → All (λ c. is_digit c ≡ true) text
+    → map digit_char (map digit_of text) ≡ text
 map_digit_char [] are = refl
 map_digit_char (c ∷ text) are =
-    rw (digit_char_digit_of c (All-head (λ x. is_digit x ≡ true) c text are), map_digit_char text (All-tail (λ x. is_digit x ≡ true) c text are))
+    rw (
+      digit_char_digit_of c (All-head (λ x. is_digit x ≡ true) c text are),
+      map_digit_char text (All-tail (λ x. is_digit x ≡ true) c text are),
+    )

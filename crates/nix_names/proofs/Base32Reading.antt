@@ -22,7 +22,8 @@ pub length_digits_in : (text : List ℕ) → length (digits_in text) ≡ length 
 length_digits_in text = length-reverse (map digit_of text) ∙ length-map text digit_of
 
 -- the digit at a place from the end
-pub digit_in : (text : List ℕ) (place : ℕ) → place < length text → get_or (digits_in text) place 0 ≡ digit_of (get_or text (length text - 1 - place) 0)
+pub digit_in : (text : List ℕ) (place : ℕ) → place < length text → get_or (digits_in text) place 0
+    ≡ digit_of (get_or text (length text - 1 - place) 0)
 digit_in text place h =
     get_or-reverse (map digit_of text) place 0 (omega (arith, length-map text digit_of))
     ∙ ap (λ n. get_or (map digit_of text) (n - 1 - place) 0) (length-map text digit_of)
@@ -34,7 +35,8 @@ digits_in_below text are =
     (λ k h.
     let within : k < length text = omega (arith, length_digits_in text) in
     subst (λ d. d < 32) (sym (digit_in text k within))
-    (digit_of_below (get_or text (length text - 1 - k) 0) (are (length text - 1 - k) 0 (omega arith))))
+    (digit_of_below (get_or text (length text - 1 - k) 0)
+    (are (length text - 1 - k) 0 (omega arith))))
 
 -- the same of a list from its end
 pub All-reverse : (P : ℕ → Type 0) (xs : List ℕ) → All P xs → All P (reverse xs)
@@ -49,27 +51,34 @@ cond_none true place none = cc
 cond_none false place none = refl
 
 -- a list in which no element fails
-pub pass_where_none_fails : (p : ℕ → Bool) (xs : List ℕ) → position (λ x. not (p x)) xs ≡ None → AllPass p xs
+pub pass_where_none_fails : (p : ℕ → Bool) (xs : List ℕ) → position (λ x. not (p x)) xs ≡ None
+    → AllPass p xs
 pass_where_none_fails p xs none k d h =
     let first = position_or_len (λ x. not (p x)) xs in
-    let past : length xs ≤ first = ltb-false first (length xs) (cond_none (nat_lt first (length xs)) first none) in
+    let past : length xs ≤ first = ltb-false first (length xs)
+    (cond_none (nat_lt first (length xs)) first none) in
     not-false (p (get_or xs k d)) (fails_before_first (λ x. not (p x)) xs k d (omega arith))
 
-pub none_fails_where_all_pass : (p : ℕ → Bool) (xs : List ℕ) → AllPass p xs → position (λ x. not (p x)) xs ≡ None
+pub none_fails_where_all_pass : (p : ℕ → Bool) (xs : List ℕ) → AllPass p xs
+    → position (λ x. not (p x)) xs ≡ None
 none_fails_where_all_pass p xs pass =
     let first : position_or_len (λ x. not (p x)) xs ≡ length xs =
-    position_or_len_is (λ x. not (p x)) xs (length xs) 0 (omega arith) (λ k h. not_from_true (p (get_or xs k 0)) (pass k 0 h)) (λ h. absurd (omega arith)) in
+    position_or_len_is (λ x. not (p x)) xs (length xs) 0 (omega arith)
+    (λ k h. not_from_true (p (get_or xs k 0)) (pass k 0 h)) (λ h. absurd (omega arith)) in
     rw (first, le-ltb (length xs) (length xs) (omega arith))
 
 -- ---- what is wrong with a text
 
--- the texts with no fault: as many characters as the bytes take, all of them digits, and a number with no spare bit
+-- the texts with no fault: as many characters as the bytes take, all of them digits, and a number
+-- with no spare bit
 pub record IsText (text : List ℕ) (n : ℕ) : Type 0 where
   pub long : length text ≡ text_len n
   pub digits : AllPass is_digit text
   pub small : text_number text < 256 ^ n
 
-fault_parts : (same : Bool) (bad : Option ℕ) (value limit : ℕ) → (if not same then Some BadLength else digits_fault bad value limit) ≡ None → (same ≡ true) × (bad ≡ None) × (nat_lt value limit ≡ true)
+fault_parts : (same : Bool) (bad : Option ℕ) (value limit : ℕ)
+    → (if not same then Some BadLength else digits_fault bad value limit) ≡ None → (same ≡ true)
+    × (bad ≡ None) × (nat_lt value limit ≡ true)
 fault_parts false bad value limit none = cc
 fault_parts true (Some place) value limit none = cc
 fault_parts true None value limit none = (refl, refl, small_where_none (nat_lt value limit) none)
@@ -80,7 +89,8 @@ fault_parts true None value limit none = (refl, refl, small_where_none (nat_lt v
 
 pub text_where_no_fault : (text : List ℕ) (n : ℕ) → base32_fault text n ≡ None → IsText text n
 text_where_no_fault text n none =
-    let parts = fault_parts (length text == text_len n) (position (λ c. not (is_digit c)) text) (text_number text) (256 ^ n) none in
+    let parts = fault_parts (length text == text_len n) (position (λ c. not (is_digit c)) text)
+    (text_number text) (256 ^ n) none in
     record {
       long = eqb-true (length text) (text_len n) parts.0;
       digits = pass_where_none_fails is_digit text parts.1;
@@ -89,11 +99,20 @@ text_where_no_fault text n none =
 
 pub no_fault_in_text : (text : List ℕ) (n : ℕ) → IsText text n → base32_fault text n ≡ None
 no_fault_in_text text n is =
-    rw (eq-eqb (length text) (text_len n) is.long, none_fails_where_all_pass is_digit text is.digits, lt-ltb (text_number text) (256 ^ n) is.small)
+    rw (
+      eq-eqb (length text) (text_len n) is.long,
+      none_fails_where_all_pass is_digit text is.digits,
+      lt-ltb (text_number text) (256 ^ n) is.small,
+    )
 
-pub overflow_in_text : (text : List ℕ) (n : ℕ) → length text ≡ text_len n → AllPass is_digit text → 256 ^ n ≤ text_number text → base32_fault text n ≡ Some Overflow
+pub overflow_in_text : (text : List ℕ) (n : ℕ) → length text ≡ text_len n → AllPass is_digit text
+    → 256 ^ n ≤ text_number text → base32_fault text n ≡ Some Overflow
 overflow_in_text text n long are large =
-    rw (eq-eqb (length text) (text_len n) long, none_fails_where_all_pass is_digit text are, le-ltb (text_number text) (256 ^ n) large)
+    rw (
+      eq-eqb (length text) (text_len n) long,
+      none_fails_where_all_pass is_digit text are,
+      le-ltb (text_number text) (256 ^ n) large,
+    )
 
 below_where_none : (n k : ℕ) → 0 < k → n / k ≡ 0 → n < k
 below_where_none n k some none =
@@ -102,24 +121,29 @@ below_where_none n k some none =
     omega arith
 
 -- a text whose byte after the n is 0
-pub small_text : (text : List ℕ) (n : ℕ) → length text ≡ text_len n → AllPass is_digit text → text_number text / 256 ^ n % 256 ≡ 0 → IsText text n
+pub small_text : (text : List ℕ) (n : ℕ) → length text ≡ text_len n → AllPass is_digit text
+    → text_number text / 256 ^ n % 256 ≡ 0 → IsText text n
 small_text text n long are none =
-    let spare = spare_bits (digits_in text) n (digits_in_below text are) (length_digits_in text ∙ long) in
+    let spare = spare_bits (digits_in text) n (digits_in_below text are)
+    (length_digits_in text ∙ long) in
     record {
       long = long;
       digits = are;
-      small = below_where_none (text_number text) (256 ^ n) (one-le-pow n 256 (omega arith)) (omega arith);
+      small = below_where_none (text_number text) (256 ^ n) (one-le-pow n 256 (omega arith))
+          (omega arith);
     }
 
 -- ---- what a text stands for
 
 -- a text with no fault stands for the digits of its number to the base 256
-pub text_stands : (text : List ℕ) (n : ℕ) → IsText text n → StandsFor text (digits_of 256 n (text_number text))
+pub text_stands : (text : List ℕ) (n : ℕ) → IsText text n
+    → StandsFor text (digits_of 256 n (text_number text))
 text_stands text n is =
     record {
       digits = digits_in text;
       spelled = rw reverse-reverse (sym (map_digit_char text is.digits));
       below = digits_in_below text is.digits;
-      count = length_digits_in text ∙ is.long ∙ ap text_len (sym (length_digits_of 256 n (text_number text)));
+      count = length_digits_in text ∙ is.long
+          ∙ ap text_len (sym (length_digits_of 256 n (text_number text)));
       same = sym (number_digits_of 256 n (text_number text) (omega arith) is.small);
     }

@@ -1,4 +1,5 @@
--- The runs of the alphabet, whose digits follow one another, and the gaps between them, which have none.
+-- The runs of the alphabet, whose digits follow one another, and the gaps between them, which have
+-- none.
 use Rattle.std.proofs.Common.{◌≡◌, ◌+◌, ◌-◌, ◌<◌, ◌≤◌, ◌==◌, ℕ, Bool, true, get_or, refl, subst, ◌∙◌, arith}
 use Rattle.std.specs.List.{list_all, range_with_len}
 use Rattle.std.proofs.lemmas.Bool.{eqb-true}
@@ -8,20 +9,28 @@ use Rattle.std.proofs.lemmas.List.Sums.{AllPass-from_list_all}
 use Rattle.nix_names.specs.Base32.{digit_of}
 
 -- a test that each of some numbers in a row passes
-pub each_from : (low n : ℕ) (p : ℕ → Bool) → list_all p (range_with_len low n) ≡ true → (c : ℕ) → low ≤ c → c < low + n → p c ≡ true
+pub each_from : (low n : ℕ) (p : ℕ → Bool) → list_all p (range_with_len low n) ≡ true → (c : ℕ)
+    → low ≤ c → c < low + n → p c ≡ true
 each_from low n p all c above below =
-    let at : get_or (range_with_len low n) (c - low) 0 ≡ c = get_or-range_with_len low n (c - low) 0 (omega arith) ∙ omega arith in
-    let pass = All-get_or (λ x. p x ≡ true) (range_with_len low n) (c - low) 0 (omega (arith, length-range_with_len low n)) (AllPass-from_list_all p (range_with_len low n) all) in
+    let at : get_or (range_with_len low n) (c - low) 0
+    ≡ c = get_or-range_with_len low n (c - low) 0 (omega arith) ∙ omega arith in
+    let pass = All-get_or (λ x. p x ≡ true) (range_with_len low n) (c - low) 0
+    (omega (arith, length-range_with_len low n))
+    (AllPass-from_list_all p (range_with_len low n) all) in
     subst (λ x. p x ≡ true) at pass
 
 -- the characters of a run have digits in a row
-run : (low n first : ℕ) → list_all (λ c. digit_of c == c - low + first) (range_with_len low n) ≡ true → (c : ℕ) → low ≤ c → c < low + n → digit_of c ≡ c - low + first
+run : (low n first : ℕ) → list_all (λ c. digit_of c == c - low + first) (range_with_len low n)
+    ≡ true → (c : ℕ) → low ≤ c → c < low + n → digit_of c ≡ c - low + first
 run low n first all c above below =
-    eqb-true (digit_of c) (c - low + first) (each_from low n (λ x. digit_of x == x - low + first) all c above below)
+    eqb-true (digit_of c) (c - low + first)
+    (each_from low n (λ x. digit_of x == x - low + first) all c above below)
 
 -- those of a gap have none
-gap : (low n : ℕ) → list_all (λ c. digit_of c == 32) (range_with_len low n) ≡ true → (c : ℕ) → low ≤ c → c < low + n → digit_of c ≡ 32
-gap low n all c above below = eqb-true (digit_of c) 32 (each_from low n (λ x. digit_of x == 32) all c above below)
+gap : (low n : ℕ) → list_all (λ c. digit_of c == 32) (range_with_len low n) ≡ true → (c : ℕ) → low
+    ≤ c → c < low + n → digit_of c ≡ 32
+gap low n all c above below = eqb-true (digit_of c) 32
+    (each_from low n (λ x. digit_of x == 32) all c above below)
 
 pub from_0_to_9 : (c : ℕ) → 48 ≤ c → c ≤ 57 → digit_of c ≡ c - 48
 unfolding digit_of
@@ -68,4 +77,16 @@ unfolding digit_of
 gap_past_z c above below = gap 123 133 refl c above (omega arith)
 
 -- the digit of each byte
-pub ruleset digits = (from_0_to_9, from_a_to_d, from_f_to_n, from_p_to_s, from_v_to_z, gap_before_0, gap_colon_to_grave, gap_e, gap_o, gap_t_or_u, gap_past_z)
+pub ruleset digits = (
+  from_0_to_9,
+  from_a_to_d,
+  from_f_to_n,
+  from_p_to_s,
+  from_v_to_z,
+  gap_before_0,
+  gap_colon_to_grave,
+  gap_e,
+  gap_o,
+  gap_t_or_u,
+  gap_past_z,
+)

@@ -14,10 +14,12 @@ pub length_base32 : (bytes : List ℕ) → length (base32 bytes) ≡ text_len (l
 unfolding base32
 length_base32 bytes =
     let digits = digits_of 32 (text_len (length bytes)) (number 256 bytes) in
-    length-map (reverse digits) digit_char ∙ length-reverse digits ∙ length_digits_of 32 (text_len (length bytes)) (number 256 bytes)
+    length-map (reverse digits) digit_char ∙ length-reverse digits
+    ∙ length_digits_of 32 (text_len (length bytes)) (number 256 bytes)
 
 -- the character at a place
-base32_at : (bytes : List ℕ) (i : ℕ) → i < text_len (length bytes) → get_or (base32 bytes) i 0 ≡ digit_char (number 256 bytes / 32 ^ (text_len (length bytes) - 1 - i) % 32)
+base32_at : (bytes : List ℕ) (i : ℕ) → i < text_len (length bytes) → get_or (base32 bytes) i 0
+    ≡ digit_char (number 256 bytes / 32 ^ (text_len (length bytes) - 1 - i) % 32)
 unfolding base32
 base32_at bytes i h =
     let n = number 256 bytes in
@@ -25,21 +27,30 @@ base32_at bytes i h =
     let digits = digits_of 32 len n in
     let long : length digits ≡ len = length_digits_of 32 len n in
     get_or-map digit_char (reverse digits) i 0 0 (omega (arith, length-reverse digits))
-    ∙ ap digit_char (get_or-reverse digits i 0 (omega arith) ∙ ap (λ k. get_or digits (k - 1 - i) 0) long ∙ digits_of_at 32 len n (len - 1 - i) (omega arith))
+    ∙ ap digit_char (get_or-reverse digits i 0 (omega arith)
+    ∙ ap (λ k. get_or digits (k - 1 - i) 0) long
+    ∙ digits_of_at 32 len n (len - 1 - i) (omega arith))
 
 -- one character more
-pub base32_more : (bytes : List ℕ) (i : ℕ) → i < text_len (length bytes) → take (i + 1) (base32 bytes) ≡ take i (base32 bytes) ++ digit_char (number 256 bytes / 32 ^ (text_len (length bytes) - 1 - i) % 32) ∷ []
+pub base32_more : (bytes : List ℕ) (i : ℕ) → i < text_len (length bytes)
+    → take (i + 1) (base32 bytes) ≡ take i (base32 bytes)
+    ++ digit_char (number 256 bytes / 32 ^ (text_len (length bytes) - 1 - i) % 32) ∷ []
 base32_more bytes i h =
-    take_more (base32 bytes) i 0 (omega (arith, length_base32 bytes)) ∙ ap (λ c. take i (base32 bytes) ++ c ∷ []) (base32_at bytes i h)
+    take_more (base32 bytes) i 0 (omega (arith, length_base32 bytes))
+    ∙ ap (λ c. take i (base32 bytes) ++ c ∷ []) (base32_at bytes i h)
 
 -- a text that is the first characters, and one character more
-pub base32_push : (bytes before after : List ℕ) (i len digit ch : ℕ) → i < len → len ≡ text_len (length bytes) → before ≡ take i (base32 bytes) → digit ≡ number 256 bytes / 32 ^ (len - 1 - i) % 32 → ch ≡ digit_char digit → after ≡ before ++ encode ch → after ≡ take (i + 1) (base32 bytes)
+pub base32_push : (bytes before after : List ℕ) (i len digit ch : ℕ) → i < len → len
+    ≡ text_len (length bytes) → before ≡ take i (base32 bytes) → digit
+    ≡ number 256 bytes / 32 ^ (len - 1 - i) % 32 → ch ≡ digit_char digit → after ≡ before
+    ++ encode ch → after ≡ take (i + 1) (base32 bytes)
 base32_push bytes before after i len digit ch h long first is_digit is_ch pushed =
     let small : digit < 32 = omega arith in
     let ascii : ch < 128 = omega (arith, digit_char_ascii digit small) in
     let more = base32_more bytes i (omega arith) in
     let one = encode_ascii ch ascii in
-    let at : number 256 bytes / 32 ^ (text_len (length bytes) - 1 - i) % 32 ≡ digit = rw (← long) (sym is_digit) in
+    let at : number 256 bytes / 32 ^ (text_len (length bytes) - 1 - i) % 32
+    ≡ digit = rw (← long) (sym is_digit) in
     pushed ∙ rw (one, first, is_ch, ← at) (sym more)
 
 -- the base-32 text of bytes stands for them
@@ -53,5 +64,6 @@ base32_stands bytes below =
       spelled = refl;
       below = digits_of_below 32 len n (omega arith);
       count = length_digits_of 32 len n;
-      same = number_digits_of 32 len n (omega arith) (omega (arith, number_below 256 bytes below, digits_hold_bytes (length bytes)));
+      same = number_digits_of 32 len n (omega arith)
+          (omega (arith, number_below 256 bytes below, digits_hold_bytes (length bytes)));
     }

@@ -21,9 +21,11 @@ use Rattle.nix_names.proofs.PathTexts.{path_of_parts}
 use Rattle.sha2.specs.Sha256.{sha256}
 
 -- a byte of the fold, where the digest is behind
-pub folded_past : (x j i : ℕ) (digest : List ℕ) → length digest ≤ i → bit_xor x (folded_at j i (drop i digest)) ≡ folded_at j 0 digest → x ≡ folded_at j 0 digest
+pub folded_past : (x j i : ℕ) (digest : List ℕ) → length digest ≤ i
+    → bit_xor x (folded_at j i (drop i digest)) ≡ folded_at j 0 digest → x ≡ folded_at j 0 digest
 folded_past x j i digest past held =
-    sym (xor_zero_r x) ∙ ap (λ rest. bit_xor x (folded_at j i rest)) (sym (drop_all i digest past)) ∙ held
+    sym (xor_zero_r x) ∙ ap (λ rest. bit_xor x (folded_at j i rest)) (sym (drop_all i digest past))
+    ∙ held
 
 -- a folded digest has 20 bytes
 length_fold : (digest : List ℕ) → length (fold digest) ≡ 20
@@ -35,25 +37,35 @@ hash_part_of_bytes : (bytes : List ℕ) → length bytes ≡ 20 → is_hash_part
 unfolding base32 is_hash_part
 hash_part_of_bytes bytes twenty =
     let digits : List ℕ = digits_of 32 (text_len (length bytes)) (number 256 bytes) in
-    let below = All-reverse (λ d. d < 32) digits (digits_of_below 32 (text_len (length bytes)) (number 256 bytes) (lit< tt)) in
-    let each = list_all-from_AllPass (λ d. is_digit (digit_char d)) (reverse digits) (All-weaker (λ d. d < 32) (λ d. is_digit (digit_char d) ≡ true) is_digit_digit_char (reverse digits) below) in
-    and_from _ _ (eq-eqb _ _ (length_base32 bytes ∙ ap text_len twenty)) (list_all-map is_digit digit_char (reverse digits) ∙ each)
+    let below = All-reverse (λ d. d < 32) digits
+    (digits_of_below 32 (text_len (length bytes)) (number 256 bytes) (lit< tt)) in
+    let each = list_all-from_AllPass (λ d. is_digit (digit_char d)) (reverse digits)
+    (All-weaker (λ d. d < 32) (λ d. is_digit (digit_char d) ≡ true) is_digit_digit_char
+    (reverse digits) below) in
+    and_from _ _ (eq-eqb _ _ (length_base32 bytes ∙ ap text_len twenty))
+    (list_all-map is_digit digit_char (reverse digits) ∙ each)
 
 -- the text of a folded digest is a hash part
 pub hash_part_of_fold : (digest : List ℕ) → is_hash_part (base32 (fold digest)) ≡ true
 hash_part_of_fold digest = hash_part_of_bytes (fold digest) (length_fold digest)
 
 -- the store path of a name is a path of its folder
-pub store_path_is_path : (kind inner dir name : List ℕ) → is_name name ≡ true → IsPathOf dir (store_path kind inner dir name)
+pub store_path_is_path : (kind inner dir name : List ℕ) → is_name name ≡ true
+    → IsPathOf dir (store_path kind inner dir name)
 unfolding store_path
 store_path_is_path kind inner dir name named = path_of_parts dir _ name (hash_part_of_fold _) named
 
 -- an answer with nothing to blame, from what is said of each outcome
-pub answers_of : {T : Type 0} (wrong : Option NameFault) (r : Result T NameFault) (P Q : T → Type 0) → wrong ≡ None → ((x : T) → P x → Q x) → IfOk r P → IfErr r (λ e. e ≡ NoMemory) → Answers wrong r Q
+pub answers_of : {T : Type 0} (wrong : Option NameFault) (r : Result T NameFault) (P Q : T → Type 0)
+    → wrong ≡ None → ((x : T) → P x → Q x) → IfOk r P → IfErr r (λ e. e ≡ NoMemory)
+    → Answers wrong r Q
 answers_of wrong (Ok x) P Q none weaker ok err = (none, weaker x ok)
 answers_of wrong (Err e) P Q none weaker ok err = inr (none, err)
 
 -- the text of the path made of a hash part's text, as it was computed
-pub made_path : (kind inner dir name path digest folded hash : List ℕ) → path ≡ path_text dir hash name → hash ≡ base32 folded → folded ≡ fold digest → digest ≡ sha256 (fingerprint kind inner dir name) → path ≡ store_path kind inner dir name
+pub made_path : (kind inner dir name path digest folded hash : List ℕ) → path
+    ≡ path_text dir hash name → hash ≡ base32 folded → folded ≡ fold digest → digest
+    ≡ sha256 (fingerprint kind inner dir name) → path ≡ store_path kind inner dir name
 unfolding store_path
-made_path kind inner dir name path digest folded hash joined spelled fold_is digest_is = rw (joined, spelled, fold_is, digest_is) refl
+made_path kind inner dir name path digest folded hash joined spelled fold_is digest_is =
+    rw (joined, spelled, fold_is, digest_is) refl

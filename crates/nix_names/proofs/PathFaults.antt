@@ -16,16 +16,23 @@ and_assoc : (a b c : Bool) → (a && (b && c)) ≡ ((a && b) && c)
 and_assoc true b c = refl
 and_assoc false b c = refl
 
--- a text begins with a folder and a slash where it begins with the folder, and what follows with a slash
-pub starts_with_slash : (text dir : List ℕ) → starts_with nat_eq text (dir ++ 47 ∷ []) ≡ (starts_with nat_eq text dir && starts_with nat_eq (drop (length dir) text) (47 ∷ []))
+-- a text begins with a folder and a slash where it begins with the folder, and what follows with a
+-- slash
+pub starts_with_slash : (text dir : List ℕ) → starts_with nat_eq text (dir ++ 47 ∷ [])
+    ≡ (starts_with nat_eq text dir && starts_with nat_eq (drop (length dir) text) (47 ∷ []))
 starts_with_slash text [] = refl
 starts_with_slash [] (d ∷ dir) = refl
 starts_with_slash (t ∷ text) (d ∷ dir) =
-    ap (λ b. nat_eq d t && b) (starts_with_slash text dir) ∙ and_assoc (nat_eq d t) (starts_with nat_eq text dir) (starts_with nat_eq (drop (length dir) text) (47 ∷ []))
+    ap (λ b. nat_eq d t && b) (starts_with_slash text dir)
+    ∙ and_assoc (nat_eq d t) (starts_with nat_eq text dir)
+    (starts_with nat_eq (drop (length dir) text) (47 ∷ []))
 
 -- the same, where the text begins with the folder
-pub starts_with_slash_behind : (text dir rest : List ℕ) → starts_with nat_eq text dir ≡ true → rest ≡ drop (length dir) text → starts_with nat_eq rest (47 ∷ []) ≡ starts_with nat_eq text (dir ++ 47 ∷ [])
-starts_with_slash_behind text dir rest begins behind = rw (starts_with_slash text dir, begins, behind) refl
+pub starts_with_slash_behind : (text dir rest : List ℕ) → starts_with nat_eq text dir ≡ true → rest
+    ≡ drop (length dir) text → starts_with nat_eq rest (47 ∷ [])
+    ≡ starts_with nat_eq text (dir ++ 47 ∷ [])
+starts_with_slash_behind text dir rest begins behind =
+    rw (starts_with_slash text dir, begins, behind) refl
 
 -- whether a base name begins with a hash part and a dash
 abbrev pub begins_with_hash : List ℕ → Bool
@@ -40,44 +47,56 @@ fewer_is_no_hash hash few = and_left _ _ (ne_eqb (length hash) 32 (λ e. omega a
 pub short_is_no_hash : (base : List ℕ) → length base ≤ 32 → begins_with_hash base ≡ false
 short_is_no_hash base short =
     elim (cases_lt (length base) 32) as (λ _. begins_with_hash base ≡ false) [
-      | inl less ↦ and_left _ _ (fewer_is_no_hash (take 32 base) (omega (arith, length-take 32 base)))
-      | inr more ↦ and_right _ _ (ap (λ rest. starts_with nat_eq rest (45 ∷ [])) (drop_all 32 base short))
+      | inl less ↦ and_left _ _
+          (fewer_is_no_hash (take 32 base) (omega (arith, length-take 32 base)))
+      | inr more ↦ and_right _ _
+          (ap (λ rest. starts_with nat_eq rest (45 ∷ [])) (drop_all 32 base short))
     ]
 
 -- a test that is passed, where nothing is wrong
-passed : (t : Bool) (f : NameFault) (rest : Option NameFault) → (if not t then Some f else rest) ≡ None → (t ≡ true) × (rest ≡ None)
+passed : (t : Bool) (f : NameFault) (rest : Option NameFault) → (if not t then Some f else rest)
+    ≡ None → (t ≡ true) × (rest ≡ None)
 passed true f rest h = (refl, h)
 passed false f rest h = cc
 
 -- what a base name's fault is, where it begins with a hash part and a dash
-pub fault_behind_hash : (base name : List ℕ) → begins_with_hash base ≡ true → name ≡ drop 33 base → base_fault base ≡ (if not (is_name name) then Some BadName else None)
+pub fault_behind_hash : (base name : List ℕ) → begins_with_hash base ≡ true → name ≡ drop 33 base
+    → base_fault base ≡ (if not (is_name name) then Some BadName else None)
 unfolding base_fault
 fault_behind_hash base name begins rest = rw (begins, rest) refl
 
 -- a text that does not begin with the folder and a slash is not in the store
-pub fault_outside : (dir text : List ℕ) → starts_with nat_eq text (dir ++ 47 ∷ []) ≡ false → path_fault dir text ≡ Some NotInStore
+pub fault_outside : (dir text : List ℕ) → starts_with nat_eq text (dir ++ 47 ∷ []) ≡ false
+    → path_fault dir text ≡ Some NotInStore
 unfolding path_fault
 fault_outside dir text outside = rw outside refl
 
 -- the fault of a text that begins with the folder and a slash is that of what follows
-pub fault_inside : (dir text base : List ℕ) → starts_with nat_eq text (dir ++ 47 ∷ []) ≡ true → base ≡ drop (length dir + 1) text → path_fault dir text ≡ base_fault base
+pub fault_inside : (dir text base : List ℕ) → starts_with nat_eq text (dir ++ 47 ∷ []) ≡ true → base
+    ≡ drop (length dir + 1) text → path_fault dir text ≡ base_fault base
 unfolding path_fault
 fault_inside dir text base inside rest = rw (inside, rest) refl
 
 -- a base name that begins with a hash part and a dash, by its parts
-base_parts : (base : List ℕ) → begins_with_hash base ≡ true → base ≡ take 32 base ++ 45 ∷ drop 33 base
+base_parts : (base : List ℕ) → begins_with_hash base ≡ true → base ≡ take 32 base ++ 45
+    ∷ drop 33 base
 base_parts base begins =
-    let dash : drop 32 base ≡ 45 ∷ drop 1 (drop 32 base) = (starts_is Decides-eqb (drop 32 base) (45 ∷ []) _ refl).0 (and_parts _ _ begins).1 in
-    sym (take-append-drop 32 base) ∙ ap (λ rest. take 32 base ++ rest) (dash ∙ ap (λ rest. 45 ∷ rest) (drop-drop 1 32 base))
+    let dash : drop 32 base ≡ 45 ∷ drop 1 (drop 32 base) =
+    (starts_is Decides-eqb (drop 32 base) (45 ∷ []) _ refl).0 (and_parts _ _ begins).1 in
+    sym (take-append-drop 32 base) ∙ ap (λ rest. take 32 base ++ rest)
+    (dash ∙ ap (λ rest. 45 ∷ rest) (drop-drop 1 32 base))
 
 -- the text of the path of a folder, in front of its base name
-path_text_parts : (dir hash name : List ℕ) → (dir ++ 47 ∷ []) ++ (hash ++ 45 ∷ name) ≡ path_text dir hash name
+path_text_parts : (dir hash name : List ℕ) → (dir ++ 47 ∷ []) ++ (hash ++ 45 ∷ name)
+    ≡ path_text dir hash name
 path_text_parts dir hash name = append_assoc dir (47 ∷ []) (hash ++ 45 ∷ name)
 
 -- what a text that begins with a folder and a slash is
-behind_slash : (dir text : List ℕ) → starts_with nat_eq text (dir ++ 47 ∷ []) ≡ true → text ≡ (dir ++ 47 ∷ []) ++ drop (length dir + 1) text
+behind_slash : (dir text : List ℕ) → starts_with nat_eq text (dir ++ 47 ∷ []) ≡ true → text
+    ≡ (dir ++ 47 ∷ []) ++ drop (length dir + 1) text
 behind_slash dir text begins =
-    (starts_is Decides-eqb text (dir ++ 47 ∷ []) _ refl).0 begins ∙ ap (λ n. (dir ++ 47 ∷ []) ++ drop n text) (length-append dir (47 ∷ []))
+    (starts_is Decides-eqb text (dir ++ 47 ∷ []) _ refl).0 begins
+    ∙ ap (λ n. (dir ++ 47 ∷ []) ++ drop n text) (length-append dir (47 ∷ []))
 
 -- a text with nothing wrong is a path of the folder
 pub path_of_no_fault : (dir text : List ℕ) → path_fault dir text ≡ None → IsPathOf dir text
@@ -92,25 +111,34 @@ path_of_no_fault dir text none =
       name = drop 33 base;
       is_hash = (and_parts _ _ begins.0).0;
       named = named.0;
-      parts = behind_slash dir text in_dir.0 ∙ ap (λ rest. (dir ++ 47 ∷ []) ++ rest) (base_parts base begins.0) ∙ path_text_parts dir (take 32 base) (drop 33 base);
+      parts = behind_slash dir text in_dir.0 ∙ ap (λ rest. (dir ++ 47 ∷ []) ++ rest)
+          (base_parts base begins.0) ∙ path_text_parts dir (take 32 base) (drop 33 base);
     }
 
 -- nothing is wrong with a hash part, a dash and a name
-no_fault_of_parts : (hash name : List ℕ) → is_hash_part hash ≡ true → is_name name ≡ true → base_fault (hash ++ 45 ∷ name) ≡ None
+no_fault_of_parts : (hash name : List ℕ) → is_hash_part hash ≡ true → is_name name ≡ true
+    → base_fault (hash ++ 45 ∷ name) ≡ None
 no_fault_of_parts hash name is_hash named =
     let base : List ℕ = hash ++ 45 ∷ name in
     let long = hash_part_len hash is_hash in
     let front : take 32 base ≡ hash = take_at hash (45 ∷ name) 32 long in
     let dash : drop 32 base ≡ 45 ∷ name = drop_at hash (45 ∷ name) 32 long in
     let rest : drop 33 base ≡ name = sym (drop-drop 1 32 base) ∙ ap (drop 1) dash in
-    let begins : begins_with_hash base ≡ true = and_from _ _ (ap is_hash_part front ∙ is_hash) (ap (λ b. starts_with nat_eq b (45 ∷ [])) dash) in
-    fault_behind_hash base name begins (sym rest) ∙ ap (λ b. if not b then Some BadName else None) named
+    let begins : begins_with_hash base ≡ true =
+    and_from _ _ (ap is_hash_part front ∙ is_hash)
+    (ap (λ b. starts_with nat_eq b (45 ∷ [])) dash) in
+    fault_behind_hash base name begins (sym rest)
+    ∙ ap (λ b. if not b then Some BadName else None) named
 
 -- nothing is wrong with a path of the folder
 pub no_fault_of_path : (dir text : List ℕ) → IsPathOf dir text → path_fault dir text ≡ None
 no_fault_of_path dir text p =
     let base : List ℕ = p.hash ++ 45 ∷ p.name in
-    let split : text ≡ (dir ++ 47 ∷ []) ++ base = p.parts ∙ sym (path_text_parts dir p.hash p.name) in
-    let begins : starts_with nat_eq text (dir ++ 47 ∷ []) ≡ true = (starts_is Decides-eqb text (dir ++ 47 ∷ []) _ refl).1 base split in
-    let rest : base ≡ drop (length dir + 1) text = sym (ap (drop (length dir + 1)) split ∙ drop_at (dir ++ 47 ∷ []) base (length dir + 1) (length-append dir (47 ∷ []))) in
+    let split : text ≡ (dir ++ 47 ∷ []) ++ base = p.parts ∙ sym (path_text_parts dir p.hash p.name)
+    in
+    let begins : starts_with nat_eq text (dir ++ 47 ∷ [])
+    ≡ true = (starts_is Decides-eqb text (dir ++ 47 ∷ []) _ refl).1 base split in
+    let rest : base ≡ drop (length dir + 1) text =
+    sym (ap (drop (length dir + 1)) split
+    ∙ drop_at (dir ++ 47 ∷ []) base (length dir + 1) (length-append dir (47 ∷ []))) in
     fault_inside dir text base begins rest ∙ no_fault_of_parts p.hash p.name p.is_hash p.named

@@ -10,24 +10,32 @@ use Rattle.nix_names.proofs.PathBytes.{no_slash_in_name}
 
 -- the parts are not none
 some_parts : (parts : List ℕ) → slice_split (λ b. b == 47) parts ≢ []
-some_parts parts none = absurd (omega (arith, length-slice_split (λ b. b == 47) parts, ap length none))
+some_parts parts none =
+    absurd (omega (arith, length-slice_split (λ b. b == 47) parts, ap length none))
 
 -- a byte put before the first of some parts is put behind the first slash
-joined_more : (x : ℕ) (parts : List (List ℕ)) (xs : List ℕ) → parts ≢ [] → 47 ∷ xs ≡ flat_map (λ part. 47 ∷ part) parts → 47 ∷ x ∷ xs ≡ flat_map (λ part. 47 ∷ part) (onto_first x parts)
+joined_more : (x : ℕ) (parts : List (List ℕ)) (xs : List ℕ) → parts ≢ [] → 47 ∷ xs
+    ≡ flat_map (λ part. 47 ∷ part) parts → 47 ∷ x ∷ xs
+    ≡ flat_map (λ part. 47 ∷ part) (onto_first x parts)
 joined_more x [] xs some joined = absurd (some refl)
 joined_more x (part ∷ parts) xs some joined = ap (λ rest. 47 ∷ x ∷ drop 1 rest) joined
 
 -- the parts between the slashes, each with a slash before it, are the text with a slash before it
-joined_parts : (parts : List ℕ) → 47 ∷ parts ≡ flat_map (λ part. 47 ∷ part) (slice_split (λ b. b == 47) parts)
+joined_parts : (parts : List ℕ) → 47 ∷ parts ≡ flat_map (λ part. 47 ∷ part)
+    (slice_split (λ b. b == 47) parts)
 joined_parts [] = refl
 joined_parts (x ∷ xs) =
-    elim (cases_Bool (x == 47)) as (λ _. 47 ∷ x ∷ xs ≡ flat_map (λ part. 47 ∷ part) (slice_split (λ b. b == 47) (x ∷ xs))) [
-      | inl slash ↦ rw (slice_split-cons_yes (λ b. b == 47) x xs slash) (ap (λ b. 47 ∷ b ∷ xs) (eqb-true x 47 slash) ∙ ap (λ rest. 47 ∷ rest) (joined_parts xs))
-      | inr other ↦ rw (slice_split-cons_no (λ b. b == 47) x xs other) (joined_more x (slice_split (λ b. b == 47) xs) xs (some_parts xs) (joined_parts xs))
+    elim (cases_Bool (x == 47)) as (λ _. 47 ∷ x ∷ xs
+    ≡ flat_map (λ part. 47 ∷ part) (slice_split (λ b. b == 47) (x ∷ xs))) [
+      | inl slash ↦ rw (slice_split-cons_yes (λ b. b == 47) x xs slash)
+          (ap (λ b. 47 ∷ b ∷ xs) (eqb-true x 47 slash) ∙ ap (λ rest. 47 ∷ rest) (joined_parts xs))
+      | inr other ↦ rw (slice_split-cons_no (λ b. b == 47) x xs other)
+          (joined_more x (slice_split (λ b. b == 47) xs) xs (some_parts xs) (joined_parts xs))
     ]
 
 -- a slash and components are a store folder
-pub dir_of_parts : (parts : List ℕ) → length (47 ∷ parts) ≤ 255 → list_all is_component (slice_split (λ b. b == 47) parts) ≡ true → IsStoreDir (47 ∷ parts)
+pub dir_of_parts : (parts : List ℕ) → length (47 ∷ parts) ≤ 255
+    → list_all is_component (slice_split (λ b. b == 47) parts) ≡ true → IsStoreDir (47 ∷ parts)
 dir_of_parts parts short each = record {
   components = slice_split (λ b. b == 47) parts;
   some = some_parts parts;
@@ -37,35 +45,46 @@ dir_of_parts parts short each = record {
 }
 
 -- no byte of a component is a slash
-no_slash_in_component : (part : List ℕ) → is_component part ≡ true → All (λ b. (b == 47) ≡ false) part
+no_slash_in_component : (part : List ℕ) → is_component part ≡ true
+    → All (λ b. (b == 47) ≡ false) part
 unfolding is_component
 no_slash_in_component part h k d within =
     let chars = and_parts _ _ (and_parts _ _ (and_parts _ _ h).0).0 in
     no_slash_in_name _ (AllPass-from_list_all is_name_char part chars.1 k d within)
 
 -- components with a slash between each two, cut at the slashes
-cut_components : (part : List ℕ) (parts : List (List ℕ)) → is_component part ≡ true → list_all is_component parts ≡ true → slice_split (λ b. b == 47) (part ++ flat_map (λ p. 47 ∷ p) parts) ≡ part ∷ parts
+cut_components : (part : List ℕ) (parts : List (List ℕ)) → is_component part ≡ true
+    → list_all is_component parts ≡ true → slice_split (λ b. b == 47)
+    (part ++ flat_map (λ p. 47 ∷ p) parts) ≡ part ∷ parts
 cut_components part [] first rest =
-    ap (slice_split (λ b. b == 47)) (append-nil part) ∙ slice_split_none (λ b. b == 47) part (no_slash_in_component part first)
+    ap (slice_split (λ b. b == 47)) (append-nil part)
+    ∙ slice_split_none (λ b. b == 47) part (no_slash_in_component part first)
 cut_components part (next ∷ parts) first rest =
     let both = and_parts _ _ rest in
-    slice_split_at (λ b. b == 47) part 47 (next ++ flat_map (λ p. 47 ∷ p) parts) (no_slash_in_component part first) refl ∙ ap (λ ps. part ∷ ps) (cut_components next parts both.0 both.1)
+    slice_split_at (λ b. b == 47) part 47 (next ++ flat_map (λ p. 47 ∷ p) parts)
+    (no_slash_in_component part first) refl
+    ∙ ap (λ ps. part ∷ ps) (cut_components next parts both.0 both.1)
 
 -- what some components, each with a slash before it, are cut into behind the first slash
-components_cut : (text : List ℕ) (parts : List (List ℕ)) → parts ≢ [] → 47 ∷ text ≡ flat_map (λ p. 47 ∷ p) parts → list_all is_component parts ≡ true → slice_split (λ b. b == 47) text ≡ parts
+components_cut : (text : List ℕ) (parts : List (List ℕ)) → parts ≢ [] → 47 ∷ text
+    ≡ flat_map (λ p. 47 ∷ p) parts → list_all is_component parts ≡ true
+    → slice_split (λ b. b == 47) text ≡ parts
 components_cut text [] some joined each = absurd (some refl)
 components_cut text (part ∷ parts) some joined each =
     let both = and_parts _ _ each in
-    ap (λ rest. slice_split (λ b. b == 47) (drop 1 rest)) joined ∙ cut_components part parts both.0 both.1
+    ap (λ rest. slice_split (λ b. b == 47) (drop 1 rest)) joined
+    ∙ cut_components part parts both.0 both.1
 
 -- the parts of a store folder behind its first slash are components
-pub parts_of_dir : (parts : List ℕ) → IsStoreDir (47 ∷ parts) → list_all is_component (slice_split (λ b. b == 47) parts) ≡ true
+pub parts_of_dir : (parts : List ℕ) → IsStoreDir (47 ∷ parts)
+    → list_all is_component (slice_split (λ b. b == 47) parts) ≡ true
 parts_of_dir parts dir =
     let each = list_all-from_AllPass is_component dir.components dir.each in
     rw (components_cut parts dir.components dir.some dir.parts each) each
 
 -- a store folder begins with a slash
-joined_begins : (parts : List (List ℕ)) → parts ≢ [] → (rest : List ℕ) × (flat_map (λ p. 47 ∷ p) parts ≡ 47 ∷ rest)
+joined_begins : (parts : List (List ℕ)) → parts ≢ [] → (rest : List ℕ)
+    × (flat_map (λ p. 47 ∷ p) parts ≡ 47 ∷ rest)
 joined_begins [] some = absurd (some refl)
 joined_begins (part ∷ parts) some = (part ++ flat_map (λ p. 47 ∷ p) parts, refl)
 

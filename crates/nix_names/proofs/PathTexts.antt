@@ -12,32 +12,41 @@ use Rattle.nix_names.specs.StorePaths.{IsPathOf, IsStorePath, base_of, hash_part
 use Rattle.nix_names.proofs.PathBytes.{no_slash_in_name, no_slash_in_digit, all_no_slash}
 
 -- what stands behind the place n, where the element before n is the last that passes
-after_last_from : (p : ℕ → Bool) (xs : List ℕ) (n : ℕ) → n ≤ length xs → ((k : ℕ) → n ≤ k → k < length xs → not (p (get_or xs k 0)) ≡ true) → not (p (get_or xs (n - 1) 0)) ≡ false → after_last p xs ≡ drop n xs
+after_last_from : (p : ℕ → Bool) (xs : List ℕ) (n : ℕ) → n ≤ length xs
+    → ((k : ℕ) → n ≤ k → k < length xs → not (p (get_or xs k 0)) ≡ true)
+    → not (p (get_or xs (n - 1) 0)) ≡ false → after_last p xs ≡ drop n xs
 after_last_from p xs n within from before =
-    let len : suffix_len (λ b. not (p b)) xs ≡ length xs - n = suffix_len_is (λ b. not (p b)) xs n 0 within from (λ _. before) in
+    let len : suffix_len (λ b. not (p b)) xs ≡ length xs - n =
+    suffix_len_is (λ b. not (p b)) xs n 0 within from (λ _. before) in
     let place : length xs - suffix_len (λ b. not (p b)) xs ≡ n = omega arith in
     ap (λ k. drop k xs) place
 
 -- an element behind the front and one more
-behind : (front back : List ℕ) (x k : ℕ) → length front + 1 ≤ k → get_or (front ++ x ∷ back) k 0 ≡ get_or back (k - (length front + 1)) 0
+behind : (front back : List ℕ) (x k : ℕ) → length front + 1 ≤ k → get_or (front ++ x ∷ back) k 0
+    ≡ get_or back (k - (length front + 1)) 0
 behind front back x k low =
     let next : k - length front ≡ suc (k - (length front + 1)) = omega arith in
-    get_or-append_right front (x ∷ back) (length front) k 0 refl (omega arith) ∙ ap (λ i. get_or (x ∷ back) i 0) next
+    get_or-append_right front (x ∷ back) (length front) k 0 refl (omega arith)
+    ∙ ap (λ i. get_or (x ∷ back) i 0) next
 
 -- the front and one more element, and what is left without them
-front_more : (front back : List ℕ) (x : ℕ) → length (front ++ x ∷ back) ≡ length front + 1 + length back
+front_more : (front back : List ℕ) (x : ℕ) → length (front ++ x ∷ back) ≡ length front + 1
+    + length back
 front_more front back x = length-append front (x ∷ back) ∙ omega arith
 
 drop_front_more : (front back : List ℕ) (x : ℕ) → drop (length front + 1) (front ++ x ∷ back) ≡ back
 drop_front_more front back x =
-    sym (drop-drop 1 (length front) (front ++ x ∷ back)) ∙ ap (drop 1) (drop_at front (x ∷ back) (length front) refl)
+    sym (drop-drop 1 (length front) (front ++ x ∷ back))
+    ∙ ap (drop 1) (drop_at front (x ∷ back) (length front) refl)
 
 -- what stands behind the last element that passes, where none of what follows one that passes does
-after_last_at : (p : ℕ → Bool) (front back : List ℕ) (x : ℕ) → p x ≡ true → AllPass (λ b. not (p b)) back → after_last p (front ++ x ∷ back) ≡ back
+after_last_at : (p : ℕ → Bool) (front back : List ℕ) (x : ℕ) → p x ≡ true
+    → AllPass (λ b. not (p b)) back → after_last p (front ++ x ∷ back) ≡ back
 after_last_at p front back x passes others =
     let n : ℕ = length front + 1 in
     let long = front_more front back x in
-    let at : get_or (front ++ x ∷ back) (n - 1) 0 ≡ x = get_or_at front x back 0 (n - 1) (omega arith) in
+    let at : get_or (front ++ x ∷ back) (n - 1) 0
+    ≡ x = get_or_at front x back 0 (n - 1) (omega arith) in
     after_last_from p (front ++ x ∷ back) n (omega arith)
     (λ k low high. rw (behind front back x k low) (others (k - n) 0 (omega arith)))
     (rw at (not_from_true (p x) passes)) ∙ drop_front_more front back x
@@ -55,18 +64,22 @@ hash_part_bytes hash h = all_no_slash is_digit no_slash_in_digit hash (and_parts
 -- a name has no slash
 name_bytes : (name : List ℕ) → is_name name ≡ true → AllPass (λ b. not (b == 47)) name
 unfolding is_name
-name_bytes name h = all_no_slash is_name_char no_slash_in_name name (and_parts _ _ (and_parts _ _ h).0).1
+name_bytes name h = all_no_slash is_name_char no_slash_in_name name
+    (and_parts _ _ (and_parts _ _ h).0).1
 
 -- what holds of each byte of two texts and of one between them holds of each byte of all
-all_pass_join : (p : ℕ → Bool) (xs ys : List ℕ) (y : ℕ) → AllPass p xs → p y ≡ true → AllPass p ys → AllPass p (xs ++ y ∷ ys)
+all_pass_join : (p : ℕ → Bool) (xs ys : List ℕ) (y : ℕ) → AllPass p xs → p y ≡ true → AllPass p ys
+    → AllPass p (xs ++ y ∷ ys)
 all_pass_join p xs ys y first between rest =
     All-append (λ b. p b ≡ true) xs (y ∷ ys) first (All-cons (λ b. p b ≡ true) y ys between rest)
 
 -- the base name of the path of a folder, a hash part and a name
-pub base_of_path : (dir hash name : List ℕ) → is_hash_part hash ≡ true → is_name name ≡ true → base_of (path_text dir hash name) ≡ hash ++ 45 ∷ name
+pub base_of_path : (dir hash name : List ℕ) → is_hash_part hash ≡ true → is_name name ≡ true
+    → base_of (path_text dir hash name) ≡ hash ++ 45 ∷ name
 base_of_path dir hash name is_hash named =
     after_last_at (λ b. b == 47) dir (hash ++ 45 ∷ name) 47 refl
-    (all_pass_join (λ b. not (b == 47)) hash name 45 (hash_part_bytes hash is_hash) refl (name_bytes name named))
+    (all_pass_join (λ b. not (b == 47)) hash name 45 (hash_part_bytes hash is_hash) refl
+    (name_bytes name named))
 
 -- a base name behind a hash part and a dash
 record Parts (base : List ℕ) : Type 0 where
@@ -88,14 +101,16 @@ parts_of dir text p = record {
 
 -- the first 32 bytes of such a base name are its hash part
 hash_of_parts : (base : List ℕ) (p : Parts base) → take 32 base ≡ p.hash
-hash_of_parts base p = ap (take 32) p.parts ∙ take_at p.hash (45 ∷ p.name) 32 (hash_part_len p.hash p.is_hash)
+hash_of_parts base p = ap (take 32) p.parts ∙ take_at p.hash (45 ∷ p.name) 32
+    (hash_part_len p.hash p.is_hash)
 
 -- all behind the first 33 bytes of such a base name is its name
 name_of_parts : (base : List ℕ) (p : Parts base) → drop 33 base ≡ p.name
 name_of_parts base p =
     let long = hash_part_len p.hash p.is_hash in
     let at : length p.hash + 1 ≡ 33 = omega arith in
-    ap (drop 33) p.parts ∙ ap (λ n. drop n (p.hash ++ 45 ∷ p.name)) (sym at) ∙ drop_front_more p.hash p.name 45
+    ap (drop 33) p.parts ∙ ap (λ n. drop n (p.hash ++ 45 ∷ p.name)) (sym at)
+    ∙ drop_front_more p.hash p.name 45
 
 -- such a base name has more than 33 bytes
 parts_long : (base : List ℕ) → Parts base → 33 ≤ length base
@@ -106,8 +121,15 @@ parts_long base p =
     omega arith
 
 -- the path of a folder with a hash part and a name is one of its paths
-pub path_of_parts : (dir hash name : List ℕ) → is_hash_part hash ≡ true → is_name name ≡ true → IsPathOf dir (path_text dir hash name)
-path_of_parts dir hash name is_hash named = record { hash = hash; name = name; is_hash = is_hash; named = named; parts = refl }
+pub path_of_parts : (dir hash name : List ℕ) → is_hash_part hash ≡ true → is_name name ≡ true
+    → IsPathOf dir (path_text dir hash name)
+path_of_parts dir hash name is_hash named = record {
+  hash = hash;
+  name = name;
+  is_hash = is_hash;
+  named = named;
+  parts = refl;
+}
 
 -- the hash part and the name of a path of a folder
 pub hash_part_is : (dir text : List ℕ) (p : IsPathOf dir text) → hash_part_of text ≡ p.hash
@@ -118,11 +140,14 @@ pub name_is : (dir text : List ℕ) (p : IsPathOf dir text) → name_of text ≡
 unfolding parts_of
 name_is dir text p = name_of_parts (base_of text) (parts_of dir text p)
 
-pub hash_part_of_path : (dir hash name : List ℕ) → is_hash_part hash ≡ true → is_name name ≡ true → hash_part_of (path_text dir hash name) ≡ hash
+pub hash_part_of_path : (dir hash name : List ℕ) → is_hash_part hash ≡ true → is_name name ≡ true
+    → hash_part_of (path_text dir hash name) ≡ hash
 unfolding path_of_parts
-hash_part_of_path dir hash name is_hash named = hash_part_is dir _ (path_of_parts dir hash name is_hash named)
+hash_part_of_path dir hash name is_hash named =
+    hash_part_is dir _ (path_of_parts dir hash name is_hash named)
 
-pub name_of_path : (dir hash name : List ℕ) → is_hash_part hash ≡ true → is_name name ≡ true → name_of (path_text dir hash name) ≡ name
+pub name_of_path : (dir hash name : List ℕ) → is_hash_part hash ≡ true → is_name name ≡ true
+    → name_of (path_text dir hash name) ≡ name
 unfolding path_of_parts
 name_of_path dir hash name is_hash named = name_is dir _ (path_of_parts dir hash name is_hash named)
 
@@ -144,8 +169,10 @@ unfolding is_name
 name_len name h = leb-true _ _ (and_parts _ _ (and_parts _ _ (and_parts _ _ h).0).0).1
 
 -- a text that is a path of a store folder may be kept as a store path
-pub stored : (dir text items : List ℕ) → IsStoreDir dir → IsPathOf dir text → items ≡ text → IsStorePath items
-stored dir text items is_dir p kept = subst IsStorePath (sym kept) (record { dir = dir; is_dir = is_dir; is_path = p })
+pub stored : (dir text items : List ℕ) → IsStoreDir dir → IsPathOf dir text → items ≡ text
+    → IsStorePath items
+stored dir text items is_dir p kept = subst IsStorePath (sym kept)
+    (record { dir = dir; is_dir = is_dir; is_path = p })
 
 -- a test that isn't met
 unmet : (b : Bool) → (b ≡ true → ⊥) → not b ≡ true
@@ -153,7 +180,8 @@ unmet true none = absurd (none refl)
 unmet false none = refl
 
 -- the base name begins behind the last slash
-pub behind_last_slash : (text : List ℕ) (slash : ℕ) → IsLastByte (is_byte 47) text (Some slash) → drop (slash + 1) text ≡ base_of text
+pub behind_last_slash : (text : List ℕ) (slash : ℕ) → IsLastByte (is_byte 47) text (Some slash)
+    → drop (slash + 1) text ≡ base_of text
 behind_last_slash text slash last =
     let at : slash + 1 - 1 ≡ slash = omega arith in
     let inside : slash < length text = last.0.high in
@@ -164,15 +192,23 @@ behind_last_slash text slash last =
 -- where there is no slash, all is the base name
 pub without_slash : (text : List ℕ) → IsLastByte (is_byte 47) text None → drop 0 text ≡ base_of text
 without_slash text none =
-    let len : suffix_len (λ b. not (b == 47)) text ≡ length text - 0 = suffix_len_is (λ b. not (b == 47)) text 0 0 (omega arith) (λ k low high. unmet _ (none k low high)) (λ positive. absurd (omega arith)) in
+    let len : suffix_len (λ b. not (b == 47)) text
+    ≡ length text - 0 = suffix_len_is (λ b. not (b == 47)) text 0 0 (omega arith)
+    (λ k low high. unmet _ (none k low high)) (λ positive. absurd (omega arith)) in
     let place : length text - suffix_len (λ b. not (b == 47)) text ≡ 0 = omega arith in
     sym (ap (λ k. drop k text) place)
 
 -- one text is the path of one folder, hash part and name only
-pub parts_from_text : (dir hash name other part title : List ℕ) → is_hash_part hash ≡ true → is_name name ≡ true → is_hash_part part ≡ true → is_name title ≡ true → path_text dir hash name ≡ path_text other part title → (dir ≡ other) × (hash ≡ part) × (name ≡ title)
+pub parts_from_text : (dir hash name other part title : List ℕ) → is_hash_part hash ≡ true
+    → is_name name ≡ true → is_hash_part part ≡ true → is_name title ≡ true
+    → path_text dir hash name ≡ path_text other part title → (dir ≡ other) × (hash ≡ part)
+    × (name ≡ title)
 parts_from_text dir hash name other part title is_hash named is_part titled same =
-    let hashes = sym (hash_part_of_path dir hash name is_hash named) ∙ ap hash_part_of same ∙ hash_part_of_path other part title is_part titled in
-    let names = sym (name_of_path dir hash name is_hash named) ∙ ap name_of same ∙ name_of_path other part title is_part titled in
-    let parts : path_text dir part title ≡ path_text dir hash name = ap (λ h. path_text dir h title) (sym hashes) ∙ ap (path_text dir hash) (sym names) in
+    let hashes = sym (hash_part_of_path dir hash name is_hash named) ∙ ap hash_part_of same
+    ∙ hash_part_of_path other part title is_part titled in
+    let names = sym (name_of_path dir hash name is_hash named) ∙ ap name_of same
+    ∙ name_of_path other part title is_part titled in
+    let parts : path_text dir part title ≡ path_text dir hash name =
+    ap (λ h. path_text dir h title) (sym hashes) ∙ ap (path_text dir hash) (sym names) in
     let dirs : path_text dir part title ≡ path_text other part title = parts ∙ same in
     (append_cancel_right dir other (47 ∷ part ++ (45 ∷ title)) dirs, hashes, names)

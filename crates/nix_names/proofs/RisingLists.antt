@@ -1,4 +1,5 @@
--- Lists of texts that rise strictly: their parts, what a sort makes, and that their members tell them.
+-- Lists of texts that rise strictly: their parts, what a sort makes, and that their members tell
+-- them.
 use Rattle.std.proofs.Common.{◌≡◌, ◌≢◌, ◌↔◌, ◌⊎◌, inl, inr, ℕ, zero, suc, ◌+◌, Bool, true, false, List, [], ◌∷◌, ◌++◌, take, drop, get_or, nat_eq, refl, sym, ap, subst, ◌∙◌, ⊎_elim, IsTrue, arith}
 use Rattle.std.specs.Prelude.{Contains}
 use Rattle.std.specs.BTreeSet.{BTreeSet}
@@ -29,7 +30,8 @@ pub below_trans : (x y z : List ℕ) → IsBelow x y → IsBelow y z → IsBelow
 below_trans = nat_list_cmp_total.trans
 
 pub not_below_itself : (x : List ℕ) → IsBelow x x → ⊥
-not_below_itself x below = let tied = tied_itself nat_list_cmp_total x in let clash : Less ≡ Equal = sym below ∙ tied in cc
+not_below_itself x below = let tied = tied_itself nat_list_cmp_total x in let clash : Less
+    ≡ Equal = sym below ∙ tied in cc
 
 -- what `==` says
 pub equal_from_eq : (x y : List ℕ) → pointwise nat_eq x y ≡ true → x ≡ y
@@ -57,9 +59,11 @@ apart_by_order x y differ = by (slice_cmp nat_cmp x y) refl
     by Greater e = inr (nat_list_cmp_total.antisymm y x ∙ ap ordering_reverse e)
 
 -- of two texts that differ, and of which the second is not less, the first is
-pub below_from_order : (x y : List ℕ) → is_lt (slice_cmp nat_cmp y x) ≡ false → pointwise nat_eq x y ≡ false → IsBelow x y
+pub below_from_order : (x y : List ℕ) → is_lt (slice_cmp nat_cmp y x) ≡ false → pointwise nat_eq x y
+    ≡ false → IsBelow x y
 below_from_order x y ordered differ =
-    ⊎_elim (λ below. below) (λ above. absurd (false≢true (sym ordered ∙ ap is_lt above))) (apart_by_order x y differ)
+    ⊎_elim (λ below. below) (λ above. absurd (false≢true (sym ordered ∙ ap is_lt above)))
+    (apart_by_order x y differ)
 
 -- ---- members
 
@@ -69,11 +73,13 @@ Contains-nothing x (k, lt, is) = omega arith
 pub Contains-first : {X : Type 0} (x : X) (xs : List X) → Contains (x ∷ xs) x
 Contains-first x xs = (0, omega arith, refl)
 
-pub Contains-later : {X : Type 0} (x : X) (xs : List X) (y : X) → Contains xs y → Contains (x ∷ xs) y
+pub Contains-later : {X : Type 0} (x : X) (xs : List X) (y : X) → Contains xs y
+    → Contains (x ∷ xs) y
 Contains-later x xs y (k, lt, is) = (suc k, omega arith, is)
 
 -- a member is the first or a later one
-pub Contains-cons_cases : {X : Type 0} (x : X) (xs : List X) (y : X) → Contains (x ∷ xs) y → (x ≡ y) ⊎ Contains xs y
+pub Contains-cons_cases : {X : Type 0} (x : X) (xs : List X) (y : X) → Contains (x ∷ xs) y → (x ≡ y)
+    ⊎ Contains xs y
 Contains-cons_cases x xs y (zero, lt, is) = inl is
 Contains-cons_cases x xs y (suc k, lt, is) = inr (k, omega arith, is)
 
@@ -85,7 +91,8 @@ rising_later x [] rises = tt
 rising_later x (y ∷ ys) rises = rises.1
 
 -- the first text of a rising list is below each later one
-pub first_below : (x : List ℕ) (xs : List (List ℕ)) (y : List ℕ) → IsRising (x ∷ xs) → Contains xs y → IsBelow x y
+pub first_below : (x : List ℕ) (xs : List (List ℕ)) (y : List ℕ) → IsRising (x ∷ xs) → Contains xs y
+    → IsBelow x y
 first_below x [] y rises has = absurd (Contains-nothing y has)
 first_below x (z ∷ zs) y rises has =
     ⊎_elim
@@ -94,17 +101,22 @@ first_below x (z ∷ zs) y rises has =
     (Contains-cons_cases z zs y has)
 
 -- each text of a rising list is above those before it
-pub earlier_below : (before after : List (List ℕ)) (y x : List ℕ) → IsRising (before ++ y ∷ after) → Contains before x → IsBelow x y
+pub earlier_below : (before after : List (List ℕ)) (y x : List ℕ) → IsRising (before ++ y ∷ after)
+    → Contains before x → IsBelow x y
 earlier_below [] after y x rises has = absurd (Contains-nothing x has)
 earlier_below (z ∷ zs) after y x rises has =
     ⊎_elim
-    (λ is. subst (λ w. IsBelow w y) is (first_below z (zs ++ y ∷ after) y rises (Contains-append_right zs (y ∷ after) y (Contains-first y after))))
+    (λ is. subst (λ w. IsBelow w y) is
+    (first_below z (zs ++ y ∷ after) y rises
+    (Contains-append_right zs (y ∷ after) y (Contains-first y after))))
     (λ later. earlier_below zs after y x (rising_later z (zs ++ y ∷ after) rises) later)
     (Contains-cons_cases z zs x has)
 
 -- and is none of them
-pub rising_apart : (before after : List (List ℕ)) (y : List ℕ) → IsRising (before ++ y ∷ after) → Contains before y → ⊥
-rising_apart before after y rises has = not_below_itself y (earlier_below before after y y rises has)
+pub rising_apart : (before after : List (List ℕ)) (y : List ℕ) → IsRising (before ++ y ∷ after)
+    → Contains before y → ⊥
+rising_apart before after y rises has = not_below_itself y
+    (earlier_below before after y y rises has)
 
 pub rising_front : (xs ys : List (List ℕ)) → IsRising (xs ++ ys) → IsRising xs
 rising_front [] ys rises = tt
@@ -116,13 +128,16 @@ rising_back [] ys rises = rises
 rising_back (x ∷ xs) ys rises = rising_back xs ys (rising_later x (xs ++ ys) rises)
 
 pub rising_take : (xs : List (List ℕ)) (i : ℕ) → IsRising xs → IsRising (take i xs)
-rising_take xs i rises = rising_front (take i xs) (drop i xs) (subst IsRising (sym (take-append-drop i xs)) rises)
+rising_take xs i rises = rising_front (take i xs) (drop i xs)
+    (subst IsRising (sym (take-append-drop i xs)) rises)
 
 pub rising_drop : (xs : List (List ℕ)) (i : ℕ) → IsRising xs → IsRising (drop i xs)
-rising_drop xs i rises = rising_back (take i xs) (drop i xs) (subst IsRising (sym (take-append-drop i xs)) rises)
+rising_drop xs i rises = rising_back (take i xs) (drop i xs)
+    (subst IsRising (sym (take-append-drop i xs)) rises)
 
 -- one text more, above all
-pub rising_push : (xs : List (List ℕ)) (y : List ℕ) → IsRising xs → ((x : List ℕ) → Contains xs x → IsBelow x y) → IsRising (xs ++ y ∷ [])
+pub rising_push : (xs : List (List ℕ)) (y : List ℕ) → IsRising xs
+    → ((x : List ℕ) → Contains xs x → IsBelow x y) → IsRising (xs ++ y ∷ [])
 rising_push [] y rises below = tt
 rising_push (x ∷ []) y rises below = (below x (Contains-first x []), tt)
 rising_push (x ∷ z ∷ zs) y rises below =
@@ -131,12 +146,17 @@ rising_push (x ∷ z ∷ zs) y rises below =
 -- ---- rising and sorted
 
 -- what is above a text is above a lesser one
-above_lesser : (x y : List ℕ) (texts : List (List ℕ)) → IsBelow x y → AllByRecursion (IsBelow y) texts → AllByRecursion (IsBelow x) texts
+above_lesser : (x y : List ℕ) (texts : List (List ℕ)) → IsBelow x y
+    → AllByRecursion (IsBelow y) texts → AllByRecursion (IsBelow x) texts
 above_lesser x y [] less above = tt
-above_lesser x y (z ∷ texts) less above = (below_trans x y z less above.0, above_lesser x y texts less above.1)
+above_lesser x y (z ∷ texts) less above = (
+  below_trans x y z less above.0,
+  above_lesser x y texts less above.1,
+)
 
 -- texts that rise are each below all later ones
-pub sorted_from_rising : (texts : List (List ℕ)) → IsRising texts → IsStrictlySortedBy (slice_cmp nat_cmp) texts
+pub sorted_from_rising : (texts : List (List ℕ)) → IsRising texts
+    → IsStrictlySortedBy (slice_cmp nat_cmp) texts
 unfolding IsStrictlySortedBy
 sorted_from_rising [] rises = tt
 sorted_from_rising (x ∷ []) rises = (tt, tt)
@@ -145,36 +165,48 @@ sorted_from_rising (x ∷ y ∷ texts) rises =
     ((rises.0, above_lesser x y texts rises.0 rest.0), rest)
 
 -- texts that are each below all later ones rise
-pub rising_from_sorted : (texts : List (List ℕ)) → IsStrictlySortedBy (slice_cmp nat_cmp) texts → IsRising texts
+pub rising_from_sorted : (texts : List (List ℕ)) → IsStrictlySortedBy (slice_cmp nat_cmp) texts
+    → IsRising texts
 unfolding IsStrictlySortedBy
 rising_from_sorted [] sorted = tt
 rising_from_sorted (x ∷ []) sorted = tt
 rising_from_sorted (x ∷ y ∷ texts) sorted = (sorted.0.0, rising_from_sorted (y ∷ texts) sorted.1)
 
 -- no two texts of a rising list are the same
-pub distinct_from_rising : (texts : List (List ℕ)) → IsRising texts → IsDistinct (pointwise nat_eq) texts
+pub distinct_from_rising : (texts : List (List ℕ)) → IsRising texts
+    → IsDistinct (pointwise nat_eq) texts
 distinct_from_rising texts rises =
     IsDistinct-from_apart (pointwise nat_eq) texts
     (λ i j d before within.
-    let less : IsBelow (get_or texts i d) (get_or texts j d) = Less-from_sorted (slice_cmp nat_cmp) texts i j d (sorted_from_rising texts rises) before within in
+    let less : IsBelow (get_or texts i d) (get_or texts j d) =
+    Less-from_sorted (slice_cmp nat_cmp) texts i j d (sorted_from_rising texts rises) before
+    within in
     texts_ties (get_or texts i d) (get_or texts j d) ∙ ap is_eq less)
 
 -- distinct texts in order rise
-pub rising_sorted : (texts : List (List ℕ)) → IsSorted (slice_cmp nat_cmp) texts → IsDistinct (pointwise nat_eq) texts → IsRising texts
+pub rising_sorted : (texts : List (List ℕ)) → IsSorted (slice_cmp nat_cmp) texts
+    → IsDistinct (pointwise nat_eq) texts → IsRising texts
 rising_sorted texts sorted distinct =
     rising_from_sorted texts (sorted_from_all_adjacent nat_list_cmp_total texts []
-    (λ k below. below_from_order (get_or texts k []) (get_or texts (k + 1) []) (sorted k [] (omega arith) below) (apart_from_distinct (pointwise nat_eq) texts k (k + 1) [] distinct (omega arith) below)))
+    (λ k below. below_from_order (get_or texts k []) (get_or texts (k + 1) [])
+    (sorted k [] (omega arith) below)
+    (apart_from_distinct (pointwise nat_eq) texts k (k + 1) [] distinct (omega arith) below)))
 
 -- what `dedup` leaves of texts in order rises
-pub rising_dedup : (sorted : List (List ℕ)) → IsSorted (slice_cmp nat_cmp) sorted → IsRising (dedup (pointwise nat_eq) sorted)
+pub rising_dedup : (sorted : List (List ℕ)) → IsSorted (slice_cmp nat_cmp) sorted
+    → IsRising (dedup (pointwise nat_eq) sorted)
 rising_dedup sorted ordered =
-    rising_from_sorted (dedup (pointwise nat_eq) sorted) (IsStrictlySortedBy-dedup nat_list_cmp_total texts_ties sorted ordered)
+    rising_from_sorted (dedup (pointwise nat_eq) sorted)
+    (IsStrictlySortedBy-dedup nat_list_cmp_total texts_ties sorted ordered)
 
 -- a sort and `dedup` keep just the members
-pub members_of_dedup : (texts sorted : List (List ℕ)) → IsPermutation texts sorted → (text : List ℕ) → Contains (dedup (pointwise nat_eq) sorted) text ↔ Contains texts text
+pub members_of_dedup : (texts sorted : List (List ℕ)) → IsPermutation texts sorted → (text : List ℕ)
+    → Contains (dedup (pointwise nat_eq) sorted) text ↔ Contains texts text
 members_of_dedup texts sorted moved text = (
-  λ has. Contains-permutation sorted texts text (IsPermutation-sym texts sorted moved) (Contains-from_dedup (pointwise nat_eq) sorted text has),
-  λ has. Contains-dedup nat_list_eq_equiv equal_from_eq sorted text (Contains-permutation texts sorted text moved has),
+  λ has. Contains-permutation sorted texts text (IsPermutation-sym texts sorted moved)
+      (Contains-from_dedup (pointwise nat_eq) sorted text has),
+  λ has. Contains-dedup nat_list_eq_equiv equal_from_eq sorted text
+      (Contains-permutation texts sorted text moved has),
 )
 
 -- ---- members tell a rising list
@@ -186,12 +218,15 @@ same_answer false true there back = back refl
 same_answer false false there back = refl
 
 -- two rising lists with the same members are equal
-pub rising_same : (xs ys : List (List ℕ)) → IsRising xs → IsRising ys → ((text : List ℕ) → Contains xs text ↔ Contains ys text) → xs ≡ ys
+pub rising_same : (xs ys : List (List ℕ)) → IsRising xs → IsRising ys
+    → ((text : List ℕ) → Contains xs text ↔ Contains ys text) → xs ≡ ys
 rising_same xs ys rises rises' same =
     let s : BTreeSet (List ℕ) = record { keys = xs } in
     let t : BTreeSet (List ℕ) = record { keys = ys } in
     let in_xs = btree_set_contains_iff nat_list_cmp_total exact_bytes s in
     let in_ys = btree_set_contains_iff nat_list_cmp_total exact_bytes t in
-    btree_set_from_contains nat_list_cmp_total s t (sorted_from_rising xs rises) (sorted_from_rising ys rises')
-    (λ text. same_answer _ _ (λ has. (in_ys text).1 ((same text).0 ((in_xs text).0 has))) (λ has. (in_xs text).1 ((same text).1 ((in_ys text).0 has))))
+    btree_set_from_contains nat_list_cmp_total s t (sorted_from_rising xs rises)
+    (sorted_from_rising ys rises')
+    (λ text. same_answer _ _ (λ has. (in_ys text).1 ((same text).0 ((in_xs text).0 has)))
+    (λ has. (in_xs text).1 ((same text).1 ((in_ys text).0 has))))
     exact_bytes

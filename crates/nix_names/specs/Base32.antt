@@ -1,5 +1,6 @@
 -- *Base-32*, the notation of hash parts (Nix manual, "Store Path"; Dolstra's thesis, section 5.1).
--- n bytes are one number, in which byte i weighs 256^i; its text is that number in base-32 digits, the most significant first.
+-- n bytes are one number, in which byte i weighs 256^i; its text is that number in base-32 digits,
+-- the most significant first.
 use Rattle.std.specs.Prelude.{◌≡◌, ◌+◌, ◌*◌, ◌/◌, ◌%◌, ◌^◌, ◌<◌, ◌==◌, not, Bool, ℕ, zero, suc, List, [], ◌∷◌, length, map, reverse, slice_index, codes, nat_lt, Option, Some, None, if◌then◌else◌}
 use Rattle.std.specs.List.{list_any, position, position_or_len, All}
 use Rattle.nix_names.specs.declared.fault.NameFault.{NameFault}
@@ -26,7 +27,8 @@ number base (d ∷ ds) = d + base * number base ds
 abbrev pub text_len : ℕ → ℕ
 text_len n = (8 * n + 4) / 5
 
--- A text stands for some bytes: it has their count of characters, and read as digits it is their number.
+-- A text stands for some bytes: it has their count of characters, and read as digits it is their
+-- number.
 pub record StandsFor (text bytes : List ℕ) : Type 0 where
   pub digits : List ℕ
   pub spelled : text ≡ map digit_char (reverse digits)
@@ -51,12 +53,14 @@ digit_of c = position_or_len (λ a. a == c) alphabet
 abbrev pub text_number : List ℕ → ℕ
 text_number text = number 32 (reverse (map digit_of text))
 
--- what is wrong first with digits' first bad place, their number and the number that is too large, if anything
+-- what is wrong first with digits' first bad place, their number and the number that is too large,
+-- if anything
 abbrev pub digits_fault : Option ℕ → ℕ → ℕ → Option NameFault
 digits_fault (Some place) value limit = Some (BadChar place)
 digits_fault None value limit = if nat_lt value limit then None else Some Overflow
 
--- what is wrong first with a text as the text of n bytes, if anything: its length, its first character that is no digit, its number
+-- what is wrong first with a text as the text of n bytes, if anything: its length, its first
+-- character that is no digit, its number
 abbrev pub base32_fault : List ℕ → ℕ → Option NameFault
 base32_fault text n =
     if not (length text == text_len n) then Some BadLength

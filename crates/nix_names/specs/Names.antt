@@ -12,7 +12,8 @@ is_name_char b = is_ascii_alphanumeric b || list_any (λ c. c == b) (codes "+-._
 abbrev pub same_bytes : List ℕ → List ℕ → Bool
 same_bytes a b = pointwise nat_eq a b
 
--- whether a name would read as this folder or the one above it: `.`, `..`, or one of them before the first dash
+-- whether a name would read as this folder or the one above it: `.`, `..`, or one of them before
+-- the first dash
 unfoldable pub is_dotted : List ℕ → Bool
 is_dotted name =
     same_bytes name (codes ".") || same_bytes name (codes "..")
@@ -20,9 +21,11 @@ is_dotted name =
 
 -- whether some bytes are a store path's name: 1 to 211 of a name's characters, not dotted
 unfoldable pub is_name : List ℕ → Bool
-is_name name = nat_le 1 (length name) && nat_le (length name) 211 && list_all is_name_char name && not (is_dotted name)
+is_name name = nat_le 1 (length name) && nat_le (length name) 211 && list_all is_name_char name
+    && not (is_dotted name)
 
--- whether a name is that of a derivation's file: it ends in `.drv`, with at least one byte before it
+-- whether a name is that of a derivation's file: it ends in `.drv`, with at least one byte before
+-- it
 abbrev pub is_drv_name : List ℕ → Bool
 is_drv_name name = nat_lt 4 (length name) && ends_with nat_eq name (codes ".drv")
 

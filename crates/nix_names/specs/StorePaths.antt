@@ -1,5 +1,5 @@
--- *Store path*: how its text is made, and which texts are one (Nix manual, "Store Path" and "Complete Store Path Calculation";
--- Dolstra's thesis, section 5.1).
+-- *Store path*: how its text is made, and which texts are one (Nix manual, "Store Path" and
+-- "Complete Store Path Calculation"; Dolstra's thesis, section 5.1).
 use Rattle.std.specs.Prelude.{◌≡◌, ◌+◌, ◌%◌, ◌==◌, ◌&&◌, not, Bool, ℕ, List, [], ◌∷◌, ◌++◌, length, map, take, drop, codes, nat_eq, bit_xor, IsTrue, Option, Some, None, if◌then◌else◌}
 use Rattle.std.specs.List.{list_all, starts_with, range_with_len, after_last}
 use Rattle.hex.specs.Hex.{encode_lower}
@@ -29,7 +29,8 @@ fold digest = map (λ j. folded_at j 0 digest) (range_with_len 0 20)
 
 -- the store path of a type, an inner digest, a folder and a name
 unfoldable pub store_path : List ℕ → List ℕ → List ℕ → List ℕ → List ℕ
-store_path kind inner dir name = path_text dir (base32 (fold (sha256 (fingerprint kind inner dir name)))) name
+store_path kind inner dir name = path_text dir
+    (base32 (fold (sha256 (fingerprint kind inner dir name)))) name
 
 -- whether some bytes are a hash part: 32 characters of the base-32 alphabet
 unfoldable pub is_hash_part : List ℕ → Bool
@@ -68,7 +69,8 @@ IsDrvPath text = IsTrue (is_drv_name (name_of text))
 -- what is wrong with the base name of a path, if anything, the hash part before the name
 unfoldable pub base_fault : List ℕ → Option NameFault
 base_fault base =
-    if not (is_hash_part (take 32 base) && starts_with nat_eq (drop 32 base) (codes "-")) then Some BadHashPart
+    if not (is_hash_part (take 32 base) && starts_with nat_eq (drop 32 base) (codes "-"))
+    then Some BadHashPart
     else if not (is_name (drop 33 base)) then Some BadName
     else None
 

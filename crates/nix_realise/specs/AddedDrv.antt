@@ -63,7 +63,8 @@ abbrev pub IsAddingDrv : (gives : List ℕ → Answer → Type 0) → AddDrvRequ
     → Result AddedDrv Stop → Type 0
 IsAddingDrv gives request gave (Ok added) =
     (draft : Drv) × HasDraft request gave draft
-    × ((filled : Drv) × IsFilling request.store_dir.now gives request.name.now draft (Ok (filled, added.path))
+    × ((filled : Drv) × IsFilling request.store_dir.now gives request.name.now draft
+    (Ok (filled, added.path))
     × IsDrvText filled added.text.items)
 IsAddingDrv gives request gave (Err stop) =
     IsStoreDirOf request.store_dir (Err stop)

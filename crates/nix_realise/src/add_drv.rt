@@ -14,8 +14,8 @@ use std::io::Write;
 use std::rt::Files;
 
 /// Fills the outputs of a file's draft, writes the derivation at its path, in place of what is
-/// there, and prints the path. What is refused, and in which order, is `added_drv`'s answer. Nothing
-/// is printed where the draft is refused or its file is not written.
+/// there, and prints the path. What is refused, and in which order, is `added_drv`'s answer.
+/// Nothing is printed where the draft is refused or its file is not written.
 pub fn add_drv<'a, R: Files + AllocGlobal, O: Write>(
     rt: &R,
     request: &AddDrvRequest<'a>,
@@ -36,7 +36,8 @@ fn put<'a, R: Files + AllocGlobal, O: Write>(
     added: AddedDrv,
     out: &mut O,
 ) -> Result<(), Stop<'a>>
-    ensures ok { IfOk result (λ _. Appends (O.contents out.old) (O.contents out.new) (path_line added.path)) }
+    ensures ok { IfOk result
+        (λ _. Appends (O.contents out.old) (O.contents out.new) (path_line added.path)) }
     ensures err { IfErr result (IsNotPut added.path (O.contents out.old) (O.contents out.new)) }
 {
     let AddedDrv { path, text } = added;

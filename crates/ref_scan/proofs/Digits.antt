@@ -10,4 +10,5 @@ table_is : IS_DIGIT ≡ map is_digit (range_with_len 0 256)
 table_is = refl
 
 pub table_at : (b : ℕ) → b < 256 → get_or IS_DIGIT b false ≡ is_digit b
-table_at b h = ap (λ t. get_or t b false) table_is ∙ get_or-map-range_with_len is_digit 0 256 b b false h (omega arith)
+table_at b h = ap (λ t. get_or t b false) table_is
+    ∙ get_or-map-range_with_len is_digit 0 256 b b false h (omega arith)

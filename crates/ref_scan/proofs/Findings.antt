@@ -10,7 +10,10 @@ use Rattle.ref_scan.specs.Scan.{IsFoundIn, OccursIn}
 
 pub found_none : (lists : List (List ℕ)) → IsFoundIn lists [] []
 found_none lists =
-    record { rising = tt; each = λ path. (λ has. absurd (omega (arith, has.1)), λ h. absurd (omega (arith, h.0.1))) }
+    record {
+      rising = tt;
+      each = λ path. (λ has. absurd (omega (arith, has.1)), λ h. absurd (omega (arith, h.0.1)));
+    }
 
 pub found_one :
     (lists : List (List ℕ)) (seen found : List (List ℕ)) (path : List ℕ) →
@@ -19,11 +22,14 @@ pub found_one :
     OccursIn (hash_part_of path) lists →
     IsFoundIn lists (seen ++ path ∷ []) (found ++ path ∷ [])
 found_one lists seen found path rises before occurs = record {
-  rising = rising_push found path before.rising (λ x has. earlier_below seen [] path x rises ((before.each x).0 has).0);
+  rising = rising_push found path before.rising
+      (λ x has. earlier_below seen [] path x rises ((before.each x).0 has).0);
   each = λ x. (
     λ has. ⊎_elim
-        (λ earlier. let old = (before.each x).0 earlier in (Contains-append_left seen (path ∷ []) x old.0, old.1))
-        (λ is. subst (λ y. Contains (seen ++ path ∷ []) y × OccursIn (hash_part_of y) lists) is (Contains-push seen path, occurs))
+        (λ earlier. let old = (before.each x).0 earlier
+        in (Contains-append_left seen (path ∷ []) x old.0, old.1))
+        (λ is. subst (λ y. Contains (seen ++ path ∷ []) y × OccursIn (hash_part_of y) lists) is
+        (Contains-push seen path, occurs))
         (Contains-push_cases found path x has),
     λ h. ⊎_elim
         (λ earlier. Contains-append_left found (path ∷ []) x ((before.each x).1 (earlier, h.1)))
@@ -40,7 +46,10 @@ pub found_no_more :
 found_no_more lists seen found path before none = record {
   rising = before.rising;
   each = λ x. (
-    λ has. let old = (before.each x).0 has in (Contains-append_left seen (path ∷ []) x old.0, old.1),
+    λ has. let old = (before.each x).0 has in (
+      Contains-append_left seen (path ∷ []) x old.0,
+      old.1,
+    ),
     λ h. ⊎_elim
         (λ earlier. (before.each x).1 (earlier, h.1))
         (λ is. absurd (none (subst (λ y. OccursIn (hash_part_of y) lists) (sym is) h.1)))
@@ -49,12 +58,14 @@ found_no_more lists seen found path before none = record {
 }
 
 -- the paths up to and with the one at hand
-pub taken_with : {X : Type 0} (xs : List X) (i : ℕ) (x : X) → i < length xs → x ≡ get_or xs i x → take (i + 1) xs ≡ take i xs ++ x ∷ []
+pub taken_with : {X : Type 0} (xs : List X) (i : ℕ) (x : X) → i < length xs → x ≡ get_or xs i x
+    → take (i + 1) xs ≡ take i xs ++ x ∷ []
 taken_with xs i x lt is = take_more xs i x lt ∙ ap (λ y. take i xs ++ y ∷ []) (sym is)
 
 -- what a call promised of its value holds of the value behind a `map_err` and a `?`
 pub passed_on :
-    {T E F : Type 0} (r : Result T E) (s : Result T F) (value : T) (Q : E → F → Type 0) (P : T → Type 0) →
+    {T E F : Type 0} (r : Result T E) (s : Result T F) (value : T) (Q : E → F → Type 0)
+    (P : T → Type 0) →
     MatchResult r (λ x. s ≡ Ok x) (λ e. IsErrAnd s (Q e)) →
     s ≡ Ok value →
     IfOk r P →

@@ -22,37 +22,46 @@ abbrev pub bytes_below : List Member → ℕ
 bytes_below [] = 0
 bytes_below (e ∷ es) = file_bytes e.tree + bytes_below es
 
-pieces_row : {m : _} (row : Row_of-Member m) → pieces_among row ≡ pieces_below (items-the_row-Member m row)
+pieces_row : {m : _} (row : Row_of-Member m) → pieces_among row
+    ≡ pieces_below (items-the_row-Member m row)
 pieces_row end_of-Member = refl
-pieces_row (more_of-Member name tree rest) = ap (λ l. name.items ∷ (pieces tree ++ l)) (pieces_row rest)
+pieces_row (more_of-Member name tree rest) = ap (λ l. name.items ∷ (pieces tree ++ l))
+    (pieces_row rest)
 
-depth_row : {m : _} (row : Row_of-Member m) → depth_among row ≡ depth_below (items-the_row-Member m row)
+depth_row : {m : _} (row : Row_of-Member m) → depth_among row
+    ≡ depth_below (items-the_row-Member m row)
 depth_row end_of-Member = refl
 depth_row (more_of-Member name tree rest) = ap (max (depth_of tree)) (depth_row rest)
 
-count_row : {m : _} (row : Row_of-Member m) → entry_count_among row ≡ count_below (items-the_row-Member m row)
+count_row : {m : _} (row : Row_of-Member m) → entry_count_among row
+    ≡ count_below (items-the_row-Member m row)
 count_row end_of-Member = refl
 count_row (more_of-Member name tree rest) = ap (λ n. 1 + entry_count tree + n) (count_row rest)
 
-bytes_row : {m : _} (row : Row_of-Member m) → file_bytes_among row ≡ bytes_below (items-the_row-Member m row)
+bytes_row : {m : _} (row : Row_of-Member m) → file_bytes_among row
+    ≡ bytes_below (items-the_row-Member m row)
 bytes_row end_of-Member = refl
 bytes_row (more_of-Member name tree rest) = ap (λ n. file_bytes tree + n) (bytes_row rest)
 
 pub pieces_dir : (entries : _) → pieces (Dir entries) ≡ pieces_below entries.items
 pieces_dir entries =
-    pieces_row (hidden-the_row-Member-0 entries) ∙ ap pieces_below (items_hidden-the_row-Member-0 entries)
+    pieces_row (hidden-the_row-Member-0 entries)
+    ∙ ap pieces_below (items_hidden-the_row-Member-0 entries)
 
 pub depth_dir : (entries : _) → depth_of (Dir entries) ≡ 1 + depth_below entries.items
 depth_dir entries =
-    ap (λ n. 1 + n) (depth_row (hidden-the_row-Member-0 entries) ∙ ap depth_below (items_hidden-the_row-Member-0 entries))
+    ap (λ n. 1 + n) (depth_row (hidden-the_row-Member-0 entries)
+    ∙ ap depth_below (items_hidden-the_row-Member-0 entries))
 
 pub count_dir : (entries : _) → entry_count (Dir entries) ≡ count_below entries.items
 count_dir entries =
-    count_row (hidden-the_row-Member-0 entries) ∙ ap count_below (items_hidden-the_row-Member-0 entries)
+    count_row (hidden-the_row-Member-0 entries)
+    ∙ ap count_below (items_hidden-the_row-Member-0 entries)
 
 pub bytes_dir : (entries : _) → file_bytes (Dir entries) ≡ bytes_below entries.items
 bytes_dir entries =
-    bytes_row (hidden-the_row-Member-0 entries) ∙ ap bytes_below (items_hidden-the_row-Member-0 entries)
+    bytes_row (hidden-the_row-Member-0 entries)
+    ∙ ap bytes_below (items_hidden-the_row-Member-0 entries)
 
 -- each tree has a level
 pub depth_some : (tree : Tree) → 1 ≤ depth_of tree
@@ -66,5 +75,6 @@ members_counted [] = omega arith
 members_counted (e ∷ es) = omega (arith, members_counted es)
 
 -- what is left of a list begins with the element at hand
-pub left_from : {X : Type 0} (xs : List X) (i : ℕ) (x : X) → i < length xs → x ≡ get_or xs i x → drop i xs ≡ x ∷ drop (i + 1) xs
+pub left_from : {X : Type 0} (xs : List X) (i : ℕ) (x : X) → i < length xs → x ≡ get_or xs i x
+    → drop i xs ≡ x ∷ drop (i + 1) xs
 left_from xs i x lt is = drop_more xs i x lt ∙ ap (λ y. y ∷ drop (i + 1) xs) (sym is)

@@ -11,7 +11,9 @@ use Rattle.nix_names.proofs.PathTexts.{hash_part_len}
 pub hash_part_long : (part : List ℕ) → IsTrue (is_hash_part part) → length part ≡ 32
 hash_part_long part is = hash_part_len part is
 
-pub hash_part_digit : (part : List ℕ) → IsTrue (is_hash_part part) → (i : ℕ) → i < 32 → is_digit (get_or part i 0) ≡ true
+pub hash_part_digit : (part : List ℕ) → IsTrue (is_hash_part part) → (i : ℕ) → i < 32
+    → is_digit (get_or part i 0) ≡ true
 unfolding is_hash_part
 hash_part_digit part is i lt =
-    All-get_or (λ b. is_digit b ≡ true) part i 0 (omega (arith, hash_part_len part is)) (AllPass-from_list_all is_digit part (and_parts _ _ is).1)
+    All-get_or (λ b. is_digit b ≡ true) part i 0 (omega (arith, hash_part_len part is))
+    (AllPass-from_list_all is_digit part (and_parts _ _ is).1)

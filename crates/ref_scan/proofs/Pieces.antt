@@ -21,7 +21,8 @@ module _ {X : Type 0} (P : X → Type 0) where
 
   pub Any-left : (xs ys : List X) → Any P xs → Any P (xs ++ ys)
   Any-left [] ys h = absurd (Any-none h)
-  Any-left (x ∷ xs) ys h = ⊎_elim (Any-first x (xs ++ ys)) (λ later. Any-later x (xs ++ ys) (Any-left xs ys later)) (Any-cases x xs h)
+  Any-left (x ∷ xs) ys h = ⊎_elim (Any-first x (xs ++ ys))
+      (λ later. Any-later x (xs ++ ys) (Any-left xs ys later)) (Any-cases x xs h)
 
   pub Any-right : (xs ys : List X) → Any P ys → Any P (xs ++ ys)
   Any-right [] ys h = h
@@ -50,7 +51,8 @@ pub not_in_none : (part : List ℕ) → IsTrue (is_hash_part part) → Within pa
 not_in_none part is = within_few part [] is (omega arith)
 
 -- an empty list at the end has no part
-pub occurs_before_none : (part : List ℕ) (lists : List (List ℕ)) → IsTrue (is_hash_part part) → OccursIn part (lists ++ [] ∷ []) → OccursIn part lists
+pub occurs_before_none : (part : List ℕ) (lists : List (List ℕ)) → IsTrue (is_hash_part part)
+    → OccursIn part (lists ++ [] ∷ []) → OccursIn part lists
 occurs_before_none part lists is h =
     ⊎_elim (λ a. a) (λ w. absurd (not_in_none part is w)) (Any-last_cases (Within part) lists [] h)
 
@@ -63,7 +65,8 @@ found_before_none lists permitted found are_parts before =
     record {
       rising = before.rising;
       each = λ path. (
-        λ has. let h = (before.each path).0 has in (h.0, occurs_before_none (hash_part_of path) lists (are_parts path h.0) h.1),
+        λ has. let h = (before.each path).0 has
+            in (h.0, occurs_before_none (hash_part_of path) lists (are_parts path h.0) h.1),
         λ h. (before.each path).1 (h.0, Any-left (Within (hash_part_of path)) lists ([] ∷ []) h.1),
       );
     }

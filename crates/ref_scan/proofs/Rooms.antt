@@ -7,7 +7,8 @@ use Rattle.ref_scan.specs.declared.tree.Tree.{Tree, Dir}
 use Rattle.ref_scan.specs.declared.tree.Member.{Member}
 use Rattle.ref_scan.proofs.Folders.{depth_below, count_below, bytes_below, depth_dir, count_dir, bytes_dir, depth_some, members_counted}
 
--- What is left beside a folder's entries but for these last ones; the room of all members was taken up before the first.
+-- What is left beside a folder's entries but for these last ones; the room of all members was taken
+-- up before the first.
 pub record Counting (below : ℕ) (room left : Room) (tree : Tree) (rest : List Member) : Type 0 where
   pub depth : max (depth_of tree) (below + 1) ≡ max (1 + depth_below rest) (below + 1)
   pub entries : room.entries + count_below rest ≡ left.entries + length rest + entry_count tree

@@ -17,16 +17,19 @@ use Rattle.ref_scan.proofs.Seams.{within_joined, joined_within}
 abbrev pub feed_of : List (List ℕ) → List (List ℕ) → List ℕ → Feed
 feed_of permitted ended present = record { permitted = permitted; ended = ended; present = present }
 
-pub feed_same : (a b : Feed) → a.permitted ≡ b.permitted → a.ended ≡ b.ended → a.present ≡ b.present → a ≡ b
+pub feed_same : (a b : Feed) → a.permitted ≡ b.permitted → a.ended ≡ b.ended → a.present ≡ b.present
+    → a ≡ b
 feed_same a b p e q =
-    ap (λ x. feed_of x a.ended a.present) p ∙ ap (λ x. feed_of b.permitted x a.present) e ∙ ap (λ x. feed_of b.permitted b.ended x) q
+    ap (λ x. feed_of x a.ended a.present) p ∙ ap (λ x. feed_of b.permitted x a.present) e
+    ∙ ap (λ x. feed_of b.permitted b.ended x) q
 
 -- no mark is set at first
 unmarked : (n k : ℕ) → get_or (replicate n false) k false ≡ false
 unmarked n k =
     ⊎_elim
     (λ (lt : k < n). get_or-replicate n k false false lt)
-    (λ (le : n ≤ k). get_or_past (replicate n false) k false (omega (arith, length-replicate n false)))
+    (λ (le : n ≤ k). get_or_past (replicate n false) k false
+    (omega (arith, length-replicate n false)))
     (cases_lt k n)
 
 pub scanned_new :
@@ -42,28 +45,33 @@ scanned_new paths places sieve met n rising indexes none many = record {
   count = ap length none ∙ length-replicate n false ∙ many;
   marks = λ part k is at. (
     λ m. absurd (false≢true (sym (ap (λ l. get_or l k false) none ∙ unmarked n k) ∙ m)),
-    λ h. absurd (⊎_elim (λ none'. Any-none (Within part) none') (not_in_none part is) (Any-last_cases (Within part) [] [] h)),
+    λ h. absurd (⊎_elim (λ none'. Any-none (Within part) none') (not_in_none part is)
+        (Any-last_cases (Within part) [] [] h)),
   );
   kept = refl;
 }
 
 pub scanned_fed :
-    (paths ended : List (List ℕ)) (present piece seam : List ℕ) (places : Places) (sieve met one two : List Bool) (tail after : List ℕ) →
+    (paths ended : List (List ℕ)) (present piece seam : List ℕ) (places : Places)
+    (sieve met one two : List Bool) (tail after : List ℕ) →
     Scanned (feed_of paths ended present) places sieve met tail →
     seam ≡ tail ++ take 31 piece →
     Searched places met one seam →
     Searched places one two piece →
     after ≡ last_bytes (present ++ piece) →
     Scanned (feed_of paths ended (present ++ piece)) places sieve two after
-scanned_fed paths ended present piece seam places sieve met one two tail after before is first second kept =
-    let whole : seam ≡ last_bytes present ++ take 31 piece = is ∙ ap (λ l. l ++ take 31 piece) before.kept in
+scanned_fed paths ended present piece seam places sieve met one two tail after before is first
+    second kept =
+    let whole : seam ≡ last_bytes present ++ take 31 piece = is
+    ∙ ap (λ l. l ++ take 31 piece) before.kept in
     record {
       rising = before.rising;
       indexes = before.indexes;
       count = second.count ∙ first.count ∙ before.count;
       marks = λ part k is_part at.
           let P = Within part in
-          let here : P present ⊎ (P (last_bytes present ++ take 31 piece) ⊎ P piece) → Any P (ended ++ (present ++ piece) ∷ []) =
+          let here : P present ⊎ (P (last_bytes present ++ take 31 piece) ⊎ P piece)
+          → Any P (ended ++ (present ++ piece) ∷ []) =
           λ h. Any-last P ended (present ++ piece) (joined_within part present piece h) in (
             λ m. ⊎_elim
                 (λ m'. ⊎_elim
@@ -77,12 +85,16 @@ scanned_fed paths ended present piece seam places sieve met one two tail after b
                 ((second.each part k is_part at).0 m),
             λ h.
                 let old : Any P (ended ++ present ∷ []) → IsMet two k =
-                λ w. (second.each part k is_part at).1 (inl ((first.each part k is_part at).1 (inl ((before.marks part k is_part at).1 w)))) in
+                λ w. (second.each part k is_part at).1
+                (inl ((first.each part k is_part at).1
+                (inl ((before.marks part k is_part at).1 w)))) in
                 ⊎_elim
                 (λ w. old (Any-left P ended (present ∷ []) w))
                 (λ w. ⊎_elim
                 (λ v. old (Any-last P ended present v))
-                (λ v. (second.each part k is_part at).1 (⊎_elim (λ u. inl ((first.each part k is_part at).1 (inr (subst P (sym whole) u)))) inr v))
+                (λ v. (second.each part k is_part at).1
+                (⊎_elim (λ u.
+                inl ((first.each part k is_part at).1 (inr (subst P (sym whole) u)))) inr v))
                 (within_joined part present piece is_part w))
                 (Any-last_cases P ended (present ++ piece) h),
           );
@@ -90,7 +102,8 @@ scanned_fed paths ended present piece seam places sieve met one two tail after b
     }
 
 pub scanned_cut :
-    (paths ended : List (List ℕ)) (present : List ℕ) (places : Places) (sieve met : List Bool) (tail : List ℕ) →
+    (paths ended : List (List ℕ)) (present : List ℕ) (places : Places) (sieve met : List Bool)
+    (tail : List ℕ) →
     Scanned (feed_of paths ended present) places sieve met tail →
     Scanned (feed_of paths (ended ++ present ∷ []) []) places sieve met []
 scanned_cut paths ended present places sieve met tail before = record {
@@ -106,7 +119,8 @@ scanned_cut paths ended present places sieve met tail before = record {
 
 -- the index of a scanner's marks
 pub index_of :
-    (feed : Feed) (places : Places) (sieve met : List Bool) (tail : List ℕ) → Scanned feed places sieve met tail → IsIndex places sieve (length met)
+    (feed : Feed) (places : Places) (sieve met : List Bool) (tail : List ℕ)
+    → Scanned feed places sieve met tail → IsIndex places sieve (length met)
 index_of feed places sieve met tail scanned =
     record { paths = feed.permitted; counted = sym scanned.count; indexes = scanned.indexes }
 
@@ -130,7 +144,8 @@ met_of feed places sieve met tail path answer scanned has answered =
 pub written : {X : Type 0} (new rest : List X) (n : ℕ) → length new ≡ n → take n (new ++ rest) ≡ new
 written new rest n long = take_at new rest n long
 
-pub if_ok : {T E : Type 0} (r : Result T E) (P Q : T → Type 0) → ((x : T) → P x → Q x) → IfOk r P → IfOk r Q
+pub if_ok : {T E : Type 0} (r : Result T E) (P Q : T → Type 0) → ((x : T) → P x → Q x) → IfOk r P
+    → IfOk r Q
 if_ok (Ok x) P Q step h = step x h
 if_ok (Err e) P Q step h = tt
 
@@ -141,4 +156,6 @@ pub member_fed :
     lists ++ (name ∷ (trees ++ rest)) ≡ whole →
     ((lists ++ (present ++ name) ∷ []) ++ trees) ++ rest ≡ whole
 member_fed lists trees rest whole present name none is =
-    ap (λ p. ((lists ++ (p ++ name) ∷ []) ++ trees) ++ rest) none ∙ ap (λ l. l ++ rest) (append_assoc lists (name ∷ []) trees) ∙ append_assoc lists (name ∷ trees) rest ∙ is
+    ap (λ p. ((lists ++ (p ++ name) ∷ []) ++ trees) ++ rest) none
+    ∙ ap (λ l. l ++ rest) (append_assoc lists (name ∷ []) trees)
+    ∙ append_assoc lists (name ∷ trees) rest ∙ is

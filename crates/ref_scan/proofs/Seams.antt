@@ -16,7 +16,8 @@ pub joined :
     one ≡ tail → two ≡ one ++ take n piece → n ≡ min (length piece) 31 →
     two ≡ tail ++ take 31 piece
 joined tail piece one two n head whole least =
-    whole ∙ ap (λ l. l ++ take n piece) head ∙ ap (λ l. tail ++ l) (ap (λ k. take k piece) (least ∙ min_comm (length piece) 31) ∙ take_min 31 piece)
+    whole ∙ ap (λ l. l ++ take n piece) head ∙ ap (λ l. tail ++ l)
+    (ap (λ k. take k piece) (least ∙ min_comm (length piece) 31) ∙ take_min 31 piece)
 
 -- all but the last 31 bytes
 before_last : List ℕ → List ℕ
@@ -30,7 +31,8 @@ parts_of now = take-append-drop (length now - 31) now
 kept_long : (now : List ℕ) → (last_bytes now ≡ now) ⊎ (length (last_bytes now) ≡ 31)
 kept_long now =
     ⊎_elim
-    (λ (few : length now < 31). let none : length now - 31 ≡ 0 = omega arith in inl (ap (λ n. drop n now) none))
+    (λ (few : length now < 31). let none : length now - 31 ≡ 0 = omega arith
+    in inl (ap (λ n. drop n now) none))
     (λ (more : 31 ≤ length now). inr (omega (arith, length-drop (length now - 31) now)))
     (cases_lt (length now) 31)
 
@@ -38,9 +40,11 @@ pub kept_few : (now : List ℕ) → length (last_bytes now) ≤ 31
 kept_few now = omega (arith, length-drop (length now - 31) now)
 
 -- what is kept of bytes with many more, and with few more
-pub kept_of_long : (now piece : List ℕ) → 31 ≤ length piece → last_bytes (now ++ piece) ≡ last_bytes piece
+pub kept_of_long : (now piece : List ℕ) → 31 ≤ length piece → last_bytes (now ++ piece)
+    ≡ last_bytes piece
 kept_of_long now piece long =
-    let count : length (now ++ piece) - 31 ≡ length now + (length piece - 31) = omega (arith, length-append now piece) in
+    let count : length (now ++ piece) - 31 ≡ length now
+    + (length piece - 31) = omega (arith, length-append now piece) in
     ap (λ n. drop n (now ++ piece)) count ∙ drop-append-add now piece (length piece - 31)
 
 least : (n : ℕ) → min (n - 31) n ≡ n - 31
@@ -49,16 +53,27 @@ least n = omega arith
 counted : (n p t : ℕ) → t ≡ n - (n - 31) → (n + p) - 31 ≡ (n - 31) + ((t + p) - 31)
 counted n p t is = omega arith
 
-pub kept_of_short : (now piece : List ℕ) → length piece < 31 → last_bytes (now ++ piece) ≡ last_bytes (last_bytes now ++ take 31 piece)
+pub kept_of_short : (now piece : List ℕ) → length piece < 31 → last_bytes (now ++ piece)
+    ≡ last_bytes (last_bytes now ++ take 31 piece)
 unfolding before_last
 kept_of_short now piece short =
     let whole : take 31 piece ≡ piece = take_all 31 piece (omega arith) in
     let front = before_last now in
-    let same : now ++ piece ≡ front ++ (last_bytes now ++ piece) = ap (λ l. l ++ piece) (sym (parts_of now)) ∙ append_assoc front (last_bytes now) piece in
-    let front_long : length front ≡ length now - 31 = length-take (length now - 31) now ∙ least (length now) in
-    let count : length (now ++ piece) - 31 ≡ length front + (length (last_bytes now ++ piece) - 31) =
-    ap (λ n. n - 31) (length-append now piece) ∙ counted (length now) (length piece) (length (last_bytes now)) (length-drop (length now - 31) now) ∙ ap (λ n. (length now - 31) + (n - 31)) (sym (length-append (last_bytes now) piece)) ∙ ap (λ n. n + (length (last_bytes now ++ piece) - 31)) (sym front_long) in
-    ap (λ n. drop n (now ++ piece)) count ∙ ap (drop (length front + (length (last_bytes now ++ piece) - 31))) same ∙ drop-append-add front (last_bytes now ++ piece) (length (last_bytes now ++ piece) - 31) ∙ ap (λ l. last_bytes (last_bytes now ++ l)) (sym whole)
+    let same : now ++ piece ≡ front ++ (last_bytes now ++ piece) =
+    ap (λ l. l ++ piece) (sym (parts_of now)) ∙ append_assoc front (last_bytes now) piece in
+    let front_long : length front ≡ length now - 31 = length-take (length now - 31) now
+    ∙ least (length now) in
+    let count : length (now ++ piece) - 31 ≡ length front
+    + (length (last_bytes now ++ piece) - 31) =
+    ap (λ n. n - 31) (length-append now piece)
+    ∙ counted (length now) (length piece) (length (last_bytes now))
+    (length-drop (length now - 31) now) ∙ ap (λ n. (length now - 31) + (n - 31))
+    (sym (length-append (last_bytes now) piece))
+    ∙ ap (λ n. n + (length (last_bytes now ++ piece) - 31)) (sym front_long) in
+    ap (λ n. drop n (now ++ piece)) count ∙ ap
+    (drop (length front + (length (last_bytes now ++ piece) - 31))) same
+    ∙ drop-append-add front (last_bytes now ++ piece) (length (last_bytes now ++ piece) - 31)
+    ∙ ap (λ l. last_bytes (last_bytes now ++ l)) (sym whole)
 
 -- A part that stands in some bytes with a piece stands in the bytes, in the seam or in the piece.
 pub within_joined :
@@ -77,15 +92,19 @@ within_joined part now piece is within =
     (λ h. inl (subst (Within part) (parts_of now) h))
     inr
     (cover part (before_last now) tail piece (omega arith)
-    (subst (Within part) (ap (λ l. l ++ piece) (sym (parts_of now)) ∙ append_assoc (before_last now) tail piece) within)))
+    (subst (Within part) (ap (λ l. l ++ piece) (sym (parts_of now))
+    ∙ append_assoc (before_last now) tail piece) within)))
     (kept_long now))
   where
-    behind : Within part (last_bytes now ++ piece) → Within part (last_bytes now ++ take 31 piece) ⊎ Within part piece
+    behind : Within part (last_bytes now ++ piece) → Within part (last_bytes now ++ take 31 piece)
+        ⊎ Within part piece
     behind h =
         let long = hash_part_long part is in
         let head = take 31 piece in
         ⊎_elim
-        (λ (few : length piece < 31). inl (subst (λ l. Within part (last_bytes now ++ l)) (sym (take_all 31 piece (omega arith))) h))
+        (λ (few : length piece < 31).
+        inl (subst (λ l. Within part (last_bytes now ++ l))
+        (sym (take_all 31 piece (omega arith))) h))
         (λ (more : 31 ≤ length piece).
         ⊎_elim
         inl
@@ -103,9 +122,15 @@ joined_within part now piece h =
     (within_left part now piece)
     (λ rest. ⊎_elim
     (λ seam.
-    let whole : before_last now ++ ((last_bytes now ++ take 31 piece) ++ drop 31 piece) ≡ now ++ piece =
-    ap (λ l. before_last now ++ l) (append_assoc (last_bytes now) (take 31 piece) (drop 31 piece) ∙ ap (λ l. last_bytes now ++ l) (take-append-drop 31 piece)) ∙ sym (append_assoc (before_last now) (last_bytes now) piece) ∙ ap (λ l. l ++ piece) (parts_of now) in
-    subst (Within part) whole (within_right part (before_last now) ((last_bytes now ++ take 31 piece) ++ drop 31 piece) (within_left part (last_bytes now ++ take 31 piece) (drop 31 piece) seam)))
+    let whole : before_last now ++ ((last_bytes now ++ take 31 piece) ++ drop 31 piece) ≡ now
+    ++ piece =
+    ap (λ l. before_last now ++ l) (append_assoc (last_bytes now) (take 31 piece) (drop 31 piece)
+    ∙ ap (λ l. last_bytes now ++ l) (take-append-drop 31 piece))
+    ∙ sym (append_assoc (before_last now) (last_bytes now) piece)
+    ∙ ap (λ l. l ++ piece) (parts_of now) in
+    subst (Within part) whole
+    (within_right part (before_last now) ((last_bytes now ++ take 31 piece) ++ drop 31 piece)
+    (within_left part (last_bytes now ++ take 31 piece) (drop 31 piece) seam)))
     (within_right part now piece)
     rest)
     h

@@ -9,16 +9,27 @@ use Rattle.ref_scan.specs.Places.{Places, place_at}
 use Rattle.ref_scan.specs.Scan.{Within}
 use Rattle.ref_scan.proofs.Windows.{within_past, within_next, within_window, within_few, within_of_drop}
 
--- The marks are those of before and of parts within the bytes; a part within them is marked or stands behind the start.
-pub record Searching (places : Places) (old met : List Bool) (bytes : List ℕ) (start : ℕ) : Type 0 where
+-- The marks are those of before and of parts within the bytes; a part within them is marked or
+-- stands behind the start.
+pub record Searching (places : Places) (old met : List Bool) (bytes : List ℕ) (start : ℕ)
+    : Type 0 where
   pub count : length met ≡ length old
-  pub stays : (part : List ℕ) (k : ℕ) → IsTrue (is_hash_part part) → place_at places part ≡ Some k → IsMet old k → IsMet met k
-  pub sound : (part : List ℕ) (k : ℕ) → IsTrue (is_hash_part part) → place_at places part ≡ Some k → IsMet met k → IsMet old k ⊎ Within part bytes
-  pub rest : (part : List ℕ) (k : ℕ) → IsTrue (is_hash_part part) → place_at places part ≡ Some k → Within part bytes → IsMet met k ⊎ Within part (drop start bytes)
+  pub stays : (part : List ℕ) (k : ℕ) → IsTrue (is_hash_part part) → place_at places part ≡ Some k
+      → IsMet old k → IsMet met k
+  pub sound : (part : List ℕ) (k : ℕ) → IsTrue (is_hash_part part) → place_at places part ≡ Some k
+      → IsMet met k → IsMet old k ⊎ Within part bytes
+  pub rest : (part : List ℕ) (k : ℕ) → IsTrue (is_hash_part part) → place_at places part ≡ Some k
+      → Within part bytes → IsMet met k ⊎ Within part (drop start bytes)
 
-pub searching_start : (places : Places) (met : List Bool) (bytes : List ℕ) → Searching places met met bytes 0
+pub searching_start : (places : Places) (met : List Bool) (bytes : List ℕ)
+    → Searching places met met bytes 0
 searching_start places met bytes =
-    record { count = refl; stays = λ part k is at h. h; sound = λ part k is at h. inl h; rest = λ part k is at h. inr h }
+    record {
+      count = refl;
+      stays = λ part k is at h. h;
+      sound = λ part k is at h. inl h;
+      rest = λ part k is at h. inr h;
+    }
 
 pub searching_past :
     (places : Places) (old met : List Bool) (bytes : List ℕ) (start place : ℕ) →
@@ -34,7 +45,9 @@ searching_past places old met bytes start place before lt foreign =
       rest = λ part k is at h.
           ⊎_elim
           inl
-          (λ behind. inr (subst (Within part) (drop-drop (place + 1) start bytes) (within_past part (drop start bytes) place is lt foreign behind)))
+          (λ behind. inr
+          (subst (Within part) (drop-drop (place + 1) start bytes)
+          (within_past part (drop start bytes) place is lt foreign behind)))
           (before.rest part k is at h);
     }
 
@@ -50,7 +63,8 @@ searching_next places old met new bytes start before marked =
       sound = λ part k is at h.
           ⊎_elim
           (before.sound part k is at)
-          (λ window. inr (within_of_drop part bytes start (within_window part (drop start bytes) window)))
+          (λ window. inr
+          (within_of_drop part bytes start (within_window part (drop start bytes) window)))
           ((marked.each part k is at).0 h);
       rest = λ part k is at h.
           ⊎_elim
@@ -75,14 +89,18 @@ searching_end places old met bytes start before few =
         before.sound part k is at,
         λ h. ⊎_elim
             (before.stays part k is at)
-            (λ within. ⊎_elim (λ m. m) (λ behind. absurd (within_few part (drop start bytes) is few behind)) (before.rest part k is at within))
+            (λ within. ⊎_elim (λ m. m)
+            (λ behind. absurd (within_few part (drop start bytes) is few behind))
+            (before.rest part k is at within))
             h,
       );
     }
 
 -- The window at the start, as the code lends it.
 pub window_is :
-    (bytes window : List ℕ) (start : ℕ) → window ≡ take 32 (take (length bytes - start) (drop start bytes)) → window ≡ take 32 (drop start bytes)
+    (bytes window : List ℕ) (start : ℕ) → window
+    ≡ take 32 (take (length bytes - start) (drop start bytes)) → window
+    ≡ take 32 (drop start bytes)
 window_is bytes window start is = is ∙ ap (take 32) (take_rest bytes start)
 
 pub foreign_at :
@@ -92,4 +110,5 @@ pub foreign_at :
     is_digit (get_or window place 0) ≡ false →
     is_digit (get_or (drop start bytes) place 0) ≡ false
 foreign_at bytes window start place is lt foreign =
-    ap is_digit (sym (ap (λ w. get_or w place 0) (window_is bytes window start is) ∙ get_or-take 32 (drop start bytes) place 0 lt)) ∙ foreign
+    ap is_digit (sym (ap (λ w. get_or w place 0) (window_is bytes window start is)
+    ∙ get_or-take 32 (drop start bytes) place 0 lt)) ∙ foreign

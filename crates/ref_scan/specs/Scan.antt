@@ -1,5 +1,5 @@
--- *Scan*: which store paths a tree refers to, being those whose hash parts occur in it (Dolstra's thesis, section 5.5; Nix manual,
--- "Building").
+-- *Scan*: which store paths a tree refers to, being those whose hash parts occur in it (Dolstra's
+-- thesis, section 5.5; Nix manual, "Building").
 use Rattle.std.specs.Prelude.{◌≡◌, ◌↔◌, ℕ, List, ◌++◌, Any, Contains}
 use Rattle.nix_names.specs.Rising.{IsRising}
 use Rattle.nix_names.specs.StorePaths.{hash_part_of}
@@ -18,10 +18,12 @@ OccursIn part lists = Any (Within part) lists
 abbrev pub Occurs : List ℕ → Tree → Type 0
 Occurs part tree = OccursIn part (pieces tree)
 
--- The found paths rise strictly, and are just those of the permitted whose hash part stands within one of the lists.
+-- The found paths rise strictly, and are just those of the permitted whose hash part stands within
+-- one of the lists.
 pub record IsFoundIn (lists : List (List ℕ)) (permitted found : List (List ℕ)) : Type 0 where
   pub rising : IsRising found
-  pub each : (path : List ℕ) → Contains found path ↔ (Contains permitted path × OccursIn (hash_part_of path) lists)
+  pub each : (path : List ℕ) → Contains found path
+      ↔ (Contains permitted path × OccursIn (hash_part_of path) lists)
 
 -- What is found in a tree is what is found in its pieces.
 abbrev pub IsFound : Tree → List (List ℕ) → List (List ℕ) → Type 0

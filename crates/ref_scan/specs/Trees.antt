@@ -1,4 +1,5 @@
--- Trees of files and folders: the pieces in which a reference may stand, and the measures that an output's limits bound.
+-- Trees of files and folders: the pieces in which a reference may stand, and the measures that an
+-- output's limits bound.
 use Rattle.std.specs.Prelude.{ℕ, ◌+◌, ◌≤◌, max, List, [], ◌∷◌, ◌++◌, length}
 use Rattle.std.specs.List.{flat_map}
 use Rattle.std.specs.declared.alloc.Global.{Global}
@@ -10,8 +11,8 @@ abbrev pub joined : List (Vec ℕ Global) → List ℕ
 joined parts = flat_map (λ part. part.items) parts
 
 abbrev mutual
-  -- the pieces of a tree: each file's bytes and each entry's name, at any depth, apart; the root has no name. A file that
-  -- was read in pieces is the one that they make together.
+  -- the pieces of a tree: each file's bytes and each entry's name, at any depth, apart; the root
+  -- has no name. A file that was read in pieces is the one that they make together.
   pub pieces : Tree → List (List ℕ)
   pieces (File bytes) = bytes.items ∷ []
   pieces (Pieces parts) = joined parts.items ∷ []

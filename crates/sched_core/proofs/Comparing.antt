@@ -24,80 +24,115 @@ use Rattle.sched_core.proofs.Places.{element_at, same_element}
 -- ---- lists, element by element
 
 -- lists that are the same by two maps are so at each place
-pub same_there : {X Y V : Type 0} (f : X → V) (g : Y → V) (xs : List X) (ys : List Y) (n : ℕ) (x : X) (y : Y) → n < length xs → n < length ys
+pub same_there : {X Y V : Type 0} (f : X → V) (g : Y → V) (xs : List X) (ys : List Y) (n : ℕ)
+    (x : X) (y : Y) → n < length xs → n < length ys
     → x ≡ get_or xs n x → y ≡ get_or ys n y → map f xs ≡ map g ys → f x ≡ g y
 same_there f g xs ys n x y low low' is is' same =
-    let left = slice_get-map f xs n ∙ ap (option_map f) (slice_get_read xs (length xs) n x refl low is) in
-    let right = slice_get-map g ys n ∙ ap (option_map g) (slice_get_read ys (length ys) n y refl low' is') in
+    let left = slice_get-map f xs n ∙ ap (option_map f)
+    (slice_get_read xs (length xs) n x refl low is) in
+    let right = slice_get-map g ys n ∙ ap (option_map g)
+    (slice_get_read ys (length ys) n y refl low' is') in
     let both : Some (f x) ≡ Some (g y) = sym left ∙ ap (λ l. slice_get l n) same ∙ right in
     cc
 
 -- one place more
-pub same_more : {X Y V : Type 0} (f : X → V) (g : Y → V) (xs : List X) (ys : List Y) (n : ℕ) (x : X) (y : Y) → n < length xs → n < length ys
-    → x ≡ get_or xs n x → y ≡ get_or ys n y → f x ≡ g y → map f (take n xs) ≡ map g (take n ys) → map f (take (n + 1) xs) ≡ map g (take (n + 1) ys)
+pub same_more : {X Y V : Type 0} (f : X → V) (g : Y → V) (xs : List X) (ys : List Y) (n : ℕ) (x : X)
+    (y : Y) → n < length xs → n < length ys
+    → x ≡ get_or xs n x → y ≡ get_or ys n y → f x ≡ g y → map f (take n xs) ≡ map g (take n ys)
+    → map f (take (n + 1) xs) ≡ map g (take (n + 1) ys)
 same_more f g xs ys n x y low low' is is' here before =
-    ap (map f) (take_more xs n x low ∙ ap (λ z. take n xs ++ z ∷ []) (sym is)) ∙ map-append f (take n xs) (x ∷ [])
+    ap (map f) (take_more xs n x low ∙ ap (λ z. take n xs ++ z ∷ []) (sym is))
+    ∙ map-append f (take n xs) (x ∷ [])
     ∙ rw (before, here) refl
-    ∙ sym (ap (map g) (take_more ys n y low' ∙ ap (λ z. take n ys ++ z ∷ []) (sym is')) ∙ map-append g (take n ys) (y ∷ []))
+    ∙ sym (ap (map g) (take_more ys n y low' ∙ ap (λ z. take n ys ++ z ∷ []) (sym is'))
+    ∙ map-append g (take n ys) (y ∷ []))
 
 -- the same of outputs and of the paths beside them
-pub path_there : (made : List JobOutput) (paths : List (List ℕ)) (n : ℕ) (output : JobOutput) (path : List ℕ) → n < length made → n < length paths
-    → output ≡ get_or made n output → path ≡ get_or paths n path → map (λ (o : JobOutput). o.path) made ≡ paths → output.path ≡ path
+pub path_there : (made : List JobOutput) (paths : List (List ℕ)) (n : ℕ) (output : JobOutput)
+    (path : List ℕ) → n < length made → n < length paths
+    → output ≡ get_or made n output → path ≡ get_or paths n path
+    → map (λ (o : JobOutput). o.path) made ≡ paths → output.path ≡ path
 path_there made paths n output path low low' is is' same =
-    same_there (λ (o : JobOutput). o.path) (λ (p : List ℕ). p) made paths n output path low low' is is' (same ∙ sym (map-id paths))
+    same_there (λ (o : JobOutput). o.path) (λ (p : List ℕ). p) made paths n output path low low' is
+    is' (same ∙ sym (map-id paths))
 
-pub paths_more : (made : List JobOutput) (paths : List (List ℕ)) (n : ℕ) (output : JobOutput) (path : List ℕ) → n < length made → n < length paths
-    → output ≡ get_or made n output → path ≡ get_or paths n path → output.path ≡ path → map (λ (o : JobOutput). o.path) (take n made) ≡ take n paths
+pub paths_more : (made : List JobOutput) (paths : List (List ℕ)) (n : ℕ) (output : JobOutput)
+    (path : List ℕ) → n < length made → n < length paths
+    → output ≡ get_or made n output → path ≡ get_or paths n path → output.path ≡ path
+    → map (λ (o : JobOutput). o.path) (take n made) ≡ take n paths
     → map (λ (o : JobOutput). o.path) (take (n + 1) made) ≡ take (n + 1) paths
 paths_more made paths n output path low low' is is' here before =
-    same_more (λ (o : JobOutput). o.path) (λ (p : List ℕ). p) made paths n output path low low' is is' here (before ∙ sym (map-id (take n paths)))
+    same_more (λ (o : JobOutput). o.path) (λ (p : List ℕ). p) made paths n output path low low' is
+    is' here (before ∙ sym (map-id (take n paths)))
     ∙ map-id (take (n + 1) paths)
 
 -- ---- a job
 
-pub recipe_of : (graph : Graph) (d : ℕ) (job : Job) (drv : Drv) → slice_get (drvs_of graph.nodes) d ≡ Some drv → IsJob graph d job → HasRecipe drv job
+pub recipe_of : (graph : Graph) (d : ℕ) (job : Job) (drv : Drv) → slice_get (drvs_of graph.nodes) d
+    ≡ Some drv → IsJob graph d job → HasRecipe drv job
 recipe_of graph d job drv at is =
     let same : drv ≡ is.node.drv = drv_is graph.nodes d drv is.node is.is_node at in
-    subst (λ (x : Drv). HasRecipe x job) (sym same) (record { builder = is.builder; args = is.args; env = is.env })
+    subst (λ (x : Drv). HasRecipe x job) (sym same)
+    (record { builder = is.builder; args = is.args; env = is.env })
 
-pub kind_of_job : (graph : Graph) (d : ℕ) (job : Job) (kind : Kind) → IfSome (slice_get graph.nodes d) (λ (n : Node). HasKind n.drv kind) → IsJob graph d job → job.kind ≡ kind
+pub kind_of_job : (graph : Graph) (d : ℕ) (job : Job) (kind : Kind)
+    → IfSome (slice_get graph.nodes d) (λ (n : Node). HasKind n.drv kind) → IsJob graph d job
+    → job.kind ≡ kind
 kind_of_job graph d job kind told is =
-    one_kind is.node.drv job.kind kind is.kind (subst (λ o. IfSome o (λ (n : Node). HasKind n.drv kind)) is.is_node told)
+    one_kind is.node.drv job.kind kind is.kind
+    (subst (λ o. IfSome o (λ (n : Node). HasKind n.drv kind)) is.is_node told)
 
-names_of : (lent : List OutputStruct) (drv : Drv) → map output_of lent ≡ drv.outputs → map (λ (o : OutputStruct). o.name.items) lent ≡ map (λ (o : Output). o.name) drv.outputs
-names_of lent drv view = sym (map-map (λ (o : Output). o.name) output_of lent) ∙ ap (map (λ (o : Output). o.name)) view
+names_of : (lent : List OutputStruct) (drv : Drv) → map output_of lent ≡ drv.outputs
+    → map (λ (o : OutputStruct). o.name.items) lent ≡ map (λ (o : Output). o.name) drv.outputs
+names_of lent drv view = sym (map-map (λ (o : Output). o.name) output_of lent)
+    ∙ ap (map (λ (o : Output). o.name)) view
 
-pub makes_of : (graph : Graph) (d : ℕ) (job : Job) (drv : Drv) (lent : List OutputStruct) (paths : List (List ℕ)) → slice_get (drvs_of graph.nodes) d ≡ Some drv
-    → map output_of lent ≡ drv.outputs → IfSome (slice_get graph.nodes d) (λ (n : Node). paths ≡ output_paths_of n.drv) → IsJob graph d job
+pub makes_of : (graph : Graph) (d : ℕ) (job : Job) (drv : Drv) (lent : List OutputStruct)
+    (paths : List (List ℕ)) → slice_get (drvs_of graph.nodes) d ≡ Some drv
+    → map output_of lent ≡ drv.outputs → IfSome (slice_get graph.nodes d)
+    (λ (n : Node). paths ≡ output_paths_of n.drv) → IsJob graph d job
     → MakesAt lent paths job.outputs.items
 makes_of graph d job drv lent paths at view told is =
     let same : drv ≡ is.node.drv = drv_is graph.nodes d drv is.node is.is_node at in
     record {
       names = is.names ∙ sym (names_of lent is.node.drv (view ∙ ap (λ (x : Drv). x.outputs) same));
-      paths_are = is.paths ∙ sym (subst (λ o. IfSome o (λ (n : Node). paths ≡ output_paths_of n.drv)) is.is_node told);
+      paths_are = is.paths
+          ∙ sym (subst (λ o. IfSome o (λ (n : Node). paths ≡ output_paths_of n.drv)) is.is_node
+          told);
     }
 
-pub as_many_paths : (graph : Graph) (d : ℕ) (drv : Drv) (lent : List OutputStruct) (paths : List (List ℕ)) → d < length graph.nodes → slice_get (drvs_of graph.nodes) d ≡ Some drv
-    → map output_of lent ≡ drv.outputs → IfSome (slice_get graph.nodes d) (λ (n : Node). paths ≡ output_paths_of n.drv) → length paths ≡ length lent
+pub as_many_paths : (graph : Graph) (d : ℕ) (drv : Drv) (lent : List OutputStruct)
+    (paths : List (List ℕ)) → d < length graph.nodes → slice_get (drvs_of graph.nodes) d ≡ Some drv
+    → map output_of lent ≡ drv.outputs → IfSome (slice_get graph.nodes d)
+    (λ (n : Node). paths ≡ output_paths_of n.drv) → length paths ≡ length lent
 as_many_paths graph d drv lent paths low at view told =
     let own = element_at graph.nodes d low in
     let same : drv ≡ own.0.drv = drv_is graph.nodes d drv own.0 own.1 at in
-    let are : paths ≡ output_paths_of own.0.drv = subst (λ o. IfSome o (λ (n : Node). paths ≡ output_paths_of n.drv)) own.1 told in
+    let are : paths ≡ output_paths_of own.0.drv =
+    subst (λ o. IfSome o (λ (n : Node). paths ≡ output_paths_of n.drv)) own.1 told in
     ap (length {A = List ℕ}) are ∙ length-map own.0.drv.outputs (λ (o : Output). o.path)
-    ∙ ap (λ (x : Drv). length x.outputs) (sym same) ∙ ap (length {A = Output}) (sym view) ∙ length-map lent output_of
+    ∙ ap (λ (x : Drv). length x.outputs) (sym same) ∙ ap (length {A = Output}) (sym view)
+    ∙ length-map lent output_of
 
 -- it is the derivation's where its parts are and its seeds
-pub job_by_parts : (graph : Graph) (d : ℕ) (job : Job) (drv : Drv) (kind : Kind) (lent : List OutputStruct) (paths : List (List ℕ)) (told : Bool) → d < length graph.nodes
+pub job_by_parts : (graph : Graph) (d : ℕ) (job : Job) (drv : Drv) (kind : Kind)
+    (lent : List OutputStruct) (paths : List (List ℕ)) (told : Bool) → d < length graph.nodes
     → slice_get (drvs_of graph.nodes) d ≡ Some drv → job.derivation ≡ d
-    → IfSome (slice_get graph.nodes d) (λ (n : Node). HasKind n.drv kind) → job.kind ≡ kind → HasRecipe drv job
-    → map output_of lent ≡ drv.outputs → IfSome (slice_get graph.nodes d) (λ (n : Node). paths ≡ output_paths_of n.drv) → MakesAt lent paths job.outputs.items
-    → IfSome (slice_get graph.nodes d) (λ (n : Node). IsTrue told ↔ (job.seeds.items ≡ seeds_of graph.nodes n.drv))
+    → IfSome (slice_get graph.nodes d) (λ (n : Node). HasKind n.drv kind) → job.kind ≡ kind
+    → HasRecipe drv job
+    → map output_of lent ≡ drv.outputs → IfSome (slice_get graph.nodes d)
+    (λ (n : Node). paths ≡ output_paths_of n.drv) → MakesAt lent paths job.outputs.items
+    → IfSome (slice_get graph.nodes d) (λ (n : Node). IsTrue told
+    ↔ (job.seeds.items ≡ seeds_of graph.nodes n.drv))
     → IsTrue told ↔ IsJob graph d job
-job_by_parts graph d job drv kind lent paths told low at number kinds kind_is recipe view path makes seeds =
+job_by_parts graph d job drv kind lent paths told low at number kinds kind_is recipe view path makes
+    seeds =
     let own = element_at graph.nodes d low in
     let node : Node = own.0 in
     let same : drv ≡ node.drv = drv_is graph.nodes d drv node own.1 at in
-    let both = subst (λ o. IfSome o (λ (n : Node). IsTrue told ↔ (job.seeds.items ≡ seeds_of graph.nodes n.drv))) own.1 seeds in
+    let both = subst (λ o.
+    IfSome o (λ (n : Node). IsTrue told ↔ (job.seeds.items ≡ seeds_of graph.nodes n.drv))) own.1
+    seeds in
     let its = subst (λ (x : Drv). HasRecipe x job) same recipe in (
       λ yes. record {
         node = node;
@@ -107,10 +142,12 @@ job_by_parts graph d job drv kind lent paths told low at number kinds kind_is re
         args = its.args;
         env = its.env;
         names = makes.names ∙ names_of lent node.drv (view ∙ ap (λ (x : Drv). x.outputs) same);
-        paths = makes.paths_are ∙ subst (λ o. IfSome o (λ (n : Node). paths ≡ output_paths_of n.drv)) own.1 path;
+        paths = makes.paths_are
+            ∙ subst (λ o. IfSome o (λ (n : Node). paths ≡ output_paths_of n.drv)) own.1 path;
         kind = rw kind_is (subst (λ o. IfSome o (λ (n : Node). HasKind n.drv kind)) own.1 kinds);
         seeds = both.0 yes;
       },
       λ is.
-          both.1 (subst (λ (n : Node). job.seeds.items ≡ seeds_of graph.nodes n.drv) (same_element graph.nodes d is.node node is.is_node own.1) is.seeds),
+          both.1 (subst (λ (n : Node). job.seeds.items ≡ seeds_of graph.nodes n.drv)
+          (same_element graph.nodes d is.node node is.is_node own.1) is.seeds),
     )

@@ -1,4 +1,5 @@
--- A round among the outputs' numbers is a cycle among their paths, and where there is none, there is no cycle.
+-- A round among the outputs' numbers is a cycle among their paths, and where there is none, there
+-- is no cycle.
 use Rattle.std.proofs.Common.{◌≡◌, ◌≢◌, ◌↔◌, ℕ, ◌<◌, Bool, true, false, List, [], ◌∷◌, ◌++◌, length, nat_eq, Some, refl, sym, subst, arith}
 use Rattle.std.specs.Prelude.{Contains, IfOk, IsTrue, Result, Ok, Err}
 use Rattle.std.specs.Cmp.Lexicographic.{pointwise}
@@ -15,23 +16,29 @@ use Rattle.sched_core.specs.Walking.{Goes, HaveRound, IsGrounded, IsLinked, Tell
 use Rattle.sched_core.proofs.Linkages.{same_key}
 use Rattle.sched_core.proofs.Places.{contains_at, place_of, same_element}
 
-module _ (paths : List (List ℕ)) (infos : List PathInfo) (links : List (Vec ℕ)) (have : HaveLinks paths infos links) where
+module _ (paths : List (List ℕ)) (infos : List PathInfo) (links : List (Vec ℕ))
+    (have : HaveLinks paths infos links) where
   -- what links lead from and to, references do
-  goes_leads : (from to : ℕ) → Goes links from to → (a b : List ℕ) → slice_get have.keys from ≡ Some a → slice_get have.keys to ≡ Some b
+  goes_leads : (from to : ℕ) → Goes links from to → (a b : List ℕ) → slice_get have.keys from
+      ≡ Some a → slice_get have.keys to ≡ Some b
       → (steps : List (List ℕ)) × Leads (RefersTo paths infos) a b steps
   goes_leads _ _ (goes_nowhere n) a b at at' = ([], same_element have.keys n a b at at')
   goes_leads _ _ (goes_on from next to linked rest) a b at at' =
       let h = have.are.sound from next linked in
       let same : h.0 ≡ a = same_element have.keys from h.0 a h.2 at in
       let later = goes_leads next to rest h.1 b h.3 at' in
-      let may : MayLink paths infos (length infos) a h.1 = subst (λ (p : List ℕ). MayLink paths infos (length infos) p h.1) same h.4 in
-      let among : Contains paths h.1 = (have.once.same h.1).0 (contains_at have.keys next h.1 h.3) in
+      let may : MayLink paths infos (length infos) a h.1 =
+      subst (λ (p : List ℕ). MayLink paths infos (length infos) p h.1) same h.4 in
+      let among : Contains paths h.1 = (have.once.same h.1).0 (contains_at have.keys next h.1 h.3)
+      in
       (h.1 ∷ later.0, ((may.0, may.1, may.3, may.4, may.5, among), later.1))
 
   -- a number that links lead on from is that of a path
-  key_of_start : (from to : ℕ) → Goes links from to → from ≢ to → (a : List ℕ) × (slice_get have.keys from ≡ Some a)
+  key_of_start : (from to : ℕ) → Goes links from to → from ≢ to → (a : List ℕ)
+      × (slice_get have.keys from ≡ Some a)
   key_of_start _ _ (goes_nowhere n) apart = absurd (apart refl)
-  key_of_start _ _ (goes_on from next to linked rest) apart = let h = have.are.sound from next linked in (h.0, h.2)
+  key_of_start _ _ (goes_on from next to linked rest) apart = let h =
+      have.are.sound from next linked in (h.0, h.2)
 
   pub round_is_cycle : HaveRound links → IsCyclic paths infos
   round_is_cycle round =
@@ -39,52 +46,82 @@ module _ (paths : List (List ℕ)) (infos : List PathInfo) (links : List (Vec �
       let second = key_of_start round.other round.one round.back (λ e. round.different (sym e)) in
       let there = goes_leads round.one round.other round.there first.0 second.0 first.1 second.1 in
       let back = goes_leads round.other round.one round.back second.0 first.0 second.1 first.1 in
-      let apart : first.0 ≢ second.0 = λ e. round.different (same_key have.keys have.once.distinct round.one round.other second.0 (rw (sym e) first.1) second.1) in
+      let apart : first.0 ≢ second.0 = λ e. round.different
+      (same_key have.keys have.once.distinct round.one round.other second.0 (rw (sym e) first.1)
+      second.1) in
       (first.0, second.0, there.0, back.0, apart, there.1, back.1)
 
-  leads_on : (a b c : List ℕ) (steps more : List (List ℕ)) → Leads (RefersTo paths infos) a b steps → Leads (RefersTo paths infos) b c more → Leads (RefersTo paths infos) a c (steps ++ more)
-  leads_on a b c [] more is leads = subst (λ (p : List ℕ). Leads (RefersTo paths infos) p c more) (sym is) leads
-  leads_on a b c (next ∷ steps) more (refers, rest) leads = (refers, leads_on next b c steps more rest leads)
+  leads_on : (a b c : List ℕ) (steps more : List (List ℕ)) → Leads (RefersTo paths infos) a b steps
+      → Leads (RefersTo paths infos) b c more → Leads (RefersTo paths infos) a c (steps ++ more)
+  leads_on a b c [] more is leads = subst (λ (p : List ℕ). Leads (RefersTo paths infos) p c more)
+      (sym is) leads
+  leads_on a b c (next ∷ steps) more (refers, rest) leads =
+      (refers, leads_on next b c steps more rest leads)
 
   -- an output that another one is linked to
-  linked_by : (n : ℕ) (a next : List ℕ) → slice_get have.keys n ≡ Some a → RefersTo paths infos a next → (m : ℕ) × (slice_get have.keys m ≡ Some next) × IsLinked links n m
+  linked_by : (n : ℕ) (a next : List ℕ) → slice_get have.keys n ≡ Some a
+      → RefersTo paths infos a next → (m : ℕ) × (slice_get have.keys m ≡ Some next)
+      × IsLinked links n m
   linked_by n a next at (k, info, here, has, refers, among) =
-      let place = place_of have.keys next ((have.once.same next).1 among) in
-      (place.0, place.1, have.are.whole n place.0 a next at place.1 (k, info, slice_get_within infos k info has, here, has, refers))
+      let place = place_of have.keys next ((have.once.same next).1 among) in (
+        place.0,
+        place.1,
+        have.are.whole n place.0 a next at place.1
+            (k, info, slice_get_within infos k info has, here, has, refers),
+      )
 
   -- the first step away from a path among those that lead to another
-  first_away : (a b : List ℕ) (steps : List (List ℕ)) → a ≢ b → Leads (RefersTo paths infos) a b steps
-      → (next : List ℕ) × (rest : List (List ℕ)) × (a ≢ next) × RefersTo paths infos a next × Leads (RefersTo paths infos) next b rest
+  first_away : (a b : List ℕ) (steps : List (List ℕ)) → a ≢ b
+      → Leads (RefersTo paths infos) a b steps
+      → (next : List ℕ) × (rest : List (List ℕ)) × (a ≢ next) × RefersTo paths infos a next
+      × Leads (RefersTo paths infos) next b rest
   first_away a b [] apart is = absurd (apart is)
   first_away a b (next ∷ steps) apart (refers, rest) =
-      by (pointwise nat_eq a next) refl (λ e. first_away a b steps apart (subst (λ (p : List ℕ). Leads (RefersTo paths infos) p b steps) (sym (equal_from_eq a next e)) rest))
+      by (pointwise nat_eq a next) refl
+      (λ e. first_away a b steps apart
+      (subst (λ (p : List ℕ). Leads (RefersTo paths infos) p b steps)
+      (sym (equal_from_eq a next e)) rest))
     where
       by : (same : Bool) → pointwise nat_eq a next ≡ same
-          → (pointwise nat_eq a next ≡ true → (later : List ℕ) × (more : List (List ℕ)) × (a ≢ later) × RefersTo paths infos a later × Leads (RefersTo paths infos) later b more)
-          → (later : List ℕ) × (more : List (List ℕ)) × (a ≢ later) × RefersTo paths infos a later × Leads (RefersTo paths infos) later b more
+          → (pointwise nat_eq a next ≡ true → (later : List ℕ) × (more : List (List ℕ))
+          × (a ≢ later) × RefersTo paths infos a later
+          × Leads (RefersTo paths infos) later b more)
+          → (later : List ℕ) × (more : List (List ℕ)) × (a ≢ later) × RefersTo paths infos a later
+          × Leads (RefersTo paths infos) later b more
       by true e past = past e
       by false e past = (next, steps, unequal_from_eq a next e, refers, rest)
 
-  no_round : (n : ℕ) → IsGrounded links n → (a b : List ℕ) (there back : List (List ℕ)) → slice_get have.keys n ≡ Some a → a ≢ b
+  no_round : (n : ℕ) → IsGrounded links n → (a b : List ℕ) (there back : List (List ℕ))
+      → slice_get have.keys n ≡ Some a → a ≢ b
       → Leads (RefersTo paths infos) a b there → Leads (RefersTo paths infos) b a back → ⊥
   no_round _ (grounded n next_is) a b there back at apart leads leads' =
       let step = first_away a b there apart leads in
       let to = linked_by n a step.0 at step.3 in
       let elsewhere : n ≢ to.0 = λ e. step.2 (same_element have.keys n a step.0 at (rw e to.1)) in
-      no_round to.0 (next_is to.0 to.2 elsewhere) step.0 a (step.1 ++ back) (step.0 ∷ []) to.1 (λ e. step.2 (sym e))
+      no_round to.0 (next_is to.0 to.2 elsewhere) step.0 a (step.1 ++ back) (step.0 ∷ []) to.1
+      (λ e. step.2 (sym e))
       (leads_on step.0 b a step.1 back step.4 leads') (step.3, refl)
 
-  pub grounded_is_acyclic : ((n : ℕ) → n < length links → IsGrounded links n) → IsCyclic paths infos → ⊥
+  pub grounded_is_acyclic : ((n : ℕ) → n < length links → IsGrounded links n) → IsCyclic paths infos
+      → ⊥
   grounded_is_acyclic all (a, b, there, back, apart, leads, leads') =
       let step = first_away a b there apart leads in
-      let place = place_of have.keys a ((have.once.same a).1 (contains_at paths step.3.0 a step.3.2)) in
-      no_round place.0 (all place.0 (omega (arith, slice_get_within have.keys place.0 a place.1, have.are.places))) a b there back place.1 apart leads leads'
+      let place = place_of have.keys a
+      ((have.once.same a).1 (contains_at paths step.3.0 a step.3.2)) in
+      no_round place.0
+      (all place.0
+      (omega (arith, slice_get_within have.keys place.0 a place.1, have.are.places))) a b there
+      back place.1 apart leads leads'
 
   -- what a walk tells of the links, it tells of the outputs
   pub told : (cyclic : Bool) → TellsRound links cyclic → IsTrue cyclic ↔ IsCyclic paths infos
   told true round = (λ _. round_is_cycle round, λ _. refl)
-  told false none = (λ is. absurd (false≢true is), λ cyclic. absurd (grounded_is_acyclic none cyclic))
+  told false none = (
+    λ is. absurd (false≢true is),
+    λ cyclic. absurd (grounded_is_acyclic none cyclic),
+  )
 
-  pub told_of : {E : Type 0} (answer : Result Bool E) → IfOk answer (TellsRound links) → IfOk answer (λ cyclic. IsTrue cyclic ↔ IsCyclic paths infos)
+  pub told_of : {E : Type 0} (answer : Result Bool E) → IfOk answer (TellsRound links)
+      → IfOk answer (λ cyclic. IsTrue cyclic ↔ IsCyclic paths infos)
   told_of (Ok cyclic) tells = told cyclic tells
   told_of (Err e) tells = tells

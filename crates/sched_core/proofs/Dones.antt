@@ -1,4 +1,5 @@
--- What a Done may register: its entry is new and closed behind those before, and has one path for each output.
+-- What a Done may register: its entry is new and closed behind those before, and has one path for
+-- each output.
 use Rattle.std.proofs.Common.{◌≡◌, ◌≤◌, ◌∙◌, ℕ, List, [], ◌∷◌, ◌++◌, length, Some, sym, ap, subst, ⊎_elim, arith}
 use Rattle.std.specs.Prelude.{Contains, flat_map, slice_get}
 use Rattle.std.specs.Cmp.Lexicographic.{bytes_decides, nat_list_eq_equiv}
@@ -45,68 +46,83 @@ part_with f (z ∷ zs) y has =
     (Contains-append_cases (f z) (flat_map f zs) y has)
 
 -- different texts, each among others, are no more than those
-no_more_than : (xs ys : List (List ℕ)) → AreDistinct xs → ((x : List ℕ) → Contains xs x → Contains ys x) → length xs ≤ length ys
+no_more_than : (xs ys : List (List ℕ)) → AreDistinct xs
+    → ((x : List ℕ) → Contains xs x → Contains ys x) → length xs ≤ length ys
 no_more_than xs ys distinct among =
     length-le_from_is_member nat_list_eq_equiv xs ys distinct
-    (λ x is. (is_member-Decides bytes_decides ys x).1 (among x ((is_member-Decides bytes_decides xs x).0 is)))
+    (λ x is. (is_member-Decides bytes_decides ys x).1
+    (among x ((is_member-Decides bytes_decides xs x).0 is)))
 
 -- ---- what is registered
 
-reached_is_valid : (registrations : List Registration) (from to : List ℕ) (steps : List (List ℕ)) → Leads registrations from to steps
+reached_is_valid : (registrations : List Registration) (from to : List ℕ) (steps : List (List ℕ))
+    → Leads registrations from to steps
     → IsValid registrations to
 reached_is_valid registrations from to [] leads = subst (IsValid registrations) leads.1 leads.0
-reached_is_valid registrations from to (next ∷ steps) leads = reached_is_valid registrations next to steps leads.1
+reached_is_valid registrations from to (next ∷ steps) leads =
+    reached_is_valid registrations next to steps leads.1
 
 -- an entry registers each output
-pub output_registered : (node : Node) (infos : List PathInfo) (outputs : List Registration) (entry : Entry)
+pub output_registered : (node : Node) (infos : List PathInfo) (outputs : List Registration)
+    (entry : Entry)
     (is : IsEntryOf node infos entry)
-    → length infos ≡ length (output_paths node.drv) → (path : List ℕ) → Contains (output_paths node.drv) path → IsValid is.outputs path
+    → length infos ≡ length (output_paths node.drv) → (path : List ℕ)
+    → Contains (output_paths node.drv) path → IsValid is.outputs path
 output_registered node infos outputs entry is count path has =
     let at = place_of (output_paths node.drv) path has in
-    let info = element_at infos at.0 (omega (arith, count, slice_get_within (output_paths node.drv) at.0 path at.1)) in
+    let info = element_at infos at.0
+    (omega (arith, count, slice_get_within (output_paths node.drv) at.0 path at.1)) in
     Contains-map (λ (r : Registration). r.path) is.outputs (record { path = path; info = info.0 })
     ((is.each path info.0).1 (at.0, at.1, info.1))
 
 -- and nothing else
-pub registered_output : (node : Node) (infos : List PathInfo) (entry : Entry) (is : IsEntryOf node infos entry) (r : Registration)
+pub registered_output : (node : Node) (infos : List PathInfo) (entry : Entry)
+    (is : IsEntryOf node infos entry) (r : Registration)
     → Contains is.outputs r → Contains (output_paths node.drv) r.path × Contains infos r.info
 registered_output node infos entry is r has =
     let at = (is.each r.path r.info).0 has in
     (contains_at (output_paths node.drv) at.0 r.path at.1, contains_at infos at.0 r.info at.2)
 
 -- as many records as outputs
-pub records_for_paths : (run : Run) (entries : List Entry) (node : Node) (infos : List PathInfo) → IsAllowed run entries node infos
+pub records_for_paths : (run : Run) (entries : List Entry) (node : Node) (infos : List PathInfo)
+    → IsAllowed run entries node infos
     → length infos ≡ length (output_paths node.drv)
-records_for_paths run entries node infos allowed = allowed.count ∙ sym (length-map node.drv.outputs (λ (o : Output). o.path))
+records_for_paths run entries node infos allowed = allowed.count
+    ∙ sym (length-map node.drv.outputs (λ (o : Output). o.path))
 
 -- ---- what a journal and an outlet ask
 
 module _ (run : Run) (entries : List Entry) (node : Node) (infos : List PathInfo) (entry : Entry)
     (allowed : IsAllowed run entries node infos) (is : IsEntryOf node infos entry) where
   new_outputs : AreNew (registered entries) is.outputs
-  new_outputs = all_from_contains (IsNotValid (registered entries)) (paths_of is.outputs) (λ path there valid.
+  new_outputs = all_from_contains (IsNotValid (registered entries)) (paths_of is.outputs)
+      (λ path there valid.
       let r = contains_source (λ (x : Registration). x.path) is.outputs path there in
       let own = registered_output node infos entry is r.0 r.1 in
       allowed.new path (subst (Contains (output_paths node.drv)) r.2 own.0) valid)
 
   closed_outputs : AreClosed (registered entries) is.outputs
-  closed_outputs = all_from_contains (IsValid (registered entries ++ is.outputs)) (references_of is.outputs) (λ path there.
+  closed_outputs = all_from_contains (IsValid (registered entries ++ is.outputs))
+      (references_of is.outputs) (λ path there.
       let part = part_with (λ (r : Registration). r.info.references) is.outputs path there in
       let own = registered_output node infos entry is part.0 part.1 in
       ⊎_elim
       (λ reached. still_valid (registered entries) is.outputs path
       (reached_is_valid (registered entries) reached.0 path reached.2.0 reached.2.1))
       (λ output. valid_by_some (registered entries) is.outputs path
-      (output_registered node infos is.outputs entry is (records_for_paths run entries node infos allowed) path output))
+      (output_registered node infos is.outputs entry is
+      (records_for_paths run entries node infos allowed) path output))
       (allowed.permitted part.0.info path own.1 part.2))
 
   -- none of its paths is valid before
   pub done_is_new : AreNew (registered entries) (registered_by entry)
-  done_is_new = subst (λ (e : Entry). AreNew (registered entries) (registered_by e)) (sym is.is_done) new_outputs
+  done_is_new = subst (λ (e : Entry). AreNew (registered entries) (registered_by e))
+      (sym is.is_done) new_outputs
 
   -- each of its references is valid behind it
   pub done_is_closed : AreClosed (registered entries) (registered_by entry)
-  done_is_closed = subst (λ (e : Entry). AreClosed (registered entries) (registered_by e)) (sym is.is_done) closed_outputs
+  done_is_closed = subst (λ (e : Entry). AreClosed (registered entries) (registered_by e))
+      (sym is.is_done) closed_outputs
 
   -- its deriver is a derivation's file
   pub done_has_drv_path : IsDrvPath node.path → HasDrvPath entry
@@ -120,27 +136,40 @@ module _ (run : Run) (entries : List Entry) (node : Node) (infos : List PathInfo
       (once_more (registered entries) is.outputs journal.once is.rising new_outputs))
 
   -- it registers as many paths as there are outputs, where no two outputs have one
-  pub done_counts : AreDistinct (output_paths node.drv) → length (registered_by entry) ≡ length node.drv.outputs
+  pub done_counts : AreDistinct (output_paths node.drv) → length (registered_by entry)
+      ≡ length node.drv.outputs
   done_counts distinct =
       let path_in : Registration → List ℕ = λ r. r.path in
-      let few = no_more_than (paths_of is.outputs) (output_paths node.drv) (distinct_from_rising (paths_of is.outputs) is.rising)
+      let few = no_more_than (paths_of is.outputs) (output_paths node.drv)
+      (distinct_from_rising (paths_of is.outputs) is.rising)
       (λ path there.
       let r = contains_source path_in is.outputs path there in
-      subst (Contains (output_paths node.drv)) r.2 (registered_output node infos entry is r.0 r.1).0) in
+      subst (Contains (output_paths node.drv)) r.2
+      (registered_output node infos entry is r.0 r.1).0) in
       let many = no_more_than (output_paths node.drv) (paths_of is.outputs) distinct
-      (output_registered node infos is.outputs entry is (records_for_paths run entries node infos allowed)) in
+      (output_registered node infos is.outputs entry is
+      (records_for_paths run entries node infos allowed)) in
       ap (λ (e : Entry). length (registered_by e)) is.is_done
-      ∙ omega (arith, few, many, length-map is.outputs path_in, length-map node.drv.outputs (λ (o : Output). o.path))
+      ∙ omega (
+        arith,
+        few,
+        many,
+        length-map is.outputs path_in,
+        length-map node.drv.outputs (λ (o : Output). o.path),
+      )
 
 -- no two outputs of a plan's derivation have one path
-pub outputs_differ : (graph : Graph) (d : ℕ) (node : Node) → IsSound graph → slice_get graph.nodes d ≡ Some node
+pub outputs_differ : (graph : Graph) (d : ℕ) (node : Node) → IsSound graph → slice_get graph.nodes d
+    ≡ Some node
     → AreDistinct (output_paths node.drv)
 outputs_differ graph d node sound at =
-    All-contains (λ (n : Node). AreDistinct (output_paths_of n.drv)) graph.nodes node sound.own_outputs
+    All-contains (λ (n : Node). AreDistinct (output_paths_of n.drv)) graph.nodes node
+    sound.own_outputs
     (contains_from_get graph.nodes d node at)
 
 -- and it stands at a derivation's file
-pub node_is_named : (graph : Graph) (d : ℕ) (node : Node) → IsSound graph → slice_get graph.nodes d ≡ Some node → IsDrvPath node.path
+pub node_is_named : (graph : Graph) (d : ℕ) (node : Node) → IsSound graph → slice_get graph.nodes d
+    ≡ Some node → IsDrvPath node.path
 node_is_named graph d node sound at =
     All-contains (λ (n : Node). IsDrvPath n.path) graph.nodes node sound.named
     (contains_from_get graph.nodes d node at)

@@ -13,39 +13,61 @@ use Rattle.sched_core.specs.declared.job.Job.{Job}
 use Rattle.sched_core.proofs.Dones.{done_is_closed, done_is_new}
 
 -- the entry of a lease's derivation with records whose references are permitted to its job
-pub done_under_lease : (run : Run) (history : History) (job : Job) (number : ℕ) (infos : List PathInfo) (entry : Entry)
-    → IsBooksLease run history job number → MayAllRefer history.entries job infos → IsDoneEntry run.graph job.derivation history.entries infos entry
+pub done_under_lease : (run : Run) (history : History) (job : Job) (number : ℕ)
+    (infos : List PathInfo) (entry : Entry)
+    → IsBooksLease run history job number → MayAllRefer history.entries job infos
+    → IsDoneEntry run.graph job.derivation history.entries infos entry
     → IsDone run history.entries job.derivation infos entry
 done_under_lease run history job number infos entry lease may told =
     let node = lease.is_job.node in
     let both = told run node refl lease.is_job.is_node in
     let permitted : ArePermittedTo run history.entries node infos = λ info path has refers.
-    subst (λ (seeds : List (List ℕ)). MayRefer (registered history.entries) seeds (output_paths node.drv) path) lease.is_job.seeds
-    (subst (λ (outputs : List (List ℕ)). MayRefer (registered history.entries) job.seeds.items outputs path) lease.is_job.paths (may info path has refers)) in
-    record { node = node; is_node = lease.is_job.is_node; allowed = both.1 permitted; is_entry = both.0 }
+    subst (λ (seeds : List (List ℕ)). MayRefer (registered history.entries) seeds
+    (output_paths node.drv) path) lease.is_job.seeds
+    (subst (λ (outputs : List (List ℕ)). MayRefer (registered history.entries) job.seeds.items
+    outputs path) lease.is_job.paths (may info path has refers)) in
+    record {
+      node = node;
+      is_node = lease.is_job.is_node;
+      allowed = both.1 permitted;
+      is_entry = both.0;
+    }
 
 -- a derivation that isn't lawful isn't allowed in the run
-pub not_allowed : (run : Run) (history : History) (d : ℕ) (infos : List PathInfo) → IsUnlawful run.graph d history.entries infos
+pub not_allowed : (run : Run) (history : History) (d : ℕ) (infos : List PathInfo)
+    → IsUnlawful run.graph d history.entries infos
     → IsNotAllowed run history.entries d infos
 not_allowed run history d infos unlawful node at = unlawful run node refl at
 
 -- what an outlet asks of such an entry, where it holds just the entries
-pub may_append : (run : Run) (entries held : List Entry) (d : ℕ) (infos : List PathInfo) (entry shown : Entry) → IsDone run entries d infos entry
-    → held ≡ entries → shown ≡ entry → AreNew (registered held) (registered_by shown) × AreClosed (registered held) (registered_by shown)
+pub may_append : (run : Run) (entries held : List Entry) (d : ℕ) (infos : List PathInfo)
+    (entry shown : Entry) → IsDone run entries d infos entry
+    → held ≡ entries → shown ≡ entry → AreNew (registered held) (registered_by shown)
+    × AreClosed (registered held) (registered_by shown)
 may_append run entries held d infos entry shown done same copy =
-    rw (same, copy) (done_is_new run entries done.node infos entry done.allowed done.is_entry, done_is_closed run entries done.node infos entry done.allowed done.is_entry)
+    rw (same, copy) (
+      done_is_new run entries done.node infos entry done.allowed done.is_entry,
+      done_is_closed run entries done.node infos entry done.allowed done.is_entry,
+    )
 
 -- what ending a lease by a Done comes to
-pub finishing : (before : Ledger) (run after_run : Run) (history between after : History) (shown after_shown pending after_pending : List Entry)
+pub finishing : (before : Ledger) (run after_run : Run) (history between after : History)
+    (shown after_shown pending after_pending : List Entry)
     (job : Job) (number d n : ℕ) (infos : List PathInfo) (entry copy : Entry)
     → record { run = run; history = history; shown = shown; pending = pending } ≡ before
     → IsBooksLease run history job number → IsDone run history.entries job.derivation infos entry
-    → after_run ≡ run → between ≡ history → d ≡ job.derivation → n ≡ number → after ≡ ended between d n entry
+    → after_run ≡ run → between ≡ history → d ≡ job.derivation → n ≡ number → after
+    ≡ ended between d n entry
     → after_shown ≡ shown → after_pending ≡ pending ++ copy ∷ [] → copy ≡ entry
-    → IsFinishing before (record { run = after_run; history = after; shown = after_shown; pending = after_pending }) job number infos
-finishing before run after_run history between after shown after_shown pending after_pending job number d n infos entry copy
+    → IsFinishing before
+    (record { run = after_run; history = after; shown = after_shown; pending = after_pending })
+    job number infos
+finishing before run after_run history between after shown after_shown pending after_pending job
+    number d n infos entry copy
     view lease done same_run same_history is_d is_n is_after same_shown added same_entry =
-    subst (λ (ledger : Ledger). IsFinishing ledger (record { run = after_run; history = after; shown = after_shown; pending = after_pending }) job number infos) view
+    subst (λ (ledger : Ledger). IsFinishing ledger
+    (record { run = after_run; history = after; shown = after_shown; pending = after_pending })
+    job number infos) view
     (record {
       lease = lease;
       entry = entry;

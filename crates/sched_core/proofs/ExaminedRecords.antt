@@ -10,8 +10,10 @@ use Rattle.sched_core.specs.declared.job.Job.{Job}
 use Rattle.sched_core.specs.declared.reason.Reason.{Reason}
 use Rattle.sched_core.proofs.Places.{place_of}
 
-pub examined_may_refer : (entries : List Entry) (job : Job) (permitted : List (List ℕ)) (answer : Answer) (found : Result (List PathInfo) Reason)
-    → ArePermittedPaths entries job permitted → IsExamining job permitted answer found → IfOk found (MayAllRefer entries job)
+pub examined_may_refer : (entries : List Entry) (job : Job) (permitted : List (List ℕ))
+    (answer : Answer) (found : Result (List PathInfo) Reason)
+    → ArePermittedPaths entries job permitted → IsExamining job permitted answer found
+    → IfOk found (MayAllRefer entries job)
 examined_may_refer entries job permitted answer (Err reason) are examined = tt
 examined_may_refer entries job permitted answer (Ok infos) are (inl refused) = absurd cc
 examined_may_refer entries job permitted answer (Ok infos) are (inr (taken, records, acyclic)) =

@@ -21,149 +21,245 @@ use Rattle.sched_core.proofs.Places.{element_at}
 use Rattle.sched_core.proofs.SeedParts.{at_input, first_more, first_named, first_seeds, input_added, output_at, outputs_count, path_at, read_at, take_next}
 
 -- nothing is passed over
-pub behind_nothing : (paths : List (List ℕ)) (left : Bor (List (List ℕ))) → left.now ≡ paths → IsBehind paths [] (Some left)
+pub behind_nothing : (paths : List (List ℕ)) (left : Bor (List (List ℕ))) → left.now ≡ paths
+    → IsBehind paths [] (Some left)
 behind_nothing paths left same = sym same
 
 -- behind one front, and another behind that
-pub behind_both : (paths front more : List (List ℕ)) (between : Bor (List (List ℕ))) (left : Option (Bor (List (List ℕ)))) → IsBehind paths front (Some between) → IsBehind between.now more left → IsBehind paths (front ++ more) left
-behind_both paths front more between (Some left) first second = first ∙ ap (λ l. front ++ l) second ∙ sym (append_assoc front more left.now)
+pub behind_both : (paths front more : List (List ℕ)) (between : Bor (List (List ℕ)))
+    (left : Option (Bor (List (List ℕ)))) → IsBehind paths front (Some between)
+    → IsBehind between.now more left → IsBehind paths (front ++ more) left
+behind_both paths front more between (Some left) first second = first ∙ ap (λ l. front ++ l) second
+    ∙ sym (append_assoc front more left.now)
 behind_both paths front more between None first second = λ rest same.
-    second rest (append_cancel_left front between.now (more ++ rest) (sym first ∙ same ∙ append_assoc front more rest))
+    second rest (append_cancel_left front between.now (more ++ rest)
+    (sym first ∙ same ∙ append_assoc front more rest))
 
 -- paths that don't begin with a front don't begin with a longer one
-pub behind_none : (paths front more : List (List ℕ)) → IsBehind paths front None → IsBehind paths (front ++ more) None
-behind_none paths front more none = λ rest same. none (more ++ rest) (same ∙ append_assoc front more rest)
+pub behind_none : (paths front more : List (List ℕ)) → IsBehind paths front None
+    → IsBehind paths (front ++ more) None
+behind_none paths front more none = λ rest same.
+    none (more ++ rest) (same ∙ append_assoc front more rest)
 
 -- What is left behind more paths, where something was left before.
-abbrev pub IsStep : Option (Bor (List (List ℕ))) → (more : List (List ℕ)) → Option (Bor (List (List ℕ))) → Type 0
-IsStep left more next = MatchOption left (next ≡ None) (λ (rest : Bor (List (List ℕ))). IsBehind rest.now more next)
+abbrev pub IsStep : Option (Bor (List (List ℕ))) → (more : List (List ℕ))
+    → Option (Bor (List (List ℕ))) → Type 0
+IsStep left more next = MatchOption left (next ≡ None)
+    (λ (rest : Bor (List (List ℕ))). IsBehind rest.now more next)
 
-pub behind_step : (paths front more : List (List ℕ)) (left next : Option (Bor (List (List ℕ)))) → IsBehind paths front left → IsStep left more next → IsBehind paths (front ++ more) next
-behind_step paths front more (Some between) next first step = behind_both paths front more between next first step
-behind_step paths front more None next first step = subst (IsBehind paths (front ++ more)) (sym step) (behind_none paths front more first)
+pub behind_step : (paths front more : List (List ℕ)) (left next : Option (Bor (List (List ℕ))))
+    → IsBehind paths front left → IsStep left more next → IsBehind paths (front ++ more) next
+behind_step paths front more (Some between) next first step =
+    behind_both paths front more between next first step
+behind_step paths front more None next first step =
+    subst (IsBehind paths (front ++ more)) (sym step) (behind_none paths front more first)
 
-pub path_step : (paths all : List (List ℕ)) (n : ℕ) (path : List ℕ) (left next : Option (Bor (List (List ℕ)))) → n < length all → path ≡ get_or all n path
-    → IsBehind paths (take n all) left → IsStep left (path ∷ []) next → IsBehind paths (take (n + 1) all) next
+pub path_step : (paths all : List (List ℕ)) (n : ℕ) (path : List ℕ)
+    (left next : Option (Bor (List (List ℕ)))) → n < length all → path ≡ get_or all n path
+    → IsBehind paths (take n all) left → IsStep left (path ∷ []) next
+    → IsBehind paths (take (n + 1) all) next
 path_step paths all n path left next low is first step =
-    subst (λ l. IsBehind paths l next) (sym (take_next all n path (read_at all n path low is))) (behind_step paths (take n all) (path ∷ []) left next first step)
+    subst (λ l. IsBehind paths l next) (sym (take_next all n path (read_at all n path low is)))
+    (behind_step paths (take n all) (path ∷ []) left next first step)
 
 -- nothing more is left
-pub all_left : (paths front : List (List ℕ)) (rest : Bor (List (List ℕ))) → IsBehind paths front (Some rest) → rest.now ≡ [] → paths ≡ front
+pub all_left : (paths front : List (List ℕ)) (rest : Bor (List (List ℕ)))
+    → IsBehind paths front (Some rest) → rest.now ≡ [] → paths ≡ front
 all_left paths front rest is nothing = is ∙ ap (λ l. front ++ l) nothing ∙ append-nil front
 
-pub nothing_left : (paths front : List (List ℕ)) (rest : Bor (List (List ℕ))) → IsBehind paths front (Some rest) → paths ≡ front → rest.now ≡ []
-nothing_left paths front rest is same = append_cancel_left front rest.now [] (sym is ∙ same ∙ sym (append-nil front))
+pub nothing_left : (paths front : List (List ℕ)) (rest : Bor (List (List ℕ)))
+    → IsBehind paths front (Some rest) → paths ≡ front → rest.now ≡ []
+nothing_left paths front rest is same = append_cancel_left front rest.now []
+    (sym is ∙ same ∙ sym (append-nil front))
 
-pub step_some : (left next : Option (Bor (List (List ℕ)))) (rest : Bor (List (List ℕ))) (more : List (List ℕ)) → left ≡ Some rest → IsBehind rest.now more next → IsStep left more next
-step_some left next rest more is behind = subst (λ (o : Option (Bor (List (List ℕ)))). IsStep o more next) (sym is) behind
+pub step_some : (left next : Option (Bor (List (List ℕ)))) (rest : Bor (List (List ℕ)))
+    (more : List (List ℕ)) → left ≡ Some rest → IsBehind rest.now more next → IsStep left more next
+step_some left next rest more is behind =
+    subst (λ (o : Option (Bor (List (List ℕ)))). IsStep o more next) (sym is) behind
 
-pub step_none : (left next : Option (Bor (List (List ℕ)))) (more : List (List ℕ)) → left ≡ None → next ≡ None → IsStep left more next
-step_none left next more is none = subst (λ (o : Option (Bor (List (List ℕ)))). IsStep o more next) (sym is) none
+pub step_none : (left next : Option (Bor (List (List ℕ)))) (more : List (List ℕ)) → left ≡ None
+    → next ≡ None → IsStep left more next
+step_none left next more is none = subst (λ (o : Option (Bor (List (List ℕ)))). IsStep o more next)
+    (sym is) none
 
 -- what is left behind an element of a list
-pub element_some : (left next given : Option (Bor (List (List ℕ)))) (rest : Bor (List (List ℕ))) (paths : List (List ℕ)) (n : ℕ) (path : List ℕ) → n < length paths → path ≡ get_or paths n path
-    → left ≡ Some rest → IsBehind rest.now (path ∷ []) given → next ≡ given → IsStep left (get_or paths n [] ∷ []) next
+pub element_some : (left next given : Option (Bor (List (List ℕ)))) (rest : Bor (List (List ℕ)))
+    (paths : List (List ℕ)) (n : ℕ) (path : List ℕ) → n < length paths → path ≡ get_or paths n path
+    → left ≡ Some rest → IsBehind rest.now (path ∷ []) given → next ≡ given
+    → IsStep left (get_or paths n [] ∷ []) next
 element_some left next given rest paths n path low is some behind same =
-    let its : path ≡ get_or paths n [] = sym (get_or_from_slice_get paths n path [] (read_at paths n path low is)) in
-    step_some left next rest (get_or paths n [] ∷ []) some (subst (IsBehind rest.now (get_or paths n [] ∷ [])) (sym same) (subst (λ p. IsBehind rest.now (p ∷ []) given) its behind))
+    let its : path
+    ≡ get_or paths n [] =
+    sym (get_or_from_slice_get paths n path [] (read_at paths n path low is)) in
+    step_some left next rest (get_or paths n [] ∷ []) some
+    (subst (IsBehind rest.now (get_or paths n [] ∷ [])) (sym same)
+    (subst (λ p. IsBehind rest.now (p ∷ []) given) its behind))
 
-pub element_none : (left next : Option (Bor (List (List ℕ)))) (paths : List (List ℕ)) (n : ℕ) → left ≡ None → next ≡ None → IsStep left (get_or paths n [] ∷ []) next
+pub element_none : (left next : Option (Bor (List (List ℕ)))) (paths : List (List ℕ)) (n : ℕ) → left
+    ≡ None → next ≡ None → IsStep left (get_or paths n [] ∷ []) next
 element_none left next paths n none same = step_none left next (get_or paths n [] ∷ []) none same
 
 -- an output of an input is used or not
-pub used_step : (inputs : List Input) (place : ℕ) (used : Drv) (seeds paths : List (List ℕ)) (lent : List OutputStruct) (n : ℕ) (output : OutputStruct) (text : List ℕ) (told : Bool) (left next : Option (Bor (List (List ℕ))))
-    → map output_of lent ≡ used.outputs → paths ≡ output_paths_of used → n < length paths → output ≡ get_or lent n output → text ≡ output.name.items
+pub used_step : (inputs : List Input) (place : ℕ) (used : Drv) (seeds paths : List (List ℕ))
+    (lent : List OutputStruct) (n : ℕ) (output : OutputStruct) (text : List ℕ) (told : Bool)
+    (left next : Option (Bor (List (List ℕ))))
+    → map output_of lent ≡ used.outputs → paths ≡ output_paths_of used → n < length paths → output
+    ≡ get_or lent n output → text ≡ output.name.items
     → IfSome (slice_get inputs place) (λ used. IsTrue told ↔ Contains used.names text)
     → ((told ≡ true) × IsStep left (get_or paths n [] ∷ []) next) ⊎ ((told ≡ false) × (next ≡ left))
-    → ((input : Input) → slice_get inputs place ≡ Some input → IsBehind seeds (first_named input.names used.outputs n) left)
-    → (input : Input) → slice_get inputs place ≡ Some input → IsBehind seeds (first_named input.names used.outputs (n + 1)) next
-used_step inputs place used seeds paths lent n output text told left next view are low is_output is_text told_is either before input at_place =
+    → ((input : Input) → slice_get inputs place ≡ Some input
+    → IsBehind seeds (first_named input.names used.outputs n) left)
+    → (input : Input) → slice_get inputs place ≡ Some input
+    → IsBehind seeds (first_named input.names used.outputs (n + 1)) next
+used_step inputs place used seeds paths lent n output text told left next view are low is_output
+    is_text told_is either before input at_place =
     let below : n < length lent = omega (arith, low, outputs_count used paths lent view are) in
     let at : slice_get lent n ≡ Some output = read_at lent n output below is_output in
-    let named = subst (λ t. IfSome (slice_get inputs place) (λ used. IsTrue told ↔ Contains used.names t)) is_text told_is in
+    let named = subst (λ t. IfSome (slice_get inputs place)
+    (λ used. IsTrue told ↔ Contains used.names t)) is_text told_is in
     let there = output_at lent used n output view at in
     let is_named = at_input inputs place input told output.name.items at_place named in
     ⊎_elim
     (λ is_used.
-    let its : get_or paths n [] ≡ output.path.items = path_at paths used n (get_or paths n []) (output_of output) are (slice_get-get_or paths n [] low) there in
-    subst (λ l. IsBehind seeds l next) (sym (first_more input.names used.outputs n (output_of output) true there (is_named ∙ is_used.0)))
-    (behind_step seeds (first_named input.names used.outputs n) (output.path.items ∷ []) left next (before input at_place) (subst (λ p. IsStep left (p ∷ []) next) its is_used.1)))
+    let its : get_or paths n [] ≡ output.path.items =
+    path_at paths used n (get_or paths n []) (output_of output) are
+    (slice_get-get_or paths n [] low) there in
+    subst (λ l. IsBehind seeds l next)
+    (sym (first_more input.names used.outputs n (output_of output) true there
+    (is_named ∙ is_used.0)))
+    (behind_step seeds (first_named input.names used.outputs n) (output.path.items ∷ []) left next
+    (before input at_place) (subst (λ p. IsStep left (p ∷ []) next) its is_used.1)))
     (λ unused.
     subst (λ o. IsBehind seeds (first_named input.names used.outputs (n + 1)) o) (sym unused.1)
-    (subst (λ l. IsBehind seeds l left) (sym (first_more input.names used.outputs n (output_of output) false there (is_named ∙ unused.0) ∙ append-nil (first_named input.names used.outputs n))) (before input at_place)))
+    (subst (λ l. IsBehind seeds l left)
+    (sym (first_more input.names used.outputs n (output_of output) false there
+    (is_named ∙ unused.0) ∙ append-nil (first_named input.names used.outputs n)))
+    (before input at_place)))
     either
 
 -- all outputs were seen
-pub used_all : (inputs : List Input) (place : ℕ) (used : Drv) (seeds : List (List ℕ)) (n : ℕ) (left : Option (Bor (List (List ℕ)))) → length used.outputs ≤ n
-    → ((input : Input) → slice_get inputs place ≡ Some input → IsBehind seeds (first_named input.names used.outputs n) left)
-    → (input : Input) → slice_get inputs place ≡ Some input → IsBehind seeds (paths_named input.names used) left
+pub used_all : (inputs : List Input) (place : ℕ) (used : Drv) (seeds : List (List ℕ)) (n : ℕ)
+    (left : Option (Bor (List (List ℕ)))) → length used.outputs ≤ n
+    → ((input : Input) → slice_get inputs place ≡ Some input
+    → IsBehind seeds (first_named input.names used.outputs n) left)
+    → (input : Input) → slice_get inputs place ≡ Some input
+    → IsBehind seeds (paths_named input.names used) left
 used_all inputs place used seeds n left all behind input at =
-    subst (λ l. IsBehind seeds (map (λ (o : Output). o.path) (filter (λ (o : Output). list_any (same_bytes o.name) input.names) l)) left) (take_all n used.outputs all) (behind input at)
+    subst (λ l. IsBehind seeds
+    (map (λ (o : Output). o.path)
+    (filter (λ (o : Output). list_any (same_bytes o.name) input.names) l)) left)
+    (take_all n used.outputs all) (behind input at)
 
 -- an input was seen
-pub input_step : (nodes : List Node) (d : ℕ) (drv used : Drv) (numbers : List ℕ) (place number : ℕ) (seeds : List (List ℕ)) (left next : Option (Bor (List (List ℕ)))) → AreDistinct (paths_of nodes)
-    → slice_get (drvs_of nodes) d ≡ Some drv → IfSome (slice_get nodes d) (λ node. AreNumbers nodes numbers (inputs_of node.drv)) → slice_get numbers place ≡ Some number
+pub input_step : (nodes : List Node) (d : ℕ) (drv used : Drv) (numbers : List ℕ) (place number : ℕ)
+    (seeds : List (List ℕ)) (left next : Option (Bor (List (List ℕ))))
+    → AreDistinct (paths_of nodes)
+    → slice_get (drvs_of nodes) d ≡ Some drv → IfSome (slice_get nodes d)
+    (λ node. AreNumbers nodes numbers (inputs_of node.drv)) → slice_get numbers place
+    ≡ Some number
     → slice_get (drvs_of nodes) number ≡ Some used → place < length drv.inputs
-    → ((input : Input) → slice_get drv.inputs place ≡ Some input → IsStep left (paths_named input.names used) next)
-    → ((node : Node) → slice_get nodes d ≡ Some node → IsBehind seeds (first_seeds nodes node place) left)
-    → (node : Node) → slice_get nodes d ≡ Some node → IsBehind seeds (first_seeds nodes node (place + 1)) next
-input_step nodes d drv used numbers place number seeds left next once is_drv are at_number at_used within step before node at =
+    → ((input : Input) → slice_get drv.inputs place ≡ Some input
+    → IsStep left (paths_named input.names used) next)
+    → ((node : Node) → slice_get nodes d ≡ Some node
+    → IsBehind seeds (first_seeds nodes node place) left)
+    → (node : Node) → slice_get nodes d ≡ Some node
+    → IsBehind seeds (first_seeds nodes node (place + 1)) next
+input_step nodes d drv used numbers place number seeds left next once is_drv are at_number at_used
+    within step before node at =
     let there = element_at drv.inputs place within in
     let after : List (List ℕ) = first_seeds nodes node place ++ paths_named there.0.names used in
     let more : after ≡ first_seeds nodes node (place + 1) =
-    input_added nodes d drv used numbers place number (first_seeds nodes node place) after once is_drv are at_number at_used within
-    (λ input is. ap (λ (i : Input). first_seeds nodes node place ++ paths_named i.names used) (one_input drv.inputs place there.0 input there.1 is))
-    (λ other is. ap (λ (x : Node). first_seeds nodes x place) (one_node nodes d node other at is)) node at in
-    subst (λ l. IsBehind seeds l next) more (behind_step seeds (first_seeds nodes node place) (paths_named there.0.names used) left next (before node at) (step there.0 there.1))
+    input_added nodes d drv used numbers place number (first_seeds nodes node place) after once
+    is_drv are at_number at_used within
+    (λ input is. ap (λ (i : Input). first_seeds nodes node place ++ paths_named i.names used)
+    (one_input drv.inputs place there.0 input there.1 is))
+    (λ other is. ap (λ (x : Node). first_seeds nodes x place) (one_node nodes d node other at is))
+    node at in
+    subst (λ l. IsBehind seeds l next) more
+    (behind_step seeds (first_seeds nodes node place) (paths_named there.0.names used) left next
+    (before node at) (step there.0 there.1))
   where
-    one_input : (inputs : List Input) (n : ℕ) (a b : Input) → slice_get inputs n ≡ Some a → slice_get inputs n ≡ Some b → a ≡ b
+    one_input : (inputs : List Input) (n : ℕ) (a b : Input) → slice_get inputs n ≡ Some a
+        → slice_get inputs n ≡ Some b → a ≡ b
     one_input inputs n a b is also = let both : Some a ≡ Some b = sym is ∙ also in cc
 
-    one_node : (nodes : List Node) (n : ℕ) (a b : Node) → slice_get nodes n ≡ Some a → slice_get nodes n ≡ Some b → a ≡ b
+    one_node : (nodes : List Node) (n : ℕ) (a b : Node) → slice_get nodes n ≡ Some a
+        → slice_get nodes n ≡ Some b → a ≡ b
     one_node nodes n a b is also = let both : Some a ≡ Some b = sym is ∙ also in cc
 
-pub input_some : (inputs : List Input) (place : ℕ) (used : Drv) (left next given : Option (Bor (List (List ℕ)))) (rest : Bor (List (List ℕ))) → left ≡ Some rest
-    → ((input : Input) → slice_get inputs place ≡ Some input → IsBehind rest.now (paths_named input.names used) given) → next ≡ given
-    → (input : Input) → slice_get inputs place ≡ Some input → IsStep left (paths_named input.names used) next
+pub input_some : (inputs : List Input) (place : ℕ) (used : Drv)
+    (left next given : Option (Bor (List (List ℕ)))) (rest : Bor (List (List ℕ))) → left ≡ Some rest
+    → ((input : Input) → slice_get inputs place ≡ Some input
+    → IsBehind rest.now (paths_named input.names used) given) → next ≡ given
+    → (input : Input) → slice_get inputs place ≡ Some input
+    → IsStep left (paths_named input.names used) next
 input_some inputs place used left next given rest some behind same input at =
-    step_some left next rest (paths_named input.names used) some (subst (IsBehind rest.now (paths_named input.names used)) (sym same) (behind input at))
+    step_some left next rest (paths_named input.names used) some
+    (subst (IsBehind rest.now (paths_named input.names used)) (sym same) (behind input at))
 
-pub input_none : (inputs : List Input) (place : ℕ) (used : Drv) (left next : Option (Bor (List (List ℕ)))) → left ≡ None → next ≡ None
-    → (input : Input) → slice_get inputs place ≡ Some input → IsStep left (paths_named input.names used) next
-input_none inputs place used left next none same input at = step_none left next (paths_named input.names used) none same
+pub input_none : (inputs : List Input) (place : ℕ) (used : Drv)
+    (left next : Option (Bor (List (List ℕ)))) → left ≡ None → next ≡ None
+    → (input : Input) → slice_get inputs place ≡ Some input
+    → IsStep left (paths_named input.names used) next
+input_none inputs place used left next none same input at =
+    step_none left next (paths_named input.names used) none same
 
 -- all inputs were seen
-pub seeds_left : (nodes : List Node) (d : ℕ) (numbers : List ℕ) (seeds : List (List ℕ)) (count : ℕ) (left : Option (Bor (List (List ℕ)))) → IfSome (slice_get nodes d) (λ node. AreNumbers nodes numbers (inputs_of node.drv))
-    → length numbers ≤ count → ((node : Node) → slice_get nodes d ≡ Some node → IsBehind seeds (first_seeds nodes node count) left)
+pub seeds_left : (nodes : List Node) (d : ℕ) (numbers : List ℕ) (seeds : List (List ℕ)) (count : ℕ)
+    (left : Option (Bor (List (List ℕ)))) → IfSome (slice_get nodes d)
+    (λ node. AreNumbers nodes numbers (inputs_of node.drv))
+    → length numbers ≤ count
+    → ((node : Node) → slice_get nodes d ≡ Some node
+    → IsBehind seeds (first_seeds nodes node count) left)
     → IfSome (slice_get nodes d) (λ node. IsBehind seeds (seeds_of nodes node.drv) left)
 seeds_left nodes d numbers seeds count left are all behind = by (slice_get nodes d) refl are
   where
-    by : (o : Option Node) → slice_get nodes d ≡ o → IfSome o (λ node. AreNumbers nodes numbers (inputs_of node.drv)) → IfSome o (λ node. IsBehind seeds (seeds_of nodes node.drv) left)
+    by : (o : Option Node) → slice_get nodes d ≡ o
+        → IfSome o (λ node. AreNumbers nodes numbers (inputs_of node.drv))
+        → IfSome o (λ node. IsBehind seeds (seeds_of nodes node.drv) left)
     by None is its = tt
     by (Some node) is its =
-        let counts : length numbers ≡ length (inputs_of node.drv) = numbers_length nodes numbers (inputs_of node.drv) its in
+        let counts : length numbers ≡ length (inputs_of node.drv) =
+        numbers_length nodes numbers (inputs_of node.drv) its in
         subst (λ l. IsBehind seeds (node.drv.sources ++ flat_map (named_outputs nodes) l) left)
-        (take_all count node.drv.inputs (omega (arith, all, counts, length-map node.drv.inputs (λ (i : Input). i.path))))
+        (take_all count node.drv.inputs
+        (omega (arith, all, counts, length-map node.drv.inputs (λ (i : Input). i.path))))
         (behind node is)
 
 -- whether just the seeds were there
-pub seeds_told : (nodes : List Node) (d : ℕ) (seeds : List (List ℕ)) (rest : Bor (List (List ℕ))) (told : Bool) → IfSome (slice_get nodes d) (λ node. IsBehind seeds (seeds_of nodes node.drv) (Some rest))
-    → IsTrue told ↔ (rest.now ≡ []) → IfSome (slice_get nodes d) (λ node. IsTrue told ↔ (seeds ≡ seeds_of nodes node.drv))
+pub seeds_told : (nodes : List Node) (d : ℕ) (seeds : List (List ℕ)) (rest : Bor (List (List ℕ)))
+    (told : Bool) → IfSome (slice_get nodes d)
+    (λ node. IsBehind seeds (seeds_of nodes node.drv) (Some rest))
+    → IsTrue told ↔ (rest.now ≡ []) → IfSome (slice_get nodes d)
+    (λ node. IsTrue told ↔ (seeds ≡ seeds_of nodes node.drv))
 seeds_told nodes d seeds rest told behind nothing = by (slice_get nodes d) behind
   where
-    by : (o : Option Node) → IfSome o (λ node. IsBehind seeds (seeds_of nodes node.drv) (Some rest)) → IfSome o (λ node. IsTrue told ↔ (seeds ≡ seeds_of nodes node.drv))
+    by : (o : Option Node) → IfSome o (λ node. IsBehind seeds (seeds_of nodes node.drv) (Some rest))
+        → IfSome o (λ node. IsTrue told ↔ (seeds ≡ seeds_of nodes node.drv))
     by None its = tt
-    by (Some node) its = (λ yes_told. all_left seeds (seeds_of nodes node.drv) rest its (nothing.0 yes_told), λ same. nothing.1 (nothing_left seeds (seeds_of nodes node.drv) rest its same))
+    by (Some node) its = (
+      λ yes_told. all_left seeds (seeds_of nodes node.drv) rest its (nothing.0 yes_told),
+      λ same. nothing.1 (nothing_left seeds (seeds_of nodes node.drv) rest its same),
+    )
 
-pub seeds_untold : (nodes : List Node) (d : ℕ) (seeds : List (List ℕ)) → IfSome (slice_get nodes d) (λ node. IsBehind seeds (seeds_of nodes node.drv) None)
+pub seeds_untold : (nodes : List Node) (d : ℕ) (seeds : List (List ℕ))
+    → IfSome (slice_get nodes d) (λ node. IsBehind seeds (seeds_of nodes node.drv) None)
     → IfSome (slice_get nodes d) (λ node. IsTrue false ↔ (seeds ≡ seeds_of nodes node.drv))
 seeds_untold nodes d seeds behind = by (slice_get nodes d) behind
   where
-    by : (o : Option Node) → IfSome o (λ node. IsBehind seeds (seeds_of nodes node.drv) None) → IfSome o (λ node. IsTrue false ↔ (seeds ≡ seeds_of nodes node.drv))
+    by : (o : Option Node) → IfSome o (λ node. IsBehind seeds (seeds_of nodes node.drv) None)
+        → IfSome o (λ node. IsTrue false ↔ (seeds ≡ seeds_of nodes node.drv))
     by None its = tt
-    by (Some node) its = (λ never. absurd (false≢true never), λ same. absurd (its [] (same ∙ sym (append-nil (seeds_of nodes node.drv)))))
+    by (Some node) its = (
+      λ never. absurd (false≢true never),
+      λ same. absurd (its [] (same ∙ sym (append-nil (seeds_of nodes node.drv)))),
+    )
 
-pub nothing_told : (paths : List (List ℕ)) (told : Bool) → told ≡ (length paths == 0) → IsTrue told ↔ (paths ≡ [])
+pub nothing_told : (paths : List (List ℕ)) (told : Bool) → told ≡ (length paths == 0) → IsTrue told
+    ↔ (paths ≡ [])
 nothing_told [] told is = (λ _. refl, λ _. is)
-nothing_told (path ∷ paths) told is =
-    (λ yes_told. let none : length (path ∷ paths) ≡ 0 = eqb-true _ _ (sym is ∙ yes_told) in absurd (omega arith), λ same. absurd cc)
+nothing_told (path ∷ paths) told is = (
+  λ yes_told. let none : length (path ∷ paths) ≡ 0 = eqb-true _ _ (sym is ∙ yes_told)
+      in absurd (omega arith),
+  λ same. absurd cc,
+)

@@ -14,11 +14,13 @@ use Rattle.sched_core.specs.Runs.{History, Run, state_in}
 use Rattle.sched_core.specs.States.{Phase, Idle, Begun, Ended, Broken, phase_by, phase_of, later, state, table, by_phase}
 
 -- what stands in a list with one element more stood there before, or is that element
-pub at_push : {X : Type 0} (xs : List X) (y x : X) (i : ℕ) → slice_get (xs ++ y ∷ []) i ≡ Some x → (slice_get xs i ≡ Some x) ⊎ ((i ≡ length xs) × (y ≡ x))
+pub at_push : {X : Type 0} (xs : List X) (y x : X) (i : ℕ) → slice_get (xs ++ y ∷ []) i ≡ Some x
+    → (slice_get xs i ≡ Some x) ⊎ ((i ≡ length xs) × (y ≡ x))
 at_push [] y x zero is = inr (refl, cc)
 at_push [] y x (suc i) is = absurd cc
 at_push (z ∷ zs) y x zero is = inl is
-at_push (z ∷ zs) y x (suc i) is = ⊎_elim (λ here. inl here) (λ last. inr (ap suc last.0, last.1)) (at_push zs y x i is)
+at_push (z ∷ zs) y x (suc i) is = ⊎_elim (λ here. inl here) (λ last. inr (ap suc last.0, last.1))
+    (at_push zs y x i is)
 
 later_first : (a b : Phase) → later a b ≡ Idle → a ≡ Idle
 later_first a Idle is = is
@@ -40,12 +42,15 @@ begin_is_no_rest d n is = by (eqb d d) (eqb_same d) is
     by false e is = absurd cc
 
 -- a derivation that rests has not begun
-pub idle_not_begun : (events : List Event) (d n i : ℕ) → phase_of events d ≡ Idle → slice_get events i ≡ Some (Begin d n) → ⊥
+pub idle_not_begun : (events : List Event) (d n i : ℕ) → phase_of events d ≡ Idle
+    → slice_get events i ≡ Some (Begin d n) → ⊥
 idle_not_begun [] d n i idle is = absurd cc
 idle_not_begun (e ∷ es) d n zero idle is =
     let same : e ≡ Begin d n = cc in
-    begin_is_no_rest d n (sym (ap (λ x. phase_by x d) same) ∙ later_first (phase_by e d) (phase_of es d) idle)
-idle_not_begun (e ∷ es) d n (suc i) idle is = idle_not_begun es d n i (later_second (phase_by e d) (phase_of es d) idle) is
+    begin_is_no_rest d n (sym (ap (λ x. phase_by x d) same)
+    ∙ later_first (phase_by e d) (phase_of es d) idle)
+idle_not_begun (e ∷ es) d n (suc i) idle is =
+    idle_not_begun es d n i (later_second (phase_by e d) (phase_of es d) idle) is
 
 ready_by_phase : (p : Phase) (s : State) → by_phase p s ≡ Ready → p ≡ Idle
 ready_by_phase Idle s is = refl
@@ -54,7 +59,8 @@ ready_by_phase Ended s is = absurd cc
 ready_by_phase (Broken reason) s is = absurd cc
 
 -- a derivation that is ready rests
-pub ready_is_idle : (run : Run) (history : History) (d : ℕ) → state_in run history d ≡ Ready → phase_of history.events d ≡ Idle
+pub ready_is_idle : (run : Run) (history : History) (d : ℕ) → state_in run history d ≡ Ready
+    → phase_of history.events d ≡ Idle
 unfolding state table
 ready_is_idle run history d is = ready_by_phase (phase_of history.events d) _ is
 
@@ -68,17 +74,31 @@ pub leases_below : LeasesBelow
 leases_below run _ (legal_opening entries journal) d n i is = absurd cc
 leases_below run _ (legal_begin history e legal within wanted ready) d n i is =
     ⊎_elim
-    (λ before. omega (arith, leases_below run history legal d n i before, begins_push history.events (Begin e (begins history.events))))
-    (λ last. let same : begins history.events ≡ n = cc in omega (arith, begins_begin history.events e (begins history.events)))
+    (λ before. omega (
+      arith,
+      leases_below run history legal d n i before,
+      begins_push history.events (Begin e (begins history.events)),
+    ))
+    (λ last. let same : begins history.events ≡ n = cc
+    in omega (arith, begins_begin history.events e (begins history.events)))
     (at_push history.events (Begin e (begins history.events)) (Begin d n) i is)
-leases_below run _ (legal_done history e lease node infos entry legal phase is_node allowed is_entry) d n i is =
+leases_below run _
+    (legal_done history e lease node infos entry legal phase is_node allowed is_entry) d n i is =
     ⊎_elim
-    (λ before. omega (arith, leases_below run history legal d n i before, begins_push history.events (Finish e lease)))
+    (λ before. omega (
+      arith,
+      leases_below run history legal d n i before,
+      begins_push history.events (Finish e lease),
+    ))
     (λ last. absurd cc)
     (at_push history.events (Finish e lease) (Begin d n) i is)
 leases_below run _ (legal_fail history e lease reason legal phase) d n i is =
     ⊎_elim
-    (λ before. omega (arith, leases_below run history legal d n i before, begins_push history.events (Fail e lease reason)))
+    (λ before. omega (
+      arith,
+      leases_below run history legal d n i before,
+      begins_push history.events (Fail e lease reason),
+    ))
     (λ last. absurd cc)
     (at_push history.events (Fail e lease reason) (Begin d n) i is)
 
@@ -86,7 +106,8 @@ pub leases_apart : LeasesApart
 leases_apart run _ (legal_opening entries journal) d e n i j is other = absurd cc
 leases_apart run _ (legal_begin history k legal within wanted ready) d e n i j is other =
     let count = begins history.events in
-    let before : (x m : ℕ) → slice_get history.events m ≡ Some (Begin x n) → n < count = λ x m there. leases_below run history legal x n m there in
+    let before : (x m : ℕ) → slice_get history.events m ≡ Some (Begin x n) → n
+    < count = λ x m there. leases_below run history legal x n m there in
     ⊎_elim
     (λ here. ⊎_elim
     (λ there. leases_apart run history legal d e n i j here there)
@@ -97,14 +118,20 @@ leases_apart run _ (legal_begin history k legal within wanted ready) d e n i j i
     (λ last. first.0 ∙ sym last.0)
     (at_push history.events (Begin k count) (Begin e n) j other))
     (at_push history.events (Begin k count) (Begin d n) i is)
-leases_apart run _ (legal_done history k lease node infos entry legal phase is_node allowed is_entry) d e n i j is other =
+leases_apart run _
+    (legal_done history k lease node infos entry legal phase is_node allowed is_entry) d e n i j is
+    other =
     leases_apart run history legal d e n i j
-    (⊎_elim (λ here. here) (λ last. absurd cc) (at_push history.events (Finish k lease) (Begin d n) i is))
-    (⊎_elim (λ here. here) (λ last. absurd cc) (at_push history.events (Finish k lease) (Begin e n) j other))
+    (⊎_elim (λ here. here) (λ last. absurd cc)
+    (at_push history.events (Finish k lease) (Begin d n) i is))
+    (⊎_elim (λ here. here) (λ last. absurd cc)
+    (at_push history.events (Finish k lease) (Begin e n) j other))
 leases_apart run _ (legal_fail history k lease reason legal phase) d e n i j is other =
     leases_apart run history legal d e n i j
-    (⊎_elim (λ here. here) (λ last. absurd cc) (at_push history.events (Fail k lease reason) (Begin d n) i is))
-    (⊎_elim (λ here. here) (λ last. absurd cc) (at_push history.events (Fail k lease reason) (Begin e n) j other))
+    (⊎_elim (λ here. here) (λ last. absurd cc)
+    (at_push history.events (Fail k lease reason) (Begin d n) i is))
+    (⊎_elim (λ here. here) (λ last. absurd cc)
+    (at_push history.events (Fail k lease reason) (Begin e n) j other))
 
 pub begins_once : BeginsOnce
 begins_once run _ (legal_opening entries journal) d n m i j is other = absurd cc
@@ -112,7 +139,8 @@ begins_once run _ (legal_begin history k legal within wanted ready) d n m i j is
     let count = begins history.events in
     let rests = ready_is_idle run history k ready in
     let apart : (x y : ℕ) → k ≡ d → slice_get history.events y ≡ Some (Begin d x) → ⊥ =
-    λ x y same there. idle_not_begun history.events d x y (subst (λ z. phase_of history.events z ≡ Idle) same rests) there in
+    λ x y same there. idle_not_begun history.events d x y
+    (subst (λ z. phase_of history.events z ≡ Idle) same rests) there in
     ⊎_elim
     (λ here. ⊎_elim
     (λ there. begins_once run history legal d n m i j here there)
@@ -123,11 +151,16 @@ begins_once run _ (legal_begin history k legal within wanted ready) d n m i j is
     (λ last. first.0 ∙ sym last.0)
     (at_push history.events (Begin k count) (Begin d m) j other))
     (at_push history.events (Begin k count) (Begin d n) i is)
-begins_once run _ (legal_done history k lease node infos entry legal phase is_node allowed is_entry) d n m i j is other =
+begins_once run _ (legal_done history k lease node infos entry legal phase is_node allowed is_entry)
+    d n m i j is other =
     begins_once run history legal d n m i j
-    (⊎_elim (λ here. here) (λ last. absurd cc) (at_push history.events (Finish k lease) (Begin d n) i is))
-    (⊎_elim (λ here. here) (λ last. absurd cc) (at_push history.events (Finish k lease) (Begin d m) j other))
+    (⊎_elim (λ here. here) (λ last. absurd cc)
+    (at_push history.events (Finish k lease) (Begin d n) i is))
+    (⊎_elim (λ here. here) (λ last. absurd cc)
+    (at_push history.events (Finish k lease) (Begin d m) j other))
 begins_once run _ (legal_fail history k lease reason legal phase) d n m i j is other =
     begins_once run history legal d n m i j
-    (⊎_elim (λ here. here) (λ last. absurd cc) (at_push history.events (Fail k lease reason) (Begin d n) i is))
-    (⊎_elim (λ here. here) (λ last. absurd cc) (at_push history.events (Fail k lease reason) (Begin d m) j other))
+    (⊎_elim (λ here. here) (λ last. absurd cc)
+    (at_push history.events (Fail k lease reason) (Begin d n) i is))
+    (⊎_elim (λ here. here) (λ last. absurd cc)
+    (at_push history.events (Fail k lease reason) (Begin d m) j other))

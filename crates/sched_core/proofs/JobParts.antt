@@ -20,29 +20,36 @@ use Rattle.sched_core.proofs.Places.{element_at}
 use Rattle.sched_core.proofs.SeedParts.{read_at, take_next}
 
 -- The first outputs, so many, with their paths.
-pub record AreMade (outputs : List OutputStruct) (paths : List (List ℕ)) (made : List JobOutput) (count : ℕ) : Type 0 where
+pub record AreMade (outputs : List OutputStruct) (paths : List (List ℕ)) (made : List JobOutput)
+    (count : ℕ) : Type 0 where
   pub names : named_texts made ≡ output_texts (take count outputs)
   pub paths_are : paths_of_outputs made ≡ take count paths
 
-pub made_more : (outputs : List OutputStruct) (paths : List (List ℕ)) (made : List JobOutput) (n : ℕ) (output : OutputStruct) (path : List ℕ) (one : JobOutput)
-    → n < length paths → length paths ≡ length outputs → output ≡ get_or outputs n output → path ≡ get_or paths n path
-    → one.name.items ≡ output.name.items → one.path ≡ path → AreMade outputs paths made n → AreMade outputs paths (made ++ one ∷ []) (n + 1)
+pub made_more : (outputs : List OutputStruct) (paths : List (List ℕ)) (made : List JobOutput)
+    (n : ℕ) (output : OutputStruct) (path : List ℕ) (one : JobOutput)
+    → n < length paths → length paths ≡ length outputs → output ≡ get_or outputs n output → path
+    ≡ get_or paths n path
+    → one.name.items ≡ output.name.items → one.path ≡ path → AreMade outputs paths made n
+    → AreMade outputs paths (made ++ one ∷ []) (n + 1)
 made_more outputs paths made n output path one low same is_output is_path name its before =
     let name_of = λ (o : OutputStruct). o.name.items in
-    let at_output : slice_get outputs n ≡ Some output = read_at outputs n output (omega (arith, low, same)) is_output in
+    let at_output : slice_get outputs n ≡ Some output =
+    read_at outputs n output (omega (arith, low, same)) is_output in
     let at_path : slice_get paths n ≡ Some path = read_at paths n path low is_path in
     record {
       names = map_push (λ (o : JobOutput). o.name.items) made one
           ∙ ap (λ l. l ++ one.name.items ∷ []) before.names
           ∙ ap (λ t. output_texts (take n outputs) ++ t ∷ []) name
-          ∙ sym (ap output_texts (take_next outputs n output at_output) ∙ map_push name_of (take n outputs) output);
+          ∙ sym (ap output_texts (take_next outputs n output at_output)
+          ∙ map_push name_of (take n outputs) output);
       paths_are = map_push (λ (o : JobOutput). o.path) made one
           ∙ ap (λ l. l ++ one.path ∷ []) before.paths_are
           ∙ ap (λ p. take n paths ++ p ∷ []) its
           ∙ sym (take_next paths n path at_path);
     }
 
-pub made_all : (outputs : List OutputStruct) (paths : List (List ℕ)) (made : List JobOutput) (n : ℕ) → length paths ≤ n → length paths ≡ length outputs → AreMade outputs paths made n
+pub made_all : (outputs : List OutputStruct) (paths : List (List ℕ)) (made : List JobOutput) (n : ℕ)
+    → length paths ≤ n → length paths ≡ length outputs → AreMade outputs paths made n
     → (named_texts made ≡ output_texts outputs) × (paths_of_outputs made ≡ paths)
 made_all outputs paths made n all same are = (
   are.names ∙ ap output_texts (take_all n outputs (omega (arith, all, same))),
@@ -50,39 +57,61 @@ made_all outputs paths made n all same are = (
 )
 
 -- there is a path for each output
-pub paths_count : (nodes : List Node) (d : ℕ) (drv : Drv) (lent : List OutputStruct) (paths : List (List ℕ)) → d < length nodes → slice_get (drvs_of nodes) d ≡ Some drv
-    → map output_of lent ≡ drv.outputs → IfSome (slice_get nodes d) (λ node. paths ≡ output_paths_of node.drv) → length paths ≡ length lent
+pub paths_count : (nodes : List Node) (d : ℕ) (drv : Drv) (lent : List OutputStruct)
+    (paths : List (List ℕ)) → d < length nodes → slice_get (drvs_of nodes) d ≡ Some drv
+    → map output_of lent ≡ drv.outputs → IfSome (slice_get nodes d)
+    (λ node. paths ≡ output_paths_of node.drv) → length paths ≡ length lent
 paths_count nodes d drv lent paths low is_drv view are =
     let there = element_at nodes d low in
-    let its : paths ≡ output_paths_of there.0.drv = subst (λ (o : Option Node). IfSome o (λ (n : Node). paths ≡ output_paths_of n.drv)) there.1 are in
+    let its : paths ≡ output_paths_of there.0.drv =
+    subst (λ (o : Option Node). IfSome o (λ (n : Node). paths ≡ output_paths_of n.drv)) there.1
+    are in
     let same : drv ≡ there.0.drv = drv_is nodes d drv there.0 there.1 is_drv in
     let many : length paths ≡ length (output_paths_of there.0.drv) = ap length its in
-    let size : length drv.outputs ≡ length there.0.drv.outputs = ap (λ (x : Drv). length x.outputs) same in
+    let size : length drv.outputs ≡ length there.0.drv.outputs =
+    ap (λ (x : Drv). length x.outputs) same in
     let lent_size : length (map output_of lent) ≡ length drv.outputs = ap length view in
-    omega (arith, many, size, lent_size, length-map lent output_of, length-map there.0.drv.outputs (λ (o : Output). o.path))
+    omega (
+      arith,
+      many,
+      size,
+      lent_size,
+      length-map lent output_of,
+      length-map there.0.drv.outputs (λ (o : Output). o.path),
+    )
 
 -- a job whose parts are those of the derivation is its job
-pub job_is : (graph : Graph) (d : ℕ) (drv : Drv) (lent : List OutputStruct) (paths : List (List ℕ)) (copy : Parts) (job : Job)
+pub job_is : (graph : Graph) (d : ℕ) (drv : Drv) (lent : List OutputStruct) (paths : List (List ℕ))
+    (copy : Parts) (job : Job)
     → d < length graph.nodes → slice_get (drvs_of graph.nodes) d ≡ Some drv
-    → map output_of lent ≡ drv.outputs → IfSome (slice_get graph.nodes d) (λ node. paths ≡ output_paths_of node.drv)
+    → map output_of lent ≡ drv.outputs → IfSome (slice_get graph.nodes d)
+    (λ node. paths ≡ output_paths_of node.drv)
     → named_texts job.outputs.items ≡ output_texts lent → paths_of_outputs job.outputs.items ≡ paths
-    → drv_of copy ≡ drv → job.derivation ≡ d → job.builder ≡ copy.builder → job.args ≡ copy.args → job.env ≡ copy.env
+    → drv_of copy ≡ drv → job.derivation ≡ d → job.builder ≡ copy.builder → job.args ≡ copy.args
+    → job.env ≡ copy.env
     → IfSome (slice_get graph.nodes d) (λ node. HasKind node.drv job.kind)
     → IfSome (slice_get graph.nodes d) (λ node. job.seeds.items ≡ seeds_of graph.nodes node.drv)
     → IsJob graph d job
-job_is graph d drv lent paths copy job low is_drv view are names made same number builder args env kind seeds =
+job_is graph d drv lent paths copy job low is_drv view are names made same number builder args env
+    kind seeds =
     let there = element_at graph.nodes d low in
-    let is_node : drv_of copy ≡ there.0.drv = same ∙ drv_is graph.nodes d drv there.0 there.1 is_drv in
+    let is_node : drv_of copy ≡ there.0.drv = same ∙ drv_is graph.nodes d drv there.0 there.1 is_drv
+    in
     let own : drv ≡ there.0.drv = drv_is graph.nodes d drv there.0 there.1 is_drv in
     record {
       node = there.0;
       is_node = there.1;
       derivation = number;
       builder = ap (λ v. v.items) builder ∙ ap (λ (x : Drv). x.builder) is_node;
-      args = ap (λ v. (drv_of (record copy { args = v })).args) args ∙ ap (λ (x : Drv). x.args) is_node;
+      args = ap (λ v. (drv_of (record copy { args = v })).args) args
+          ∙ ap (λ (x : Drv). x.args) is_node;
       env = ap (λ v. (drv_of (record copy { env = v })).env) env ∙ ap (λ (x : Drv). x.env) is_node;
-      names = names ∙ sym (map-map (λ (o : Output). o.name) output_of lent) ∙ ap (map (λ (o : Output). o.name)) (view ∙ ap (λ (x : Drv). x.outputs) own);
-      paths = made ∙ subst (λ (o : Option Node). IfSome o (λ (n : Node). paths ≡ output_paths_of n.drv)) there.1 are;
-      kind = subst (λ (o : Option Node). IfSome o (λ (n : Node). HasKind n.drv job.kind)) there.1 kind;
-      seeds = subst (λ (o : Option Node). IfSome o (λ (n : Node). job.seeds.items ≡ seeds_of graph.nodes n.drv)) there.1 seeds;
+      names = names ∙ sym (map-map (λ (o : Output). o.name) output_of lent)
+          ∙ ap (map (λ (o : Output). o.name)) (view ∙ ap (λ (x : Drv). x.outputs) own);
+      paths = made ∙ subst (λ (o : Option Node).
+          IfSome o (λ (n : Node). paths ≡ output_paths_of n.drv)) there.1 are;
+      kind = subst (λ (o : Option Node). IfSome o (λ (n : Node). HasKind n.drv job.kind)) there.1
+          kind;
+      seeds = subst (λ (o : Option Node). IfSome o
+          (λ (n : Node). job.seeds.items ≡ seeds_of graph.nodes n.drv)) there.1 seeds;
     }

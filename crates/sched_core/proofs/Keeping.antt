@@ -48,13 +48,17 @@ states_same : (a b : Rows) → AreSame a b → (n : ℕ) → states a n ≡ stat
 unfolding states
 states_same a b same zero = refl
 states_same a b same (suc n) =
-    rw (states_same a b same n) (ap (λ s. states b n ++ s ∷ []) (table_rows a b same (λ i. slice_index_or (states b n) i Blocked) n))
+    rw (states_same a b same n)
+    (ap (λ s. states b n ++ s ∷ [])
+    (table_rows a b same (λ i. slice_index_or (states b n) i Blocked) n))
 
 state_same : (a b : Rows) → AreSame a b → (d : ℕ) → state a d ≡ state b d
 unfolding state
-state_same a b same d = rw (states_same a b same d) (table_rows a b same (λ i. slice_index_or (states b d) i Blocked) d)
+state_same a b same d = rw (states_same a b same d)
+    (table_rows a b same (λ i. slice_index_or (states b d) i Blocked) d)
 
-rows_same : (system : List ℕ) (history : History) (course : Course) (given room : ℕ) → IsKept system history course given room
+rows_same : (system : List ℕ) (history : History) (course : Course) (given room : ℕ)
+    → IsKept system history course given room
     → AreSame (course_rows course) (rows_of (run_over course system) history.opening history.events)
 rows_same system history course given room kept =
     record {
@@ -63,20 +67,25 @@ rows_same system history course given room kept =
           (λ below. kept.standings.each d below)
           (λ past.
           get_or_past course.standings d Free (omega (arith, kept.standings.count))
-          ∙ sym (ap (standing_at system history.opening) (slice_get_past course.graph.nodes d past)))
+          ∙ sym (ap (standing_at system history.opening)
+          (slice_get_past course.graph.nodes d past)))
           (cases_lt d (length course.graph.nodes));
       phase = kept.phases;
     }
 
 -- a course tells the states
-pub states_told : (system : List ℕ) (history : History) (course : Course) (given room : ℕ) → IsKept system history course given room
+pub states_told : (system : List ℕ) (history : History) (course : Course) (given room : ℕ)
+    → IsKept system history course given room
     → (d : ℕ) → course_state course d ≡ state_in (run_over course system) history d
 states_told system history course given room kept d =
-    state_same (course_rows course) (rows_of (run_over course system) history.opening history.events) (rows_same system history course given room kept) d
+    state_same (course_rows course)
+    (rows_of (run_over course system) history.opening history.events)
+    (rows_same system history course given room kept) d
 
 -- ---- what can be begun, and what has begun
 
-pub can_begin : (system : List ℕ) (history : History) (course : Course) (given room : ℕ) → IsKept system history course given room
+pub can_begin : (system : List ℕ) (history : History) (course : Course) (given room : ℕ)
+    → IsKept system history course given room
     → (d : ℕ) → IsNext course d → CanBegin (run_over course system) history d
 can_begin system history course given room kept d next =
     record {
@@ -85,21 +94,30 @@ can_begin system history course given room kept d next =
       ready = sym (states_told system history course given room kept d) ∙ next.2;
     }
 
-pub is_next : (system : List ℕ) (history : History) (course : Course) (given room : ℕ) → IsKept system history course given room
+pub is_next : (system : List ℕ) (history : History) (course : Course) (given room : ℕ)
+    → IsKept system history course given room
     → (d : ℕ) → CanBegin (run_over course system) history d → IsNext course d
-is_next system history course given room kept d can =
-    (can.within, kept.wanted.no d can.wanted, states_told system history course given room kept d ∙ can.ready)
+is_next system history course given room kept d can = (
+  can.within,
+  kept.wanted.no d can.wanted,
+  states_told system history course given room kept d
+      ∙ can.ready,
+)
 
-pub settled_told : (system : List ℕ) (history : History) (course : Course) (given room : ℕ) → IsKept system history course given room
+pub settled_told : (system : List ℕ) (history : History) (course : Course) (given room : ℕ)
+    → IsKept system history course given room
     → IsSettled course ↔ IsRunSettled (run_over course system) history
 settled_told system history course given room kept = (
   λ settled d within wanted still.
-      settled d within (kept.wanted.no d wanted) (subst IsOpen (sym (states_told system history course given room kept d)) still),
+      settled d within (kept.wanted.no d wanted)
+      (subst IsOpen (sym (states_told system history course given room kept d)) still),
   λ settled d within wanted still.
-      settled d within (kept.wanted.yes d wanted) (subst IsOpen (states_told system history course given room kept d) still),
+      settled d within (kept.wanted.yes d wanted)
+      (subst IsOpen (states_told system history course given room kept d) still),
 )
 
-pub has_begun : (system : List ℕ) (history : History) (course : Course) (given room : ℕ) → IsKept system history course given room
+pub has_begun : (system : List ℕ) (history : History) (course : Course) (given room : ℕ)
+    → IsKept system history course given room
     → (d lease : ℕ) → phase_of history.events d ≡ Begun lease → HasBegun course d
 has_begun system history course given room kept d lease is =
     ⊎_elim
@@ -116,171 +134,253 @@ not_by_first (Some input) all lease is = absurd cc
 not_by_first None true lease is = absurd cc
 not_by_first None false lease is = absurd cc
 
-not_by_standing : (standing : Standing) (found : Option ℕ) (all : Bool) (lease : ℕ) → by_standing standing (by_first found all) ≡ Building lease → ⊥
+not_by_standing : (standing : Standing) (found : Option ℕ) (all : Bool) (lease : ℕ)
+    → by_standing standing (by_first found all) ≡ Building lease → ⊥
 not_by_standing AllValid found all lease is = absurd cc
 not_by_standing (Hindered cause) found all lease is = absurd cc
 not_by_standing Free found all lease is = not_by_first found all lease is
 
 begun_by_phase : (p : Phase) (standing : Standing) (found : Option ℕ) (all : Bool) (lease : ℕ)
     → by_phase p (by_standing standing (by_first found all)) ≡ Building lease → p ≡ Begun lease
-begun_by_phase Idle standing found all lease is = absurd (not_by_standing standing found all lease is)
+begun_by_phase Idle standing found all lease is =
+    absurd (not_by_standing standing found all lease is)
 begun_by_phase (Begun n) standing found all lease is = cc
 begun_by_phase Ended standing found all lease is = absurd cc
 begun_by_phase (Broken reason) standing found all lease is = absurd cc
 
-pub begun_from_building : (run : Run) (history : History) (d lease : ℕ) → state_in run history d ≡ Building lease → phase_of history.events d ≡ Begun lease
+pub begun_from_building : (run : Run) (history : History) (d lease : ℕ) → state_in run history d
+    ≡ Building lease → phase_of history.events d ≡ Begun lease
 unfolding state table
-begun_from_building run history d lease is = begun_by_phase (phase_of history.events d) _ _ _ lease is
+begun_from_building run history d lease is = begun_by_phase (phase_of history.events d) _ _ _ lease
+    is
 
-pub building_from_begun : (run : Run) (history : History) (d lease : ℕ) → phase_of history.events d ≡ Begun lease → state_in run history d ≡ Building lease
+pub building_from_begun : (run : Run) (history : History) (d lease : ℕ) → phase_of history.events d
+    ≡ Begun lease → state_in run history d ≡ Building lease
 unfolding state table
 building_from_begun run history d lease is = rw is refl
 
 -- ---- one event more
 
 -- by an event of a derivation it alone stands elsewhere
-phases_set : (phases : List Phase) (events : List Event) (d : ℕ) (event : Event) (p : Phase) → d < length phases
+phases_set : (phases : List Phase) (events : List Event) (d : ℕ) (event : Event) (p : Phase) → d
+    < length phases
     → ((e : ℕ) → slice_index_or phases e Idle ≡ phase_of events e)
     → ((e : ℕ) → phase_by event e ≡ (if d == e then p else Idle)) → ((q : Phase) → later q p ≡ p)
     → (e : ℕ) → slice_index_or (slice_set phases d p) e Idle ≡ phase_of (events ++ event ∷ []) e
 phases_set phases events d event p within before own last e =
     by (eqb d e) refl
   where
-    by : (same : Bool) → eqb d e ≡ same → slice_index_or (slice_set phases d p) e Idle ≡ phase_of (events ++ event ∷ []) e
+    by : (same : Bool) → eqb d e ≡ same → slice_index_or (slice_set phases d p) e Idle
+        ≡ phase_of (events ++ event ∷ []) e
     by true is =
         get_or-set_at phases d e p Idle (sym (eqb_yes (subst T (sym is) tt))) within
-        ∙ sym (phase_push events event e ∙ ap (later (phase_of events e)) (own e ∙ ap (λ b. if b then p else Idle) is) ∙ last (phase_of events e))
+        ∙ sym (phase_push events event e ∙ ap (later (phase_of events e))
+        (own e ∙ ap (λ b. if b then p else Idle) is) ∙ last (phase_of events e))
     by false is =
-        let other : e ≢ d = λ same. let yes : eqb d e ≡ true = subst (λ x. eqb d x ≡ true) (sym same) (eqb_same d) in let no : true ≡ false = sym yes ∙ is in absurd cc in
+        let other : e ≢ d = λ same. let yes : eqb d e
+        ≡ true = subst (λ x. eqb d x ≡ true) (sym same) (eqb_same d) in let no : true
+        ≡ false = sym yes ∙ is in absurd cc in
         get_or-set_other phases d e p Idle other ∙ before e
-        ∙ sym (phase_push events event e ∙ ap (later (phase_of events e)) (own e ∙ ap (λ b. if b then p else Idle) is))
+        ∙ sym (phase_push events event e ∙ ap (later (phase_of events e))
+        (own e ∙ ap (λ b. if b then p else Idle) is))
 
-room_set : (phases : List Phase) (events : List Event) (d room : ℕ) (event : Event) (p : Phase) → d < length phases
-    → events_left p + 1 ≤ events_left (slice_index_or phases d Idle) → length events + sum_by events_left phases ≤ room
+room_set : (phases : List Phase) (events : List Event) (d room : ℕ) (event : Event) (p : Phase) → d
+    < length phases
+    → events_left p + 1 ≤ events_left (slice_index_or phases d Idle) → length events
+    + sum_by events_left phases ≤ room
     → length (events ++ event ∷ []) + sum_by events_left (slice_set phases d p) ≤ room
 room_set phases events d room event p within less fits =
-    omega (arith, sum_by-set events_left phases d p Idle within, length_push events event, less, fits)
+    omega (
+      arith,
+      sum_by-set events_left phases d p Idle within,
+      length_push events event,
+      less,
+      fits,
+    )
 
 -- what is kept behind one event more
-behind_event : (system : List ℕ) (before after : History) (course : Course) (given more room d : ℕ) (event : Event) (p : Phase)
+behind_event : (system : List ℕ) (before after : History) (course : Course) (given more room d : ℕ)
+    (event : Event) (p : Phase)
     → IsKept system before course given room → IsLegal (run_over course system) after
-    → after.opening ≡ before.opening → after.events ≡ before.events ++ event ∷ [] → more ≡ begins after.events
+    → after.opening ≡ before.opening → after.events ≡ before.events ++ event ∷ [] → more
+    ≡ begins after.events
     → ((e : ℕ) → phase_by event e ≡ (if d == e then p else Idle)) → ((q : Phase) → later q p ≡ p)
     → d < length course.phases → events_left p + 1 ≤ events_left (phase_of before.events d)
     → IsKept system after (record course { phases = slice_set course.phases d p }) more room
-behind_event system before after course given more room d event p kept legal opening events counted own last within less =
+behind_event system before after course given more room d event p kept legal opening events counted
+    own last within less =
     record {
       legal = legal;
-      standings = subst (λ es. AreStandings system es course.graph.nodes course.standings) (sym opening) kept.standings;
-      wanted = subst (λ es. AreWanted (run_over course system) es course.wanted) (sym opening) kept.wanted;
+      standings = subst (λ es. AreStandings system es course.graph.nodes course.standings)
+          (sym opening) kept.standings;
+      wanted = subst (λ es. AreWanted (run_over course system) es course.wanted) (sym opening)
+          kept.wanted;
       count = length-set course.phases d p ∙ kept.count;
       phases = λ e.
           phases_set course.phases before.events d event p within kept.phases own last e
           ∙ sym (ap (λ es. phase_of es e) events);
       given_is = counted;
       has_room =
-          subst (λ es. length es + sum_by events_left (slice_set course.phases d p) ≤ room) (sym events)
-          (room_set course.phases before.events d room event p within (subst (λ q. events_left p + 1 ≤ events_left q) (sym (kept.phases d)) less) kept.has_room);
+          subst (λ es. length es + sum_by events_left (slice_set course.phases d p) ≤ room)
+          (sym events)
+          (room_set course.phases before.events d room event p within
+          (subst (λ q. events_left p + 1 ≤ events_left q) (sym (kept.phases d)) less)
+          kept.has_room);
     }
 
-begins_by : (events : List Event) (event : Event) → begins (events ++ event ∷ []) ≡ begins events + (if is_begin event then 1 else 0)
+begins_by : (events : List Event) (event : Event) → begins (events ++ event ∷ []) ≡ begins events
+    + (if is_begin event then 1 else 0)
 begins_by events event = sum_by_push (λ x. if is_begin x then 1 else 0) events event
 
-pub begin_kept : (system : List ℕ) (opening : ℕ) (entries : List Entry) (events after : List Event) (course later_course : Course) (given room later_room d : ℕ)
-    → IsKept system (history_of opening entries events) course given room → CanBegin (run_over course system) (history_of opening entries events) d
-    → after ≡ events ++ Begin d given ∷ [] → later_course ≡ record course { phases = slice_set course.phases d (Begun given) } → later_room ≡ room
+pub begin_kept : (system : List ℕ) (opening : ℕ) (entries : List Entry) (events after : List Event)
+    (course later_course : Course) (given room later_room d : ℕ)
+    → IsKept system (history_of opening entries events) course given room
+    → CanBegin (run_over course system) (history_of opening entries events) d
+    → after ≡ events ++ Begin d given ∷ [] → later_course
+    ≡ record course { phases = slice_set course.phases d (Begun given) } → later_room ≡ room
     → IsKept system (history_of opening entries after) later_course (given + 1) later_room
-begin_kept system opening entries events after course later_course given room later_room d kept can pushed set_ same =
+begin_kept system opening entries events after course later_course given room later_room d kept can
+    pushed set_ same =
     let history = history_of opening entries events in
     let event = Begin d given in
-    let numbered : after ≡ events ++ Begin d (begins events) ∷ [] = pushed ∙ ap (λ n. events ++ Begin d n ∷ []) kept.given_is in
+    let numbered : after ≡ events ++ Begin d (begins events) ∷ [] = pushed
+    ∙ ap (λ n. events ++ Begin d n ∷ []) kept.given_is in
     let legal = legal_begin history d kept.legal can.within can.wanted can.ready in
     let idle = ready_is_idle (run_over course system) history d can.ready in
-    let counted : given + 1 ≡ begins after = rw pushed (omega (arith, kept.given_is, begins_by events event)) in
+    let counted : given + 1 ≡ begins after = rw pushed
+    (omega (arith, kept.given_is, begins_by events event)) in
     rw (set_, same)
-    (behind_event system history (history_of opening entries after) course given (given + 1) room d event (Begun given) kept
-    (subst (λ es. IsLegal (run_over course system) (history_of opening entries es)) (sym numbered) legal)
-    refl pushed counted (λ e. refl) (λ q. refl) (omega (arith, can.within, kept.count)) (rw idle (omega arith)))
+    (behind_event system history (history_of opening entries after) course given (given + 1) room d
+    event (Begun given) kept
+    (subst (λ es. IsLegal (run_over course system) (history_of opening entries es)) (sym numbered)
+    legal)
+    refl pushed counted (λ e. refl) (λ q. refl) (omega (arith, can.within, kept.count))
+    (rw idle (omega arith)))
 
-pub fail_kept : (system : List ℕ) (opening : ℕ) (entries : List Entry) (events after : List Event) (course later_course : Course) (given room later_room d lease : ℕ) (reason : Reason)
-    → IsKept system (history_of opening entries events) course given room → phase_of events d ≡ Begun lease
-    → after ≡ events ++ Fail d lease reason ∷ [] → later_course ≡ record course { phases = slice_set course.phases d (Broken reason) } → later_room ≡ room
+pub fail_kept : (system : List ℕ) (opening : ℕ) (entries : List Entry) (events after : List Event)
+    (course later_course : Course) (given room later_room d lease : ℕ) (reason : Reason)
+    → IsKept system (history_of opening entries events) course given room → phase_of events d
+    ≡ Begun lease
+    → after ≡ events ++ Fail d lease reason ∷ [] → later_course
+    ≡ record course { phases = slice_set course.phases d (Broken reason) } → later_room ≡ room
     → IsKept system (history_of opening entries after) later_course given later_room
-fail_kept system opening entries events after course later_course given room later_room d lease reason kept is pushed set_ same =
+fail_kept system opening entries events after course later_course given room later_room d lease
+    reason kept is pushed set_ same =
     let history = history_of opening entries events in
     let event = Fail d lease reason in
     let legal = legal_fail history d lease reason kept.legal is in
-    let counted : given ≡ begins after = rw pushed (omega (arith, kept.given_is, begins_by events event)) in
+    let counted : given ≡ begins after = rw pushed
+    (omega (arith, kept.given_is, begins_by events event)) in
     let within = (has_begun system history course given room kept d lease is).0 in
     rw (set_, same)
-    (behind_event system history (history_of opening entries after) course given given room d event (Broken reason) kept
-    (subst (λ es. IsLegal (run_over course system) (history_of opening entries es)) (sym pushed) legal)
-    refl pushed counted (λ e. refl) (λ q. refl) (omega (arith, within, kept.count)) (rw is (omega arith)))
+    (behind_event system history (history_of opening entries after) course given given room d event
+    (Broken reason) kept
+    (subst (λ es. IsLegal (run_over course system) (history_of opening entries es)) (sym pushed)
+    legal)
+    refl pushed counted (λ e. refl) (λ q. refl) (omega (arith, within, kept.count))
+    (rw is (omega arith)))
 
-pub finish_kept : (system : List ℕ) (opening : ℕ) (entries more : List Entry) (events after : List Event) (course later_course : Course) (given room later_room d lease : ℕ)
+pub finish_kept : (system : List ℕ) (opening : ℕ) (entries more : List Entry)
+    (events after : List Event) (course later_course : Course) (given room later_room d lease : ℕ)
     (infos : List PathInfo) (entry : Entry)
-    → IsKept system (history_of opening entries events) course given room → opening ≤ length entries → phase_of events d ≡ Begun lease
+    → IsKept system (history_of opening entries events) course given room → opening ≤ length entries
+    → phase_of events d ≡ Begun lease
     → IsDone (run_over course system) entries d infos entry
-    → more ≡ entries ++ entry ∷ [] → after ≡ events ++ Finish d lease ∷ [] → later_course ≡ record course { phases = slice_set course.phases d Ended } → later_room ≡ room
+    → more ≡ entries ++ entry ∷ [] → after ≡ events ++ Finish d lease ∷ [] → later_course
+    ≡ record course { phases = slice_set course.phases d Ended } → later_room ≡ room
     → IsKept system (history_of opening more after) later_course given later_room
-finish_kept system opening entries more events after course later_course given room later_room d lease infos entry kept opened is done added pushed set_ same =
+finish_kept system opening entries more events after course later_course given room later_room d
+    lease infos entry kept opened is done added pushed set_ same =
     let history = history_of opening entries events in
     let event = Finish d lease in
-    let legal = legal_done history d lease done.node infos entry kept.legal is done.is_node done.allowed done.is_entry in
-    let stays : take opening (entries ++ entry ∷ []) ≡ take opening entries = take-append-le opening entries (entry ∷ []) opened in
-    let now : IsLegal (run_over course system) (history_of opening (entries ++ entry ∷ []) (events ++ event ∷ [])) =
-    subst (λ first. IsLegal (run_over course system) (record { opening = first; entries = entries ++ entry ∷ []; events = events ++ event ∷ [] })) (sym stays) legal in
-    let counted : given ≡ begins after = rw pushed (omega (arith, kept.given_is, begins_by events event)) in
+    let legal = legal_done history d lease done.node infos entry kept.legal is done.is_node
+    done.allowed done.is_entry in
+    let stays : take opening (entries ++ entry ∷ [])
+    ≡ take opening entries = take-append-le opening entries (entry ∷ []) opened in
+    let now : IsLegal (run_over course system)
+    (history_of opening (entries ++ entry ∷ []) (events ++ event ∷ [])) =
+    subst (λ first. IsLegal (run_over course system)
+    (record {
+      opening = first;
+      entries = entries ++ entry ∷ [];
+      events = events ++ event ∷ [];
+    })) (sym stays) legal in
+    let counted : given ≡ begins after = rw pushed
+    (omega (arith, kept.given_is, begins_by events event)) in
     let within = (has_begun system history course given room kept d lease is).0 in
     rw (set_, same)
-    (behind_event system history (history_of opening more after) course given given room d event Ended kept
+    (behind_event system history (history_of opening more after) course given given room d event
+    Ended kept
     (rw (added, pushed) now)
-    (ap (take opening) added ∙ stays) pushed counted (λ e. refl) (λ q. refl) (omega (arith, within, kept.count)) (rw is (omega arith)))
+    (ap (take opening) added ∙ stays) pushed counted (λ e. refl) (λ q. refl)
+    (omega (arith, within, kept.count)) (rw is (omega arith)))
 
 -- there is room for the event of a derivation that can still have one
-room_for : (system : List ℕ) (history : History) (course : Course) (given room : ℕ) → IsKept system history course given room
-    → (d : ℕ) → d < length course.graph.nodes → 0 < events_left (phase_of history.events d) → length history.events < room
+room_for : (system : List ℕ) (history : History) (course : Course) (given room : ℕ)
+    → IsKept system history course given room
+    → (d : ℕ) → d < length course.graph.nodes → 0 < events_left (phase_of history.events d)
+    → length history.events < room
 room_for system history course given room kept d within some =
-    let own : events_left (slice_index_or course.phases d Idle) ≡ events_left (phase_of history.events d) = ap events_left (kept.phases d) in
-    omega (arith, own, some, kept.has_room, sum_by-set events_left course.phases d Ended Idle (omega (arith, kept.count)))
+    let own : events_left (slice_index_or course.phases d Idle)
+    ≡ events_left (phase_of history.events d) = ap events_left (kept.phases d) in
+    omega (
+      arith,
+      own,
+      some,
+      kept.has_room,
+      sum_by-set events_left course.phases d Ended Idle
+          (omega (arith, kept.count)),
+    )
 
-pub room_to_begin : (system : List ℕ) (history : History) (course : Course) (given room : ℕ) → IsKept system history course given room
+pub room_to_begin : (system : List ℕ) (history : History) (course : Course) (given room : ℕ)
+    → IsKept system history course given room
     → (d : ℕ) → CanBegin (run_over course system) history d → length history.events < room
 room_to_begin system history course given room kept d can =
     let idle = ready_is_idle (run_over course system) history d can.ready in
     room_for system history course given room kept d can.within (rw idle (omega arith))
 
-pub room_to_end : (system : List ℕ) (history : History) (course : Course) (given room : ℕ) → IsKept system history course given room
+pub room_to_end : (system : List ℕ) (history : History) (course : Course) (given room : ℕ)
+    → IsKept system history course given room
     → (d lease : ℕ) → phase_of history.events d ≡ Begun lease → length history.events < room
 room_to_end system history course given room kept d lease is =
-    room_for system history course given room kept d (has_begun system history course given room kept d lease is).0 (rw is (omega arith))
+    room_for system history course given room kept d
+    (has_begun system history course given room kept d lease is).0 (rw is (omega arith))
 
 -- what is known of an answer, weakened
-pub match_weaker : {X : Type 0} {P R : Type 0} {Q S : X → Type 0} (o : Option X) → MatchOption o P Q → (P → R) → ((x : X) → Q x → S x) → MatchOption o R S
+pub match_weaker : {X : Type 0} {P R : Type 0} {Q S : X → Type 0} (o : Option X) → MatchOption o P Q
+    → (P → R) → ((x : X) → Q x → S x) → MatchOption o R S
 match_weaker None is none some = none is
 match_weaker (Some x) is none some = some x is
 
 -- ---- whether a lease is out
 
-pub building_told : (system : List ℕ) (history : History) (course : Course) (given room : ℕ) → IsKept system history course given room
-    → (d lease number : ℕ) → course_state course d ≡ Building lease → IsTrue (eqb lease number) ↔ (phase_of history.events d ≡ Begun number)
+pub building_told : (system : List ℕ) (history : History) (course : Course) (given room : ℕ)
+    → IsKept system history course given room
+    → (d lease number : ℕ) → course_state course d ≡ Building lease → IsTrue (eqb lease number)
+    ↔ (phase_of history.events d ≡ Begun number)
 building_told system history course given room kept d lease number is =
     let begun_is : phase_of history.events d ≡ Begun lease =
-    begun_from_building (run_over course system) history d lease (sym (states_told system history course given room kept d) ∙ is) in (
+    begun_from_building (run_over course system) history d lease
+    (sym (states_told system history course given room kept d) ∙ is) in (
       λ yes. begun_is ∙ ap Begun (eqb_yes (subst T (sym yes) tt)),
-      λ other. let same : Begun lease ≡ Begun number = sym begun_is ∙ other in let one : lease ≡ number = cc in subst (λ n. IsTrue (eqb lease n)) one (eqb_same lease),
+      λ other. let same : Begun lease ≡ Begun number = sym begun_is ∙ other in let one : lease
+          ≡ number = cc in subst (λ n. IsTrue (eqb lease n)) one (eqb_same lease),
     )
 
-pub not_building : (system : List ℕ) (history : History) (course : Course) (given room : ℕ) → IsKept system history course given room
-    → (d number : ℕ) → ((lease : ℕ) → course_state course d ≡ Building lease → ⊥) → phase_of history.events d ≡ Begun number → ⊥
+pub not_building : (system : List ℕ) (history : History) (course : Course) (given room : ℕ)
+    → IsKept system history course given room
+    → (d number : ℕ) → ((lease : ℕ) → course_state course d ≡ Building lease → ⊥)
+    → phase_of history.events d ≡ Begun number → ⊥
 not_building system history course given room kept d number none is =
-    none number (states_told system history course given room kept d ∙ building_from_begun (run_over course system) history d number is)
+    none number (states_told system history course given room kept d
+    ∙ building_from_begun (run_over course system) history d number is)
 
 -- ---- the opening
 
 room_of_idle : (phases : List Phase) → sum_by events_left phases ≤ 2 * length phases
 room_of_idle [] = omega arith
-room_of_idle (p ∷ ps) = let rest = room_of_idle ps in let own = at_most p in omega (arith, sum_by-cons events_left p ps)
+room_of_idle (p ∷ ps) = let rest = room_of_idle ps in let own = at_most p
+    in omega (arith, sum_by-cons events_left p ps)
   where
     at_most : (p : Phase) → events_left p ≤ 2
     at_most Idle = omega arith
@@ -288,18 +388,24 @@ room_of_idle (p ∷ ps) = let rest = room_of_idle ps in let own = at_most p in o
     at_most Ended = omega arith
     at_most (Broken reason) = omega arith
 
-pub opening_kept : (system : List ℕ) (opening room : ℕ) (entries : List Entry) (events : List Event) (course : Course) (graph : Graph) (standings : List Standing) (wanted : List Bool)
+pub opening_kept : (system : List ℕ) (opening room : ℕ) (entries : List Entry) (events : List Event)
+    (course : Course) (graph : Graph) (standings : List Standing) (wanted : List Bool)
     → IsJournal entries → opening ≡ length entries → events ≡ []
     → AreStandings system entries graph.nodes standings
-    → ((run : Run) (first : List Entry) → run.graph ≡ graph → AreStandings run.system first graph.nodes standings → AreWanted run first wanted)
-    → course.graph ≡ graph → course.standings ≡ standings → course.wanted ≡ wanted → length course.phases ≡ length graph.nodes
+    → ((run : Run) (first : List Entry) → run.graph ≡ graph
+    → AreStandings run.system first graph.nodes standings → AreWanted run first wanted)
+    → course.graph ≡ graph → course.standings ≡ standings → course.wanted ≡ wanted
+    → length course.phases ≡ length graph.nodes
     → ((d : ℕ) → slice_index_or course.phases d Idle ≡ Idle) → 2 * length standings ≤ room
     → IsKept system (history_of opening entries events) course 0 room
-opening_kept system opening room entries events course graph standings wanted journal counted none stand want is_graph is_standings is_wanted count idle room_is =
-    let all : take opening entries ≡ entries = ap (λ n. take n entries) counted ∙ take-length entries in
+opening_kept system opening room entries events course graph standings wanted journal counted none
+    stand want is_graph is_standings is_wanted count idle room_is =
+    let all : take opening entries ≡ entries = ap (λ n. take n entries) counted
+    ∙ take-length entries in
     let run = run_over course system in
     let start : IsLegal run (history_of opening entries []) =
-    subst (λ first. IsLegal run (record { opening = first; entries = entries; events = [] })) (sym all) (legal_opening entries journal) in
+    subst (λ first. IsLegal run (record { opening = first; entries = entries; events = [] }))
+    (sym all) (legal_opening entries journal) in
     rw none
     (record {
       legal = start;
@@ -311,7 +417,9 @@ opening_kept system opening room entries events course graph standings wanted jo
       has_room = omega (arith, room_of_idle course.phases, count, stand.count, room_is);
     })
 
-pub report_told : (system : List ℕ) (history : History) (course : Course) (given room : ℕ) → IsKept system history course given room
+pub report_told : (system : List ℕ) (history : History) (course : Course) (given room : ℕ)
+    → IsKept system history course given room
     → (text : List ℕ) → IsReportOf course text → IsReportIn (run_over course system) history text
 report_told system history course given room kept text report =
-    report_in (run_over course system) history course text refl kept.wanted (states_told system history course given room kept) report
+    report_in (run_over course system) history course text refl kept.wanted
+    (states_told system history course given room kept) report

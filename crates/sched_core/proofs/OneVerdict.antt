@@ -21,14 +21,17 @@ none_or_some : {X : Type 0} (o : Option X) (x : X) → o ≡ None → o ≡ Some
 none_or_some o x none some = let clash : None ≡ Some x = sym none ∙ some in absurd cc
 
 -- there is one first number
-one_first : (Holds : ℕ → Type 0) (count n m : ℕ) → IsFirstNumber Holds count n → IsFirstNumber Holds count m → n ≡ m
+one_first : (Holds : ℕ → Type 0) (count n m : ℕ) → IsFirstNumber Holds count n
+    → IsFirstNumber Holds count m → n ≡ m
 one_first Holds count n m first first' =
     ⊎_elim (λ e. e)
-    (λ apart. ⊎_elim (λ below. absurd (first'.none n below first.holds)) (λ below. absurd (first.none m below first'.holds)) apart)
+    (λ apart. ⊎_elim (λ below. absurd (first'.none n below first.holds))
+    (λ below. absurd (first.none m below first'.holds)) apart)
     (either_side n m)
 
 -- lists are one where they are as long and have the same at each place
-same_list : {X : Type 0} (xs ys : List X) → length xs ≡ length ys → ((n : ℕ) (x y : X) → slice_get xs n ≡ Some x → slice_get ys n ≡ Some y → x ≡ y) → xs ≡ ys
+same_list : {X : Type 0} (xs ys : List X) → length xs ≡ length ys
+    → ((n : ℕ) (x y : X) → slice_get xs n ≡ Some x → slice_get ys n ≡ Some y → x ≡ y) → xs ≡ ys
 same_list [] [] long same = refl
 same_list [] (y ∷ ys) long same = absurd (omega arith)
 same_list (x ∷ xs) [] long same = absurd (omega arith)
@@ -38,7 +41,8 @@ same_list (x ∷ xs) (y ∷ ys) long same =
     cc
 
 -- a tree has one record
-one_record : (permitted : List (List ℕ)) (tree : Tree) (a b : PathInfo) → IsRecordOf permitted tree a → IsRecordOf permitted tree b → a ≡ b
+one_record : (permitted : List (List ℕ)) (tree : Tree) (a b : PathInfo)
+    → IsRecordOf permitted tree a → IsRecordOf permitted tree b → a ≡ b
 one_record permitted tree a b of of' =
     let found = rising_same a.references b.references of.found.rising of'.found.rising (λ path. (
       λ has. (of'.found.each path).1 ((of.found.each path).0 has),
@@ -48,15 +52,20 @@ one_record permitted tree a b of of' =
     λ i. record { references = found i; digest = digest i }
 
 -- a tree has one fault
-one_tree_fault : (kind : Kind) (tree : Tree) (a b : Reason) → TreeFault kind tree a → TreeFault kind tree b → a ≡ b
+one_tree_fault : (kind : Kind) (tree : Tree) (a b : Reason) → TreeFault kind tree a
+    → TreeFault kind tree b → a ≡ b
 one_tree_fault kind tree _ _ (too_large not_fit) (too_large not_fit') = refl
 one_tree_fault kind tree _ _ (too_large not_fit) (not_flat fits none) = absurd (not_fit fits)
-one_tree_fault kind tree _ _ (too_large not_fit) (mismatched found fits some) = absurd (not_fit fits)
+one_tree_fault kind tree _ _ (too_large not_fit) (mismatched found fits some) =
+    absurd (not_fit fits)
 one_tree_fault kind tree _ _ (not_flat fits none) (too_large not_fit) = absurd (not_fit fits)
 one_tree_fault kind tree _ _ (not_flat fits none) (not_flat fits' none') = refl
-one_tree_fault kind tree _ _ (not_flat fits none) (mismatched found fits' some) = absurd (none_or_some (digest_of tree) found none some)
-one_tree_fault kind tree _ _ (mismatched found fits some) (too_large not_fit) = absurd (not_fit fits)
-one_tree_fault kind tree _ _ (mismatched found fits some) (not_flat fits' none) = absurd (none_or_some (digest_of tree) found none some)
+one_tree_fault kind tree _ _ (not_flat fits none) (mismatched found fits' some) =
+    absurd (none_or_some (digest_of tree) found none some)
+one_tree_fault kind tree _ _ (mismatched found fits some) (too_large not_fit) =
+    absurd (not_fit fits)
+one_tree_fault kind tree _ _ (mismatched found fits some) (not_flat fits' none) =
+    absurd (none_or_some (digest_of tree) found none some)
 one_tree_fault kind tree _ _ (mismatched found fits some) (mismatched found' fits' some') = refl
 
 module _ (job : Job) (permitted : List (List ℕ)) (answer : Answer) where
@@ -64,12 +73,17 @@ module _ (job : Job) (permitted : List (List ℕ)) (answer : Answer) where
   data Outcome : Result (List PathInfo) Reason → Type 0 where
     killed : answer.status ≡ None → Outcome (Err Killed)
     exited : (n : ℤ) → answer.status ≡ Some n → n ≢ pos 0 → Outcome (Err (ExitStatus n))
-    missing : (n : ℕ) → answer.status ≡ Some (pos 0) → IsFirstNumber (λ m. tree_at answer m ≡ None) (length job.outputs.items) n → Outcome (Err (MissingOutput n))
+    missing : (n : ℕ) → answer.status ≡ Some (pos 0)
+        → IsFirstNumber (λ m. tree_at answer m ≡ None) (length job.outputs.items) n
+        → Outcome (Err (MissingOutput n))
     faulty : (why : Reason) → IsThere job answer → IsFirstFault job answer why → Outcome (Err why)
-    cyclic : (infos : List PathInfo) → IsTaken job answer → AreRecords job permitted answer infos → IsCyclic (outputs_of job) infos → Outcome (Err OutputCycle)
-    well : (infos : List PathInfo) → IsTaken job answer → AreRecords job permitted answer infos → (IsCyclic (outputs_of job) infos → ⊥) → Outcome (Ok infos)
+    cyclic : (infos : List PathInfo) → IsTaken job answer → AreRecords job permitted answer infos
+        → IsCyclic (outputs_of job) infos → Outcome (Err OutputCycle)
+    well : (infos : List PathInfo) → IsTaken job answer → AreRecords job permitted answer infos
+        → (IsCyclic (outputs_of job) infos → ⊥) → Outcome (Ok infos)
 
-  outcome_of : (result : Result (List PathInfo) Reason) → IsVerdict job permitted answer result → Outcome result
+  outcome_of : (result : Result (List PathInfo) Reason) → IsVerdict job permitted answer result
+      → Outcome result
   outcome_of (Ok infos) (taken, records, acyclic) = well infos taken records acyclic
   outcome_of (Err Killed) ended = killed ended
   outcome_of (Err (ExitStatus n)) (ended, apart) = exited n ended apart
@@ -82,19 +96,25 @@ module _ (job : Job) (permitted : List (List ℕ)) (answer : Answer) where
   outcome_of (Err ReadFault) none = absurd none
   outcome_of (Err OutOfMemory) none = absurd none
 
-  one_list : (a b : List PathInfo) → AreRecords job permitted answer a → AreRecords job permitted answer b → a ≡ b
+  one_list : (a b : List PathInfo) → AreRecords job permitted answer a
+      → AreRecords job permitted answer b → a ≡ b
   one_list a b records records' =
       same_list a b (records.count ∙ sym records'.count) (λ n x y at at'.
       let of = records.each n x at in
       let of' = records'.each n y at' in
-      one_record permitted of'.0 x y (subst (λ (t : Tree). IsRecordOf permitted t x) (one_tree answer n of.0 of'.0 of.1 of'.1) of.2) of'.2)
+      one_record permitted of'.0 x y
+      (subst (λ (t : Tree). IsRecordOf permitted t x) (one_tree answer n of.0 of'.0 of.1 of'.1)
+      of.2) of'.2)
 
   one_fault : (a b : Reason) → IsFirstFault job answer a → IsFirstFault job answer b → a ≡ b
   one_fault a b (n, first, (tree, at, fault)) (m, first', (tree', at', fault')) =
-      let place : n ≡ m = one_first (λ k. (why : Reason) × IsFaulty job answer why k) (length job.outputs.items) n m first first' in
-      let same : tree ≡ tree' = one_tree answer m tree tree' (subst (λ k. tree_at answer k ≡ Some tree) place at) at' in
+      let place : n ≡ m = one_first (λ k. (why : Reason) × IsFaulty job answer why k)
+      (length job.outputs.items) n m first first' in
+      let same : tree ≡ tree' = one_tree answer m tree tree'
+      (subst (λ k. tree_at answer k ≡ Some tree) place at) at' in
       one_tree_fault job.kind tree' a b
-      (tree_fault_cases job.kind tree' a (subst (λ (t : Tree). IsTreeFault job.kind t a) same fault))
+      (tree_fault_cases job.kind tree' a
+      (subst (λ (t : Tree). IsTreeFault job.kind t a) same fault))
       (tree_fault_cases job.kind tree' b fault')
 
   one : (a b : Result (List PathInfo) Reason) → Outcome a → Outcome b → a ≡ b
@@ -102,38 +122,71 @@ module _ (job : Job) (permitted : List (List ℕ)) (answer : Answer) where
   one _ _ (killed e) (exited n2 e2 apart2) = absurd (none_or_some answer.status _ e e2)
   one _ _ (killed e) (missing n2 e2 first2) = absurd (none_or_some answer.status _ e e2)
   one _ _ (killed e) (faulty why2 there2 fault2) = absurd (none_or_some answer.status _ e there2.0)
-  one _ _ (killed e) (cyclic infos2 taken2 records2 round2) = absurd (none_or_some answer.status _ e taken2.0.0)
-  one _ _ (killed e) (well infos2 taken2 records2 acyclic2) = absurd (none_or_some answer.status _ e taken2.0.0)
+  one _ _ (killed e) (cyclic infos2 taken2 records2 round2) =
+      absurd (none_or_some answer.status _ e taken2.0.0)
+  one _ _ (killed e) (well infos2 taken2 records2 acyclic2) =
+      absurd (none_or_some answer.status _ e taken2.0.0)
   one _ _ (exited n e apart) (killed e2) = absurd (none_or_some answer.status _ e2 e)
-  one _ _ (exited n e apart) (exited n2 e2 apart2) = ap (λ k. Err (ExitStatus k)) (some_is_one answer.status n n2 e e2)
-  one _ _ (exited n e apart) (missing n2 e2 first2) = absurd (apart (some_is_one answer.status n (pos 0) e e2))
-  one _ _ (exited n e apart) (faulty why2 there2 fault2) = absurd (apart (some_is_one answer.status n (pos 0) e there2.0))
-  one _ _ (exited n e apart) (cyclic infos2 taken2 records2 round2) = absurd (apart (some_is_one answer.status n (pos 0) e taken2.0.0))
-  one _ _ (exited n e apart) (well infos2 taken2 records2 acyclic2) = absurd (apart (some_is_one answer.status n (pos 0) e taken2.0.0))
+  one _ _ (exited n e apart) (exited n2 e2 apart2) =
+      ap (λ k. Err (ExitStatus k)) (some_is_one answer.status n n2 e e2)
+  one _ _ (exited n e apart) (missing n2 e2 first2) =
+      absurd (apart (some_is_one answer.status n (pos 0) e e2))
+  one _ _ (exited n e apart) (faulty why2 there2 fault2) =
+      absurd (apart (some_is_one answer.status n (pos 0) e there2.0))
+  one _ _ (exited n e apart) (cyclic infos2 taken2 records2 round2) =
+      absurd (apart (some_is_one answer.status n (pos 0) e taken2.0.0))
+  one _ _ (exited n e apart) (well infos2 taken2 records2 acyclic2) =
+      absurd (apart (some_is_one answer.status n (pos 0) e taken2.0.0))
   one _ _ (missing n e first) (killed e2) = absurd (none_or_some answer.status _ e2 e)
-  one _ _ (missing n e first) (exited n2 e2 apart2) = absurd (apart2 (some_is_one answer.status n2 (pos 0) e2 e))
-  one _ _ (missing n e first) (missing n2 e2 first2) = ap (λ k. Err (MissingOutput k)) (one_first (λ m. tree_at answer m ≡ None) (length job.outputs.items) n n2 first first2)
-  one _ _ (missing n e first) (faulty why2 there2 fault2) = absurd (there2.1 n first.within first.holds)
-  one _ _ (missing n e first) (cyclic infos2 taken2 records2 round2) = absurd (taken2.0.1 n first.within first.holds)
-  one _ _ (missing n e first) (well infos2 taken2 records2 acyclic2) = absurd (taken2.0.1 n first.within first.holds)
+  one _ _ (missing n e first) (exited n2 e2 apart2) =
+      absurd (apart2 (some_is_one answer.status n2 (pos 0) e2 e))
+  one _ _ (missing n e first) (missing n2 e2 first2) =
+      ap (λ k. Err (MissingOutput k))
+      (one_first (λ m. tree_at answer m ≡ None) (length job.outputs.items) n n2 first first2)
+  one _ _ (missing n e first) (faulty why2 there2 fault2) =
+      absurd (there2.1 n first.within first.holds)
+  one _ _ (missing n e first) (cyclic infos2 taken2 records2 round2) =
+      absurd (taken2.0.1 n first.within first.holds)
+  one _ _ (missing n e first) (well infos2 taken2 records2 acyclic2) =
+      absurd (taken2.0.1 n first.within first.holds)
   one _ _ (faulty why there fault) (killed e2) = absurd (none_or_some answer.status _ e2 there.0)
-  one _ _ (faulty why there fault) (exited n2 e2 apart2) = absurd (apart2 (some_is_one answer.status n2 (pos 0) e2 there.0))
-  one _ _ (faulty why there fault) (missing n2 e2 first2) = absurd (there.1 n2 first2.within first2.holds)
-  one _ _ (faulty why there fault) (faulty why2 there2 fault2) = ap Err (one_fault why why2 fault fault2)
-  one _ _ (faulty why there fault) (cyclic infos2 taken2 records2 round2) = absurd (taken2.1 fault.0 why fault.1.within fault.2)
-  one _ _ (faulty why there fault) (well infos2 taken2 records2 acyclic2) = absurd (taken2.1 fault.0 why fault.1.within fault.2)
-  one _ _ (cyclic infos taken records round) (killed e2) = absurd (none_or_some answer.status _ e2 taken.0.0)
-  one _ _ (cyclic infos taken records round) (exited n2 e2 apart2) = absurd (apart2 (some_is_one answer.status n2 (pos 0) e2 taken.0.0))
-  one _ _ (cyclic infos taken records round) (missing n2 e2 first2) = absurd (taken.0.1 n2 first2.within first2.holds)
-  one _ _ (cyclic infos taken records round) (faulty why2 there2 fault2) = absurd (taken.1 fault2.0 why2 fault2.1.within fault2.2)
+  one _ _ (faulty why there fault) (exited n2 e2 apart2) =
+      absurd (apart2 (some_is_one answer.status n2 (pos 0) e2 there.0))
+  one _ _ (faulty why there fault) (missing n2 e2 first2) =
+      absurd (there.1 n2 first2.within first2.holds)
+  one _ _ (faulty why there fault) (faulty why2 there2 fault2) =
+      ap Err (one_fault why why2 fault fault2)
+  one _ _ (faulty why there fault) (cyclic infos2 taken2 records2 round2) =
+      absurd (taken2.1 fault.0 why fault.1.within fault.2)
+  one _ _ (faulty why there fault) (well infos2 taken2 records2 acyclic2) =
+      absurd (taken2.1 fault.0 why fault.1.within fault.2)
+  one _ _ (cyclic infos taken records round) (killed e2) =
+      absurd (none_or_some answer.status _ e2 taken.0.0)
+  one _ _ (cyclic infos taken records round) (exited n2 e2 apart2) =
+      absurd (apart2 (some_is_one answer.status n2 (pos 0) e2 taken.0.0))
+  one _ _ (cyclic infos taken records round) (missing n2 e2 first2) =
+      absurd (taken.0.1 n2 first2.within first2.holds)
+  one _ _ (cyclic infos taken records round) (faulty why2 there2 fault2) =
+      absurd (taken.1 fault2.0 why2 fault2.1.within fault2.2)
   one _ _ (cyclic infos taken records round) (cyclic infos2 taken2 records2 round2) = refl
-  one _ _ (cyclic infos taken records round) (well infos2 taken2 records2 acyclic2) = absurd (acyclic2 (subst (IsCyclic (outputs_of job)) (one_list infos infos2 records records2) round))
-  one _ _ (well infos taken records acyclic) (killed e2) = absurd (none_or_some answer.status _ e2 taken.0.0)
-  one _ _ (well infos taken records acyclic) (exited n2 e2 apart2) = absurd (apart2 (some_is_one answer.status n2 (pos 0) e2 taken.0.0))
-  one _ _ (well infos taken records acyclic) (missing n2 e2 first2) = absurd (taken.0.1 n2 first2.within first2.holds)
-  one _ _ (well infos taken records acyclic) (faulty why2 there2 fault2) = absurd (taken.1 fault2.0 why2 fault2.1.within fault2.2)
-  one _ _ (well infos taken records acyclic) (cyclic infos2 taken2 records2 round2) = absurd (acyclic (subst (IsCyclic (outputs_of job)) (one_list infos2 infos records2 records) round2))
-  one _ _ (well infos taken records acyclic) (well infos2 taken2 records2 acyclic2) = ap Ok (one_list infos infos2 records records2)
+  one _ _ (cyclic infos taken records round) (well infos2 taken2 records2 acyclic2) =
+      absurd (acyclic2
+      (subst (IsCyclic (outputs_of job)) (one_list infos infos2 records records2) round))
+  one _ _ (well infos taken records acyclic) (killed e2) =
+      absurd (none_or_some answer.status _ e2 taken.0.0)
+  one _ _ (well infos taken records acyclic) (exited n2 e2 apart2) =
+      absurd (apart2 (some_is_one answer.status n2 (pos 0) e2 taken.0.0))
+  one _ _ (well infos taken records acyclic) (missing n2 e2 first2) =
+      absurd (taken.0.1 n2 first2.within first2.holds)
+  one _ _ (well infos taken records acyclic) (faulty why2 there2 fault2) =
+      absurd (taken.1 fault2.0 why2 fault2.1.within fault2.2)
+  one _ _ (well infos taken records acyclic) (cyclic infos2 taken2 records2 round2) =
+      absurd (acyclic
+      (subst (IsCyclic (outputs_of job)) (one_list infos2 infos records2 records) round2))
+  one _ _ (well infos taken records acyclic) (well infos2 taken2 records2 acyclic2) =
+      ap Ok (one_list infos infos2 records records2)
 
 pub has_one_verdict : HasOneVerdict
-has_one_verdict job permitted answer a b verdict verdict' = one job permitted answer a b (outcome_of job permitted answer a verdict) (outcome_of job permitted answer b verdict')
+has_one_verdict job permitted answer a b verdict verdict' =
+    one job permitted answer a b (outcome_of job permitted answer a verdict)
+    (outcome_of job permitted answer b verdict')

@@ -27,26 +27,35 @@ use Rattle.sched_core.specs.declared.standing.Standing.{Standing}
 use Rattle.sched_core.specs.declared.standing.Standing.TheVariants.{Free}
 
 -- what a look-up tells of a path
-pub told_valid : (told : Bool) (entries : List Entry) (path : List ℕ) → IsTrue told ↔ IsValid (registered entries) path → told ≡ is_valid entries path
-told_valid true entries path (there, back) = sym (list_any-from_Contains nat_list_eq_equiv path (paths_of (registered entries)) (there refl))
+pub told_valid : (told : Bool) (entries : List Entry) (path : List ℕ) → IsTrue told
+    ↔ IsValid (registered entries) path → told ≡ is_valid entries path
+told_valid true entries path (there, back) = sym
+    (list_any-from_Contains nat_list_eq_equiv path (paths_of (registered entries)) (there refl))
 told_valid false entries path (there, back) = by (is_valid entries path) refl
   where
     by : (b : Bool) → is_valid entries path ≡ b → false ≡ b
-    by true is = absurd (false≢true (back (Contains-from_any equal_from_eq path (paths_of (registered entries)) is)))
+    by true is = absurd
+        (false≢true
+        (back (Contains-from_any equal_from_eq path (paths_of (registered entries)) is)))
     by false is = refl
 
 -- The first standings, so many.
-pub record AreFirst (system : List ℕ) (entries : List Entry) (nodes : List Node) (standings : List Standing) (count : ℕ) : Type 0 where
+pub record AreFirst (system : List ℕ) (entries : List Entry) (nodes : List Node)
+    (standings : List Standing) (count : ℕ) : Type 0 where
   pub length_is : length standings ≡ count
-  pub each : (k : ℕ) → k < count → slice_index_or standings k Free ≡ standing_at system entries (slice_get nodes k)
+  pub each : (k : ℕ) → k < count → slice_index_or standings k Free
+      ≡ standing_at system entries (slice_get nodes k)
 
-pub one_more_standing : (system : List ℕ) (entries : List Entry) (nodes : List Node) (standings : List Standing) (d : ℕ) (standing : Standing)
-    → AreFirst system entries nodes standings d → standing ≡ standing_at system entries (slice_get nodes d)
+pub one_more_standing : (system : List ℕ) (entries : List Entry) (nodes : List Node)
+    (standings : List Standing) (d : ℕ) (standing : Standing)
+    → AreFirst system entries nodes standings d → standing
+    ≡ standing_at system entries (slice_get nodes d)
     → AreFirst system entries nodes (standings ++ standing ∷ []) (d + 1)
 one_more_standing system entries nodes standings d standing before is = record {
   length_is = length-append standings (standing ∷ []) ∙ ap (λ n. n + 1) before.length_is;
   each = λ k low. ⊎_elim
-      (λ earlier. get_or_append_left standings (standing ∷ []) Free k (omega (arith, before.length_is, earlier)) ∙ before.each k earlier)
+      (λ earlier. get_or_append_left standings (standing ∷ []) Free k
+      (omega (arith, before.length_is, earlier)) ∙ before.each k earlier)
       (λ last.
       let here : k ≡ length standings = omega (arith, before.length_is, low, last) in
       let same : k ≡ d = omega (arith, low, last) in
@@ -57,43 +66,58 @@ one_more_standing system entries nodes standings d standing before is = record {
 }
 
 -- where all were seen
-pub all_standings : (system : List ℕ) (entries : List Entry) (nodes : List Node) (standings : List Standing) (count : ℕ)
-    → count ≡ length nodes → AreFirst system entries nodes standings count → AreStandings system entries nodes standings
+pub all_standings : (system : List ℕ) (entries : List Entry) (nodes : List Node)
+    (standings : List Standing) (count : ℕ)
+    → count ≡ length nodes → AreFirst system entries nodes standings count
+    → AreStandings system entries nodes standings
 all_standings system entries nodes standings count all first = record {
   count = first.length_is ∙ all;
   each = λ d low. first.each d (omega (arith, all, low));
 }
 
 -- a test of some made elements
-pub any_mapped : {X Y : Type 0} (p : Y → Bool) (h : X → Y) (xs : List X) → list_any p (map h xs) ≡ list_any (λ x. p (h x)) xs
+pub any_mapped : {X Y : Type 0} (p : Y → Bool) (h : X → Y) (xs : List X) → list_any p (map h xs)
+    ≡ list_any (λ x. p (h x)) xs
 any_mapped p h [] = refl
 any_mapped p h (x ∷ xs) = ap (λ b. p (h x) || b) (any_mapped p h xs)
 
 -- the derivation with a number is that of its node
-pub drv_is : (nodes : List Node) (d : ℕ) (drv : Drv) (node : Node) → slice_get nodes d ≡ Some node → slice_get (drvs_of nodes) d ≡ Some drv → drv ≡ node.drv
+pub drv_is : (nodes : List Node) (d : ℕ) (drv : Drv) (node : Node) → slice_get nodes d ≡ Some node
+    → slice_get (drvs_of nodes) d ≡ Some drv → drv ≡ node.drv
 drv_is nodes d drv node is_node is_drv =
-    let both : Some drv ≡ Some node.drv = sym is_drv ∙ get_mapped (λ (n : Node). n.drv) nodes d node is_node in
+    let both : Some drv ≡ Some node.drv = sym is_drv
+    ∙ get_mapped (λ (n : Node). n.drv) nodes d node is_node in
     cc
 
 -- where none of the earlier causes is there, the first source that isn't valid is the cause
-pub last_cause : (system : List ℕ) (entries : List Entry) (nodes : List Node) (d : ℕ) (drv : Drv) (outputs sources : List (List ℕ)) (first : Option ℕ)
+pub last_cause : (system : List ℕ) (entries : List Entry) (nodes : List Node) (d : ℕ) (drv : Drv)
+    (outputs sources : List (List ℕ)) (first : Option ℕ)
     → slice_get (drvs_of nodes) d ≡ Some drv
-    → IfSome (slice_get nodes d) (λ node. outputs ≡ output_paths_of node.drv) → IfSome (slice_get nodes d) (λ node. sources ≡ node.drv.sources)
-    → same_bytes drv.system system ≡ true → is_unsupported drv ≡ false → position (is_valid entries) outputs ≡ None
+    → IfSome (slice_get nodes d) (λ node. outputs ≡ output_paths_of node.drv)
+    → IfSome (slice_get nodes d) (λ node. sources ≡ node.drv.sources)
+    → same_bytes drv.system system ≡ true → is_unsupported drv ≡ false
+    → position (is_valid entries) outputs ≡ None
     → first ≡ position (λ path. not (is_valid entries path)) sources
-    → IfSome (slice_get nodes d) (λ node. cause_at MissingSource first ≡ own_cause system entries node.drv)
-last_cause system entries nodes d drv outputs sources first is_drv lent given own_system supported none found =
+    → IfSome (slice_get nodes d) (λ node. cause_at MissingSource first
+    ≡ own_cause system entries node.drv)
+last_cause system entries nodes d drv outputs sources first is_drv lent given own_system supported
+    none found =
     by (slice_get nodes d) refl lent given
   where
-    by : (o : Option Node) → slice_get nodes d ≡ o → IfSome o (λ node. outputs ≡ output_paths_of node.drv) → IfSome o (λ node. sources ≡ node.drv.sources)
+    by : (o : Option Node) → slice_get nodes d ≡ o
+        → IfSome o (λ node. outputs ≡ output_paths_of node.drv)
+        → IfSome o (λ node. sources ≡ node.drv.sources)
         → IfSome o (λ node. cause_at MissingSource first ≡ own_cause system entries node.drv)
     by None is paths its = tt
     by (Some node) is paths its =
         let same : drv ≡ node.drv = drv_is nodes d drv node is is_drv in
-        let of_node : first ≡ position (λ path. not (is_valid entries path)) node.drv.sources = found ∙ ap (position (λ path. not (is_valid entries path))) its in
-        let here : same_bytes node.drv.system system ≡ true = ap (λ (x : Drv). same_bytes x.system system) (sym same) ∙ own_system in
+        let of_node : first ≡ position (λ path. not (is_valid entries path)) node.drv.sources =
+        found ∙ ap (position (λ path. not (is_valid entries path))) its in
+        let here : same_bytes node.drv.system system
+        ≡ true = ap (λ (x : Drv). same_bytes x.system system) (sym same) ∙ own_system in
         let taken : is_unsupported node.drv ≡ false = ap is_unsupported (sym same) ∙ supported in
-        let out : position (is_valid entries) (output_paths node.drv) ≡ None = ap (position (is_valid entries)) (sym paths) ∙ none in
+        let out : position (is_valid entries) (output_paths node.drv)
+        ≡ None = ap (position (is_valid entries)) (sym paths) ∙ none in
         rw (here, taken, out, of_node) refl
 
 -- what a derivation asks for, by its parts as they are lent
@@ -101,32 +125,46 @@ or_true : (a : Bool) → (a || true) ≡ true
 or_true true = refl
 or_true false = refl
 
-pub builtin_asks : (drv : Drv) (builder : List ℕ) (told : Bool) → builder ≡ drv.builder → told ≡ starts_with nat_eq builder (codes "builtin:") → told ≡ true → is_unsupported drv ≡ true
+pub builtin_asks : (drv : Drv) (builder : List ℕ) (told : Bool) → builder ≡ drv.builder → told
+    ≡ starts_with nat_eq builder (codes "builtin:") → told ≡ true → is_unsupported drv ≡ true
 builtin_asks drv builder told same is told_true =
-    let here : starts_with nat_eq drv.builder (codes "builtin:") ≡ true = ap (λ b. starts_with nat_eq b (codes "builtin:")) (sym same) ∙ sym is ∙ told_true in
+    let here : starts_with nat_eq drv.builder (codes "builtin:")
+    ≡ true = ap (λ b. starts_with nat_eq b (codes "builtin:")) (sym same) ∙ sym is ∙ told_true
+    in
     rw here refl
 
 keys_told : (drv : Drv) (env : List EnvEntryStruct) (told : Bool) → map entry_of env ≡ drv.env
-    → told ≡ list_any (λ (e : EnvEntryStruct). list_any (same_bytes e.key.items) left_out) env → told ≡ list_any (λ (e : EnvEntry). list_any (same_bytes e.key) left_out) drv.env
+    → told ≡ list_any (λ (e : EnvEntryStruct). list_any (same_bytes e.key.items) left_out) env
+    → told ≡ list_any (λ (e : EnvEntry). list_any (same_bytes e.key) left_out) drv.env
 keys_told drv env told same is =
-    let asks = λ (e : EnvEntry). list_any (same_bytes e.key) left_out in is ∙ sym (any_mapped asks entry_of env) ∙ ap (list_any asks) same
+    let asks = λ (e : EnvEntry). list_any (same_bytes e.key) left_out in is
+    ∙ sym (any_mapped asks entry_of env) ∙ ap (list_any asks) same
 
 pub key_asks : (drv : Drv) (env : List EnvEntryStruct) (told : Bool) → map entry_of env ≡ drv.env
-    → told ≡ list_any (λ (e : EnvEntryStruct). list_any (same_bytes e.key.items) left_out) env → told ≡ true → is_unsupported drv ≡ true
+    → told ≡ list_any (λ (e : EnvEntryStruct). list_any (same_bytes e.key.items) left_out) env
+    → told ≡ true → is_unsupported drv ≡ true
 key_asks drv env told same is told_true =
     let builtin = starts_with nat_eq drv.builder (codes "builtin:") in
     let tree = list_any (λ (o : Output). same_bytes o.algo (codes "r:sha256")) drv.outputs in
-    ap (λ b. builtin || b || tree) (sym (keys_told drv env told same is) ∙ told_true) ∙ ap (λ b. b || tree) (or_true builtin)
+    ap (λ b. builtin || b || tree) (sym (keys_told drv env told same is) ∙ told_true)
+    ∙ ap (λ b. b || tree) (or_true builtin)
 
-pub tree_asks : (drv : Drv) (builder : List ℕ) (env : List EnvEntryStruct) (outputs : List OutputStruct) (builtin keys tree : Bool)
+pub tree_asks : (drv : Drv) (builder : List ℕ) (env : List EnvEntryStruct)
+    (outputs : List OutputStruct) (builtin keys tree : Bool)
     → builder ≡ drv.builder → map entry_of env ≡ drv.env → map output_of outputs ≡ drv.outputs
     → builtin ≡ starts_with nat_eq builder (codes "builtin:") → builtin ≡ false
-    → keys ≡ list_any (λ (e : EnvEntryStruct). list_any (same_bytes e.key.items) left_out) env → keys ≡ false
+    → keys ≡ list_any (λ (e : EnvEntryStruct). list_any (same_bytes e.key.items) left_out) env
+    → keys ≡ false
     → tree ≡ list_any (λ (o : OutputStruct). same_bytes o.algo.items (codes "r:sha256")) outputs
     → tree ≡ is_unsupported drv
-tree_asks drv builder env outputs builtin keys tree same_builder same_env same_outputs by_builder no_builtin by_key no_key by_output =
+tree_asks drv builder env outputs builtin keys tree same_builder same_env same_outputs by_builder
+    no_builtin by_key no_key by_output =
     let whole = λ (o : Output). same_bytes o.algo (codes "r:sha256") in
-    let first : starts_with nat_eq drv.builder (codes "builtin:") ≡ false = ap (λ b. starts_with nat_eq b (codes "builtin:")) (sym same_builder) ∙ sym by_builder ∙ no_builtin in
-    let second : list_any (λ (e : EnvEntry). list_any (same_bytes e.key) left_out) drv.env ≡ false = sym (keys_told drv env keys same_env by_key) ∙ no_key in
-    let third : tree ≡ list_any whole drv.outputs = by_output ∙ sym (any_mapped whole output_of outputs) ∙ ap (list_any whole) same_outputs in
+    let first : starts_with nat_eq drv.builder (codes "builtin:")
+    ≡ false = ap (λ b. starts_with nat_eq b (codes "builtin:")) (sym same_builder)
+    ∙ sym by_builder ∙ no_builtin in
+    let second : list_any (λ (e : EnvEntry). list_any (same_bytes e.key) left_out) drv.env
+    ≡ false = sym (keys_told drv env keys same_env by_key) ∙ no_key in
+    let third : tree ≡ list_any whole drv.outputs = by_output
+    ∙ sym (any_mapped whole output_of outputs) ∙ ap (list_any whole) same_outputs in
     rw (first, second) third

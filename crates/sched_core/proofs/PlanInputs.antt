@@ -19,64 +19,101 @@ use Rattle.sched_core.specs.Runs.{inputs_at}
 use Rattle.sched_core.proofs.Places.{element_at}
 
 -- a path is found at its place
-place_is : (paths : List (List ℕ)) (n : ℕ) (path : List ℕ) → AreDistinct paths → slice_get paths n ≡ Some path → position_or_len (same_bytes path) paths ≡ n
+place_is : (paths : List (List ℕ)) (n : ℕ) (path : List ℕ) → AreDistinct paths → slice_get paths n
+    ≡ Some path → position_or_len (same_bytes path) paths ≡ n
 place_is paths n path once at =
     let low : n < length paths = slice_get_within paths n path at in
     let here : get_or paths n [] ≡ path = get_or_from_slice_get paths n path [] at in
     let apart : (k : ℕ) → k < n → pointwise nat_eq path (get_or paths k []) ≡ false = λ k less.
     other_path path (get_or paths k []) (λ same.
-    let there : slice_get paths k ≡ Some path = slice_get-get_or paths k [] (omega (arith, less, low)) ∙ ap Some (sym same) in
+    let there : slice_get paths k ≡ Some path =
+    slice_get-get_or paths k [] (omega (arith, less, low)) ∙ ap Some (sym same) in
     let place : k ≡ n = same_place paths k n path once there at in
     omega (arith, less, place)) in
-    position_or_len_is (same_bytes path) paths n [] (omega (arith, low)) apart (λ within. ap (pointwise nat_eq path) here ∙ nat_list_eq_equiv.refl path)
+    position_or_len_is (same_bytes path) paths n [] (omega (arith, low)) apart
+    (λ within. ap (pointwise nat_eq path) here ∙ nat_list_eq_equiv.refl path)
 
 -- numbers of paths are the places at which these are found
-pub numbers_are : (nodes : List Node) (ns : List ℕ) (paths : List (List ℕ)) → AreDistinct (paths_of nodes) → AreNumbers nodes ns paths → ns ≡ map (λ path. position_or_len (same_bytes path) (paths_of nodes)) paths
+pub numbers_are : (nodes : List Node) (ns : List ℕ) (paths : List (List ℕ))
+    → AreDistinct (paths_of nodes) → AreNumbers nodes ns paths → ns
+    ≡ map (λ path. position_or_len (same_bytes path) (paths_of nodes)) paths
 numbers_are nodes [] [] once are = refl
 numbers_are nodes [] (p ∷ ps) once are = absurd cc
 numbers_are nodes (n ∷ ns) [] once are = absurd cc
 numbers_are nodes (n ∷ ns) (p ∷ ps) once are =
     let first = place_is (paths_of nodes) n p once (first_number nodes n ns p ps are) in
     let rest = numbers_are nodes ns ps once (later_numbers nodes n ns p ps are) in
-    ap (λ m. m ∷ ns) (sym first) ∙ ap (λ l. position_or_len (same_bytes p) (paths_of nodes) ∷ l) rest
+    ap (λ m. m ∷ ns) (sym first) ∙ ap (λ l. position_or_len (same_bytes p) (paths_of nodes) ∷ l)
+    rest
 
 -- what is used stands among the nodes
-used_stand : (nodes : List Node) (paths : List (List ℕ)) (drvs : List Drv) → AreDrvsOf nodes paths drvs → (path : List ℕ) → Contains paths path → Contains (paths_of nodes) path
+used_stand : (nodes : List Node) (paths : List (List ℕ)) (drvs : List Drv)
+    → AreDrvsOf nodes paths drvs → (path : List ℕ) → Contains paths path
+    → Contains (paths_of nodes) path
 used_stand nodes [] drvs are path has = absurd (contains_none path has)
 used_stand nodes (p ∷ ps) [] are path has = absurd are
 used_stand nodes (p ∷ ps) (d ∷ ds) are path has =
-    ⊎_elim (λ same. subst (Contains (paths_of nodes)) same (contains_mapped (λ (m : Node). m.path) nodes (record { path = p; drv = d }) are.0)) (λ later. used_stand nodes ps ds are.1 path later) (contains_cases p path ps has)
+    ⊎_elim (λ same. subst (Contains (paths_of nodes)) same
+    (contains_mapped (λ (m : Node). m.path) nodes (record { path = p; drv = d }) are.0))
+    (λ later. used_stand nodes ps ds are.1 path later) (contains_cases p path ps has)
 
 -- an input is found before its user
-path_before : (graph : Graph) (d : ℕ) (node : Node) (path : List ℕ) → IsSound graph → slice_get graph.nodes d ≡ Some node → Contains (inputs_of node.drv) path → position_or_len (same_bytes path) (paths_of graph.nodes) < d
+path_before : (graph : Graph) (d : ℕ) (node : Node) (path : List ℕ) → IsSound graph
+    → slice_get graph.nodes d ≡ Some node → Contains (inputs_of node.drv) path
+    → position_or_len (same_bytes path) (paths_of graph.nodes) < d
 path_before graph d node path sound at has =
     let lt : d < length graph.nodes = slice_get_within graph.nodes d node at in
-    let read : get_or graph.nodes d node ≡ node = get_or_from_slice_get graph.nodes d node node at in
-    let parts : graph.nodes ≡ take d graph.nodes ++ node ∷ drop (suc d) graph.nodes = split_at graph.nodes d node lt ∙ ap (λ (m : Node). take d graph.nodes ++ m ∷ drop (suc d) graph.nodes) read in
+    let read : get_or graph.nodes d node ≡ node = get_or_from_slice_get graph.nodes d node node at
+    in
+    let parts : graph.nodes ≡ take d graph.nodes ++ node ∷ drop (suc d) graph.nodes =
+    split_at graph.nodes d node lt
+    ∙ ap (λ (m : Node). take d graph.nodes ++ m ∷ drop (suc d) graph.nodes) read in
     let lawful = sound.lawful (take d graph.nodes) (drop (suc d) graph.nodes) node parts in
-    let before : Contains (paths_of (take d graph.nodes)) path = used_stand (take d graph.nodes) (inputs_of node.drv) lawful.right.used lawful.right.are_used path has in
+    let before : Contains (paths_of (take d graph.nodes)) path =
+    used_stand (take d graph.nodes) (inputs_of node.drv) lawful.right.used lawful.right.are_used
+    path has in
     let place = get_from_contains (paths_of (take d graph.nodes)) path before in
     let there : slice_get (paths_of graph.nodes) place.0 ≡ Some path =
-    subst (λ l. slice_get (paths_of l) place.0 ≡ Some path) (sym parts) (number_grows (take d graph.nodes) (node ∷ drop (suc d) graph.nodes) place.0 path place.1) in
+    subst (λ l. slice_get (paths_of l) place.0 ≡ Some path) (sym parts)
+    (number_grows (take d graph.nodes) (node ∷ drop (suc d) graph.nodes) place.0 path place.1)
+    in
     let same = place_is (paths_of graph.nodes) place.0 path sound.distinct there in
-    let low : place.0 < length (paths_of (take d graph.nodes)) = slice_get_within (paths_of (take d graph.nodes)) place.0 path place.1 in
-    omega (arith, same, low, length-map (take d graph.nodes) (λ (m : Node). m.path), length-take-le d graph.nodes (omega (arith, lt)))
+    let low : place.0 < length (paths_of (take d graph.nodes)) =
+    slice_get_within (paths_of (take d graph.nodes)) place.0 path place.1 in
+    omega (
+      arith,
+      same,
+      low,
+      length-map (take d graph.nodes) (λ (m : Node). m.path),
+      length-take-le d graph.nodes (omega (arith, lt)),
+    )
 
 -- the inputs of each derivation have smaller numbers
-pub inputs_first : (graph : Graph) → IsSound graph → (d i : ℕ) → Contains (inputs_at graph.nodes (slice_get graph.nodes d)) i → i < d
+pub inputs_first : (graph : Graph) → IsSound graph → (d i : ℕ)
+    → Contains (inputs_at graph.nodes (slice_get graph.nodes d)) i → i < d
 inputs_first graph sound d i has = by (slice_get graph.nodes d) refl has
   where
-    by : (node : Option Node) → slice_get graph.nodes d ≡ node → Contains (inputs_at graph.nodes node) i → i < d
+    by : (node : Option Node) → slice_get graph.nodes d ≡ node
+        → Contains (inputs_at graph.nodes node) i → i < d
     by None at has = absurd (contains_none i has)
     by (Some node) at has =
-        let found = contains_source (λ path. position_or_len (same_bytes path) (paths_of graph.nodes)) (inputs_of node.drv) i has in
+        let found = contains_source
+        (λ path. position_or_len (same_bytes path) (paths_of graph.nodes)) (inputs_of node.drv)
+        i has in
         subst (λ n. n < d) found.2 (path_before graph d node found.0 sound at found.1)
 
 -- the numbers of a derivation's inputs are those of its row
-pub numbers_at : (graph : Graph) (d : ℕ) (ns : List ℕ) → d < length graph.nodes → IsSound graph → IfSome (slice_get graph.nodes d) (λ node. AreNumbers graph.nodes ns (inputs_of node.drv)) → ns ≡ inputs_at graph.nodes (slice_get graph.nodes d)
-numbers_at graph d ns low sound are = by (element_at graph.nodes d low).0 (element_at graph.nodes d low).1
+pub numbers_at : (graph : Graph) (d : ℕ) (ns : List ℕ) → d < length graph.nodes → IsSound graph
+    → IfSome (slice_get graph.nodes d) (λ node. AreNumbers graph.nodes ns (inputs_of node.drv)) → ns
+    ≡ inputs_at graph.nodes (slice_get graph.nodes d)
+numbers_at graph d ns low sound are = by (element_at graph.nodes d low).0
+    (element_at graph.nodes d low).1
   where
-    by : (node : Node) → slice_get graph.nodes d ≡ Some node → ns ≡ inputs_at graph.nodes (slice_get graph.nodes d)
+    by : (node : Node) → slice_get graph.nodes d ≡ Some node → ns
+        ≡ inputs_at graph.nodes (slice_get graph.nodes d)
     by node at =
-        let its : AreNumbers graph.nodes ns (inputs_of node.drv) = subst (λ o. IfSome o (λ (n : Node). AreNumbers graph.nodes ns (inputs_of n.drv))) at are in
-        numbers_are graph.nodes ns (inputs_of node.drv) sound.distinct its ∙ ap (inputs_at graph.nodes) (sym at)
+        let its : AreNumbers graph.nodes ns (inputs_of node.drv) =
+        subst (λ o. IfSome o (λ (n : Node). AreNumbers graph.nodes ns (inputs_of n.drv))) at are
+        in
+        numbers_are graph.nodes ns (inputs_of node.drv) sound.distinct its
+        ∙ ap (inputs_at graph.nodes) (sym at)

@@ -1,4 +1,5 @@
--- What the Done events of a legal history register: its entries stay a journal, and each Done is allowed.
+-- What the Done events of a legal history register: its entries stay a journal, and each Done is
+-- allowed.
 use Rattle.std.proofs.Common.{◌≡◌, ℕ, List, [], ◌∷◌, ◌++◌, refl, sym, ap, ◌∙◌, subst, ⊎_elim, append_assoc}
 use Rattle.std.proofs.lemmas.List.{append-nil}
 use Rattle.std.proofs.lemmas.List.Elements.{Contains-append_cases}
@@ -15,44 +16,59 @@ use Rattle.sched_core.proofs.Places.{contains_at}
 
 pub entries_are_journal : EntriesAreJournal
 entries_are_journal run _ named (legal_opening entries journal) = journal
-entries_are_journal run _ named (legal_begin history d legal within wanted ready) = entries_are_journal run history named legal
-entries_are_journal run _ named (legal_fail history d lease reason legal phase) = entries_are_journal run history named legal
-entries_are_journal run _ named (legal_done history d lease node infos entry legal phase is_node allowed is_entry) =
-    done_is_journal run history.entries node infos entry allowed is_entry (entries_are_journal run history named legal) (named node (contains_at run.graph.nodes d node is_node))
+entries_are_journal run _ named (legal_begin history d legal within wanted ready) =
+    entries_are_journal run history named legal
+entries_are_journal run _ named (legal_fail history d lease reason legal phase) =
+    entries_are_journal run history named legal
+entries_are_journal run _ named
+    (legal_done history d lease node infos entry legal phase is_node allowed is_entry) =
+    done_is_journal run history.entries node infos entry allowed is_entry
+    (entries_are_journal run history named legal)
+    (named node (contains_at run.graph.nodes d node is_node))
 
 -- ---- each Done was allowed
 
-done_with_more : (run : Run) (history after : History) (d : ℕ) (more : List Entry) → after.entries ≡ history.entries ++ more → WasDone run history d → WasDone run after d
+done_with_more : (run : Run) (history after : History) (d : ℕ) (more : List Entry) → after.entries
+    ≡ history.entries ++ more → WasDone run history d → WasDone run after d
 done_with_more run history after d more same was = record {
   node = was.node;
   is_node = was.is_node;
   before = was.before;
   entry = was.entry;
   after = was.after ++ more;
-  parts = same ∙ ap (λ (es : List Entry). es ++ more) was.parts ∙ append_assoc was.before (was.entry ∷ was.after) more;
+  parts = same ∙ ap (λ (es : List Entry). es ++ more) was.parts
+      ∙ append_assoc was.before (was.entry ∷ was.after) more;
   infos = was.infos;
   allowed = was.allowed;
   is_entry = was.is_entry;
 }
 
 pub dones_are_allowed : DonesAreAllowed
-dones_are_allowed run _ (legal_opening entries journal) d lease has = absurd (Contains-nothing (Finish d lease) has)
+dones_are_allowed run _ (legal_opening entries journal) d lease has =
+    absurd (Contains-nothing (Finish d lease) has)
 dones_are_allowed run _ (legal_begin history e legal within wanted ready) d lease has =
     let event = Begin e (begins history.events) in
     ⊎_elim
-    (λ before. done_with_more run history _ d [] (sym (append-nil history.entries)) (dones_are_allowed run history legal d lease before))
-    (λ last. ⊎_elim (λ same. absurd cc) (λ none. absurd (Contains-nothing (Finish d lease) none)) (Contains-cons_cases event [] (Finish d lease) last))
+    (λ before. done_with_more run history _ d [] (sym (append-nil history.entries))
+    (dones_are_allowed run history legal d lease before))
+    (λ last. ⊎_elim (λ same. absurd cc) (λ none. absurd (Contains-nothing (Finish d lease) none))
+    (Contains-cons_cases event [] (Finish d lease) last))
     (Contains-append_cases history.events (event ∷ []) (Finish d lease) has)
 dones_are_allowed run _ (legal_fail history e number reason legal phase) d lease has =
     let event = Fail e number reason in
     ⊎_elim
-    (λ before. done_with_more run history _ d [] (sym (append-nil history.entries)) (dones_are_allowed run history legal d lease before))
-    (λ last. ⊎_elim (λ same. absurd cc) (λ none. absurd (Contains-nothing (Finish d lease) none)) (Contains-cons_cases event [] (Finish d lease) last))
+    (λ before. done_with_more run history _ d [] (sym (append-nil history.entries))
+    (dones_are_allowed run history legal d lease before))
+    (λ last. ⊎_elim (λ same. absurd cc) (λ none. absurd (Contains-nothing (Finish d lease) none))
+    (Contains-cons_cases event [] (Finish d lease) last))
     (Contains-append_cases history.events (event ∷ []) (Finish d lease) has)
-dones_are_allowed run _ (legal_done history e number node infos entry legal phase is_node allowed is_entry) d lease has =
+dones_are_allowed run _
+    (legal_done history e number node infos entry legal phase is_node allowed is_entry) d lease
+    has =
     let event = Finish e number in
     ⊎_elim
-    (λ before. done_with_more run history _ d (entry ∷ []) refl (dones_are_allowed run history legal d lease before))
+    (λ before. done_with_more run history _ d (entry ∷ []) refl
+    (dones_are_allowed run history legal d lease before))
     (λ last. ⊎_elim
     (λ same. let number_is : e ≡ d = cc in
     subst (λ n. WasDone run (ended history e number entry) n) number_is

@@ -27,7 +27,11 @@ use Rattle.sched_core.proofs.Places.{place_of, same_element}
 -- bytes are bytes at each place
 are_bytes : (bytes : List ℕ) → All (λ b. b < 256) bytes → IsBytes bytes
 are_bytes bytes each k =
-    elim (cases_lt k (length bytes)) [ inl within ↦ each k 0 within | inr past ↦ let e = get_or_past bytes k 0 past in omega arith ]
+    elim (cases_lt k (length bytes)) [
+      | inl within ↦ each k 0 within
+      | inr past ↦ let e =
+          get_or_past bytes k 0 past in omega arith
+    ]
 
 -- the bytes of an answer
 abbrev decoded : List ℕ → Result (List ℕ) FromHexError
@@ -39,7 +43,9 @@ ok_same a b e = cc
 
 -- digests are told by their texts
 one_digest : (a b : List ℕ) → IsDigest a → IsDigest b → encode_lower a ≡ encode_lower b → a ≡ b
-one_digest a b one two e = ok_same a b (sym (decode_of-encode_lower a (are_bytes a one.1)) ∙ ap decode_of e ∙ decode_of-encode_lower b (are_bytes b two.1))
+one_digest a b one two e =
+    ok_same a b (sym (decode_of-encode_lower a (are_bytes a one.1)) ∙ ap decode_of e
+    ∙ decode_of-encode_lower b (are_bytes b two.1))
 
 -- two texts of methods that say something
 algo_says : (method : Method) → algo_of method ≡ [] → ⊥
@@ -47,26 +53,34 @@ algo_says Flat is = absurd cc
 algo_says Recursive is = absurd cc
 
 -- a fixed derivation's kind is fixed, with its digest
-pub fixed_kind : (drv : Drv) (kind : Kind) (method : Method) (digest : List ℕ) → HasKind drv kind → HasKind drv (Fixed method digest) → (other : Method) × (kind ≡ Fixed other digest)
+pub fixed_kind : (drv : Drv) (kind : Kind) (method : Method) (digest : List ℕ) → HasKind drv kind
+    → HasKind drv (Fixed method digest) → (other : Method) × (kind ≡ Fixed other digest)
 fixed_kind drv Addressed method digest (some, addressed) (output, only, fixed) =
     let own = all_first drv.outputs output addressed only.0 in
     absurd (algo_says method (sym fixed.0 ∙ own.0))
   where
-    all_first : (outputs : List Output) (output : Output) → All IsAddressed outputs → outputs ≡ output ∷ [] → IsAddressed output
+    all_first : (outputs : List Output) (output : Output) → All IsAddressed outputs → outputs
+        ≡ output ∷ [] → IsAddressed output
     all_first outputs output all is = (subst (All IsAddressed) is all) 0 output (omega arith)
 fixed_kind drv (Fixed other found) method digest (output, only, fixed) (output', only', fixed') =
     let lists : output ∷ [] ≡ output' ∷ [] = sym only.0 ∙ only'.0 in
     let same : output ≡ output' = cc in
-    let texts : encode_lower found ≡ encode_lower digest = sym fixed.1 ∙ ap (λ (o : Output). o.hash) same ∙ fixed'.1 in
+    let texts : encode_lower found ≡ encode_lower digest = sym fixed.1
+    ∙ ap (λ (o : Output). o.hash) same ∙ fixed'.1 in
     (other, ap (Fixed other) (one_digest found digest fixed.2 fixed'.2 texts))
 
 -- a tree that a fixed derivation's output may have has the declared digest
-fixed_digest : (tree : Tree) (method : Method) (digest : List ℕ) → ((why : Reason) → IsTreeFault (Fixed method digest) tree why → ⊥) → digest_of tree ≡ Some digest
+fixed_digest : (tree : Tree) (method : Method) (digest : List ℕ)
+    → ((why : Reason) → IsTreeFault (Fixed method digest) tree why → ⊥) → digest_of tree
+    ≡ Some digest
 fixed_digest tree method digest taken = by (digest_of tree) refl
   where
-    by_test : (found : List ℕ) → digest_of tree ≡ Some found → (same : Bool) → pointwise nat_eq found digest ≡ same → digest_of tree ≡ Some digest
+    by_test : (found : List ℕ) → digest_of tree ≡ Some found → (same : Bool)
+        → pointwise nat_eq found digest ≡ same → digest_of tree ≡ Some digest
     by_test found is true e = is ∙ ap Some (equal_from_eq found digest e)
-    by_test found is false e = absurd (taken TooLarge (λ fits. taken HashMismatch (fits, (found, is, unequal_from_eq found digest e))))
+    by_test found is false e =
+        absurd (taken TooLarge
+        (λ fits. taken HashMismatch (fits, (found, is, unequal_from_eq found digest e))))
 
     by : (o : Option (List ℕ)) → digest_of tree ≡ o → digest_of tree ≡ Some digest
     by None is = absurd (taken TooLarge (λ fits. taken NotFlatFile (fits, is)))
@@ -77,7 +91,8 @@ verdicts_are_registrable graph d job node permitted answer infos of at (taken, r
     let same : of.node ≡ node = same_element graph.nodes d of.node node of.is_node at in
     subst (λ (n : Node). AreRegistrable n permitted infos) same (record {
       count =
-          records.count ∙ sym (length-map job.outputs.items (λ (o : JobOutput). o.path)) ∙ ap length of.paths
+          records.count ∙ sym (length-map job.outputs.items (λ (o : JobOutput). o.path))
+          ∙ ap length of.paths
           ∙ length-map of.node.drv.outputs (λ (o : Output). o.path);
       among = λ info path has refers.
           let place = place_of infos info has in
@@ -88,7 +103,14 @@ verdicts_are_registrable graph d job node permitted answer infos of at (taken, r
           let is_record = records.each place.0 info place.1 in
           let below = slice_get_within infos place.0 info place.1 in
           let other = fixed_kind of.node.drv job.kind method digest of.kind kind in
-          let fault = λ (why : Reason) (h : IsTreeFault (Fixed other.0 digest) is_record.0 why). taken.1 place.0 why (omega (arith, records.count)) (is_record.0, is_record.1, subst (λ (k : Kind). IsTreeFault k is_record.0 why) (sym other.1) h) in
+          let fault = λ (why : Reason) (h : IsTreeFault (Fixed other.0 digest) is_record.0 why).
+          taken.1 place.0 why (omega (arith, records.count)) (
+            is_record.0,
+            is_record.1,
+            subst (λ (k : Kind). IsTreeFault k is_record.0 why)
+                (sym other.1) h,
+          ) in
           is_record.2.digest ∙ fixed_digest is_record.0 other.0 digest fault;
-      acyclic = λ cyclic. acyclic (subst (λ (paths : List (List ℕ)). IsCyclic paths infos) (sym of.paths) cyclic);
+      acyclic = λ cyclic.
+          acyclic (subst (λ (paths : List (List ℕ)). IsCyclic paths infos) (sym of.paths) cyclic);
     })

@@ -28,15 +28,19 @@ use Rattle.sched_core.proofs.Seeds.{found_by_number}
 
 -- ---- elements by their places
 
-pub read_at : {X : Type 0} (xs : List X) (n : ℕ) (x : X) → n < length xs → x ≡ get_or xs n x → slice_get xs n ≡ Some x
+pub read_at : {X : Type 0} (xs : List X) (n : ℕ) (x : X) → n < length xs → x ≡ get_or xs n x
+    → slice_get xs n ≡ Some x
 read_at xs n x low is = slice_get_read xs (length xs) n x refl low is
 
-pub take_next : {X : Type 0} (xs : List X) (n : ℕ) (x : X) → slice_get xs n ≡ Some x → take (n + 1) xs ≡ take n xs ++ x ∷ []
+pub take_next : {X : Type 0} (xs : List X) (n : ℕ) (x : X) → slice_get xs n ≡ Some x
+    → take (n + 1) xs ≡ take n xs ++ x ∷ []
 take_next xs n x at =
-    take_more xs n x (slice_get_within xs n x at) ∙ ap (λ y. take n xs ++ y ∷ []) (get_or_from_slice_get xs n x x at)
+    take_more xs n x (slice_get_within xs n x at)
+    ∙ ap (λ y. take n xs ++ y ∷ []) (get_or_from_slice_get xs n x x at)
 
 -- one path more of a list was added
-pub added_more : (old seeds paths : List (List ℕ)) (n : ℕ) (path copy : List ℕ) → n < length paths → path ≡ get_or paths n path
+pub added_more : (old seeds paths : List (List ℕ)) (n : ℕ) (path copy : List ℕ) → n < length paths
+    → path ≡ get_or paths n path
     → seeds ≡ old ++ take n paths → copy ≡ path → seeds ++ copy ∷ [] ≡ old ++ take (n + 1) paths
 added_more old seeds paths n path copy low is before same =
     ap (λ l. l ++ copy ∷ []) before ∙ append_assoc old (take n paths) (copy ∷ [])
@@ -46,8 +50,10 @@ added_more old seeds paths n path copy low is before same =
 -- ---- the outputs that are used of an input
 
 -- whether a name is among some, as a search tells it
-told_named : (told : Bool) (names : List (List ℕ)) (name : List ℕ) → IsTrue told ↔ Contains names name → list_any (same_bytes name) names ≡ told
-told_named true names name (there, back) = list_any-from_Contains nat_list_eq_equiv name names (there refl)
+told_named : (told : Bool) (names : List (List ℕ)) (name : List ℕ) → IsTrue told
+    ↔ Contains names name → list_any (same_bytes name) names ≡ told
+told_named true names name (there, back) = list_any-from_Contains nat_list_eq_equiv name names
+    (there refl)
 told_named false names name (there, back) = by (list_any (same_bytes name) names) refl
   where
     by : (b : Bool) → list_any (same_bytes name) names ≡ b → b ≡ false
@@ -56,178 +62,274 @@ told_named false names name (there, back) = by (list_any (same_bytes name) names
 
 -- the paths of the first outputs, so many, that have one of the names
 abbrev pub first_named : (names : List (List ℕ)) → List Output → ℕ → List (List ℕ)
-first_named names outputs n = map (λ (o : Output). o.path) (filter (λ (o : Output). list_any (same_bytes o.name) names) (take n outputs))
+first_named names outputs n = map (λ (o : Output). o.path)
+    (filter (λ (o : Output). list_any (same_bytes o.name) names) (take n outputs))
 
-pub first_more : (names : List (List ℕ)) (outputs : List Output) (n : ℕ) (output : Output) (told : Bool) → slice_get outputs n ≡ Some output → list_any (same_bytes output.name) names ≡ told
-    → first_named names outputs (n + 1) ≡ first_named names outputs n ++ map (λ (o : Output). o.path) (cond told (output ∷ []) [])
+pub first_more : (names : List (List ℕ)) (outputs : List Output) (n : ℕ) (output : Output)
+    (told : Bool) → slice_get outputs n ≡ Some output → list_any (same_bytes output.name) names
+    ≡ told
+    → first_named names outputs (n + 1) ≡ first_named names outputs n
+    ++ map (λ (o : Output). o.path) (cond told (output ∷ []) [])
 first_more names outputs n output told at is =
     let test = λ (o : Output). list_any (same_bytes o.name) names in
     let path = λ (o : Output). o.path in
     ap (λ l. map path (filter test l)) (take_next outputs n output at)
-    ∙ ap (map path) (filter-append test (take n outputs) (output ∷ []) ∙ ap (λ b. filter test (take n outputs) ++ cond b (output ∷ []) []) is)
+    ∙ ap (map path) (filter-append test (take n outputs) (output ∷ [])
+    ∙ ap (λ b. filter test (take n outputs) ++ cond b (output ∷ []) []) is)
     ∙ map-append path (filter test (take n outputs)) (cond told (output ∷ []) [])
 
-pub output_at : (lent : List OutputStruct) (used : Drv) (n : ℕ) (output : OutputStruct) → map output_of lent ≡ used.outputs → slice_get lent n ≡ Some output → slice_get used.outputs n ≡ Some (output_of output)
-output_at lent used n output view at = ap (λ (l : List Output). slice_get l n) (sym view) ∙ slice_get-map output_of lent n ∙ ap (option_map output_of) at
+pub output_at : (lent : List OutputStruct) (used : Drv) (n : ℕ) (output : OutputStruct)
+    → map output_of lent ≡ used.outputs → slice_get lent n ≡ Some output → slice_get used.outputs n
+    ≡ Some (output_of output)
+output_at lent used n output view at = ap (λ (l : List Output). slice_get l n) (sym view)
+    ∙ slice_get-map output_of lent n ∙ ap (option_map output_of) at
 
-pub path_at : (paths : List (List ℕ)) (used : Drv) (n : ℕ) (path : List ℕ) (output : Output) → paths ≡ output_paths_of used → slice_get paths n ≡ Some path → slice_get used.outputs n ≡ Some output → path ≡ output.path
+pub path_at : (paths : List (List ℕ)) (used : Drv) (n : ℕ) (path : List ℕ) (output : Output) → paths
+    ≡ output_paths_of used → slice_get paths n ≡ Some path → slice_get used.outputs n ≡ Some output
+    → path ≡ output.path
 path_at paths used n path output are at is =
-    let both : Some path ≡ Some output.path = sym at ∙ ap (λ l. slice_get l n) are ∙ slice_get-map (λ (o : Output). o.path) used.outputs n ∙ ap (option_map (λ (o : Output). o.path)) is in
+    let both : Some path ≡ Some output.path = sym at ∙ ap (λ l. slice_get l n) are
+    ∙ slice_get-map (λ (o : Output). o.path) used.outputs n
+    ∙ ap (option_map (λ (o : Output). o.path)) is in
     cc
 
-pub at_input : (inputs : List Input) (place : ℕ) (input : Input) (told : Bool) (name : List ℕ) → slice_get inputs place ≡ Some input
-    → IfSome (slice_get inputs place) (λ used. IsTrue told ↔ Contains used.names name) → list_any (same_bytes name) input.names ≡ told
+pub at_input : (inputs : List Input) (place : ℕ) (input : Input) (told : Bool) (name : List ℕ)
+    → slice_get inputs place ≡ Some input
+    → IfSome (slice_get inputs place) (λ used. IsTrue told ↔ Contains used.names name)
+    → list_any (same_bytes name) input.names ≡ told
 at_input inputs place input told name at told_is =
-    told_named told input.names name (subst (λ (o : Option Input). IfSome o (λ used. IsTrue told ↔ Contains used.names name)) at told_is)
+    told_named told input.names name
+    (subst (λ (o : Option Input). IfSome o (λ used. IsTrue told ↔ Contains used.names name)) at
+    told_is)
 
 -- What was added of an input's outputs so far.
-abbrev pub AddsFirst : (inputs : List Input) → (place : ℕ) → Drv → (old new : List (List ℕ)) → (n : ℕ) → Type 0
-AddsFirst inputs place used old new n = (input : Input) → slice_get inputs place ≡ Some input → new ≡ old ++ first_named input.names used.outputs n
+abbrev pub AddsFirst : (inputs : List Input) → (place : ℕ) → Drv → (old new : List (List ℕ))
+    → (n : ℕ) → Type 0
+AddsFirst inputs place used old new n = (input : Input) → slice_get inputs place ≡ Some input → new
+    ≡ old ++ first_named input.names used.outputs n
 
-pub adds_none : (inputs : List Input) (place : ℕ) (used : Drv) (old : List (List ℕ)) → AddsFirst inputs place used old old 0
+pub adds_none : (inputs : List Input) (place : ℕ) (used : Drv) (old : List (List ℕ))
+    → AddsFirst inputs place used old old 0
 adds_none inputs place used old input at = sym (append-nil old)
 
 -- an output is used
-pub adds_used : (inputs : List Input) (place : ℕ) (used : Drv) (old seeds paths : List (List ℕ)) (lent : List OutputStruct) (n : ℕ) (output : OutputStruct) (path copy : List ℕ) (told : Bool)
-    → map output_of lent ≡ used.outputs → paths ≡ output_paths_of used → slice_get lent n ≡ Some output → slice_get paths n ≡ Some path → copy ≡ path
-    → IfSome (slice_get inputs place) (λ used. IsTrue told ↔ Contains used.names output.name.items) → told ≡ true
-    → AddsFirst inputs place used old seeds n → AddsFirst inputs place used old (seeds ++ copy ∷ []) (n + 1)
-adds_used inputs place used old seeds paths lent n output path copy told view are at at_path same told_is is_used before input at_place =
+pub adds_used : (inputs : List Input) (place : ℕ) (used : Drv) (old seeds paths : List (List ℕ))
+    (lent : List OutputStruct) (n : ℕ) (output : OutputStruct) (path copy : List ℕ) (told : Bool)
+    → map output_of lent ≡ used.outputs → paths ≡ output_paths_of used → slice_get lent n
+    ≡ Some output → slice_get paths n ≡ Some path → copy ≡ path
+    → IfSome (slice_get inputs place) (λ used. IsTrue told ↔ Contains used.names output.name.items)
+    → told ≡ true
+    → AddsFirst inputs place used old seeds n
+    → AddsFirst inputs place used old (seeds ++ copy ∷ []) (n + 1)
+adds_used inputs place used old seeds paths lent n output path copy told view are at at_path same
+    told_is is_used before input at_place =
     let there = output_at lent used n output view at in
     let named = at_input inputs place input told output.name.items at_place told_is ∙ is_used in
-    let its : copy ≡ output.path.items = same ∙ path_at paths used n path (output_of output) are at_path there in
-    ap (λ l. l ++ copy ∷ []) (before input at_place) ∙ append_assoc old (first_named input.names used.outputs n) (copy ∷ [])
+    let its : copy ≡ output.path.items = same
+    ∙ path_at paths used n path (output_of output) are at_path there in
+    ap (λ l. l ++ copy ∷ []) (before input at_place)
+    ∙ append_assoc old (first_named input.names used.outputs n) (copy ∷ [])
     ∙ ap (λ p. old ++ (first_named input.names used.outputs n ++ p ∷ [])) its
-    ∙ ap (λ l. old ++ l) (sym (first_more input.names used.outputs n (output_of output) true there named))
+    ∙ ap (λ l. old ++ l)
+    (sym (first_more input.names used.outputs n (output_of output) true there named))
 
 -- an output isn't used
-pub adds_unused : (inputs : List Input) (place : ℕ) (used : Drv) (old seeds : List (List ℕ)) (lent : List OutputStruct) (n : ℕ) (output : OutputStruct) (told : Bool)
+pub adds_unused : (inputs : List Input) (place : ℕ) (used : Drv) (old seeds : List (List ℕ))
+    (lent : List OutputStruct) (n : ℕ) (output : OutputStruct) (told : Bool)
     → map output_of lent ≡ used.outputs → slice_get lent n ≡ Some output
-    → IfSome (slice_get inputs place) (λ used. IsTrue told ↔ Contains used.names output.name.items) → told ≡ false
+    → IfSome (slice_get inputs place) (λ used. IsTrue told ↔ Contains used.names output.name.items)
+    → told ≡ false
     → AddsFirst inputs place used old seeds n → AddsFirst inputs place used old seeds (n + 1)
-adds_unused inputs place used old seeds lent n output told view at told_is is_unused before input at_place =
+adds_unused inputs place used old seeds lent n output told view at told_is is_unused before input
+    at_place =
     let there = output_at lent used n output view at in
     let named = at_input inputs place input told output.name.items at_place told_is ∙ is_unused in
     before input at_place
-    ∙ ap (λ l. old ++ l) (sym (first_more input.names used.outputs n (output_of output) false there named ∙ append-nil (first_named input.names used.outputs n)))
+    ∙ ap (λ l. old ++ l)
+    (sym (first_more input.names used.outputs n (output_of output) false there named
+    ∙ append-nil (first_named input.names used.outputs n)))
 
 -- there is an output for each path
-pub outputs_count : (used : Drv) (paths : List (List ℕ)) (lent : List OutputStruct) → map output_of lent ≡ used.outputs → paths ≡ output_paths_of used → length paths ≡ length lent
+pub outputs_count : (used : Drv) (paths : List (List ℕ)) (lent : List OutputStruct)
+    → map output_of lent ≡ used.outputs → paths ≡ output_paths_of used → length paths ≡ length lent
 outputs_count used paths lent view are =
-    ap length are ∙ length-map used.outputs (λ (o : Output). o.path) ∙ sym (ap length view) ∙ length-map lent output_of
+    ap length are ∙ length-map used.outputs (λ (o : Output). o.path) ∙ sym (ap length view)
+    ∙ length-map lent output_of
 
-pub paths_count_is : (used : Drv) (paths : List (List ℕ)) → paths ≡ output_paths_of used → length paths ≡ length used.outputs
+pub paths_count_is : (used : Drv) (paths : List (List ℕ)) → paths ≡ output_paths_of used
+    → length paths ≡ length used.outputs
 paths_count_is used paths are = ap length are ∙ length-map used.outputs (λ (o : Output). o.path)
 
 -- an output is used or not
-pub output_seen : (inputs : List Input) (place : ℕ) (used : Drv) (old seeds new paths : List (List ℕ)) (lent : List OutputStruct) (n : ℕ) (output : OutputStruct) (text : List ℕ) (told : Bool)
-    → map output_of lent ≡ used.outputs → paths ≡ output_paths_of used → n < length paths → output ≡ get_or lent n output → text ≡ output.name.items
+pub output_seen : (inputs : List Input) (place : ℕ) (used : Drv)
+    (old seeds new paths : List (List ℕ)) (lent : List OutputStruct) (n : ℕ) (output : OutputStruct)
+    (text : List ℕ) (told : Bool)
+    → map output_of lent ≡ used.outputs → paths ≡ output_paths_of used → n < length paths → output
+    ≡ get_or lent n output → text ≡ output.name.items
     → IfSome (slice_get inputs place) (λ used. IsTrue told ↔ Contains used.names text)
     → ((told ≡ true) × (new ≡ seeds ++ get_or paths n [] ∷ [])) ⊎ ((told ≡ false) × (new ≡ seeds))
     → AddsFirst inputs place used old seeds n → AddsFirst inputs place used old new (n + 1)
-output_seen inputs place used old seeds new paths lent n output text told view are low is_output is_text told_is either before =
+output_seen inputs place used old seeds new paths lent n output text told view are low is_output
+    is_text told_is either before =
     let below : n < length lent = omega (arith, low, outputs_count used paths lent view are) in
     let at : slice_get lent n ≡ Some output = read_at lent n output below is_output in
-    let named = subst (λ t. IfSome (slice_get inputs place) (λ used. IsTrue told ↔ Contains used.names t)) is_text told_is in
+    let named = subst (λ t. IfSome (slice_get inputs place)
+    (λ used. IsTrue told ↔ Contains used.names t)) is_text told_is in
     ⊎_elim
     (λ yes_used. subst (λ l. AddsFirst inputs place used old l (n + 1)) (sym yes_used.1)
-    (adds_used inputs place used old seeds paths lent n output (get_or paths n []) (get_or paths n []) told view are at (slice_get-get_or paths n [] low) refl named yes_used.0 before))
-    (λ unused. subst (λ l. AddsFirst inputs place used old l (n + 1)) (sym unused.1) (adds_unused inputs place used old seeds lent n output told view at named unused.0 before))
+    (adds_used inputs place used old seeds paths lent n output (get_or paths n [])
+    (get_or paths n []) told view are at (slice_get-get_or paths n [] low) refl named yes_used.0
+    before))
+    (λ unused. subst (λ l. AddsFirst inputs place used old l (n + 1)) (sym unused.1)
+    (adds_unused inputs place used old seeds lent n output told view at named unused.0 before))
     either
 
 -- all outputs were seen
-pub adds_all : (inputs : List Input) (place : ℕ) (used : Drv) (old new : List (List ℕ)) (n : ℕ) → length used.outputs ≤ n → AddsFirst inputs place used old new n
-    → (input : Input) → slice_get inputs place ≡ Some input → new ≡ old ++ paths_named input.names used
+pub adds_all : (inputs : List Input) (place : ℕ) (used : Drv) (old new : List (List ℕ)) (n : ℕ)
+    → length used.outputs ≤ n → AddsFirst inputs place used old new n
+    → (input : Input) → slice_get inputs place ≡ Some input → new ≡ old
+    ++ paths_named input.names used
 adds_all inputs place used old new n all adds input at =
     adds input at
-    ∙ ap (λ l. old ++ map (λ (o : Output). o.path) (filter (λ (o : Output). list_any (same_bytes o.name) input.names) l)) (take_all n used.outputs all)
+    ∙ ap (λ l. old ++ map (λ (o : Output). o.path)
+    (filter (λ (o : Output). list_any (same_bytes o.name) input.names) l))
+    (take_all n used.outputs all)
 
 -- ---- the inputs
 
 -- the outputs that are used of an input are those of the derivation with its number
-used_named : (nodes : List Node) (node : Node) (numbers : List ℕ) (place number : ℕ) (input : Input) (used : Drv) → AreDistinct (paths_of nodes)
-    → AreNumbers nodes numbers (inputs_of node.drv) → slice_get numbers place ≡ Some number → slice_get node.drv.inputs place ≡ Some input
-    → slice_get (drvs_of nodes) number ≡ Some used → named_outputs nodes input ≡ paths_named input.names used
+used_named : (nodes : List Node) (node : Node) (numbers : List ℕ) (place number : ℕ) (input : Input)
+    (used : Drv) → AreDistinct (paths_of nodes)
+    → AreNumbers nodes numbers (inputs_of node.drv) → slice_get numbers place ≡ Some number
+    → slice_get node.drv.inputs place ≡ Some input
+    → slice_get (drvs_of nodes) number ≡ Some used → named_outputs nodes input
+    ≡ paths_named input.names used
 used_named nodes node numbers place number input used once are at_number at_input_place at_used =
     let place_of = λ (path : List ℕ). position_or_len (same_bytes path) (paths_of nodes) in
-    let at_path : slice_get (inputs_of node.drv) place ≡ Some input.path = slice_get-map (λ (i : Input). i.path) node.drv.inputs place ∙ ap (option_map (λ (i : Input). i.path)) at_input_place in
+    let at_path : slice_get (inputs_of node.drv) place
+    ≡ Some input.path = slice_get-map (λ (i : Input). i.path) node.drv.inputs place
+    ∙ ap (option_map (λ (i : Input). i.path)) at_input_place in
     let at_place : slice_get numbers place ≡ Some (place_of input.path) =
-    ap (λ l. slice_get l place) (numbers_are nodes numbers (inputs_of node.drv) once are) ∙ slice_get-map place_of (inputs_of node.drv) place ∙ ap (option_map place_of) at_path in
+    ap (λ l. slice_get l place) (numbers_are nodes numbers (inputs_of node.drv) once are)
+    ∙ slice_get-map place_of (inputs_of node.drv) place ∙ ap (option_map place_of) at_path in
     let both : Some number ≡ Some (place_of input.path) = sym at_number ∙ at_place in
     let same : number ≡ place_of input.path = cc in
-    let found : find (λ (n : Node). same_bytes input.path n.path) nodes ≡ slice_get nodes number = found_by_number nodes input.path ∙ ap (slice_get nodes) (sym same) in
+    let found : find (λ (n : Node). same_bytes input.path n.path) nodes ≡ slice_get nodes number =
+    found_by_number nodes input.path ∙ ap (slice_get nodes) (sym same) in
     ap (paths_of_found input.names) found ∙ by (slice_get nodes number) refl
   where
-    by : (o : Option Node) → slice_get nodes number ≡ o → paths_of_found input.names o ≡ paths_named input.names used
-    by None is = let clash : None ≡ Some used = sym (slice_get-map (λ (n : Node). n.drv) nodes number ∙ ap (option_map (λ (n : Node). n.drv)) is) ∙ at_used in absurd cc
-    by (Some other) is = ap (paths_named input.names) (sym (drv_is nodes number used other is at_used))
+    by : (o : Option Node) → slice_get nodes number ≡ o → paths_of_found input.names o
+        ≡ paths_named input.names used
+    by None is = let clash : None ≡ Some used =
+        sym (slice_get-map (λ (n : Node). n.drv) nodes number
+        ∙ ap (option_map (λ (n : Node). n.drv)) is) ∙ at_used in absurd cc
+    by (Some other) is = ap (paths_named input.names)
+        (sym (drv_is nodes number used other is at_used))
 
 -- the seeds of the sources and the first inputs, so many, of a node
 abbrev pub first_seeds : (nodes : List Node) → Node → (count : ℕ) → List (List ℕ)
-first_seeds nodes node count = node.drv.sources ++ flat_map (named_outputs nodes) (take count node.drv.inputs)
+first_seeds nodes node count = node.drv.sources
+    ++ flat_map (named_outputs nodes) (take count node.drv.inputs)
 
 -- The seeds of the sources and the first inputs, so many, of the derivation with a number.
-abbrev pub AreFirstSeeds : (nodes : List Node) → (d : ℕ) → (seeds : List (List ℕ)) → (count : ℕ) → Type 0
-AreFirstSeeds nodes d seeds count = (node : Node) → slice_get nodes d ≡ Some node → seeds ≡ node.drv.sources ++ flat_map (named_outputs nodes) (take count node.drv.inputs)
+abbrev pub AreFirstSeeds : (nodes : List Node) → (d : ℕ) → (seeds : List (List ℕ)) → (count : ℕ)
+    → Type 0
+AreFirstSeeds nodes d seeds count = (node : Node) → slice_get nodes d ≡ Some node → seeds
+    ≡ node.drv.sources ++ flat_map (named_outputs nodes) (take count node.drv.inputs)
 
-pub no_inputs_yet : (nodes : List Node) (d : ℕ) (seeds sources : List (List ℕ)) → seeds ≡ sources → IfSome (slice_get nodes d) (λ node. sources ≡ node.drv.sources) → AreFirstSeeds nodes d seeds 0
+pub no_inputs_yet : (nodes : List Node) (d : ℕ) (seeds sources : List (List ℕ)) → seeds ≡ sources
+    → IfSome (slice_get nodes d) (λ node. sources ≡ node.drv.sources)
+    → AreFirstSeeds nodes d seeds 0
 no_inputs_yet nodes d seeds sources same are node at =
-    same ∙ subst (λ (o : Option Node). IfSome o (λ (n : Node). sources ≡ n.drv.sources)) at are ∙ sym (append-nil node.drv.sources)
+    same ∙ subst (λ (o : Option Node). IfSome o (λ (n : Node). sources ≡ n.drv.sources)) at are
+    ∙ sym (append-nil node.drv.sources)
 
 -- an input's place is one of a number
-pub input_within : (nodes : List Node) (d : ℕ) (drv : Drv) (numbers : List ℕ) (place : ℕ) → d < length nodes → slice_get (drvs_of nodes) d ≡ Some drv
-    → IfSome (slice_get nodes d) (λ node. AreNumbers nodes numbers (inputs_of node.drv)) → place < length numbers → place < length drv.inputs
+pub input_within : (nodes : List Node) (d : ℕ) (drv : Drv) (numbers : List ℕ) (place : ℕ) → d
+    < length nodes → slice_get (drvs_of nodes) d ≡ Some drv
+    → IfSome (slice_get nodes d) (λ node. AreNumbers nodes numbers (inputs_of node.drv)) → place
+    < length numbers → place < length drv.inputs
 input_within nodes d drv numbers place low is_drv are within =
     let there = element_at nodes d low in
-    let its : AreNumbers nodes numbers (inputs_of there.0.drv) = subst (λ (o : Option Node). IfSome o (λ (n : Node). AreNumbers nodes numbers (inputs_of n.drv))) there.1 are in
+    let its : AreNumbers nodes numbers (inputs_of there.0.drv) =
+    subst (λ (o : Option Node).
+    IfSome o (λ (n : Node). AreNumbers nodes numbers (inputs_of n.drv))) there.1 are in
     let same : drv ≡ there.0.drv = drv_is nodes d drv there.0 there.1 is_drv in
     let inputs : List Input = there.0.drv.inputs in
-    let counts : length numbers ≡ length (inputs_of there.0.drv) = numbers_length nodes numbers (inputs_of there.0.drv) its in
-    let size : length drv.inputs ≡ length there.0.drv.inputs = ap (λ (x : Drv). length x.inputs) same in
+    let counts : length numbers ≡ length (inputs_of there.0.drv) =
+    numbers_length nodes numbers (inputs_of there.0.drv) its in
+    let size : length drv.inputs ≡ length there.0.drv.inputs =
+    ap (λ (x : Drv). length x.inputs) same in
     omega (arith, within, counts, size, length-map there.0.drv.inputs (λ (i : Input). i.path))
 
 -- a number of an input is one of a node
-pub number_within : (nodes : List Node) (d : ℕ) (numbers : List ℕ) (place number : ℕ) → d < length nodes → All (λ input. input < d) numbers → slice_get numbers place ≡ Some number → number < length nodes
+pub number_within : (nodes : List Node) (d : ℕ) (numbers : List ℕ) (place number : ℕ) → d
+    < length nodes → All (λ input. input < d) numbers → slice_get numbers place ≡ Some number
+    → number < length nodes
 number_within nodes d numbers place number low smaller at =
-    let less : number < d = All-contains (λ input. input < d) numbers number smaller (contains_at numbers place number at) in
+    let less : number < d = All-contains (λ input. input < d) numbers number smaller
+    (contains_at numbers place number at) in
     omega (arith, low, less)
 
 -- the paths of a node's outputs are those of its derivation
-pub paths_beside : (nodes : List Node) (number : ℕ) (used : Drv) (paths : List (List ℕ)) → number < length nodes → slice_get (drvs_of nodes) number ≡ Some used
-    → IfSome (slice_get nodes number) (λ node. paths ≡ output_paths_of node.drv) → paths ≡ output_paths_of used
+pub paths_beside : (nodes : List Node) (number : ℕ) (used : Drv) (paths : List (List ℕ)) → number
+    < length nodes → slice_get (drvs_of nodes) number ≡ Some used
+    → IfSome (slice_get nodes number) (λ node. paths ≡ output_paths_of node.drv) → paths
+    ≡ output_paths_of used
 paths_beside nodes number used paths low is_drv are =
     let there = element_at nodes number low in
     subst (λ (o : Option Node). IfSome o (λ (n : Node). paths ≡ output_paths_of n.drv)) there.1 are
     ∙ ap output_paths_of (sym (drv_is nodes number used there.0 there.1 is_drv))
 
 -- the seeds with those of one input more
-pub input_added : (nodes : List Node) (d : ℕ) (drv used : Drv) (numbers : List ℕ) (place number : ℕ) (before after : List (List ℕ)) → AreDistinct (paths_of nodes)
-    → slice_get (drvs_of nodes) d ≡ Some drv → IfSome (slice_get nodes d) (λ node. AreNumbers nodes numbers (inputs_of node.drv)) → slice_get numbers place ≡ Some number
+pub input_added : (nodes : List Node) (d : ℕ) (drv used : Drv) (numbers : List ℕ) (place number : ℕ)
+    (before after : List (List ℕ)) → AreDistinct (paths_of nodes)
+    → slice_get (drvs_of nodes) d ≡ Some drv → IfSome (slice_get nodes d)
+    (λ node. AreNumbers nodes numbers (inputs_of node.drv)) → slice_get numbers place
+    ≡ Some number
     → slice_get (drvs_of nodes) number ≡ Some used → place < length drv.inputs
-    → ((input : Input) → slice_get drv.inputs place ≡ Some input → after ≡ before ++ paths_named input.names used)
+    → ((input : Input) → slice_get drv.inputs place ≡ Some input → after ≡ before
+    ++ paths_named input.names used)
     → AreFirstSeeds nodes d before place → AreFirstSeeds nodes d after (place + 1)
-input_added nodes d drv used numbers place number before after once is_drv are at_number at_used within adds first node at =
-    let its : AreNumbers nodes numbers (inputs_of node.drv) = subst (λ (o : Option Node). IfSome o (λ (n : Node). AreNumbers nodes numbers (inputs_of n.drv))) at are in
+input_added nodes d drv used numbers place number before after once is_drv are at_number at_used
+    within adds first node at =
+    let its : AreNumbers nodes numbers (inputs_of node.drv) =
+    subst (λ (o : Option Node).
+    IfSome o (λ (n : Node). AreNumbers nodes numbers (inputs_of n.drv))) at are in
     let same : drv ≡ node.drv = drv_is nodes d drv node at is_drv in
     let there = element_at drv.inputs place within in
     let input : Input = there.0 in
-    let at_input_place : slice_get node.drv.inputs place ≡ Some there.0 = ap (λ (x : Drv). slice_get x.inputs place) (sym same) ∙ there.1 in
-    let named = used_named nodes node numbers place number there.0 used once its at_number at_input_place at_used in
+    let at_input_place : slice_get node.drv.inputs place
+    ≡ Some there.0 = ap (λ (x : Drv). slice_get x.inputs place) (sym same) ∙ there.1 in
+    let named = used_named nodes node numbers place number there.0 used once its at_number
+    at_input_place at_used in
     adds there.0 there.1
     ∙ ap (λ l. l ++ paths_named there.0.names used) (first node at)
-    ∙ append_assoc node.drv.sources (flat_map (named_outputs nodes) (take place node.drv.inputs)) (paths_named there.0.names used)
-    ∙ ap (λ l. node.drv.sources ++ (flat_map (named_outputs nodes) (take place node.drv.inputs) ++ l)) (sym named ∙ sym (append-nil (named_outputs nodes there.0)))
-    ∙ ap (λ l. node.drv.sources ++ l) (sym (ap (flat_map (named_outputs nodes)) (take_next node.drv.inputs place there.0 at_input_place) ∙ flat_map-append (named_outputs nodes) (take place node.drv.inputs) (there.0 ∷ [])))
+    ∙ append_assoc node.drv.sources (flat_map (named_outputs nodes) (take place node.drv.inputs))
+    (paths_named there.0.names used)
+    ∙ ap (λ l. node.drv.sources
+    ++ (flat_map (named_outputs nodes) (take place node.drv.inputs) ++ l))
+    (sym named ∙ sym (append-nil (named_outputs nodes there.0)))
+    ∙ ap (λ l. node.drv.sources ++ l)
+    (sym (ap (flat_map (named_outputs nodes))
+    (take_next node.drv.inputs place there.0 at_input_place)
+    ∙ flat_map-append (named_outputs nodes) (take place node.drv.inputs) (there.0 ∷ [])))
 
 -- all inputs were seen
-pub all_seeds : (nodes : List Node) (d : ℕ) (numbers : List ℕ) (seeds : List (List ℕ)) (count : ℕ) → IfSome (slice_get nodes d) (λ node. AreNumbers nodes numbers (inputs_of node.drv))
-    → length numbers ≤ count → AreFirstSeeds nodes d seeds count → IfSome (slice_get nodes d) (λ node. seeds ≡ seeds_of nodes node.drv)
+pub all_seeds : (nodes : List Node) (d : ℕ) (numbers : List ℕ) (seeds : List (List ℕ)) (count : ℕ)
+    → IfSome (slice_get nodes d) (λ node. AreNumbers nodes numbers (inputs_of node.drv))
+    → length numbers ≤ count → AreFirstSeeds nodes d seeds count
+    → IfSome (slice_get nodes d) (λ node. seeds ≡ seeds_of nodes node.drv)
 all_seeds nodes d numbers seeds count are all first = by (slice_get nodes d) refl are
   where
-    by : (o : Option Node) → slice_get nodes d ≡ o → IfSome o (λ node. AreNumbers nodes numbers (inputs_of node.drv)) → IfSome o (λ node. seeds ≡ seeds_of nodes node.drv)
+    by : (o : Option Node) → slice_get nodes d ≡ o
+        → IfSome o (λ node. AreNumbers nodes numbers (inputs_of node.drv))
+        → IfSome o (λ node. seeds ≡ seeds_of nodes node.drv)
     by None is its = tt
     by (Some node) is its =
-        let counts : length numbers ≡ length (inputs_of node.drv) = numbers_length nodes numbers (inputs_of node.drv) its in
+        let counts : length numbers ≡ length (inputs_of node.drv) =
+        numbers_length nodes numbers (inputs_of node.drv) its in
         first node is
         ∙ ap (λ l. node.drv.sources ++ flat_map (named_outputs nodes) l)
-        (take_all count node.drv.inputs (omega (arith, all, counts, length-map node.drv.inputs (λ (i : Input). i.path))))
+        (take_all count node.drv.inputs
+        (omega (arith, all, counts, length-map node.drv.inputs (λ (i : Input). i.path))))

@@ -54,71 +54,96 @@ later_idle (Begun n) = refl
 later_idle Ended = refl
 later_idle (Broken reason) = refl
 
-pub phase_push : (events : List Event) (e : Event) (d : ℕ) → phase_of (events ++ e ∷ []) d ≡ later (phase_of events d) (phase_by e d)
+pub phase_push : (events : List Event) (e : Event) (d : ℕ) → phase_of (events ++ e ∷ []) d
+    ≡ later (phase_of events d) (phase_by e d)
 phase_push [] e d = sym (later_idle (phase_by e d))
-phase_push (x ∷ xs) e d = ap (later (phase_by x d)) (phase_push xs e d) ∙ later_assoc (phase_by x d) (phase_of xs d) (phase_by e d)
+phase_push (x ∷ xs) e d = ap (later (phase_by x d)) (phase_push xs e d)
+    ∙ later_assoc (phase_by x d) (phase_of xs d) (phase_by e d)
 
 -- it was built before, if not now
-ended_by_begin : (same : Bool) (p : Phase) (n : ℕ) → later p (if same then Begun n else Idle) ≡ Ended → p ≡ Ended
+ended_by_begin : (same : Bool) (p : Phase) (n : ℕ) → later p (if same then Begun n else Idle)
+    ≡ Ended → p ≡ Ended
 ended_by_begin true p n is = absurd cc
 ended_by_begin false p n is = is
 
-ended_by_fail : (same : Bool) (p : Phase) (reason : _) → later p (if same then Broken reason else Idle) ≡ Ended → p ≡ Ended
+ended_by_fail : (same : Bool) (p : Phase) (reason : _)
+    → later p (if same then Broken reason else Idle) ≡ Ended → p ≡ Ended
 ended_by_fail true p reason is = absurd cc
 ended_by_fail false p reason is = is
 
-ended_by_done : (same : Bool) (p : Phase) → later p (if same then Ended else Idle) ≡ Ended → (same ≡ true) ⊎ (p ≡ Ended)
+ended_by_done : (same : Bool) (p : Phase) → later p (if same then Ended else Idle) ≡ Ended
+    → (same ≡ true) ⊎ (p ≡ Ended)
 ended_by_done true p is = inl refl
 ended_by_done false p is = inr is
 
 same_number : (a b : ℕ) → eqb a b ≡ true → a ≡ b
 same_number a b e = eqb_yes (subst T (sym e) tt)
 
-valid_behind : (entries : List Entry) (entry : Entry) (path : List ℕ) → IsValid (registered entries) path → IsValid (registered (entries ++ entry ∷ [])) path
+valid_behind : (entries : List Entry) (entry : Entry) (path : List ℕ)
+    → IsValid (registered entries) path → IsValid (registered (entries ++ entry ∷ [])) path
 valid_behind entries entry path valid =
-    subst (λ (rs : List Registration). IsValid rs path) (sym (registered_push entries entry)) (still_valid (registered entries) (registered_by entry) path valid)
+    subst (λ (rs : List Registration). IsValid rs path) (sym (registered_push entries entry))
+    (still_valid (registered entries) (registered_by entry) path valid)
 
 -- the outputs of a derivation that was built are valid
-pub ended_is_valid : (run : Run) (history : History) → IsLegal run history → (d : ℕ) (node : Node) → slice_get run.graph.nodes d ≡ Some node
-    → phase_of history.events d ≡ Ended → (path : List ℕ) → Contains (output_paths node.drv) path → IsValid (registered history.entries) path
+pub ended_is_valid : (run : Run) (history : History) → IsLegal run history → (d : ℕ) (node : Node)
+    → slice_get run.graph.nodes d ≡ Some node
+    → phase_of history.events d ≡ Ended → (path : List ℕ) → Contains (output_paths node.drv) path
+    → IsValid (registered history.entries) path
 ended_is_valid run _ (legal_opening entries journal) d node is_node ended path has = absurd cc
-ended_is_valid run _ (legal_begin history e legal within wanted ready) d node is_node ended path has =
+ended_is_valid run _ (legal_begin history e legal within wanted ready) d node is_node ended path
+    has =
     ended_is_valid run history legal d node is_node
-    (ended_by_begin (eqb e d) (phase_of history.events d) (begins history.events) (sym (phase_push history.events (Begin e (begins history.events)) d) ∙ ended)) path has
+    (ended_by_begin (eqb e d) (phase_of history.events d) (begins history.events)
+    (sym (phase_push history.events (Begin e (begins history.events)) d) ∙ ended)) path has
 ended_is_valid run _ (legal_fail history e lease reason legal phase) d node is_node ended path has =
     ended_is_valid run history legal d node is_node
-    (ended_by_fail (eqb e d) (phase_of history.events d) reason (sym (phase_push history.events (Fail e lease reason) d) ∙ ended)) path has
-ended_is_valid run _ (legal_done history e lease own infos entry legal phase is_own allowed is_entry) d node is_node ended path has =
+    (ended_by_fail (eqb e d) (phase_of history.events d) reason
+    (sym (phase_push history.events (Fail e lease reason) d) ∙ ended)) path has
+ended_is_valid run _
+    (legal_done history e lease own infos entry legal phase is_own allowed is_entry) d node is_node
+    ended path has =
     ⊎_elim
     (λ same.
     let number : e ≡ d = same_number e d same in
     let one : Some own ≡ Some node = sym is_own ∙ ap (slice_get run.graph.nodes) number ∙ is_node in
     let node_is : own ≡ node = cc in
-    let own_has : Contains (output_paths own.drv) path = subst (λ (n : Node). Contains (output_paths n.drv) path) (sym node_is) has in
-    let there = output_registered own infos is_entry.outputs entry is_entry (records_for_paths run history.entries own infos allowed) path own_has in
-    subst (λ (rs : List Registration). IsValid rs path) (sym (registered_push history.entries entry))
+    let own_has : Contains (output_paths own.drv) path =
+    subst (λ (n : Node). Contains (output_paths n.drv) path) (sym node_is) has in
+    let there = output_registered own infos is_entry.outputs entry is_entry
+    (records_for_paths run history.entries own infos allowed) path own_has in
+    subst (λ (rs : List Registration). IsValid rs path)
+    (sym (registered_push history.entries entry))
     (valid_by_some (registered history.entries) (registered_by entry) path
     (subst (λ (x : Entry). IsValid (registered_by x) path) (sym is_entry.is_done) there)))
-    (λ before. valid_behind history.entries entry path (ended_is_valid run history legal d node is_node before path has))
-    (ended_by_done (eqb e d) (phase_of history.events d) (sym (phase_push history.events (Finish e lease) d) ∙ ended))
+    (λ before. valid_behind history.entries entry path
+    (ended_is_valid run history legal d node is_node before path has))
+    (ended_by_done (eqb e d) (phase_of history.events d)
+    (sym (phase_push history.events (Finish e lease) d) ∙ ended))
 
 -- the entries begin with the opening ones
-pub opened_with : (run : Run) (history : History) → IsLegal run history → (more : List Entry) × (history.entries ≡ history.opening ++ more)
+pub opened_with : (run : Run) (history : History) → IsLegal run history → (more : List Entry)
+    × (history.entries ≡ history.opening ++ more)
 opened_with run _ (legal_opening entries journal) = ([], sym (append-nil entries))
 opened_with run _ (legal_begin history e legal within wanted ready) = opened_with run history legal
 opened_with run _ (legal_fail history e lease reason legal phase) = opened_with run history legal
 opened_with run _ (legal_done history e lease own infos entry legal phase is_own allowed is_entry) =
-    let before = opened_with run history legal in
-    (before.0 ++ entry ∷ [], ap (λ (es : List Entry). es ++ entry ∷ []) before.1 ∙ append_assoc history.opening before.0 (entry ∷ []))
+    let before = opened_with run history legal in (
+      before.0 ++ entry ∷ [],
+      ap (λ (es : List Entry). es ++ entry ∷ []) before.1
+          ∙ append_assoc history.opening before.0 (entry ∷ []),
+    )
 
 -- what was valid at opening is valid
-pub opening_stays_valid : (run : Run) (history : History) → IsLegal run history → (path : List ℕ) → is_valid history.opening path ≡ true → IsValid (registered history.entries) path
+pub opening_stays_valid : (run : Run) (history : History) → IsLegal run history → (path : List ℕ)
+    → is_valid history.opening path ≡ true → IsValid (registered history.entries) path
 opening_stays_valid run history legal path is =
     let more = opened_with run history legal in
     let whole : registered history.entries ≡ registered history.opening ++ registered more.0 =
     ap registered more.1 ∙ flat_map-append registered_by history.opening more.0 in
     subst (λ (rs : List Registration). IsValid rs path) (sym whole)
-    (still_valid (registered history.opening) (registered more.0) path (Contains-from_any equal_from_eq path (paths_of (registered history.opening)) is))
+    (still_valid (registered history.opening) (registered more.0) path
+    (Contains-from_any equal_from_eq path (paths_of (registered history.opening)) is))
 
 -- ---- what it takes to be ready
 
@@ -127,7 +152,8 @@ pub record IsReadyBy (p : Phase) (s : Standing) (o : State) : Type 0 where
   pub free : s ≡ Free
   pub open_is : o ≡ Ready
 
-ready_by : (p : Phase) (s : Standing) (o : State) → by_phase p (by_standing s o) ≡ Ready → IsReadyBy p s o
+ready_by : (p : Phase) (s : Standing) (o : State) → by_phase p (by_standing s o) ≡ Ready
+    → IsReadyBy p s o
 ready_by Idle AllValid o is = absurd cc
 ready_by Idle (Hindered cause) o is = absurd cc
 ready_by Idle Free o is = record { idle = refl; free = refl; open_is = is }
@@ -144,11 +170,13 @@ both : (a b : Bool) → (a && b) ≡ true → (a ≡ true) × (b ≡ true)
 both true b is = (refl, is)
 both false b is = absurd cc
 
-list_all_has : {X : Type 0} (p : X → Bool) (xs : List X) (x : X) → list_all p xs ≡ true → Contains xs x → p x ≡ true
+list_all_has : {X : Type 0} (p : X → Bool) (xs : List X) (x : X) → list_all p xs ≡ true
+    → Contains xs x → p x ≡ true
 list_all_has p [] x is has = absurd (Contains-nothing x has)
 list_all_has p (y ∷ ys) x is has =
     let parts = both (p y) (list_all p ys) is in
-    ⊎_elim (λ same. subst (λ z. p z ≡ true) same parts.0) (λ later. list_all_has p ys x parts.1 later) (Contains-cons_cases y ys x has)
+    ⊎_elim (λ same. subst (λ z. p z ≡ true) same parts.0)
+    (λ later. list_all_has p ys x parts.1 later) (Contains-cons_cases y ys x has)
 
 not_good_by_first : (first : Option ℕ) (all : Bool) → is_good (by_first first all) ≡ true → ⊥
 not_good_by_first (Some i) all is = cc
@@ -156,7 +184,9 @@ not_good_by_first None true is = cc
 not_good_by_first None false is = cc
 
 -- who is good was built, or its outputs were all valid
-good_by : (p : Phase) (s : Standing) (first : Option ℕ) (all : Bool) → is_good (by_phase p (by_standing s (by_first first all))) ≡ true → (p ≡ Ended) ⊎ (s ≡ AllValid)
+good_by : (p : Phase) (s : Standing) (first : Option ℕ) (all : Bool)
+    → is_good (by_phase p (by_standing s (by_first first all))) ≡ true → (p ≡ Ended)
+    ⊎ (s ≡ AllValid)
 good_by Idle AllValid first all is = inr refl
 good_by Idle (Hindered cause) first all is = absurd cc
 good_by Idle Free first all is = absurd (not_good_by_first first all is)
@@ -166,12 +196,14 @@ good_by (Broken reason) s first all is = absurd cc
 
 -- ---- what standings say
 
-standing_all : (all : Bool) (cause : Option Refusal) → (if all then AllValid else by_cause cause) ≡ AllValid → all ≡ true
+standing_all : (all : Bool) (cause : Option Refusal) → (if all then AllValid else by_cause cause)
+    ≡ AllValid → all ≡ true
 standing_all true cause is = refl
 standing_all false (Some cause) is = absurd cc
 standing_all false None is = absurd cc
 
-standing_free : (all : Bool) (cause : Option Refusal) → (if all then AllValid else by_cause cause) ≡ Free → cause ≡ None
+standing_free : (all : Bool) (cause : Option Refusal) → (if all then AllValid else by_cause cause)
+    ≡ Free → cause ≡ None
 standing_free true cause is = absurd cc
 standing_free false (Some cause) is = absurd cc
 standing_free false None is = refl
@@ -189,9 +221,11 @@ test_fails : {X : Type 0} (test : Bool) (x : X) → cond test (Some x) None ≡ 
 test_fails true x is = absurd cc
 test_fails false x is = refl
 
-none_found : {X : Type 0} (p : X → Bool) (xs : List X) → position p xs ≡ None → (x : X) → Contains xs x → p x ≡ false
+none_found : {X : Type 0} (p : X → Bool) (xs : List X) → position p xs ≡ None → (x : X)
+    → Contains xs x → p x ≡ false
 none_found p xs is x (k, lt, at) =
-    let past = ltb-false (position_or_len p xs) (length xs) (test_fails (nat_lt (position_or_len p xs) (length xs)) (position_or_len p xs) is) in
+    let past = ltb-false (position_or_len p xs) (length xs)
+    (test_fails (nat_lt (position_or_len p xs) (length xs)) (position_or_len p xs) is) in
     ap p (sym at) ∙ fails_before_first p xs k x (omega arith)
 
 not_false : (b : Bool) → not b ≡ false → b ≡ true
@@ -199,8 +233,10 @@ not_false true is = refl
 not_false false is = absurd cc
 
 -- a derivation that is good has valid outputs
-at_number : (run : Run) (history : History) → IsLegal run history → (i : ℕ) → is_good (state_in run history i) ≡ true
-    → (node : Node) → slice_get run.graph.nodes i ≡ Some node → (path : List ℕ) → Contains (output_paths node.drv) path → IsValid (registered history.entries) path
+at_number : (run : Run) (history : History) → IsLegal run history → (i : ℕ)
+    → is_good (state_in run history i) ≡ true
+    → (node : Node) → slice_get run.graph.nodes i ≡ Some node → (path : List ℕ)
+    → Contains (output_paths node.drv) path → IsValid (registered history.entries) path
 unfolding state table
 at_number run history legal i good node is_node path has =
     let rows = rows_of run history.opening history.events in
@@ -210,8 +246,10 @@ at_number run history legal i good node is_node path has =
     (λ all.
     let own : standing_of run.system history.opening node.drv ≡ AllValid =
     sym (ap (standing_at run.system history.opening) is_node) ∙ all in
-    let there = standing_all (list_all (is_valid history.opening) (output_paths node.drv)) (own_cause run.system history.opening node.drv) own in
-    opening_stays_valid run history legal path (list_all_has (is_valid history.opening) (output_paths node.drv) path there has))
+    let there = standing_all (list_all (is_valid history.opening) (output_paths node.drv))
+    (own_cause run.system history.opening node.drv) own in
+    opening_stays_valid run history legal path
+    (list_all_has (is_valid history.opening) (output_paths node.drv) path there has))
     (good_by (phase_of history.events i) (rows.standing i)
     (find (λ j. is_bad (f j)) (rows.inputs i)) (list_all (λ j. is_good (f j)) (rows.inputs i)) good)
 
@@ -221,103 +259,150 @@ one_more : (k : ℕ) → suc k ≡ 1 + k
 one_more k = omega arith
 
 -- the first node at a path is the node with the path's number
-pub found_by_number : (nodes : List Node) (path : List ℕ) → find (λ (n : Node). same_bytes path n.path) nodes ≡ slice_get nodes (position_or_len (same_bytes path) (node_paths nodes))
+pub found_by_number : (nodes : List Node) (path : List ℕ)
+    → find (λ (n : Node). same_bytes path n.path) nodes
+    ≡ slice_get nodes (position_or_len (same_bytes path) (node_paths nodes))
 found_by_number [] path = refl
 found_by_number (n ∷ ns) path = by (same_bytes path n.path) (found_by_number ns path)
   where
-    by : (b : Bool) → find (λ (x : Node). same_bytes path x.path) ns ≡ slice_get ns (position_or_len (same_bytes path) (node_paths ns))
+    by : (b : Bool) → find (λ (x : Node). same_bytes path x.path) ns
+        ≡ slice_get ns (position_or_len (same_bytes path) (node_paths ns))
         → cond b (Some n) (find (λ (x : Node). same_bytes path x.path) ns)
-        ≡ slice_get (n ∷ ns) (cond (not b) (1 + position_or_len (same_bytes path) (node_paths ns)) 0)
+        ≡ slice_get (n ∷ ns)
+        (cond (not b) (1 + position_or_len (same_bytes path) (node_paths ns)) 0)
     by true rest = refl
-    by false rest = rest ∙ ap (slice_get (n ∷ ns)) (one_more (position_or_len (same_bytes path) (node_paths ns)))
+    by false rest = rest ∙ ap (slice_get (n ∷ ns))
+        (one_more (position_or_len (same_bytes path) (node_paths ns)))
 
-filtered : {X : Type 0} (p : X → Bool) (xs : List X) (x : X) → Contains (filter p xs) x → Contains xs x
+filtered : {X : Type 0} (p : X → Bool) (xs : List X) (x : X) → Contains (filter p xs) x
+    → Contains xs x
 filtered p [] x has = absurd (Contains-nothing x has)
 filtered p (y ∷ ys) x has = by (p y) has (filtered p ys x)
   where
-    by : (b : Bool) → Contains (cond b (y ∷ filter p ys) (filter p ys)) x → (Contains (filter p ys) x → Contains ys x) → Contains (y ∷ ys) x
-    by true here rest = ⊎_elim (λ same. subst (Contains (y ∷ ys)) same (Contains-first y ys)) (λ later. Contains-later y ys x (rest later)) (Contains-cons_cases y (filter p ys) x here)
+    by : (b : Bool) → Contains (cond b (y ∷ filter p ys) (filter p ys)) x
+        → (Contains (filter p ys) x → Contains ys x) → Contains (y ∷ ys) x
+    by true here rest = ⊎_elim (λ same. subst (Contains (y ∷ ys)) same (Contains-first y ys))
+        (λ later. Contains-later y ys x (rest later)) (Contains-cons_cases y (filter p ys) x here)
     by false here rest = Contains-later y ys x (rest here)
 
 -- the outputs that an input names are among those of the node with the input's number
-named_at : (nodes : List Node) (input : Input) (path : List ℕ) → Contains (named_outputs nodes input) path
-    → (node : Node) × (slice_get nodes (position_or_len (same_bytes input.path) (node_paths nodes)) ≡ Some node) × Contains (output_paths node.drv) path
+named_at : (nodes : List Node) (input : Input) (path : List ℕ)
+    → Contains (named_outputs nodes input) path
+    → (node : Node)
+    × (slice_get nodes (position_or_len (same_bytes input.path) (node_paths nodes)) ≡ Some node)
+    × Contains (output_paths node.drv) path
 named_at nodes input path has =
-    by (slice_get nodes (position_or_len (same_bytes input.path) (node_paths nodes))) (found_by_number nodes input.path)
+    by (slice_get nodes (position_or_len (same_bytes input.path) (node_paths nodes)))
+    (found_by_number nodes input.path)
   where
     by : (o : Option Node) → find (λ (n : Node). same_bytes input.path n.path) nodes ≡ o
         → (node : Node) × (o ≡ Some node) × Contains (output_paths node.drv) path
-    by None e = absurd (Contains-nothing path (subst (λ (o : Option Node). Contains (paths_of_found input.names o) path) e has))
+    by None e = absurd
+        (Contains-nothing path
+        (subst (λ (o : Option Node). Contains (paths_of_found input.names o) path) e has))
     by (Some node) e =
-        let there = subst (λ (o : Option Node). Contains (paths_of_found input.names o) path) e has in
-        let kept = filter (λ (o : Output). list_any (same_bytes o.name) input.names) node.drv.outputs in
+        let there = subst (λ (o : Option Node). Contains (paths_of_found input.names o) path) e has
+        in
+        let kept = filter (λ (o : Output). list_any (same_bytes o.name) input.names)
+        node.drv.outputs in
         let output = contains_source (λ (o : Output). o.path) kept path there in
-        let among = filtered (λ (o : Output). list_any (same_bytes o.name) input.names) node.drv.outputs output.0 output.1 in
-        (node, refl, subst (Contains (output_paths node.drv)) output.2 (Contains-map (λ (o : Output). o.path) node.drv.outputs output.0 among))
+        let among = filtered (λ (o : Output). list_any (same_bytes o.name) input.names)
+        node.drv.outputs output.0 output.1 in (
+          node,
+          refl,
+          subst (Contains (output_paths node.drv)) output.2
+              (Contains-map (λ (o : Output). o.path) node.drv.outputs output.0 among),
+        )
 
 blocked_is_not_good : (s : State) → s ≡ Blocked → is_good s ≡ true → ⊥
 blocked_is_not_good s is good = let clash : false ≡ true = sym (ap is_good is) ∙ good in cc
 
 -- where a derivation is ready its seeds are valid
-seeds_at : (run : Run) (history : History) → IsLegal run history → (d : ℕ) → state_in run history d ≡ Ready
-    → (node : Node) → slice_get run.graph.nodes d ≡ Some node → (path : List ℕ) → Contains (seeds_of run.graph.nodes node.drv) path
+seeds_at : (run : Run) (history : History) → IsLegal run history → (d : ℕ) → state_in run history d
+    ≡ Ready
+    → (node : Node) → slice_get run.graph.nodes d ≡ Some node → (path : List ℕ)
+    → Contains (seeds_of run.graph.nodes node.drv) path
     → IsValid (registered history.entries) path
 unfolding state table
 seeds_at run history legal d ready node is_node path has =
     let nodes = run.graph.nodes in
     let rows = rows_of run history.opening history.events in
     let f : ℕ → State = λ j. slice_index_or (states rows d) j Blocked in
-    let facts = ready_by (phase_of history.events d) (rows.standing d) (by_inputs f (rows.inputs d)) ready in
-    let free : standing_of run.system history.opening node.drv ≡ Free = sym (ap (standing_at run.system history.opening) is_node) ∙ facts.free in
-    let no_cause = standing_free (list_all (is_valid history.opening) (output_paths node.drv)) (own_cause run.system history.opening node.drv) free in
-    let none_missing = cause_none MissingSource (position (λ p. not (is_valid history.opening p)) node.drv.sources)
-    (or_else_none (cause_at PartlyValid (position (is_valid history.opening) (output_paths node.drv))) _
+    let facts = ready_by (phase_of history.events d) (rows.standing d) (by_inputs f (rows.inputs d))
+    ready in
+    let free : standing_of run.system history.opening node.drv
+    ≡ Free = sym (ap (standing_at run.system history.opening) is_node) ∙ facts.free in
+    let no_cause = standing_free (list_all (is_valid history.opening) (output_paths node.drv))
+    (own_cause run.system history.opening node.drv) free in
+    let none_missing = cause_none MissingSource
+    (position (λ p. not (is_valid history.opening p)) node.drv.sources)
+    (or_else_none
+    (cause_at PartlyValid (position (is_valid history.opening) (output_paths node.drv))) _
     (or_else_none (if is_unsupported node.drv then Some Unsupported else None) _
-    (or_else_none (if same_bytes node.drv.system run.system then None else Some WrongSystem) _ no_cause))) in
-    let good = all_good (find (λ i. is_bad (f i)) (rows.inputs d)) (list_all (λ i. is_good (f i)) (rows.inputs d)) facts.open_is in
+    (or_else_none (if same_bytes node.drv.system run.system then None else Some WrongSystem) _
+    no_cause))) in
+    let good = all_good (find (λ i. is_bad (f i)) (rows.inputs d))
+    (list_all (λ i. is_good (f i)) (rows.inputs d)) facts.open_is in
     ⊎_elim
     (λ source.
     opening_stays_valid run history legal path
-    (not_false (is_valid history.opening path) (none_found (λ p. not (is_valid history.opening p)) node.drv.sources none_missing path source)))
+    (not_false (is_valid history.opening path)
+    (none_found (λ p. not (is_valid history.opening p)) node.drv.sources none_missing path
+    source)))
     (λ named.
     let part = part_with (named_outputs nodes) node.drv.inputs path named in
     let input = part.0 in
     let i = position_or_len (same_bytes input.path) (node_paths nodes) in
     let at = named_at nodes input path part.2 in
     let listed : Contains (input_numbers nodes node.drv) i =
-    Contains-map (λ (p : List ℕ). position_or_len (same_bytes p) (node_paths nodes)) (inputs_of node.drv) input.path
+    Contains-map (λ (p : List ℕ). position_or_len (same_bytes p) (node_paths nodes))
+    (inputs_of node.drv) input.path
     (Contains-map (λ (x : Input). x.path) node.drv.inputs input part.1) in
-    let is_input : Contains (rows.inputs d) i = subst (λ (o : Option Node). Contains (inputs_at nodes o) i) (sym is_node) listed in
+    let is_input : Contains (rows.inputs d) i =
+    subst (λ (o : Option Node). Contains (inputs_at nodes o) i) (sym is_node) listed in
     let well = list_all_has (λ j. is_good (f j)) (rows.inputs d) i good is_input in
     ⊎_elim
-    (λ less. at_number run history legal i (sym (ap is_good (state_at rows d i less)) ∙ well) at.0 at.1 path at.2)
-    (λ past. absurd (blocked_is_not_good (f i) (get_or_past (states rows d) i Blocked (omega (arith, length_states rows d))) well))
+    (λ less. at_number run history legal i (sym (ap is_good (state_at rows d i less)) ∙ well) at.0
+    at.1 path at.2)
+    (λ past. absurd
+    (blocked_is_not_good (f i)
+    (get_or_past (states rows d) i Blocked (omega (arith, length_states rows d))) well))
     (cases_lt i d))
-    (Contains-append_cases node.drv.sources (flat_map (named_outputs nodes) node.drv.inputs) path has)
+    (Contains-append_cases node.drv.sources (flat_map (named_outputs nodes) node.drv.inputs) path
+    has)
 
 pub seeds_are_valid : SeedsAreValid
-seeds_are_valid run _ (legal_opening entries journal) d lease has node is_node path seed = absurd (Contains-nothing (Begin d lease) has)
-seeds_are_valid run _ (legal_begin history e legal within wanted ready) d lease has node is_node path seed =
+seeds_are_valid run _ (legal_opening entries journal) d lease has node is_node path seed =
+    absurd (Contains-nothing (Begin d lease) has)
+seeds_are_valid run _ (legal_begin history e legal within wanted ready) d lease has node is_node
+    path seed =
     let event = Begin e (begins history.events) in
     ⊎_elim
     (λ before. seeds_are_valid run history legal d lease before node is_node path seed)
     (λ last. ⊎_elim
     (λ same. let number : e ≡ d = cc in
-    seeds_at run history legal d (subst (λ n. state_in run history n ≡ Ready) number ready) node is_node path seed)
+    seeds_at run history legal d (subst (λ n. state_in run history n ≡ Ready) number ready) node
+    is_node path seed)
     (λ none. absurd (Contains-nothing (Begin d lease) none))
     (Contains-cons_cases event [] (Begin d lease) last))
     (Contains-append_cases history.events (event ∷ []) (Begin d lease) has)
-seeds_are_valid run _ (legal_fail history e number reason legal phase) d lease has node is_node path seed =
+seeds_are_valid run _ (legal_fail history e number reason legal phase) d lease has node is_node path
+    seed =
     let event = Fail e number reason in
     ⊎_elim
     (λ before. seeds_are_valid run history legal d lease before node is_node path seed)
-    (λ last. ⊎_elim (λ same. absurd cc) (λ none. absurd (Contains-nothing (Begin d lease) none)) (Contains-cons_cases event [] (Begin d lease) last))
+    (λ last. ⊎_elim (λ same. absurd cc) (λ none. absurd (Contains-nothing (Begin d lease) none))
+    (Contains-cons_cases event [] (Begin d lease) last))
     (Contains-append_cases history.events (event ∷ []) (Begin d lease) has)
-seeds_are_valid run _ (legal_done history e number own infos entry legal phase is_own allowed is_entry) d lease has node is_node path seed =
+seeds_are_valid run _
+    (legal_done history e number own infos entry legal phase is_own allowed is_entry) d lease has
+    node is_node path seed =
     let event = Finish e number in
     ⊎_elim
-    (λ before. valid_behind history.entries entry path (seeds_are_valid run history legal d lease before node is_node path seed))
-    (λ last. ⊎_elim (λ same. absurd cc) (λ none. absurd (Contains-nothing (Begin d lease) none)) (Contains-cons_cases event [] (Begin d lease) last))
+    (λ before. valid_behind history.entries entry path
+    (seeds_are_valid run history legal d lease before node is_node path seed))
+    (λ last. ⊎_elim (λ same. absurd cc) (λ none. absurd (Contains-nothing (Begin d lease) none))
+    (Contains-cons_cases event [] (Begin d lease) last))
     (Contains-append_cases history.events (event ∷ []) (Begin d lease) has)
 
 -- ---- what is permitted
@@ -325,9 +410,21 @@ seeds_are_valid run _ (legal_done history e number own infos entry legal phase i
 pub permitted_stays : PermittedStays
 permitted_stays first more seeds outputs path closed once valid = (
   λ may. ⊎_elim
-      (λ reached. inl (reached.0, reached.1, (reached.2.0, leads_behind first more reached.0 path reached.2.0 reached.2.1)))
+      (λ reached. inl (
+        reached.0,
+        reached.1,
+        (reached.2.0, leads_behind first more reached.0 path reached.2.0 reached.2.1),
+      ))
       (λ own. inr own) may,
   λ may. ⊎_elim
-      (λ reached. inl (reached.0, reached.1, (reached.2.0, leads_before first more closed once reached.0 path reached.2.0 (valid reached.0 reached.1) reached.2.1)))
+      (λ reached. inl (
+        reached.0,
+        reached.1,
+        (
+          reached.2.0,
+          leads_before first more closed once reached.0 path reached.2.0
+              (valid reached.0 reached.1) reached.2.1,
+        ),
+      ))
       (λ own. inr own) may,
 )

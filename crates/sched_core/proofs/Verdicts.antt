@@ -19,32 +19,41 @@ use Rattle.sched_core.proofs.Places.{get_push_cases}
 abbrev pub ThereSoFar : Answer → ℕ → Type 0
 ThereSoFar answer count = (n : ℕ) → n < count → tree_at answer n ≡ None → ⊥
 
-pub there_more : (answer : Answer) (count : ℕ) → ThereSoFar answer count → (tree_at answer count ≡ None → ⊥) → ThereSoFar answer (count + 1)
+pub there_more : (answer : Answer) (count : ℕ) → ThereSoFar answer count
+    → (tree_at answer count ≡ None → ⊥) → ThereSoFar answer (count + 1)
 there_more answer count before here n below none =
     ⊎_elim
     (λ e. here (subst (λ k. tree_at answer k ≡ None) e none))
     (λ less. before n less none)
     (eq-or-lt_of_le {n = n} {m = count} (omega arith))
 
--- What is known where the first outputs, so many, were taken: their records, and that none of them is faulty.
-pub record TakenSoFar (job : Job) (permitted : List (List ℕ)) (answer : Answer) (infos : List PathInfo) (count : ℕ) : Type 0 where
+-- What is known where the first outputs, so many, were taken: their records, and that none of them
+-- is faulty.
+pub record TakenSoFar (job : Job) (permitted : List (List ℕ)) (answer : Answer)
+    (infos : List PathInfo) (count : ℕ) : Type 0 where
   pub as_many : length infos ≡ count
-  pub records : (n : ℕ) (info : PathInfo) → slice_get infos n ≡ Some info → IsRecordAt permitted answer n info
+  pub records : (n : ℕ) (info : PathInfo) → slice_get infos n ≡ Some info
+      → IsRecordAt permitted answer n info
   pub none : (n : ℕ) (why : Reason) → n < count → IsFaulty job answer why n → ⊥
 
-pub taken_none : (job : Job) (permitted : List (List ℕ)) (answer : Answer) (infos : List PathInfo) → infos ≡ [] → TakenSoFar job permitted answer infos 0
+pub taken_none : (job : Job) (permitted : List (List ℕ)) (answer : Answer) (infos : List PathInfo)
+    → infos ≡ [] → TakenSoFar job permitted answer infos 0
 taken_none job permitted answer infos is = record {
   as_many = ap length is;
-  records = λ n info at. let none : slice_get [] n ≡ Some info = subst (λ (l : List PathInfo). slice_get l n ≡ Some info) is at in absurd cc;
+  records = λ n info at. let none : slice_get [] n
+      ≡ Some info = subst (λ (l : List PathInfo). slice_get l n ≡ Some info) is at in absurd cc;
   none = λ n why below. absurd (omega arith);
 }
 
 -- one tree lies at an output
-pub one_tree : (answer : Answer) (n : ℕ) (a b : Tree) → tree_at answer n ≡ Some a → tree_at answer n ≡ Some b → a ≡ b
+pub one_tree : (answer : Answer) (n : ℕ) (a b : Tree) → tree_at answer n ≡ Some a → tree_at answer n
+    ≡ Some b → a ≡ b
 one_tree answer n a b at at' = let same : Some a ≡ Some b = sym at ∙ at' in cc
 
-pub taken_more : (job : Job) (permitted : List (List ℕ)) (answer : Answer) (infos more : List PathInfo) (count : ℕ) (tree : Tree) (info : PathInfo)
-    → TakenSoFar job permitted answer infos count → tree_at answer count ≡ Some tree → IsRecordOf permitted tree info → ((why : Reason) → IsTreeFault job.kind tree why → ⊥)
+pub taken_more : (job : Job) (permitted : List (List ℕ)) (answer : Answer)
+    (infos more : List PathInfo) (count : ℕ) (tree : Tree) (info : PathInfo)
+    → TakenSoFar job permitted answer infos count → tree_at answer count ≡ Some tree
+    → IsRecordOf permitted tree info → ((why : Reason) → IsTreeFault job.kind tree why → ⊥)
     → more ≡ infos ++ info ∷ [] → TakenSoFar job permitted answer more (count + 1)
 taken_more job permitted answer infos more count tree info before at is_record taken is =
     subst (λ (l : List PathInfo). TakenSoFar job permitted answer l (count + 1)) (sym is) (record {
@@ -53,12 +62,14 @@ taken_more job permitted answer infos more count tree info before at is_record t
           (λ earlier. before.records n other earlier)
           (λ h.
           let place : n ≡ count = h.0 ∙ before.as_many in
-          subst (λ k. IsRecordAt permitted answer k other) (sym place) (tree, at, subst (IsRecordOf permitted tree) (sym h.1) is_record))
+          subst (λ k. IsRecordAt permitted answer k other) (sym place)
+          (tree, at, subst (IsRecordOf permitted tree) (sym h.1) is_record))
           (get_push_cases infos info other n here);
       none = λ n why below faulty. ⊎_elim
           (λ e.
           let there = subst (λ k. IsFaulty job answer why k) e faulty in
-          taken why (subst (λ (t : Tree). IsTreeFault job.kind t why) (one_tree answer count there.0 tree there.1 at) there.2))
+          taken why (subst (λ (t : Tree). IsTreeFault job.kind t why)
+          (one_tree answer count there.0 tree there.1 at) there.2))
           (λ less. before.none n why less faulty)
           (eq-or-lt_of_le {n = n} {m = count} (omega arith));
     })
@@ -67,22 +78,31 @@ taken_more job permitted answer infos more count tree info before at is_record t
     pushed [] x = refl
     pushed (y ∷ ys) x = ap suc (pushed ys x)
 
-pub are_records : (job : Job) (permitted : List (List ℕ)) (answer : Answer) (infos : List PathInfo) (count : ℕ) → count ≡ length job.outputs.items → TakenSoFar job permitted answer infos count → AreRecords job permitted answer infos
-are_records job permitted answer infos count all taken = record { count = taken.as_many ∙ all; each = taken.records }
+pub are_records : (job : Job) (permitted : List (List ℕ)) (answer : Answer) (infos : List PathInfo)
+    (count : ℕ) → count ≡ length job.outputs.items → TakenSoFar job permitted answer infos count
+    → AreRecords job permitted answer infos
+are_records job permitted answer infos count all taken =
+    record { count = taken.as_many ∙ all; each = taken.records }
 
-pub is_taken : (job : Job) (permitted : List (List ℕ)) (answer : Answer) (infos : List PathInfo) (count : ℕ) → count ≡ length job.outputs.items → IsThere job answer → TakenSoFar job permitted answer infos count → IsTaken job answer
-is_taken job permitted answer infos count all there taken = (there, λ n why below. taken.none n why (omega arith))
+pub is_taken : (job : Job) (permitted : List (List ℕ)) (answer : Answer) (infos : List PathInfo)
+    (count : ℕ) → count ≡ length job.outputs.items → IsThere job answer
+    → TakenSoFar job permitted answer infos count → IsTaken job answer
+is_taken job permitted answer infos count all there taken =
+    (there, λ n why below. taken.none n why (omega arith))
 
 -- What is at fault with a tree, by its cases.
 pub data TreeFault (kind : Kind) (tree : Tree) : Reason → Type 0 where
   too_large : (Fits tree → ⊥) → TreeFault kind tree TooLarge
   not_flat : Fits tree → digest_of tree ≡ None → TreeFault kind tree NotFlatFile
-  mismatched : (found : List ℕ) → Fits tree → digest_of tree ≡ Some found → TreeFault kind tree HashMismatch
+  mismatched : (found : List ℕ) → Fits tree → digest_of tree ≡ Some found
+      → TreeFault kind tree HashMismatch
 
-pub tree_fault_cases : (kind : Kind) (tree : Tree) (why : Reason) → IsTreeFault kind tree why → TreeFault kind tree why
+pub tree_fault_cases : (kind : Kind) (tree : Tree) (why : Reason) → IsTreeFault kind tree why
+    → TreeFault kind tree why
 tree_fault_cases kind tree TooLarge fault = too_large fault
 tree_fault_cases (Fixed method digest) tree NotFlatFile fault = not_flat fault.0 fault.1
-tree_fault_cases (Fixed method digest) tree HashMismatch fault = mismatched fault.1.0 fault.0 fault.1.1
+tree_fault_cases (Fixed method digest) tree HashMismatch fault =
+    mismatched fault.1.0 fault.0 fault.1.1
 tree_fault_cases Addressed tree NotFlatFile fault = absurd fault
 tree_fault_cases Addressed tree HashMismatch fault = absurd fault
 tree_fault_cases Addressed tree (ExitStatus n) fault = absurd fault
@@ -101,31 +121,54 @@ tree_fault_cases (Fixed method digest) tree OutOfMemory fault = absurd fault
 tree_fault_cases (Fixed method digest) tree Killed fault = absurd fault
 
 -- a fault of a tree behind trees that are taken is the first
-pub first_fault : (job : Job) (permitted : List (List ℕ)) (answer : Answer) (infos : List PathInfo) (count : ℕ) (tree : Tree) (why : Reason) → count < length job.outputs.items
-    → IsThere job answer → TakenSoFar job permitted answer infos count → tree_at answer count ≡ Some tree → IsTreeFault job.kind tree why → IsVerdict job permitted answer (Err why)
+pub first_fault : (job : Job) (permitted : List (List ℕ)) (answer : Answer) (infos : List PathInfo)
+    (count : ℕ) (tree : Tree) (why : Reason) → count < length job.outputs.items
+    → IsThere job answer → TakenSoFar job permitted answer infos count → tree_at answer count
+    ≡ Some tree → IsTreeFault job.kind tree why → IsVerdict job permitted answer (Err why)
 first_fault job permitted answer infos count tree why below there taken at fault =
-    by why (tree_fault_cases job.kind tree why fault)
-    (count, record { within = below; holds = (why, (tree, at, fault)); none = λ m less h. taken.none m h.0 less h.1 }, (tree, at, fault))
+    by why (tree_fault_cases job.kind tree why fault) (
+      count,
+      record {
+        within = below;
+        holds = (why, (tree, at, fault));
+        none = λ m less h. taken.none m h.0 less h.1;
+      },
+      (tree, at, fault),
+    )
   where
-    by : (reason : Reason) → TreeFault job.kind tree reason → IsFirstFault job answer reason → IsVerdict job permitted answer (Err reason)
+    by : (reason : Reason) → TreeFault job.kind tree reason → IsFirstFault job answer reason
+        → IsVerdict job permitted answer (Err reason)
     by _ (too_large not_fit) first = (there, first)
     by _ (not_flat fits none) first = (there, first)
     by _ (mismatched found fits some) first = (there, first)
 
 -- what refuses a tree is memory, or the tree's fault
-pub examined_fault : (job : Job) (permitted : List (List ℕ)) (answer : Answer) (infos : List PathInfo) (count : ℕ) (tree : Tree) (why : Reason) → count < length job.outputs.items
-    → IsThere job answer → TakenSoFar job permitted answer infos count → tree_at answer count ≡ Some tree → (why ≡ OutOfMemory) ⊎ IsTreeFault job.kind tree why → IsExamining job permitted answer (Err why)
+pub examined_fault : (job : Job) (permitted : List (List ℕ)) (answer : Answer)
+    (infos : List PathInfo) (count : ℕ) (tree : Tree) (why : Reason) → count
+    < length job.outputs.items
+    → IsThere job answer → TakenSoFar job permitted answer infos count → tree_at answer count
+    ≡ Some tree → (why ≡ OutOfMemory) ⊎ IsTreeFault job.kind tree why
+    → IsExamining job permitted answer (Err why)
 examined_fault job permitted answer infos count tree why below there taken at =
-    ⊎_elim (λ e. inl (ap Err e)) (λ fault. inr (first_fault job permitted answer infos count tree why below there taken at fault))
+    ⊎_elim (λ e. inl (ap Err e))
+    (λ fault.
+    inr (first_fault job permitted answer infos count tree why below there taken at fault))
 
 -- the first output at which nothing lies
-pub first_missing : (job : Job) (permitted : List (List ℕ)) (answer : Answer) (count : ℕ) → count < length job.outputs.items → answer.status ≡ Some (pos 0) → ThereSoFar answer count → tree_at answer count ≡ None
+pub first_missing : (job : Job) (permitted : List (List ℕ)) (answer : Answer) (count : ℕ) → count
+    < length job.outputs.items → answer.status ≡ Some (pos 0) → ThereSoFar answer count
+    → tree_at answer count ≡ None
     → IsVerdict job permitted answer (Err (MissingOutput count))
-first_missing job permitted answer count below ended there none = (ended, record { within = below; holds = none; none = there })
+first_missing job permitted answer count below ended there none =
+    (ended, record { within = below; holds = none; none = there })
 
 -- the verdict where no fault was found, by whether there is a cycle
-pub cycle_found : (job : Job) (permitted : List (List ℕ)) (answer : Answer) (infos : List PathInfo) → IsTaken job answer → AreRecords job permitted answer infos → IsCyclic (outputs_of job) infos → IsExamining job permitted answer (Err OutputCycle)
+pub cycle_found : (job : Job) (permitted : List (List ℕ)) (answer : Answer) (infos : List PathInfo)
+    → IsTaken job answer → AreRecords job permitted answer infos → IsCyclic (outputs_of job) infos
+    → IsExamining job permitted answer (Err OutputCycle)
 cycle_found job permitted answer infos taken records cyclic = inr (taken, (infos, records, cyclic))
 
-pub all_well : (job : Job) (permitted : List (List ℕ)) (answer : Answer) (infos : List PathInfo) → IsTaken job answer → AreRecords job permitted answer infos → (IsCyclic (outputs_of job) infos → ⊥) → IsExamining job permitted answer (Ok infos)
+pub all_well : (job : Job) (permitted : List (List ℕ)) (answer : Answer) (infos : List PathInfo)
+    → IsTaken job answer → AreRecords job permitted answer infos
+    → (IsCyclic (outputs_of job) infos → ⊥) → IsExamining job permitted answer (Ok infos)
 all_well job permitted answer infos taken records acyclic = inr (taken, records, acyclic)

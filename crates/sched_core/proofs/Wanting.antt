@@ -32,48 +32,64 @@ pub record Marks (old new : List Bool) (numbers : List ℕ) : Type 0 where
 pub marks_none : (old : List Bool) → Marks old old []
 marks_none old = record {
   count = refl;
-  each = λ d. (λ is. inl is, λ either. ⊎_elim (λ is. is) (λ has. absurd (Contains-nothing d has)) either);
+  each = λ d. (
+    λ is. inl is,
+    λ either. ⊎_elim (λ is. is) (λ has. absurd (Contains-nothing d has))
+        either,
+  );
 }
 
-pub marks_one : (old wanted : List Bool) (numbers : List ℕ) (number : ℕ) → number < length old → Marks old wanted numbers → Marks old (set wanted number true) (numbers ++ number ∷ [])
+pub marks_one : (old wanted : List Bool) (numbers : List ℕ) (number : ℕ) → number < length old
+    → Marks old wanted numbers → Marks old (set wanted number true) (numbers ++ number ∷ [])
 marks_one old wanted numbers number low before = record {
   count = length-set wanted number true ∙ before.count;
   each = λ d. (there d, back d);
 }
   where
-    there : (d : ℕ) → IsMarked (set wanted number true) d → IsMarked old d ⊎ Contains (numbers ++ number ∷ []) d
+    there : (d : ℕ) → IsMarked (set wanted number true) d → IsMarked old d
+        ⊎ Contains (numbers ++ number ∷ []) d
     there d is = ⊎_elim
-        (λ same. inr (subst (Contains (numbers ++ number ∷ [])) (sym same) (Contains-push numbers number)))
+        (λ same. inr (subst (Contains (numbers ++ number ∷ [])) (sym same)
+        (Contains-push numbers number)))
         (λ apart.
-        let differ : d ≡ number → ⊥ = λ same. ⊎_elim (λ less. omega (arith, same, less)) (λ less. omega (arith, same, less)) apart in
+        let differ : d ≡ number → ⊥ = λ same.
+        ⊎_elim (λ less. omega (arith, same, less)) (λ less. omega (arith, same, less)) apart in
         ⊎_elim (λ was. inl was) (λ has. inr (Contains-append_left numbers (number ∷ []) d has))
         ((before.each d).0 (sym (get_or-set_other wanted number d true false differ) ∙ is)))
         (either_side d number)
 
     marked_here : (d : ℕ) → d ≡ number → IsMarked (set wanted number true) d
-    marked_here d same = ap (λ n. slice_index_or (set wanted number true) n false) same ∙ get_or-set_same wanted number true false (omega (arith, low, before.count))
+    marked_here d same = ap (λ n. slice_index_or (set wanted number true) n false) same
+        ∙ get_or-set_same wanted number true false (omega (arith, low, before.count))
 
     kept : (d : ℕ) → IsMarked wanted d → IsMarked (set wanted number true) d
     kept d is = ⊎_elim
         (λ same. marked_here d same)
         (λ apart.
-        let differ : d ≡ number → ⊥ = λ same. ⊎_elim (λ less. omega (arith, same, less)) (λ less. omega (arith, same, less)) apart in
+        let differ : d ≡ number → ⊥ = λ same.
+        ⊎_elim (λ less. omega (arith, same, less)) (λ less. omega (arith, same, less)) apart in
         get_or-set_other wanted number d true false differ ∙ is)
         (either_side d number)
 
-    back : (d : ℕ) → IsMarked old d ⊎ Contains (numbers ++ number ∷ []) d → IsMarked (set wanted number true) d
+    back : (d : ℕ) → IsMarked old d ⊎ Contains (numbers ++ number ∷ []) d
+        → IsMarked (set wanted number true) d
     back d either = ⊎_elim
         (λ was. kept d ((before.each d).1 (inl was)))
-        (λ has. ⊎_elim (λ earlier. kept d ((before.each d).1 (inr earlier))) (λ last. marked_here d (sym last)) (Contains-push_cases numbers number d has))
+        (λ has. ⊎_elim (λ earlier. kept d ((before.each d).1 (inr earlier)))
+        (λ last. marked_here d (sym last)) (Contains-push_cases numbers number d has))
         either
 
--- The marked derivations are wanted, the roots and all inputs of wanted ones from a number on among them.
-pub record AreMarked (graph : Graph) (standings : List Standing) (wanted : List Bool) (rest : ℕ) : Type 0 where
+-- The marked derivations are wanted, the roots and all inputs of wanted ones from a number on among
+-- them.
+pub record AreMarked (graph : Graph) (standings : List Standing) (wanted : List Bool) (rest : ℕ)
+    : Type 0 where
   pub count : length wanted ≡ length graph.nodes
   pub roots : (d : ℕ) → Contains graph.roots d → IsMarked wanted d
-  pub sound : (run : Run) (opening : List Entry) → run.graph ≡ graph → AreStandings run.system opening graph.nodes standings
+  pub sound : (run : Run) (opening : List Entry) → run.graph ≡ graph
+      → AreStandings run.system opening graph.nodes standings
       → (d : ℕ) → IsMarked wanted d → IsWanted run opening d
-  pub closed : (user d : ℕ) → rest ≤ user → IsMarked wanted user → slice_index_or standings user Free ≡ Free
+  pub closed : (user d : ℕ) → rest ≤ user → IsMarked wanted user
+      → slice_index_or standings user Free ≡ Free
       → Contains (inputs_at graph.nodes (slice_get graph.nodes user)) d → IsMarked wanted d
 
 marked_within : (wanted : List Bool) (d : ℕ) → IsMarked wanted d → d < length wanted
@@ -83,7 +99,9 @@ marked_within wanted d is = ⊎_elim
     (cases_lt d (length wanted))
 
 -- the roots are marked
-pub roots_marked : (graph : Graph) (standings : List Standing) (old new : List Bool) (n : ℕ) → n ≡ length graph.nodes → old ≡ replicate n false → Marks old new graph.roots → AreMarked graph standings new n
+pub roots_marked : (graph : Graph) (standings : List Standing) (old new : List Bool) (n : ℕ) → n
+    ≡ length graph.nodes → old ≡ replicate n false → Marks old new graph.roots
+    → AreMarked graph standings new n
 roots_marked graph standings old new n all none marks =
     let size : length new ≡ n = marks.count ∙ ap length none ∙ length-replicate n false in
     record {
@@ -93,70 +111,92 @@ roots_marked graph standings old new n all none marks =
           (λ was. absurd (false≢true (sym (unmarked d) ∙ was)))
           (λ has. wanted_root d (subst (λ (g : Graph). Contains g.roots d) (sym same) has))
           ((marks.each d).0 is);
-      closed = λ user d past is free has. absurd (omega (arith, past, size, marked_within new user is));
+      closed = λ user d past is free has. absurd
+          (omega (arith, past, size, marked_within new user is));
     }
   where
     unmarked : (d : ℕ) → slice_index_or old d false ≡ false
     unmarked d = ap (λ l. slice_index_or l d false) none ∙ ⊎_elim
         (λ low. get_or-replicate n d false false low)
-        (λ past. get_or_past (replicate n false) d false (omega (arith, past, length-replicate n false)))
+        (λ past. get_or_past (replicate n false) d false
+        (omega (arith, past, length-replicate n false)))
         (cases_lt d n)
 
 -- a derivation whose inputs aren't wanted for it is passed
-pub passed_over : (graph : Graph) (standings : List Standing) (wanted : List Bool) (rest d : ℕ) → rest ≡ d + 1
-    → (IsMarked wanted d → slice_index_or standings d Free ≡ Free → ⊥) → AreMarked graph standings wanted rest → AreMarked graph standings wanted d
+pub passed_over : (graph : Graph) (standings : List Standing) (wanted : List Bool) (rest d : ℕ)
+    → rest ≡ d + 1
+    → (IsMarked wanted d → slice_index_or standings d Free ≡ Free → ⊥)
+    → AreMarked graph standings wanted rest → AreMarked graph standings wanted d
 passed_over graph standings wanted rest d next none before = record {
   count = before.count;
   roots = before.roots;
   sound = before.sound;
   closed = λ user e past is free has. ⊎_elim
-      (λ same. absurd (none (subst (IsMarked wanted) same is) (subst (λ n. slice_index_or standings n Free ≡ Free) same free)))
-      (λ apart. before.closed user e (⊎_elim (λ less. omega (arith, past, less)) (λ less. omega (arith, next, less)) apart) is free has)
+      (λ same. absurd
+      (none (subst (IsMarked wanted) same is)
+      (subst (λ n. slice_index_or standings n Free ≡ Free) same free)))
+      (λ apart. before.closed user e
+      (⊎_elim (λ less. omega (arith, past, less)) (λ less. omega (arith, next, less)) apart) is
+      free has)
       (either_side user d);
 }
 
 -- the inputs of a wanted derivation are marked
-pub inputs_marked : (graph : Graph) (standings : List Standing) (old new : List Bool) (numbers : List ℕ) (rest d : ℕ) → IsSound graph → d < length graph.nodes → rest ≡ d + 1
+pub inputs_marked : (graph : Graph) (standings : List Standing) (old new : List Bool)
+    (numbers : List ℕ) (rest d : ℕ) → IsSound graph → d < length graph.nodes → rest ≡ d + 1
     → IfSome (slice_get graph.nodes d) (λ node. AreNumbers graph.nodes numbers (inputs_of node.drv))
     → IsMarked old d → slice_index_or standings d Free ≡ Free → Marks old new numbers
     → AreMarked graph standings old rest → AreMarked graph standings new d
-inputs_marked graph standings old new numbers rest d is_sound low next are marked stands marks before = record {
-  count = marks.count ∙ before.count;
-  roots = λ e has. (marks.each e).1 (inl (before.roots e has));
-  sound = λ run opening same standing e is. ⊎_elim
-      (λ was. before.sound run opening same standing e was)
-      (λ has. by_user run opening same standing e has)
-      ((marks.each e).0 is);
-  closed = λ user e past is free has. (marks.each e).1 (closed_at user e past is free has (either_side user d));
-}
+inputs_marked graph standings old new numbers rest d is_sound low next are marked stands marks
+    before = record {
+      count = marks.count ∙ before.count;
+      roots = λ e has. (marks.each e).1 (inl (before.roots e has));
+      sound = λ run opening same standing e is. ⊎_elim
+          (λ was. before.sound run opening same standing e was)
+          (λ has. by_user run opening same standing e has)
+          ((marks.each e).0 is);
+      closed = λ user e past is free has. (marks.each e).1
+          (closed_at user e past is free has (either_side user d));
+    }
   where
     same_numbers : numbers ≡ inputs_at graph.nodes (slice_get graph.nodes d)
     same_numbers = numbers_at graph d numbers low is_sound are
 
-    by_user : (run : Run) (opening : List Entry) → run.graph ≡ graph → AreStandings run.system opening graph.nodes standings → (e : ℕ) → Contains numbers e → IsWanted run opening e
+    by_user : (run : Run) (opening : List Entry) → run.graph ≡ graph
+        → AreStandings run.system opening graph.nodes standings → (e : ℕ) → Contains numbers e
+        → IsWanted run opening e
     by_user run opening same standing e has =
         wanted_input d e (before.sound run opening same standing d marked)
-        (subst (λ (g : Graph). standing_at run.system opening (slice_get g.nodes d) ≡ Free) (sym same) (sym (standing.each d low) ∙ stands))
-        (subst (λ (g : Graph). Contains (inputs_at g.nodes (slice_get g.nodes d)) e) (sym same) (subst (λ l. Contains l e) same_numbers has))
+        (subst (λ (g : Graph). standing_at run.system opening (slice_get g.nodes d) ≡ Free)
+        (sym same) (sym (standing.each d low) ∙ stands))
+        (subst (λ (g : Graph). Contains (inputs_at g.nodes (slice_get g.nodes d)) e) (sym same)
+        (subst (λ l. Contains l e) same_numbers has))
 
     smaller : (e : ℕ) → Contains numbers e → e < d
     smaller e has = inputs_first graph is_sound d e (subst (λ l. Contains l e) same_numbers has)
 
     was_marked : (user : ℕ) → d ≤ user → IsMarked new user → IsMarked old user
-    was_marked user past is = ⊎_elim (λ was. was) (λ has. absurd (omega (arith, past, smaller user has))) ((marks.each user).0 is)
+    was_marked user past is = ⊎_elim (λ was. was)
+        (λ has. absurd (omega (arith, past, smaller user has))) ((marks.each user).0 is)
 
-    closed_at : (user e : ℕ) → d ≤ user → IsMarked new user → slice_index_or standings user Free ≡ Free → Contains (inputs_at graph.nodes (slice_get graph.nodes user)) e
+    closed_at : (user e : ℕ) → d ≤ user → IsMarked new user → slice_index_or standings user Free
+        ≡ Free → Contains (inputs_at graph.nodes (slice_get graph.nodes user)) e
         → (user ≡ d) ⊎ ((user < d) ⊎ (d < user)) → IsMarked old e ⊎ Contains numbers e
     closed_at user e past is free has (inl same) =
-        inr (subst (λ l. Contains l e) (sym same_numbers) (subst (λ n. Contains (inputs_at graph.nodes (slice_get graph.nodes n)) e) same has))
+        inr (subst (λ l. Contains l e) (sym same_numbers)
+        (subst (λ n. Contains (inputs_at graph.nodes (slice_get graph.nodes n)) e) same has))
     closed_at user e past is free has (inr (inl less)) = absurd (omega (arith, past, less))
-    closed_at user e past is free has (inr (inr more)) = inl (before.closed user e (omega (arith, next, more)) (was_marked user past is) free has)
+    closed_at user e past is free has (inr (inr more)) =
+        inl (before.closed user e (omega (arith, next, more)) (was_marked user past is) free has)
 
 -- an element that is there is read with any default
-pub read_is : {X : Type 0} (xs : List X) (k : ℕ) (x d : X) → k < length xs → x ≡ slice_index_or xs k x → slice_index_or xs k d ≡ x
-read_is xs k x d low is = get_or_from_slice_get xs k x d (slice_get_read xs (length xs) k x refl low is)
+pub read_is : {X : Type 0} (xs : List X) (k : ℕ) (x d : X) → k < length xs → x
+    ≡ slice_index_or xs k x → slice_index_or xs k d ≡ x
+read_is xs k x d low is = get_or_from_slice_get xs k x d
+    (slice_get_read xs (length xs) k x refl low is)
 
-pub any_default : {X : Type 0} (xs : List X) (k : ℕ) (x d : X) → k < length xs → slice_index_or xs k x ≡ slice_index_or xs k d
+pub any_default : {X : Type 0} (xs : List X) (k : ℕ) (x d : X) → k < length xs
+    → slice_index_or xs k x ≡ slice_index_or xs k d
 any_default [] k x d low = absurd (omega arith)
 any_default (y ∷ ys) zero x d low = refl
 any_default (y ∷ ys) (suc k) x d low = any_default ys k x d (omega arith)
@@ -166,19 +206,26 @@ pub written : (new rest : List Bool) (n : ℕ) → n ≡ length new → take n (
 written new rest n size = ap (λ k. take k (new ++ rest)) size ∙ take-append_seam new rest
 
 -- all are marked that are wanted
-all_wanted : (run : Run) (opening : List Entry) (standings : List Standing) (wanted : List Bool) → AreStandings run.system opening run.graph.nodes standings
+all_wanted : (run : Run) (opening : List Entry) (standings : List Standing) (wanted : List Bool)
+    → AreStandings run.system opening run.graph.nodes standings
     → AreMarked run.graph standings wanted 0 → (d : ℕ) → IsWanted run opening d → IsMarked wanted d
 all_wanted run opening standings wanted standing marked d (wanted_root _ has) = marked.roots d has
 all_wanted run opening standings wanted standing marked d (wanted_input user _ by_user free has) =
     let is = all_wanted run opening standings wanted standing marked user by_user in
-    let low : user < length run.graph.nodes = omega (arith, marked.count, marked_within wanted user is) in
+    let low : user < length run.graph.nodes =
+    omega (arith, marked.count, marked_within wanted user is) in
     marked.closed user d (omega arith) is (standing.each user low ∙ free) has
 
-pub wanted_are : (graph : Graph) (standings : List Standing) (wanted : List Bool) → AreMarked graph standings wanted 0
-    → (run : Run) (opening : List Entry) → run.graph ≡ graph → AreStandings run.system opening graph.nodes standings → AreWanted run opening wanted
+pub wanted_are : (graph : Graph) (standings : List Standing) (wanted : List Bool)
+    → AreMarked graph standings wanted 0
+    → (run : Run) (opening : List Entry) → run.graph ≡ graph
+    → AreStandings run.system opening graph.nodes standings → AreWanted run opening wanted
 wanted_are graph standings wanted marked run opening same standing =
-    let marked_here : AreMarked run.graph standings wanted 0 = subst (λ g. AreMarked g standings wanted 0) (sym same) marked in
-    let standing_here : AreStandings run.system opening run.graph.nodes standings = subst (λ (g : Graph). AreStandings run.system opening g.nodes standings) (sym same) standing in
+    let marked_here : AreMarked run.graph standings wanted 0 =
+    subst (λ g. AreMarked g standings wanted 0) (sym same) marked in
+    let standing_here : AreStandings run.system opening run.graph.nodes standings =
+    subst (λ (g : Graph). AreStandings run.system opening g.nodes standings) (sym same) standing
+    in
     record {
       count = marked_here.count;
       yes = λ d is. marked.sound run opening same standing d is;

@@ -27,10 +27,16 @@ run_over course system = record { graph = course.graph; system = system }
 
 -- a history by its entries, of which the first ones, so many, stood there before it
 abbrev pub history_of : (opening : ℕ) → List Entry → List Event → History
-history_of opening entries events = record { opening = take opening entries; entries = entries; events = events }
+history_of opening entries events = record {
+  opening = take opening entries;
+  entries = entries;
+  events = events;
+}
 
--- What is kept of a run: a legal history, the course of its derivations, how many have begun, and room for all events that may come.
-pub record IsKept (system : List ℕ) (history : History) (course : Course) (given room : ℕ) : Type 0 where
+-- What is kept of a run: a legal history, the course of its derivations, how many have begun, and
+-- room for all events that may come.
+pub record IsKept (system : List ℕ) (history : History) (course : Course) (given room : ℕ)
+    : Type 0 where
   pub legal : IsLegal (run_over course system) history
   pub standings : AreStandings system history.opening course.graph.nodes course.standings
   pub wanted : AreWanted (run_over course system) history.opening course.wanted

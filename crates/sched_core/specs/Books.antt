@@ -18,14 +18,16 @@ use Rattle.sched_core.specs.declared.job.Job.{Job}
 use Rattle.sched_core.specs.declared.reason.Reason.{Reason}
 use Rattle.sched_core.specs.declared.reason.State.TheVariants.{Ready}
 
--- What a book is seen as: a run, its history, the entries that the outlet shows, and those that wait there to be published.
+-- What a book is seen as: a run, its history, the entries that the outlet shows, and those that
+-- wait there to be published.
 pub record Ledger : Type 0 where
   pub run : Run
   pub history : History
   pub shown : List Entry
   pub pending : List Entry
 
--- What a lease is seen as: its job, its number, and what the outlet told when it was given, until that is handed out.
+-- What a lease is seen as: its job, its number, and what the outlet told when it was given, until
+-- that is handed out.
 pub record Leased (Told : Type 0) : Type 0 where
   pub job : Job
   pub number : ℕ
@@ -43,24 +45,29 @@ pub record CanBegin (run : Run) (history : History) (d : ℕ) : Type 0 where
 
 -- no wanted derivation has anything before it
 abbrev pub IsRunSettled : Run → History → Type 0
-IsRunSettled run history = (d : ℕ) → d < length run.graph.nodes → IsWanted run history.opening d → IsOpen (state_in run history d) → ⊥
+IsRunSettled run history = (d : ℕ) → d < length run.graph.nodes → IsWanted run history.opening d
+    → IsOpen (state_in run history d) → ⊥
 
--- A lease is the book's: its derivation has begun under its number and not ended, and its job is that derivation's.
+-- A lease is the book's: its derivation has begun under its number and not ended, and its job is
+-- that derivation's.
 pub record IsBooksLease (run : Run) (history : History) (job : Job) (number : ℕ) : Type 0 where
   pub building : phase_of history.events job.derivation ≡ Begun number
   pub is_job : IsJob run.graph job.derivation job
 
 -- each reference in some records is permitted to a job behind some entries
 abbrev pub MayAllRefer : List Entry → Job → List PathInfo → Type 0
-MayAllRefer entries job infos = (info : PathInfo) (path : List ℕ) → Contains infos info → Contains info.references path
+MayAllRefer entries job infos = (info : PathInfo) (path : List ℕ) → Contains infos info
+    → Contains info.references path
     → MayRefer (registered entries) job.seeds.items (outputs_of job) path
 
 -- these are the paths that are permitted to a job behind some entries
 abbrev pub ArePermittedPaths : List Entry → Job → (permitted : List (List ℕ)) → Type 0
-ArePermittedPaths entries job permitted = ArePermitted (registered entries) job.seeds.items (outputs_of job) permitted
+ArePermittedPaths entries job permitted = ArePermitted (registered entries) job.seeds.items
+    (outputs_of job) permitted
 
 -- An entry is that of a derivation with these records, which is allowed behind some entries.
-pub record IsDone (run : Run) (entries : List Entry) (d : ℕ) (infos : List PathInfo) (entry : Entry) : Type 0 where
+pub record IsDone (run : Run) (entries : List Entry) (d : ℕ) (infos : List PathInfo)
+    (entry : Entry) : Type 0 where
   pub node : Node
   pub is_node : slice_get run.graph.nodes d ≡ Some node
   pub allowed : IsAllowed run entries node infos
@@ -68,7 +75,8 @@ pub record IsDone (run : Run) (entries : List Entry) (d : ℕ) (infos : List Pat
 
 -- a derivation may not be registered with these records behind some entries
 abbrev pub IsNotAllowed : Run → List Entry → (d : ℕ) → List PathInfo → Type 0
-IsNotAllowed run entries d infos = (node : Node) → slice_get run.graph.nodes d ≡ Some node → IsAllowed run entries node infos → ⊥
+IsNotAllowed run entries d infos = (node : Node) → slice_get run.graph.nodes d ≡ Some node
+    → IsAllowed run entries node infos → ⊥
 
 -- What was pending may have been published, and nothing else changed.
 pub record IsSameRun (before after : Ledger) : Type 0 where
@@ -86,8 +94,10 @@ pub record IsBeginning (before after : Ledger) (job : Job) (number : ℕ) : Type
   pub shown : after.shown ≡ before.history.entries
   pub pending : after.pending ≡ []
 
--- The outputs of a lease's derivation were registered with these records, by an entry that waits to be published.
-pub record IsFinishing (before after : Ledger) (job : Job) (number : ℕ) (infos : List PathInfo) : Type 0 where
+-- The outputs of a lease's derivation were registered with these records, by an entry that waits to
+-- be published.
+pub record IsFinishing (before after : Ledger) (job : Job) (number : ℕ) (infos : List PathInfo)
+    : Type 0 where
   pub lease : IsBooksLease before.run before.history job number
   pub entry : Entry
   pub done : IsDone before.run before.history.entries job.derivation infos entry
@@ -98,14 +108,17 @@ pub record IsFinishing (before after : Ledger) (job : Job) (number : ℕ) (infos
 
 -- why those outputs weren't registered
 abbrev pub IsFinishFault : Ledger → Job → (number : ℕ) → List PathInfo → BookFault → Type 0
-IsFinishFault before job number infos ForeignLease = IsBooksLease before.run before.history job number → ⊥
+IsFinishFault before job number infos ForeignLease =
+    IsBooksLease before.run before.history job number → ⊥
 IsFinishFault before job number infos NotLawful =
-    IsBooksLease before.run before.history job number × IsNotAllowed before.run before.history.entries job.derivation infos
+    IsBooksLease before.run before.history job number
+    × IsNotAllowed before.run before.history.entries job.derivation infos
 IsFinishFault before job number infos NoMemory = IsBooksLease before.run before.history job number
 IsFinishFault before job number infos NoView = ⊥
 
 -- A lease's derivation failed, for a reason.
-pub record IsFailing (before after : Ledger) (job : Job) (number : ℕ) (reason : Reason) : Type 0 where
+pub record IsFailing (before after : Ledger) (job : Job) (number : ℕ) (reason : Reason)
+    : Type 0 where
   pub lease : IsBooksLease before.run before.history job number
   pub run : after.run ≡ before.run
   pub history : after.history ≡ failed before.history job.derivation number reason

@@ -1,4 +1,5 @@
--- *Course*: a plan, with what the state of each of its derivations follows from (this product's own).
+-- *Course*: a plan, with what the state of each of its derivations follows from (this product's
+-- own).
 use Rattle.std.specs.Prelude.{◌≡◌, ◌<◌, ◌⊎◌, Bool, true, false, ℕ, List, length, slice_get}
 use Rattle.std.specs.List.{slice_index_or}
 use Rattle.drv_graph.specs.Nodes.{Node}
@@ -11,8 +12,8 @@ use Rattle.sched_core.specs.declared.reason.State.TheVariants.{Building, Ready, 
 use Rattle.sched_core.specs.declared.standing.Standing.{Standing}
 use Rattle.sched_core.specs.declared.standing.Standing.TheVariants.{Free}
 
--- What is known of a plan's derivations, of each at its number: where it stands by itself, whether it is wanted, and where it stands by
--- its last event.
+-- What is known of a plan's derivations, of each at its number: where it stands by itself, whether
+-- it is wanted, and where it stands by its last event.
 pub record Course : Type 0 where
   pub graph : Graph
   pub standings : List Standing
@@ -33,11 +34,13 @@ course_state course d = state (course_rows course) d
 
 -- a derivation is wanted and can be begun
 abbrev pub IsNext : Course → ℕ → Type 0
-IsNext course d = (d < length course.graph.nodes) × (slice_index_or course.wanted d false ≡ true) × (course_state course d ≡ Ready)
+IsNext course d = (d < length course.graph.nodes) × (slice_index_or course.wanted d false ≡ true)
+    × (course_state course d ≡ Ready)
 
 -- a derivation has begun under some lease and not ended
 abbrev pub HasBegun : Course → ℕ → Type 0
-HasBegun course d = (d < length course.graph.nodes) × ((lease : ℕ) × (slice_index_or course.phases d Idle ≡ Begun lease))
+HasBegun course d = (d < length course.graph.nodes)
+    × ((lease : ℕ) × (slice_index_or course.phases d Idle ≡ Begun lease))
 
 -- a state in which a derivation still has something before it
 abbrev pub IsOpen : State → Type 0
@@ -45,12 +48,15 @@ IsOpen state = (state ≡ Blocked) ⊎ (state ≡ Ready) ⊎ ((lease : ℕ) × (
 
 -- no wanted derivation has anything before it
 abbrev pub IsSettled : Course → Type 0
-IsSettled course = (d : ℕ) → d < length course.graph.nodes → slice_index_or course.wanted d false ≡ true → IsOpen (course_state course d) → ⊥
+IsSettled course = (d : ℕ) → d < length course.graph.nodes → slice_index_or course.wanted d false
+    ≡ true → IsOpen (course_state course d) → ⊥
 
 -- of each derivation, where it stands by itself behind these entries
-pub record AreStandings (system : List ℕ) (entries : List Entry) (nodes : List Node) (standings : List Standing) : Type 0 where
+pub record AreStandings (system : List ℕ) (entries : List Entry) (nodes : List Node)
+    (standings : List Standing) : Type 0 where
   pub count : length standings ≡ length nodes
-  pub each : (d : ℕ) → d < length nodes → slice_index_or standings d Free ≡ standing_at system entries (slice_get nodes d)
+  pub each : (d : ℕ) → d < length nodes → slice_index_or standings d Free
+      ≡ standing_at system entries (slice_get nodes d)
 
 -- of each derivation, whether it is wanted
 pub record AreWanted (run : Run) (opening : List Entry) (wanted : List Bool) : Type 0 where

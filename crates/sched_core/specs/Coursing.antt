@@ -19,7 +19,12 @@ phase_in state = Idle
 
 -- what is known by the states
 abbrev pub course_of : Graph → List Standing → (wanted : List Bool) → List State → Course
-course_of graph standings wanted states = record { graph = graph; standings = standings; wanted = wanted; phases = map phase_in states }
+course_of graph standings wanted states = record {
+  graph = graph;
+  standings = standings;
+  wanted = wanted;
+  phases = map phase_in states;
+}
 
 -- what the states follow from
 abbrev pub rows_by : Graph → List Standing → List Phase → Rows

@@ -19,8 +19,10 @@ abbrev pub HaveDigest : Kind → List PathInfo → Type 0
 HaveDigest Addressed infos = ⊤
 HaveDigest (Fixed method digest) infos = All (λ (info : PathInfo). info.digest ≡ Some digest) infos
 
--- Records with which outputs of a kind at some paths may be registered behind known registrations, if their references are permitted.
-pub record AreLawful (known : List Registration) (kind : Kind) (paths : List (List ℕ)) (infos : List PathInfo) : Type 0 where
+-- Records with which outputs of a kind at some paths may be registered behind known registrations,
+-- if their references are permitted.
+pub record AreLawful (known : List Registration) (kind : Kind) (paths : List (List ℕ))
+    (infos : List PathInfo) : Type 0 where
   pub count : length infos ≡ length paths
   pub new : All (IsNotValid known) paths
   pub fixed : HaveDigest kind infos
@@ -30,16 +32,21 @@ pub record AreLawful (known : List Registration) (kind : Kind) (paths : List (Li
 abbrev pub infos_of : List Registration → List PathInfo
 infos_of registrations = map (λ (r : Registration). r.info) registrations
 
--- an entry is that of the derivation with this number, with these records, and allowed behind some entries if the references are permitted
+-- an entry is that of the derivation with this number, with these records, and allowed behind some
+-- entries if the references are permitted
 abbrev pub IsDoneEntry : Graph → (d : ℕ) → List Entry → List PathInfo → Entry → Type 0
-IsDoneEntry graph d entries infos entry = (run : Run) (node : Node) → run.graph ≡ graph → slice_get run.graph.nodes d ≡ Some node
-    → IsEntryOf node infos entry × (ArePermittedTo run entries node infos → IsAllowed run entries node infos)
+IsDoneEntry graph d entries infos entry = (run : Run) (node : Node) → run.graph ≡ graph
+    → slice_get run.graph.nodes d ≡ Some node
+    → IsEntryOf node infos entry
+    × (ArePermittedTo run entries node infos → IsAllowed run entries node infos)
 
 -- the derivation with this number may not be registered with these records behind some entries
 abbrev pub IsUnlawful : Graph → (d : ℕ) → List Entry → List PathInfo → Type 0
-IsUnlawful graph d entries infos = (run : Run) (node : Node) → run.graph ≡ graph → slice_get run.graph.nodes d ≡ Some node
+IsUnlawful graph d entries infos = (run : Run) (node : Node) → run.graph ≡ graph
+    → slice_get run.graph.nodes d ≡ Some node
     → IsAllowed run entries node infos → ⊥
 
 -- why there is no entry of the derivation with this number
 abbrev pub IsDoneFault : Graph → (d : ℕ) → List Entry → List PathInfo → BookFault → Type 0
-IsDoneFault graph d entries infos fault = (fault ≡ NoMemory) ⊎ ((fault ≡ NotLawful) × IsUnlawful graph d entries infos)
+IsDoneFault graph d entries infos fault = (fault ≡ NoMemory)
+    ⊎ ((fault ≡ NotLawful) × IsUnlawful graph d entries infos)

@@ -15,12 +15,14 @@ use Rattle.sched_core.specs.declared.reason.Event.TheVariants.{Begin, Done as Fi
 -- a derivation begins at most once
 abbrev pub BeginsOnce : Type 0
 BeginsOnce = (run : Run) (history : History) → IsLegal run history → (d n m i j : ℕ)
-    → slice_get history.events i ≡ Some (Begin d n) → slice_get history.events j ≡ Some (Begin d m) → i ≡ j
+    → slice_get history.events i ≡ Some (Begin d n) → slice_get history.events j ≡ Some (Begin d m)
+    → i ≡ j
 
 -- no lease has the number of another
 abbrev pub LeasesApart : Type 0
 LeasesApart = (run : Run) (history : History) → IsLegal run history → (d e n i j : ℕ)
-    → slice_get history.events i ≡ Some (Begin d n) → slice_get history.events j ≡ Some (Begin e n) → i ≡ j
+    → slice_get history.events i ≡ Some (Begin d n) → slice_get history.events j ≡ Some (Begin e n)
+    → i ≡ j
 
 -- a lease has a number below the count of leases
 abbrev pub LeasesBelow : Type 0
@@ -31,12 +33,14 @@ LeasesBelow = (run : Run) (history : History) → IsLegal run history → (d n i
 abbrev pub AreDrvPaths : Run → Type 0
 AreDrvPaths run = (node : Node) → Contains run.graph.nodes node → IsDrvPath node.path
 
--- the entries are a journal: every valid path's references are valid, and no path is registered twice
+-- the entries are a journal: every valid path's references are valid, and no path is registered
+-- twice
 abbrev pub EntriesAreJournal : Type 0
-EntriesAreJournal = (run : Run) (history : History) → AreDrvPaths run → IsLegal run history → IsJournal history.entries
+EntriesAreJournal = (run : Run) (history : History) → AreDrvPaths run → IsLegal run history
+    → IsJournal history.entries
 
--- What a derivation that was built registered, behind the entries before: one allowed record for each output. So its references are
--- permitted, and a fixed output has its declared hash.
+-- What a derivation that was built registered, behind the entries before: one allowed record for
+-- each output. So its references are permitted, and a fixed output has its declared hash.
 pub record WasDone (run : Run) (history : History) (d : ℕ) : Type 0 where
   pub node : Node
   pub is_node : slice_get run.graph.nodes d ≡ Some node
@@ -50,15 +54,21 @@ pub record WasDone (run : Run) (history : History) (d : ℕ) : Type 0 where
 
 -- each Done registered what it was allowed to
 abbrev pub DonesAreAllowed : Type 0
-DonesAreAllowed = (run : Run) (history : History) → IsLegal run history → (d lease : ℕ) → Contains history.events (Finish d lease) → WasDone run history d
+DonesAreAllowed = (run : Run) (history : History) → IsLegal run history → (d lease : ℕ)
+    → Contains history.events (Finish d lease) → WasDone run history d
 
 -- all seeds of a derivation that has begun are valid, at its Begin and ever after
 abbrev pub SeedsAreValid : Type 0
-SeedsAreValid = (run : Run) (history : History) → IsLegal run history → (d lease : ℕ) → Contains history.events (Begin d lease)
-    → (node : Node) → slice_get run.graph.nodes d ≡ Some node → (path : List ℕ) → Contains (seeds_of run.graph.nodes node.drv) path
+SeedsAreValid = (run : Run) (history : History) → IsLegal run history → (d lease : ℕ)
+    → Contains history.events (Begin d lease)
+    → (node : Node) → slice_get run.graph.nodes d ≡ Some node → (path : List ℕ)
+    → Contains (seeds_of run.graph.nodes node.drv) path
     → IsValid (registered history.entries) path
 
--- what is permitted stays the same while more is registered, where the seeds are valid, each reference is valid, and no path is registered twice
+-- what is permitted stays the same while more is registered, where the seeds are valid, each
+-- reference is valid, and no path is registered twice
 abbrev pub PermittedStays : Type 0
-PermittedStays = (first more : List Registration) (seeds outputs : List (List ℕ)) (path : List ℕ) → AreReferencesValid first → IsOnce (first ++ more)
-    → ((seed : List ℕ) → Contains seeds seed → IsValid first seed) → (MayRefer first seeds outputs path ↔ MayRefer (first ++ more) seeds outputs path)
+PermittedStays = (first more : List Registration) (seeds outputs : List (List ℕ)) (path : List ℕ)
+    → AreReferencesValid first → IsOnce (first ++ more)
+    → ((seed : List ℕ) → Contains seeds seed → IsValid first seed)
+    → (MayRefer first seeds outputs path ↔ MayRefer (first ++ more) seeds outputs path)

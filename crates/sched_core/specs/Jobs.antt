@@ -1,4 +1,5 @@
--- *Job*: what is to be built for a derivation of a plan, and the paths that it is built from (Nix manual, "Building"; Dolstra's thesis, section 5.5).
+-- *Job*: what is to be built for a derivation of a plan, and the paths that it is built from (Nix
+-- manual, "Building"; Dolstra's thesis, section 5.5).
 use Rattle.std.specs.Prelude.{◌≡◌, ℕ, Option, Some, None, List, [], ◌++◌, map, flat_map, filter, find, slice_get}
 use Rattle.std.specs.List.{list_any}
 use Rattle.nix_names.specs.Names.{same_bytes}
@@ -16,7 +17,8 @@ output_paths drv = map (λ (o : Output). o.path) drv.outputs
 
 -- the paths of those of a derivation's outputs that have one of these names
 abbrev pub paths_named : (names : List (List ℕ)) → Drv → List (List ℕ)
-paths_named names drv = map (λ (o : Output). o.path) (filter (λ (o : Output). list_any (same_bytes o.name) names) drv.outputs)
+paths_named names drv = map (λ (o : Output). o.path)
+    (filter (λ (o : Output). list_any (same_bytes o.name) names) drv.outputs)
 
 -- the paths of the outputs with these names, of a node if there is one
 abbrev pub paths_of_found : (names : List (List ℕ)) → Option Node → List (List ℕ)
@@ -25,9 +27,11 @@ paths_of_found names None = []
 
 -- the outputs that an input names, of the derivation at its path
 abbrev pub named_outputs : List Node → Input → List (List ℕ)
-named_outputs nodes input = paths_of_found input.names (find (λ (n : Node). same_bytes input.path n.path) nodes)
+named_outputs nodes input = paths_of_found input.names
+    (find (λ (n : Node). same_bytes input.path n.path) nodes)
 
--- the paths that a derivation is built from: its sources, then the named outputs of each input, in the text's order
+-- the paths that a derivation is built from: its sources, then the named outputs of each input, in
+-- the text's order
 abbrev pub seeds_of : List Node → Drv → List (List ℕ)
 seeds_of nodes drv = drv.sources ++ flat_map (named_outputs nodes) drv.inputs
 
@@ -39,7 +43,8 @@ pub record IsJob (graph : Graph) (d : ℕ) (job : Job) : Type 0 where
   pub builder : job.builder.items ≡ node.drv.builder
   pub args : map bytes_of job.args.items ≡ node.drv.args
   pub env : map entry_of job.env.items ≡ node.drv.env
-  pub names : map (λ (o : JobOutput). o.name.items) job.outputs.items ≡ map (λ (o : Output). o.name) node.drv.outputs
+  pub names : map (λ (o : JobOutput). o.name.items) job.outputs.items
+      ≡ map (λ (o : Output). o.name) node.drv.outputs
   pub paths : map (λ (o : JobOutput). o.path) job.outputs.items ≡ output_paths node.drv
   pub kind : HasKind node.drv job.kind
   pub seeds : job.seeds.items ≡ seeds_of graph.nodes node.drv

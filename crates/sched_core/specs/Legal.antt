@@ -1,4 +1,5 @@
--- *Legal*: which histories a run may have (this product's own; the closure invariant is that of Dolstra's thesis, section 5.5).
+-- *Legal*: which histories a run may have (this product's own; the closure invariant is that of
+-- Dolstra's thesis, section 5.5).
 use Rattle.std.specs.Prelude.{◌≡◌, ◌↔◌, ◌⊎◌, ◌<◌, ◌++◌, Bool, true, false, ℕ, Some, List, [], ◌∷◌, length, count_by, slice_get, Contains}
 use Rattle.nix_names.specs.Rising.{IsRising}
 use Rattle.drv_graph.specs.Kinds.{HasKind}
@@ -32,21 +33,35 @@ begins events = count_by is_begin events
 
 -- a history with one event more, and with one entry more for a Done
 abbrev pub begun : History → (d : ℕ) → History
-begun history d = record { opening = history.opening; entries = history.entries; events = history.events ++ Begin d (begins history.events) ∷ [] }
+begun history d = record {
+  opening = history.opening;
+  entries = history.entries;
+  events = history.events ++ Begin d (begins history.events) ∷ [];
+}
 
 abbrev pub ended : History → (d lease : ℕ) → Entry → History
-ended history d lease entry = record { opening = history.opening; entries = history.entries ++ entry ∷ []; events = history.events ++ Finish d lease ∷ [] }
+ended history d lease entry = record {
+  opening = history.opening;
+  entries = history.entries ++ entry ∷ [];
+  events = history.events ++ Finish d lease ∷ [];
+}
 
 abbrev pub failed : History → (d lease : ℕ) → Reason → History
-failed history d lease reason = record { opening = history.opening; entries = history.entries; events = history.events ++ Fail d lease reason ∷ [] }
+failed history d lease reason = record {
+  opening = history.opening;
+  entries = history.entries;
+  events = history.events ++ Fail d lease reason ∷ [];
+}
 
 -- *Permitted*: a path that one of the seeds reaches, or an own output
 abbrev pub MayRefer : List Registration → (seeds outputs : List (List ℕ)) → (path : List ℕ) → Type 0
 MayRefer registrations seeds outputs path =
-    ((seed : List ℕ) × Contains seeds seed × Reaches registrations seed path) ⊎ Contains outputs path
+    ((seed : List ℕ) × Contains seeds seed × Reaches registrations seed path)
+    ⊎ Contains outputs path
 
 -- The permitted paths, in rising order.
-pub record ArePermitted (registrations : List Registration) (seeds outputs permitted : List (List ℕ)) : Type 0 where
+pub record ArePermitted (registrations : List Registration)
+    (seeds outputs permitted : List (List ℕ)) : Type 0 where
   pub rising : IsRising permitted
   pub each : (path : List ℕ) → Contains permitted path ↔ MayRefer registrations seeds outputs path
 
@@ -57,28 +72,38 @@ pub record IsEntryOf (node : Node) (infos : List PathInfo) (entry : Entry) : Typ
   pub rising : IsRising (paths_of outputs)
   pub each : (path : List ℕ) (info : PathInfo)
       → Contains outputs (record { path = path; info = info })
-      ↔ ((n : ℕ) × (slice_get (output_paths node.drv) n ≡ Some path) × (slice_get infos n ≡ Some info))
+      ↔ ((n : ℕ) × (slice_get (output_paths node.drv) n ≡ Some path)
+      × (slice_get infos n ≡ Some info))
 
 -- each reference in some records is permitted to a derivation of the run, behind some entries
 abbrev pub ArePermittedTo : Run → List Entry → Node → List PathInfo → Type 0
-ArePermittedTo run entries node infos = (info : PathInfo) (path : List ℕ) → Contains infos info → Contains info.references path
+ArePermittedTo run entries node infos = (info : PathInfo) (path : List ℕ) → Contains infos info
+    → Contains info.references path
     → MayRefer (registered entries) (seeds_of run.graph.nodes node.drv) (output_paths node.drv) path
 
 -- What a Done of a derivation may register behind some entries.
-pub record IsAllowed (run : Run) (entries : List Entry) (node : Node) (infos : List PathInfo) : Type 0 where
+pub record IsAllowed (run : Run) (entries : List Entry) (node : Node) (infos : List PathInfo)
+    : Type 0 where
   pub count : length infos ≡ length node.drv.outputs
-  pub new : (path : List ℕ) → Contains (output_paths node.drv) path → IsValid (registered entries) path → ⊥
+  pub new : (path : List ℕ) → Contains (output_paths node.drv) path
+      → IsValid (registered entries) path → ⊥
   pub permitted : ArePermittedTo run entries node infos
-  pub fixed : (method : Method) (digest : List ℕ) → HasKind node.drv (Fixed method digest) → (info : PathInfo) → Contains infos info → info.digest ≡ Some digest
+  pub fixed : (method : Method) (digest : List ℕ) → HasKind node.drv (Fixed method digest)
+      → (info : PathInfo) → Contains infos info → info.digest ≡ Some digest
   pub acyclic : IsCyclic (output_paths node.drv) infos → ⊥
 
--- A legal history: it opens with a journal's entries, and each event is allowed after those before it.
+-- A legal history: it opens with a journal's entries, and each event is allowed after those before
+-- it.
 pub data IsLegal (run : Run) : History → Type 0 where
-  legal_opening : (entries : List Entry) → IsJournal entries → IsLegal run (record { opening = entries; entries = entries; events = [] })
+  legal_opening : (entries : List Entry) → IsJournal entries
+      → IsLegal run (record { opening = entries; entries = entries; events = [] })
   legal_begin : (history : History) (d : ℕ) → IsLegal run history
-      → d < length run.graph.nodes → IsWanted run history.opening d → state_in run history d ≡ Ready → IsLegal run (begun history d)
-  legal_done : (history : History) (d lease : ℕ) (node : Node) (infos : List PathInfo) (entry : Entry) → IsLegal run history
+      → d < length run.graph.nodes → IsWanted run history.opening d → state_in run history d ≡ Ready
+      → IsLegal run (begun history d)
+  legal_done : (history : History) (d lease : ℕ) (node : Node) (infos : List PathInfo)
+      (entry : Entry) → IsLegal run history
       → phase_of history.events d ≡ Begun lease → slice_get run.graph.nodes d ≡ Some node
-      → IsAllowed run history.entries node infos → IsEntryOf node infos entry → IsLegal run (ended history d lease entry)
+      → IsAllowed run history.entries node infos → IsEntryOf node infos entry
+      → IsLegal run (ended history d lease entry)
   legal_fail : (history : History) (d lease : ℕ) (reason : Reason) → IsLegal run history
       → phase_of history.events d ≡ Begun lease → IsLegal run (failed history d lease reason)

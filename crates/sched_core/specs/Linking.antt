@@ -1,4 +1,5 @@
--- The links among outputs, between the places of their paths in a list without repetition. Places count from 0.
+-- The links among outputs, between the places of their paths in a list without repetition. Places
+-- count from 0.
 use Rattle.std.specs.Prelude.{◌≡◌, ◌↔◌, ◌⊎◌, ◌<◌, ℕ, List, Some, Contains, length, nat_eq, slice_get}
 use Rattle.std.specs.Cmp.Lexicographic.{pointwise}
 use Rattle.std.specs.Global.{Vec}
@@ -12,19 +13,26 @@ pub record AreEachOnce (paths keys : List (List ℕ)) : Type 0 where
   pub same : (path : List ℕ) → Contains keys path ↔ Contains paths path
 
 -- one of the first outputs, so many, has the first path, and refers to the second
-abbrev pub MayLink : (paths : List (List ℕ)) → List PathInfo → (count : ℕ) → (from to : List ℕ) → Type 0
+abbrev pub MayLink : (paths : List (List ℕ)) → List PathInfo → (count : ℕ) → (from to : List ℕ)
+    → Type 0
 MayLink paths infos count from to =
-    (n : ℕ) × (info : PathInfo) × (n < count) × (slice_get paths n ≡ Some from) × (slice_get infos n ≡ Some info) × Contains info.references to
+    (n : ℕ) × (info : PathInfo) × (n < count) × (slice_get paths n ≡ Some from)
+    × (slice_get infos n ≡ Some info) × Contains info.references to
 
--- The links of the first outputs, so many: each from a key's place to the place of a key that it refers to.
-pub record AreLinks (paths : List (List ℕ)) (infos : List PathInfo) (keys : List (List ℕ)) (count : ℕ) (links : List (Vec ℕ)) : Type 0 where
+-- The links of the first outputs, so many: each from a key's place to the place of a key that it
+-- refers to.
+pub record AreLinks (paths : List (List ℕ)) (infos : List PathInfo) (keys : List (List ℕ))
+    (count : ℕ) (links : List (Vec ℕ)) : Type 0 where
   pub places : length links ≡ length keys
   pub sound : (from to : ℕ) → IsLinked links from to
-      → (a : List ℕ) × (b : List ℕ) × (slice_get keys from ≡ Some a) × (slice_get keys to ≡ Some b) × MayLink paths infos count a b
-  pub whole : (from to : ℕ) (a b : List ℕ) → slice_get keys from ≡ Some a → slice_get keys to ≡ Some b → MayLink paths infos count a b → IsLinked links from to
+      → (a : List ℕ) × (b : List ℕ) × (slice_get keys from ≡ Some a) × (slice_get keys to ≡ Some b)
+      × MayLink paths infos count a b
+  pub whole : (from to : ℕ) (a b : List ℕ) → slice_get keys from ≡ Some a → slice_get keys to
+      ≡ Some b → MayLink paths infos count a b → IsLinked links from to
 
 -- Links among all outputs.
-pub record HaveLinks (paths : List (List ℕ)) (infos : List PathInfo) (links : List (Vec ℕ)) : Type 0 where
+pub record HaveLinks (paths : List (List ℕ)) (infos : List PathInfo) (links : List (Vec ℕ))
+    : Type 0 where
   pub keys : List (List ℕ)
   pub once : AreEachOnce paths keys
   pub are : AreLinks paths infos keys (length infos) links
@@ -32,7 +40,9 @@ pub record HaveLinks (paths : List (List ℕ)) (infos : List PathInfo) (links : 
 -- behind old links stand new ones, to the places of keys that are referred to
 abbrev pub AddsLinks : (keys references : List (List ℕ)) → (old new : List ℕ) → Type 0
 AddsLinks keys references old new =
-    (to : ℕ) → Contains new to ↔ (Contains old to ⊎ ((path : List ℕ) × (slice_get keys to ≡ Some path) × Contains references path))
+    (to : ℕ) → Contains new to
+    ↔ (Contains old to
+    ⊎ ((path : List ℕ) × (slice_get keys to ≡ Some path) × Contains references path))
 
 -- no number is linked to any
 abbrev pub HaveNoLinks : List (Vec ℕ) → Type 0

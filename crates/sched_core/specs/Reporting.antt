@@ -15,7 +15,8 @@ abbrev pub IsListed : List Node → Wanted → Type 0
 IsListed nodes wanted = slice_get (paths_of nodes) wanted.number ≡ Some wanted.path.now
 
 -- Just the wanted ones of some derivations are listed, each with its path, and no path twice.
-pub record AreListed (nodes : List Node) (is_wanted : ℕ → Type 0) (wanted : List Wanted) : Type 0 where
+pub record AreListed (nodes : List Node) (is_wanted : ℕ → Type 0) (wanted : List Wanted)
+    : Type 0 where
   pub each : All (IsListed nodes) wanted
   pub just : (d : ℕ) → Contains (numbers_of wanted) d ↔ is_wanted d
   pub once : AreDistinct (listed_paths wanted)

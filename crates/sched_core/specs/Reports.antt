@@ -1,4 +1,5 @@
--- *Texts out*, the report of a run: what became of each wanted derivation, and the outputs of the roots (this product's own).
+-- *Texts out*, the report of a run: what became of each wanted derivation, and the outputs of the
+-- roots (this product's own).
 use Rattle.std.specs.Prelude.{◌≡◌, ◌<◌, ◌↔◌, true, false, ℕ, Option, Some, None, List, [], ◌++◌, length, map, flat_map, codes, slice_get, Contains, if◌then◌else◌}
 use Rattle.std.specs.List.{slice_index_or}
 use Rattle.nix_names.specs.Rising.{IsRising}
@@ -20,17 +21,21 @@ path_line word path = word ++ path ++ codes "\n"
 abbrev pub why_line : (word path why : List ℕ) → List ℕ
 why_line word path why = word ++ path ++ codes ": " ++ why ++ codes "\n"
 
--- the line of a derivation of a plan, which has these nodes: none while something is still before it
+-- the line of a derivation of a plan, which has these nodes: none while something is still before
+-- it
 abbrev pub line_of : List Node → Node → State → List ℕ
 line_of nodes node Done = path_line (codes "built ") node.path
 line_of nodes node Reused = path_line (codes "reused ") node.path
-line_of nodes node (Failed reason) = why_line (codes "failed ") node.path (reason_words node.drv reason)
-line_of nodes node (Refused cause) = why_line (codes "refused ") node.path (refusal_words nodes node.drv cause)
+line_of nodes node (Failed reason) = why_line (codes "failed ") node.path
+    (reason_words node.drv reason)
+line_of nodes node (Refused cause) = why_line (codes "refused ") node.path
+    (refusal_words nodes node.drv cause)
 line_of nodes node state = []
 
 -- a line for each output of a derivation that was built or reused, in its text's order
 abbrev pub output_lines : Node → State → List ℕ
-output_lines node state = if is_good state then flat_map (path_line (codes "output ")) (output_paths node.drv) else []
+output_lines node state = if is_good state then flat_map (path_line (codes "output "))
+    (output_paths node.drv) else []
 
 -- lines of a node, if there is one
 abbrev pub lines_if_some : (Node → List ℕ) → Option Node → List ℕ
@@ -53,16 +58,20 @@ pub record AreByPath (nodes : List Node) (is_wanted : ℕ → Type 0) (numbers :
   pub just : (d : ℕ) → Contains numbers d ↔ is_wanted d
   pub rising : IsRising (map (path_at nodes) numbers)
 
--- The text is the report of a plan, of which these derivations are wanted, in these states: the lines of the wanted ones, by path, then
--- the lines of each root's outputs, in the order of the roots.
-pub record IsReport (graph : Graph) (is_wanted : ℕ → Type 0) (state : ℕ → State) (text : List ℕ) : Type 0 where
+-- The text is the report of a plan, of which these derivations are wanted, in these states: the
+-- lines of the wanted ones, by path, then the lines of each root's outputs, in the order of the
+-- roots.
+pub record IsReport (graph : Graph) (is_wanted : ℕ → Type 0) (state : ℕ → State) (text : List ℕ)
+    : Type 0 where
   pub wanted : List ℕ
   pub by_path : AreByPath graph.nodes is_wanted wanted
-  pub is_text : text ≡ flat_map (line_at graph.nodes state) wanted ++ flat_map (outputs_at graph.nodes state) graph.roots
+  pub is_text : text ≡ flat_map (line_at graph.nodes state) wanted
+      ++ flat_map (outputs_at graph.nodes state) graph.roots
 
 -- a derivation of a course is wanted
 abbrev pub IsWantedIn : Course → ℕ → Type 0
-IsWantedIn course d = (d < length course.graph.nodes) × (slice_index_or course.wanted d false ≡ true)
+IsWantedIn course d = (d < length course.graph.nodes)
+    × (slice_index_or course.wanted d false ≡ true)
 
 -- the text is the report of a course
 abbrev pub IsReportOf : Course → List ℕ → Type 0
@@ -70,8 +79,10 @@ IsReportOf course text = IsReport course.graph (IsWantedIn course) (course_state
 
 -- the text is the report of a run with this history
 abbrev pub IsReportIn : Run → History → List ℕ → Type 0
-IsReportIn run history text = IsReport run.graph (IsWanted run history.opening) (state_in run history) text
+IsReportIn run history text = IsReport run.graph (IsWanted run history.opening)
+    (state_in run history) text
 
 -- there is one report
 abbrev pub ReportIsOne : Type 0
-ReportIsOne = (run : Run) (history : History) (a b : List ℕ) → IsReportIn run history a → IsReportIn run history b → a ≡ b
+ReportIsOne = (run : Run) (history : History) (a b : List ℕ) → IsReportIn run history a
+    → IsReportIn run history b → a ≡ b

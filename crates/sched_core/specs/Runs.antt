@@ -1,4 +1,5 @@
--- A run over a plan for one system, its history, and which derivations of it are wanted (this product's own; Nix manual, "Building").
+-- A run over a plan for one system, its history, and which derivations of it are wanted (this
+-- product's own; Nix manual, "Building").
 use Rattle.std.specs.Prelude.{◌≡◌, ◌||◌, not, Bool, ℕ, Option, Some, None, List, [], ◌∷◌, map, codes, nat_eq, slice_get, Contains, if◌then◌else◌}
 use Rattle.std.specs.List.{list_any, list_all, position, position_or_len, starts_with}
 use Rattle.nix_names.specs.Names.{same_bytes}
@@ -21,7 +22,8 @@ pub record Run : Type 0 where
   pub graph : Graph
   pub system : List ℕ
 
--- What has happened: the entries that the journal opened with, all its entries now, and the events since.
+-- What has happened: the entries that the journal opened with, all its entries now, and the events
+-- since.
 pub record History : Type 0 where
   pub opening : List Entry
   pub entries : List Entry
@@ -34,10 +36,12 @@ is_valid entries path = list_any (same_bytes path) (registered_paths (registered
 -- keys of the environment that ask for what is left out
 abbrev pub left_out : List (List ℕ)
 left_out =
-    codes "__json" ∷ codes "passAsFile" ∷ codes "exportReferencesGraph" ∷ codes "allowedReferences" ∷ codes "allowedRequisites"
+    codes "__json" ∷ codes "passAsFile" ∷ codes "exportReferencesGraph" ∷ codes "allowedReferences"
+    ∷ codes "allowedRequisites"
     ∷ codes "disallowedReferences" ∷ codes "disallowedRequisites" ∷ []
 
--- whether a derivation asks for what is left out: a builtin builder, one of those keys, or a fixed output that is a whole tree
+-- whether a derivation asks for what is left out: a builtin builder, one of those keys, or a fixed
+-- output that is a whole tree
 abbrev pub is_unsupported : Drv → Bool
 is_unsupported drv =
     starts_with nat_eq drv.builder (codes "builtin:")
@@ -54,8 +58,8 @@ abbrev pub cause_at : (ℕ → Refusal) → Option ℕ → Option Refusal
 cause_at cause (Some n) = Some (cause n)
 cause_at cause None = None
 
--- the first cause for which a derivation can't be begun, behind these entries: another system, something left out, an output that is
--- valid while another isn't, a source that isn't valid
+-- the first cause for which a derivation can't be begun, behind these entries: another system,
+-- something left out, an output that is valid while another isn't, a source that isn't valid
 abbrev pub own_cause : (system : List ℕ) → (opening : List Entry) → Drv → Option Refusal
 own_cause system opening drv =
     or_else (if same_bytes drv.system system then None else Some WrongSystem)
@@ -71,11 +75,13 @@ by_cause None = Free
 -- where a derivation stands by itself behind these entries
 abbrev pub standing_of : (system : List ℕ) → (opening : List Entry) → Drv → Standing
 standing_of system opening drv =
-    if list_all (is_valid opening) (output_paths drv) then AllValid else by_cause (own_cause system opening drv)
+    if list_all (is_valid opening) (output_paths drv) then AllValid
+    else by_cause (own_cause system opening drv)
 
 -- the numbers of a derivation's inputs, in its text's order
 abbrev pub input_numbers : List Node → Drv → List ℕ
-input_numbers nodes drv = map (λ path. position_or_len (same_bytes path) (paths_of nodes)) (inputs_of drv)
+input_numbers nodes drv = map (λ path. position_or_len (same_bytes path) (paths_of nodes))
+    (inputs_of drv)
 
 -- of a node, if there is one
 abbrev pub inputs_at : List Node → Option Node → List ℕ
@@ -98,8 +104,11 @@ rows_of run opening events = record {
 abbrev pub state_in : Run → History → ℕ → State
 state_in run history d = state (rows_of run history.opening history.events) d
 
--- A derivation is wanted: it is a root, or an input of a wanted user whose outputs aren't all valid and that can be begun by itself.
+-- A derivation is wanted: it is a root, or an input of a wanted user whose outputs aren't all valid
+-- and that can be begun by itself.
 pub data IsWanted (run : Run) (opening : List Entry) : ℕ → Type 0 where
   wanted_root : (d : ℕ) → Contains run.graph.roots d → IsWanted run opening d
-  wanted_input : (user d : ℕ) → IsWanted run opening user → standing_at run.system opening (slice_get run.graph.nodes user) ≡ Free
-      → Contains (inputs_at run.graph.nodes (slice_get run.graph.nodes user)) d → IsWanted run opening d
+  wanted_input : (user d : ℕ) → IsWanted run opening user
+      → standing_at run.system opening (slice_get run.graph.nodes user) ≡ Free
+      → Contains (inputs_at run.graph.nodes (slice_get run.graph.nodes user)) d
+      → IsWanted run opening d

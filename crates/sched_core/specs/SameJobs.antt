@@ -13,6 +13,8 @@ pub record HasRecipe (drv : Drv) (job : Job) : Type 0 where
   pub env : map entry_of job.env.items ≡ drv.env
 
 -- Just these outputs are to be made, at these paths.
-pub record MakesAt (outputs : List OutputStruct) (paths : List (List ℕ)) (made : List JobOutput) : Type 0 where
-  pub names : map (λ (o : JobOutput). o.name.items) made ≡ map (λ (o : OutputStruct). o.name.items) outputs
+pub record MakesAt (outputs : List OutputStruct) (paths : List (List ℕ)) (made : List JobOutput)
+    : Type 0 where
+  pub names : map (λ (o : JobOutput). o.name.items) made
+      ≡ map (λ (o : OutputStruct). o.name.items) outputs
   pub paths_are : map (λ (o : JobOutput). o.path) made ≡ paths

@@ -1,4 +1,5 @@
--- *State*: what has become of each derivation of a plan (this product's own; a failure stops only its users, as with Nix's `--keep-going`).
+-- *State*: what has become of each derivation of a plan (this product's own; a failure stops only
+-- its users, as with Nix's `--keep-going`).
 use Rattle.std.specs.Prelude.{◌≡◌, ◌<◌, ◌==◌, ℕ, zero, suc, Bool, true, false, Option, Some, None, List, [], ◌∷◌, ◌++◌, find, if◌then◌else◌, Contains}
 use Rattle.std.specs.List.{list_all, slice_index_or}
 use Rattle.sched_core.specs.declared.reason.Event.{Event}
@@ -10,7 +11,8 @@ use Rattle.sched_core.specs.declared.reason.State.TheVariants.{Done, Failed, Bui
 use Rattle.sched_core.specs.declared.standing.Standing.{Standing}
 use Rattle.sched_core.specs.declared.standing.Standing.TheVariants.{AllValid, Hindered, Free}
 
--- where a derivation stands by its last event: it has none; it began under this lease; it was built; it failed
+-- where a derivation stands by its last event: it has none; it began under this lease; it was
+-- built; it failed
 pub data Phase : Type 0 where
   Idle : Phase
   Begun : (lease : ℕ) → Phase
@@ -33,7 +35,8 @@ abbrev pub phase_of : List Event → ℕ → Phase
 phase_of [] d = Idle
 phase_of (event ∷ events) d = later (phase_by event d) (phase_of events d)
 
--- What the states of derivations follow from: of each, by its number, its inputs' numbers in its text's order, its standing and its phase.
+-- What the states of derivations follow from: of each, by its number, its inputs' numbers in its
+-- text's order, its standing and its phase.
 pub record Rows : Type 0 where
   pub inputs : ℕ → List ℕ
   pub standing : ℕ → Standing
@@ -51,7 +54,8 @@ is_bad (Failed reason) = true
 is_bad (Refused cause) = true
 is_bad state = false
 
--- by the first input that failed or is refused, if there is one, and by whether all are built or were valid
+-- by the first input that failed or is refused, if there is one, and by whether all are built or
+-- were valid
 abbrev pub by_first : Option ℕ → Bool → State
 by_first (Some input) all = Refused (InputNotRealised input)
 by_first None true = Ready
@@ -59,7 +63,8 @@ by_first None false = Blocked
 
 -- by the states of the inputs
 abbrev pub by_inputs : (state : ℕ → State) → (inputs : List ℕ) → State
-by_inputs state inputs = by_first (find (λ i. is_bad (state i)) inputs) (list_all (λ i. is_good (state i)) inputs)
+by_inputs state inputs = by_first (find (λ i. is_bad (state i)) inputs)
+    (list_all (λ i. is_good (state i)) inputs)
 
 abbrev pub by_standing : Standing → State → State
 by_standing AllValid other = Reused
@@ -72,14 +77,17 @@ by_phase (Begun lease) other = Building lease
 by_phase Ended other = Done
 by_phase (Broken reason) other = Failed reason
 
--- the table of states: the first that applies of the derivation's last event, its own standing, and its inputs
+-- the table of states: the first that applies of the derivation's last event, its own standing, and
+-- its inputs
 unfoldable pub table : Rows → (state : ℕ → State) → ℕ → State
-table rows state d = by_phase (rows.phase d) (by_standing (rows.standing d) (by_inputs state (rows.inputs d)))
+table rows state d =
+    by_phase (rows.phase d) (by_standing (rows.standing d) (by_inputs state (rows.inputs d)))
 
 -- the states of the first derivations, so many
 unfoldable pub states : Rows → (count : ℕ) → List State
 states rows zero = []
-states rows (suc n) = states rows n ++ table rows (λ i. slice_index_or (states rows n) i Blocked) n ∷ []
+states rows (suc n) = states rows n ++ table rows (λ i. slice_index_or (states rows n) i Blocked) n
+    ∷ []
 
 -- the state of a derivation, by the table, from those of its inputs, which have smaller numbers
 unfoldable pub state : Rows → ℕ → State
@@ -95,5 +103,6 @@ StatesAgree = (rows : Rows) (d : ℕ) → InputsFirst rows → state rows d ≡ 
 
 -- no other states do
 abbrev pub StatesAreOne : Type 0
-StatesAreOne = (rows : Rows) (other : ℕ → State) (count : ℕ) → InputsFirst rows → ((d : ℕ) → d < count → other d ≡ table rows other d)
+StatesAreOne = (rows : Rows) (other : ℕ → State) (count : ℕ) → InputsFirst rows
+    → ((d : ℕ) → d < count → other d ≡ table rows other d)
     → (d : ℕ) → d < count → other d ≡ state rows d

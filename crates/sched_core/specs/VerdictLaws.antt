@@ -1,4 +1,5 @@
--- What the verdict on a job of a plan's derivation gives: what a Done of it may register, but that the permitted paths be the run's.
+-- What the verdict on a job of a plan's derivation gives: what a Done of it may register, but that
+-- the permitted paths be the run's.
 use Rattle.std.specs.Prelude.{◌≡◌, ℕ, Some, Ok, List, length, Contains, slice_get}
 use Rattle.drv_graph.specs.Kinds.{HasKind}
 use Rattle.drv_graph.specs.Nodes.{Node}
@@ -11,14 +12,20 @@ use Rattle.sched_core.specs.Verdicts.{IsCyclic, IsVerdict}
 use Rattle.sched_core.specs.declared.job.Answer.{Answer}
 use Rattle.sched_core.specs.declared.job.Job.{Job}
 
--- Records of a derivation's outputs: one for each, with permitted references alone, the declared digest where it is fixed, and no cycle.
-pub record AreRegistrable (node : Node) (permitted : List (List ℕ)) (infos : List PathInfo) : Type 0 where
+-- Records of a derivation's outputs: one for each, with permitted references alone, the declared
+-- digest where it is fixed, and no cycle.
+pub record AreRegistrable (node : Node) (permitted : List (List ℕ)) (infos : List PathInfo)
+    : Type 0 where
   pub count : length infos ≡ length node.drv.outputs
-  pub among : (info : PathInfo) (path : List ℕ) → Contains infos info → Contains info.references path → Contains permitted path
-  pub fixed : (method : Method) (digest : List ℕ) → HasKind node.drv (Fixed method digest) → (info : PathInfo) → Contains infos info → info.digest ≡ Some digest
+  pub among : (info : PathInfo) (path : List ℕ) → Contains infos info
+      → Contains info.references path → Contains permitted path
+  pub fixed : (method : Method) (digest : List ℕ) → HasKind node.drv (Fixed method digest)
+      → (info : PathInfo) → Contains infos info → info.digest ≡ Some digest
   pub acyclic : IsCyclic (output_paths node.drv) infos → ⊥
 
 -- the records of a verdict on a derivation's job are such
 abbrev pub VerdictsAreRegistrable : Type 0
-VerdictsAreRegistrable = (graph : Graph) (d : ℕ) (job : Job) (node : Node) (permitted : List (List ℕ)) (answer : Answer) (infos : List PathInfo)
-    → IsJob graph d job → slice_get graph.nodes d ≡ Some node → IsVerdict job permitted answer (Ok infos) → AreRegistrable node permitted infos
+VerdictsAreRegistrable = (graph : Graph) (d : ℕ) (job : Job) (node : Node)
+    (permitted : List (List ℕ)) (answer : Answer) (infos : List PathInfo)
+    → IsJob graph d job → slice_get graph.nodes d ≡ Some node
+    → IsVerdict job permitted answer (Ok infos) → AreRegistrable node permitted infos

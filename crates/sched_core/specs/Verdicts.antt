@@ -1,5 +1,5 @@
--- *Verdict*: what becomes of a job by what its builder left behind (Nix manual, "Building"; Dolstra's thesis, section 5.5.1; the order of
--- the reasons is this product's own).
+-- *Verdict*: what becomes of a job by what its builder left behind (Nix manual, "Building";
+-- Dolstra's thesis, section 5.5.1; the order of the reasons is this product's own).
 use Rattle.std.specs.Prelude.{◌≡◌, ◌≢◌, ◌⊎◌, ◌<◌, ℕ, pos, Option, Some, None, List, length, map, Contains, Result, Ok, Err, slice_get}
 use Rattle.sha2.specs.Sha256.{sha256}
 use Rattle.drv_graph.specs.Plans.{Leads}
@@ -30,14 +30,17 @@ pub record IsRecordOf (permitted : List (List ℕ)) (tree : Tree) (info : PathIn
   pub found : IsFound tree permitted info.references
   pub digest : info.digest ≡ digest_of tree
 
--- why the tree of an output of this kind isn't taken: it passes the limits; or else the output is fixed, and it is no file, or a file of another digest
+-- why the tree of an output of this kind isn't taken: it passes the limits; or else the output is
+-- fixed, and it is no file, or a file of another digest
 abbrev pub IsTreeFault : Kind → Tree → Reason → Type 0
 IsTreeFault kind tree TooLarge = Fits tree → ⊥
 IsTreeFault (Fixed method digest) tree NotFlatFile = Fits tree × (digest_of tree ≡ None)
-IsTreeFault (Fixed method digest) tree HashMismatch = Fits tree × ((found : List ℕ) × (digest_of tree ≡ Some found) × (found ≢ digest))
+IsTreeFault (Fixed method digest) tree HashMismatch = Fits tree
+    × ((found : List ℕ) × (digest_of tree ≡ Some found) × (found ≢ digest))
 IsTreeFault kind tree reason = ⊥
 
--- the tree at the output with this number, counted from 0; an answer that ends before it has none there
+-- the tree at the output with this number, counted from 0; an answer that ends before it has none
+-- there
 abbrev pub tree_at : Answer → ℕ → Option Tree
 tree_at answer n = joined (slice_get answer.trees.items n)
   where
@@ -53,62 +56,82 @@ pub record IsFirstNumber (Holds : ℕ → Type 0) (count n : ℕ) : Type 0 where
 
 -- the builder ended well, and left something at each output's path
 abbrev pub IsThere : Job → Answer → Type 0
-IsThere job answer = (answer.status ≡ Some (pos 0)) × ((n : ℕ) → n < length job.outputs.items → tree_at answer n ≡ None → ⊥)
+IsThere job answer = (answer.status ≡ Some (pos 0))
+    × ((n : ℕ) → n < length job.outputs.items → tree_at answer n ≡ None → ⊥)
 
 -- what lies at the output with this number isn't taken, for this reason
 abbrev pub IsFaulty : Job → Answer → Reason → ℕ → Type 0
-IsFaulty job answer reason n = (tree : Tree) × (tree_at answer n ≡ Some tree) × IsTreeFault job.kind tree reason
+IsFaulty job answer reason n = (tree : Tree) × (tree_at answer n ≡ Some tree)
+    × IsTreeFault job.kind tree reason
 
 -- what lies at some output isn't taken, and at the first such for this reason
 abbrev pub IsFirstFault : Job → Answer → Reason → Type 0
 IsFirstFault job answer reason =
-    (n : ℕ) × IsFirstNumber (λ m. (why : Reason) × IsFaulty job answer why m) (length job.outputs.items) n × IsFaulty job answer reason n
+    (n : ℕ) × IsFirstNumber (λ m. (why : Reason) × IsFaulty job answer why m)
+    (length job.outputs.items) n × IsFaulty job answer reason n
 
 -- what lies at each output's path is taken
 abbrev pub IsTaken : Job → Answer → Type 0
-IsTaken job answer = IsThere job answer × ((n : ℕ) (why : Reason) → n < length job.outputs.items → IsFaulty job answer why n → ⊥)
+IsTaken job answer = IsThere job answer
+    × ((n : ℕ) (why : Reason) → n < length job.outputs.items → IsFaulty job answer why n → ⊥)
 
 -- a record is that of what lies at the output with this number
 abbrev pub IsRecordAt : (permitted : List (List ℕ)) → Answer → ℕ → PathInfo → Type 0
-IsRecordAt permitted answer n info = (tree : Tree) × (tree_at answer n ≡ Some tree) × IsRecordOf permitted tree info
+IsRecordAt permitted answer n info = (tree : Tree) × (tree_at answer n ≡ Some tree)
+    × IsRecordOf permitted tree info
 
 -- Records of a job's outputs, in the job's order.
-pub record AreRecords (job : Job) (permitted : List (List ℕ)) (answer : Answer) (infos : List PathInfo) : Type 0 where
+pub record AreRecords (job : Job) (permitted : List (List ℕ)) (answer : Answer)
+    (infos : List PathInfo) : Type 0 where
   pub count : length infos ≡ length job.outputs.items
-  pub each : (n : ℕ) (info : PathInfo) → slice_get infos n ≡ Some info → IsRecordAt permitted answer n info
+  pub each : (n : ℕ) (info : PathInfo) → slice_get infos n ≡ Some info
+      → IsRecordAt permitted answer n info
 
 -- one output refers to another one, by their records
 abbrev pub RefersTo : (outputs : List (List ℕ)) → List PathInfo → (from to : List ℕ) → Type 0
 RefersTo outputs infos from to =
-    (n : ℕ) × (info : PathInfo) × (slice_get outputs n ≡ Some from) × (slice_get infos n ≡ Some info) × Contains info.references to × Contains outputs to
+    (n : ℕ) × (info : PathInfo) × (slice_get outputs n ≡ Some from)
+    × (slice_get infos n ≡ Some info) × Contains info.references to × Contains outputs to
 
 -- two different outputs lead to each other by references among the outputs
 abbrev pub IsCyclic : (outputs : List (List ℕ)) → List PathInfo → Type 0
 IsCyclic outputs infos =
-    (a : List ℕ) × (b : List ℕ) × (there : List (List ℕ)) × (back : List (List ℕ)) × (a ≢ b) × Leads (RefersTo outputs infos) a b there × Leads (RefersTo outputs infos) b a back
+    (a : List ℕ) × (b : List ℕ) × (there : List (List ℕ)) × (back : List (List ℕ)) × (a ≢ b)
+    × Leads (RefersTo outputs infos) a b there × Leads (RefersTo outputs infos) b a back
 
 -- *Verdict* on an answer: the records of the outputs, or the first reason why there are none
-abbrev pub IsVerdict : Job → (permitted : List (List ℕ)) → Answer → Result (List PathInfo) Reason → Type 0
+abbrev pub IsVerdict : Job → (permitted : List (List ℕ)) → Answer → Result (List PathInfo) Reason
+    → Type 0
 IsVerdict job permitted answer (Ok infos) =
-    IsTaken job answer × AreRecords job permitted answer infos × (IsCyclic (outputs_of job) infos → ⊥)
+    IsTaken job answer × AreRecords job permitted answer infos
+    × (IsCyclic (outputs_of job) infos → ⊥)
 IsVerdict job permitted answer (Err Killed) = answer.status ≡ None
 IsVerdict job permitted answer (Err (ExitStatus n)) = (answer.status ≡ Some n) × (n ≢ pos 0)
 IsVerdict job permitted answer (Err (MissingOutput n)) =
-    (answer.status ≡ Some (pos 0)) × IsFirstNumber (λ m. tree_at answer m ≡ None) (length job.outputs.items) n
-IsVerdict job permitted answer (Err TooLarge) = IsThere job answer × IsFirstFault job answer TooLarge
-IsVerdict job permitted answer (Err NotFlatFile) = IsThere job answer × IsFirstFault job answer NotFlatFile
-IsVerdict job permitted answer (Err HashMismatch) = IsThere job answer × IsFirstFault job answer HashMismatch
+    (answer.status ≡ Some (pos 0)) × IsFirstNumber (λ m. tree_at answer m ≡ None)
+    (length job.outputs.items) n
+IsVerdict job permitted answer (Err TooLarge) = IsThere job answer
+    × IsFirstFault job answer TooLarge
+IsVerdict job permitted answer (Err NotFlatFile) = IsThere job answer
+    × IsFirstFault job answer NotFlatFile
+IsVerdict job permitted answer (Err HashMismatch) = IsThere job answer
+    × IsFirstFault job answer HashMismatch
 IsVerdict job permitted answer (Err OutputCycle) =
-    IsTaken job answer × ((infos : List PathInfo) × AreRecords job permitted answer infos × IsCyclic (outputs_of job) infos)
+    IsTaken job answer
+    × ((infos : List PathInfo) × AreRecords job permitted answer infos
+    × IsCyclic (outputs_of job) infos)
 IsVerdict job permitted answer (Err NoStart) = ⊥
 IsVerdict job permitted answer (Err ReadFault) = ⊥
 IsVerdict job permitted answer (Err OutOfMemory) = ⊥
 
 -- what `examine` answers: the verdict, or that memory was refused
-abbrev pub IsExamining : Job → (permitted : List (List ℕ)) → Answer → Result (List PathInfo) Reason → Type 0
-IsExamining job permitted answer result = (result ≡ Err OutOfMemory) ⊎ IsVerdict job permitted answer result
+abbrev pub IsExamining : Job → (permitted : List (List ℕ)) → Answer → Result (List PathInfo) Reason
+    → Type 0
+IsExamining job permitted answer result = (result ≡ Err OutOfMemory)
+    ⊎ IsVerdict job permitted answer result
 
 -- there is one verdict
 abbrev pub HasOneVerdict : Type 0
-HasOneVerdict = (job : Job) (permitted : List (List ℕ)) (answer : Answer) (a b : Result (List PathInfo) Reason)
+HasOneVerdict = (job : Job) (permitted : List (List ℕ)) (answer : Answer)
+    (a b : Result (List PathInfo) Reason)
     → IsVerdict job permitted answer a → IsVerdict job permitted answer b → a ≡ b

@@ -1,4 +1,5 @@
--- How a round among numbered outputs is found: by a walk along links, depth first. Numbers count from 0.
+-- How a round among numbered outputs is found: by a walk along links, depth first. Numbers count
+-- from 0.
 use Rattle.std.specs.Prelude.{◌≡◌, ◌≢◌, ◌<◌, ◌≤◌, ◌+◌, ℕ, suc, List, [], Bool, true, false, Some, Contains, length, slice_get}
 use Rattle.std.proofs.Math.ListN.{set}
 use Rattle.std.specs.Global.{Vec}
@@ -27,7 +28,8 @@ pub record HaveRound (links : List (Vec ℕ)) : Type 0 where
 
 -- a number leads to no round: each other number that it is linked to leads to none
 pub data IsGrounded (links : List (Vec ℕ)) : ℕ → Type 0 where
-  grounded : (from : ℕ) → ((to : ℕ) → IsLinked links from to → from ≢ to → IsGrounded links to) → IsGrounded links from
+  grounded : (from : ℕ) → ((to : ℕ) → IsLinked links from to → from ≢ to → IsGrounded links to)
+      → IsGrounded links from
 
 -- whether links have a round
 abbrev pub TellsRound : List (Vec ℕ) → Bool → Type 0
@@ -38,20 +40,26 @@ TellsRound links false = (n : ℕ) → n < length links → IsGrounded links n
 abbrev pub AreInner : List (Vec ℕ) → Type 0
 AreInner links = (from to : ℕ) → IsLinked links from to → to < length links
 
--- what a walk has passed is grounded: each number that it closed, and each link that it passed, but to the number itself
+-- what a walk has passed is grounded: each number that it closed, and each link that it passed, but
+-- to the number itself
 pub record IsAfter (links : List (Vec ℕ)) (nodes : List Node) : Type 0 where
   pub count : length nodes ≡ length links
-  pub left : (from : ℕ) (node : Node) (own : Vec ℕ) → slice_get nodes from ≡ Some node → slice_get links from ≡ Some own → node.left ≤ length own.items
-  pub passed : (from : ℕ) (node : Node) (own : Vec ℕ) (k to : ℕ) → slice_get nodes from ≡ Some node → slice_get links from ≡ Some own
+  pub left : (from : ℕ) (node : Node) (own : Vec ℕ) → slice_get nodes from ≡ Some node
+      → slice_get links from ≡ Some own → node.left ≤ length own.items
+  pub passed : (from : ℕ) (node : Node) (own : Vec ℕ) (k to : ℕ) → slice_get nodes from ≡ Some node
+      → slice_get links from ≡ Some own
       → node.left ≤ k → slice_get own.items k ≡ Some to → from ≢ to → IsGrounded links to
-  pub closed : (from : ℕ) (node : Node) → slice_get nodes from ≡ Some node → node.mark ≡ Closed → IsGrounded links from
+  pub closed : (from : ℕ) (node : Node) → slice_get nodes from ≡ Some node → node.mark ≡ Closed
+      → IsGrounded links from
 
 -- Where a walk stands: its trail has all open numbers, each linked to the next.
 pub record IsWalk (links : List (Vec ℕ)) (nodes : List Node) (trail : List ℕ) : Type 0 where
   pub after : IsAfter links nodes
-  pub opened : (from : ℕ) (node : Node) → slice_get nodes from ≡ Some node → node.mark ≡ Open → Contains trail from
+  pub opened : (from : ℕ) (node : Node) → slice_get nodes from ≡ Some node → node.mark ≡ Open
+      → Contains trail from
   pub within : (k n : ℕ) → slice_get trail k ≡ Some n → n < length nodes
-  pub chain : (k from to : ℕ) → slice_get trail k ≡ Some from → slice_get trail (suc k) ≡ Some to → IsLinked links from to
+  pub chain : (k from to : ℕ) → slice_get trail k ≡ Some from → slice_get trail (suc k) ≡ Some to
+      → IsLinked links from to
 
 -- a number was met
 abbrev pub IsMet : List Node → ℕ → Type 0
@@ -74,8 +82,10 @@ mark_weight Closed = 0
 abbrev pub weight : Node → ℕ
 weight node = mark_weight node.mark + node.left
 
--- One step at a number: it is left where no link is left, and else its last link that is left is passed, entered, or leads back to the trail.
-pub record IsNext (links : List (Vec ℕ)) (nodes : List Node) (top : ℕ) (node : Node) (to : ℕ) (other : Node) : Type 0 where
+-- One step at a number: it is left where no link is left, and else its last link that is left is
+-- passed, entered, or leads back to the trail.
+pub record IsNext (links : List (Vec ℕ)) (nodes : List Node) (top : ℕ) (node : Node) (to : ℕ)
+    (other : Node) : Type 0 where
   pub own : Vec ℕ
   pub k : ℕ
   pub at : slice_get nodes top ≡ Some node
@@ -86,17 +96,23 @@ pub record IsNext (links : List (Vec ℕ)) (nodes : List Node) (top : ℕ) (node
 
 abbrev pub IsStep : List (Vec ℕ) → (before after : List Node) → (top : ℕ) → Step → Type 0
 IsStep links before after top Leave =
-    (node : Node) × (slice_get before top ≡ Some node) × (node.left ≡ 0) × (after ≡ set before top (record { mark = Closed; left = 0 }))
+    (node : Node) × (slice_get before top ≡ Some node) × (node.left ≡ 0)
+    × (after ≡ set before top (record { mark = Closed; left = 0 }))
 IsStep links before after top Pass =
-    (node : Node) × (to : ℕ) × (other : Node) × IsNext links before top node to other × ((top ≢ to) → other.mark ≡ Closed)
-    × (k : ℕ) × (suc k ≡ node.left) × (after ≡ set before top (record { mark = node.mark; left = k }))
+    (node : Node) × (to : ℕ) × (other : Node) × IsNext links before top node to other
+    × ((top ≢ to) → other.mark ≡ Closed)
+    × (k : ℕ) × (suc k ≡ node.left)
+    × (after ≡ set before top (record { mark = node.mark; left = k }))
 IsStep links before after top (Enter to) =
     (node : Node) × (other : Node) × IsNext links before top node to other × (other.mark ≡ New)
     × (after ≡ set before to (record { mark = Open; left = other.left }))
 IsStep links before after top Return =
-    (node : Node) × (to : ℕ) × (other : Node) × IsNext links before top node to other × (other.mark ≡ Open) × (top ≢ to)
+    (node : Node) × (to : ℕ) × (other : Node) × IsNext links before top node to other
+    × (other.mark ≡ Open) × (top ≢ to)
 
--- what a walk from a number tells: a round, or it ends, with the number met beside all that were met before
+-- what a walk from a number tells: a round, or it ends, with the number met beside all that were
+-- met before
 abbrev pub MayTell : List (Vec ℕ) → (before after : List Node) → (start : ℕ) → Bool → Type 0
 MayTell links before after start true = HaveRound links
-MayTell links before after start false = IsWalk links after [] × KeepsMet before after × IsMet after start
+MayTell links before after start false = IsWalk links after [] × KeepsMet before after
+    × IsMet after start

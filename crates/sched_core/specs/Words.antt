@@ -1,4 +1,5 @@
--- The words for why a derivation was not built: the name of the reason or the refusal, and its value in parentheses (this product's own).
+-- The words for why a derivation was not built: the name of the reason or the refusal, and its
+-- value in parentheses (this product's own).
 use Rattle.std.specs.Prelude.{ℕ, Option, Some, None, List, ◌++◌, map, codes, decimal, slice_get}
 use Rattle.std.specs.Fmt.{signed_decimal}
 use Rattle.nix_drv.specs.Derivation.{Drv, Output}
@@ -31,7 +32,8 @@ spelled_names drv = map (λ (o : Output). string_text o.name) drv.outputs
 abbrev pub reason_words : Drv → Reason → List ℕ
 reason_words drv (ExitStatus status) = with_value (codes "ExitStatus") (signed_decimal status)
 reason_words drv NoStart = codes "NoStart"
-reason_words drv (MissingOutput output) = with_text (codes "MissingOutput") (spelled_names drv) output
+reason_words drv (MissingOutput output) = with_text (codes "MissingOutput") (spelled_names drv)
+    output
 reason_words drv NotFlatFile = codes "NotFlatFile"
 reason_words drv HashMismatch = codes "HashMismatch"
 reason_words drv OutputCycle = codes "OutputCycle"
@@ -44,6 +46,9 @@ reason_words drv Killed = codes "Killed"
 abbrev pub refusal_words : List Node → Drv → Refusal → List ℕ
 refusal_words nodes drv WrongSystem = codes "WrongSystem"
 refusal_words nodes drv Unsupported = codes "Unsupported"
-refusal_words nodes drv (MissingSource source) = with_text (codes "MissingSource") drv.sources source
-refusal_words nodes drv (InputNotRealised input) = with_text (codes "InputNotRealised") (paths_of nodes) input
-refusal_words nodes drv (PartlyValid output) = with_text (codes "PartlyValid") (output_paths drv) output
+refusal_words nodes drv (MissingSource source) =
+    with_text (codes "MissingSource") drv.sources source
+refusal_words nodes drv (InputNotRealised input) =
+    with_text (codes "InputNotRealised") (paths_of nodes) input
+refusal_words nodes drv (PartlyValid output) =
+    with_text (codes "PartlyValid") (output_paths drv) output

@@ -19,9 +19,9 @@ use std::alloc::Global;
 use std::marker::Model;
 use valid_table::{Journal, Outlet};
 
-/// The book of a run over a plan: its journal, its events, and an outlet to which what is registered
-/// goes. A contract sees the run, its history, and the entries that the outlet shows and those that
-/// wait there. A book is ended by `close`.
+/// The book of a run over a plan: its journal, its events, and an outlet to which what is
+/// registered goes. A contract sees the run, its history, and the entries that the outlet shows and
+/// those that wait there. A book is ended by `close`.
 ///
 /// In each book the history is legal, the entries are a journal, and the outlet holds just the
 /// entries; `journal` and `events` say so.
@@ -37,16 +37,21 @@ impl<O: Outlet> Model for Book<O> {
 
     ghost Value = { Ledger };
 
-    ghost view = { λ b. record { run = b.progress.run; history = b.progress.history; shown = O.shown b.outlet; pending = O.pending b.outlet } };
+    ghost view = { λ b. record {
+      run = b.progress.run;
+      history = b.progress.history;
+      shown = O.shown b.outlet;
+      pending = O.pending b.outlet;
+    } };
 
     ghost invariant = { λ b. O.shown b.outlet ++ O.pending b.outlet ≡ b.progress.history.entries };
 }
 
 impl<O: Outlet> Book<O> {
-    /// The book of a run over a plan, for a system, that opens with the journal's entries, which the
-    /// outlet holds. Answers `NoMemory` where memory is refused, and no other fault; the outlet is
-    /// closed then. Asks the journal for each output and source of the plan, and takes memory for
-    /// all events that may come.
+    /// The book of a run over a plan, for a system, that opens with the journal's entries, which
+    /// the outlet holds. Answers `NoMemory` where memory is refused, and no other fault; the outlet
+    /// is closed then. Asks the journal for each output and source of the plan, and takes memory
+    /// for all events that may come.
     pub fn open(
         alloc: Global,
         plan: Plan,
@@ -55,7 +60,8 @@ impl<O: Outlet> Book<O> {
         outlet: O,
     ) -> Result<Book<O>, BookFault>
         requires { O.shown outlet ++ O.pending outlet ≡ journal.entries }
-        ensures run { IfOk result (λ book. book.run ≡ record { graph = plan; system = system.items }) }
+        ensures run { IfOk result (λ book. book.run
+            ≡ record { graph = plan; system = system.items }) }
         ensures history { IfOk result (λ book. book.history ≡ opened journal.entries) }
         ensures shown { IfOk result (λ book. book.shown ≡ O.shown outlet) }
         ensures pending { IfOk result (λ book. book.pending ≡ O.pending outlet) }
@@ -70,15 +76,20 @@ impl<O: Outlet> Book<O> {
         }
     }
 
-    /// The lease of a wanted derivation that is ready, which begins with it; none exactly where there
-    /// is no such derivation, and then nothing changes and no memory is taken. Before a derivation
-    /// begins the outlet publishes all entries, and the lease is told of that list.
+    /// The lease of a wanted derivation that is ready, which begins with it; none exactly where
+    /// there is no such derivation, and then nothing changes and no memory is taken. Before a
+    /// derivation begins the outlet publishes all entries, and the lease is told of that list.
     ///
     /// `NoMemory` and `NoView` begin nothing; the outlet may have published. Takes memory for the
     /// lease's job.
     pub fn next(&mut self) -> Result<Option<Lease<O::Told>>, BookFault>
-        ensures none { IfOk result (λ next. MatchOption next ((self.new ≡ self.old) × ((d : ℕ) → CanBegin self.old.run self.old.history d → ⊥)) (λ lease. IsBeginning self.old self.new lease.job lease.number)) }
-        ensures told { IfOk result (λ next. MatchOption next ⊤ (λ lease. MatchOption lease.told ⊥ (λ told. O.names told self.old.history.entries))) }
+        ensures none { IfOk result
+            (λ next. MatchOption next ((self.new ≡ self.old)
+            × ((d : ℕ) → CanBegin self.old.run self.old.history d → ⊥))
+            (λ lease. IsBeginning self.old self.new lease.job lease.number)) }
+        ensures told { IfOk result
+            (λ next. MatchOption next ⊤
+            (λ lease. MatchOption lease.told ⊥ (λ told. O.names told self.old.history.entries))) }
         ensures same { OnErr result (IsSameRun self.old self.new) }
         ensures some { OnErr result ((d : ℕ) × CanBegin self.old.run self.old.history d) }
         ensures err { IfErr result (λ fault. (fault ≡ NoMemory) ⊎ (fault ≡ NoView)) }
@@ -92,22 +103,23 @@ impl<O: Outlet> Book<O> {
         Ok(Some(Lease::new(job, number, self.outlet.tell())))
     }
 
-    /// Ends a lease by registering what was built, with just these records, by an entry that waits in
-    /// the outlet. Each reference in them must be permitted to the lease's job behind the journal's
-    /// entries, if the lease is the book's.
+    /// Ends a lease by registering what was built, with just these records, by an entry that waits
+    /// in the outlet. Each reference in them must be permitted to the lease's job behind the
+    /// journal's entries, if the lease is the book's.
     ///
-    /// `ForeignLease` exactly where the lease isn't the book's; `NotLawful` only where it is and the
-    /// derivation may not be registered so: there isn't one record for each output, an output is
-    /// valid, a fixed output hasn't its declared digest, or two outputs lead to each other; `NoMemory`
-    /// where memory is refused. A fault leaves the book as it was, and hands back lease and records.
-    /// Compares the lease's job with the plan's derivation, asks the journal for each output and
-    /// reference, and copies each record twice.
+    /// `ForeignLease` exactly where the lease isn't the book's; `NotLawful` only where it is and
+    /// the derivation may not be registered so: there isn't one record for each output, an output
+    /// is valid, a fixed output hasn't its declared digest, or two outputs lead to each other;
+    /// `NoMemory` where memory is refused. A fault leaves the book as it was, and hands back lease
+    /// and records. Compares the lease's job with the plan's derivation, asks the journal for each
+    /// output and reference, and copies each record twice.
     pub fn finish(
         &mut self,
         lease: Lease<O::Told>,
         checked: Checked,
     ) -> Result<(), (BookFault, Lease<O::Told>, Checked)>
-        requires { IsBooksLease self.old.run self.old.history lease.job lease.number → MayAllRefer self.old.history.entries lease.job checked }
+        requires { IsBooksLease self.old.run self.old.history lease.job lease.number
+            → MayAllRefer self.old.history.entries lease.job checked }
         ensures ok { OnOk result (IsFinishing self.old self.new lease.job lease.number checked) }
         ensures fault { IfErr result (λ e. IsFinishFault self.old lease.job lease.number checked e.0) }
         ensures back { IfErr result (λ e. (e.1 ≡ lease) × (e.2 ≡ checked)) }
@@ -123,8 +135,8 @@ impl<O: Outlet> Book<O> {
     }
 
     /// Ends a lease by noting that building its derivation failed, for this reason. Where the lease
-    /// isn't the book's, and only there, it comes back, and the book stays. Compares the lease's job
-    /// with the plan's derivation, and takes no memory.
+    /// isn't the book's, and only there, it comes back, and the book stays. Compares the lease's
+    /// job with the plan's derivation, and takes no memory.
     pub fn fail(&mut self, lease: Lease<O::Told>, reason: Reason) -> Result<(), Lease<O::Told>>
         ensures ok { OnOk result (IsFailing self.old self.new lease.job lease.number reason) }
         ensures foreign { OnErr result (IsBooksLease self.old.run self.old.history lease.job lease.number → ⊥) }
@@ -150,14 +162,21 @@ impl<O: Outlet> Book<O> {
         self.fail(lease, Reason::OutOfMemory)
     }
 
-    /// The paths to which the outputs of a lease's job may refer, strictly rising: what its seeds lead
-    /// to in the journal, and its own outputs. `ForeignLease` exactly where the lease isn't the
-    /// book's, else `NoMemory` where memory is refused; no other fault. Costs the closure of the
-    /// seeds, and a copy of each path.
+    /// The paths to which the outputs of a lease's job may refer, strictly rising: what its seeds
+    /// lead to in the journal, and its own outputs. `ForeignLease` exactly where the lease isn't
+    /// the book's, else `NoMemory` where memory is refused; no other fault. Costs the closure of
+    /// the seeds, and a copy of each path.
     pub fn permitted(&self, lease: &Lease<O::Told>) -> Result<Vec<StorePath>, BookFault>
-        ensures lease { OnOk result (IsBooksLease self.now.run self.now.history lease.now.job lease.now.number) }
-        ensures ok { IfOk result (λ paths. ArePermittedPaths self.now.history.entries lease.now.job paths.items) }
-        ensures err { IfErr result (λ fault. ((fault ≡ ForeignLease) × (IsBooksLease self.now.run self.now.history lease.now.job lease.now.number → ⊥)) ⊎ ((fault ≡ NoMemory) × IsBooksLease self.now.run self.now.history lease.now.job lease.now.number)) }
+        ensures lease { OnOk result
+            (IsBooksLease self.now.run self.now.history lease.now.job lease.now.number) }
+        ensures ok { IfOk result
+            (λ paths. ArePermittedPaths self.now.history.entries lease.now.job paths.items) }
+        ensures err { IfErr result
+            (λ fault.
+            ((fault ≡ ForeignLease)
+            × (IsBooksLease self.now.run self.now.history lease.now.job lease.now.number → ⊥))
+            ⊎ ((fault ≡ NoMemory) × IsBooksLease self.now.run self.now.history lease.now.job
+            lease.now.number)) }
     {
         if !self.progress.has_given(lease.job(), lease.number()) {
             return Err(BookFault::ForeignLease);
@@ -180,11 +199,12 @@ impl<O: Outlet> Book<O> {
         self.progress.settled()
     }
 
-    /// The report of the run, which is settled. For each wanted derivation, by path, a line `built P`,
-    /// `reused P`, `failed P: WHY` or `refused P: WHY`; then for each root that was built or reused, in
-    /// the order of the roots, a line `output O` for each of its outputs. Answers `NoMemory` where
-    /// memory is refused, and no other fault. Costs one sort of the wanted derivations by path, and
-    /// else time in proportion to the plan's derivations and the text.
+    /// The report of the run, which is settled. For each wanted derivation, by path, a line `built
+    /// P`,
+    /// `reused P`, `failed P: WHY` or `refused P: WHY`; then for each root that was built or
+    /// reused, in the order of the roots, a line `output O` for each of its outputs. Answers
+    /// `NoMemory` where memory is refused, and no other fault. Costs one sort of the wanted
+    /// derivations by path, and else time in proportion to the plan's derivations and the text.
     pub fn report(&self) -> Result<Vec<u8>, BookFault>
         requires { IsRunSettled self.now.run self.now.history }
         ensures ok { IfOk result (λ text. IsReportIn self.now.run self.now.history text.items) }
@@ -244,8 +264,10 @@ impl<O: Outlet> Book<O> {
 
     // Registers what was built under a lease, or leaves all as it was.
     fn register(&mut self, lease: &Lease<O::Told>, checked: &Checked) -> Result<(), BookFault>
-        requires { IsBooksLease self.old.run self.old.history lease.now.job lease.now.number → MayAllRefer self.old.history.entries lease.now.job checked.now }
-        ensures ok { OnOk result (IsFinishing self.old self.new lease.now.job lease.now.number checked.now) }
+        requires { IsBooksLease self.old.run self.old.history lease.now.job lease.now.number
+            → MayAllRefer self.old.history.entries lease.now.job checked.now }
+        ensures ok { OnOk result
+            (IsFinishing self.old self.new lease.now.job lease.now.number checked.now) }
         ensures fault { IfErr result (IsFinishFault self.old lease.now.job lease.now.number checked.now) }
         ensures same { OnErr result (self.new ≡ self.old) }
     {

@@ -360,7 +360,9 @@ fn verdict(
     lease: &Lease<usize>,
     scripts: &[Script],
 ) -> Result<Result<Checked, Reason>, Fail>
-    ensures { IfOk result (λ verdict. IfOk verdict (λ checked. MayAllRefer book.now.history.entries lease.now.job checked)) }
+    ensures { IfOk result
+        (λ verdict.
+        IfOk verdict (λ checked. MayAllRefer book.now.history.entries lease.now.job checked)) }
 {
     let permitted = book.permitted(lease)?;
     let answer = answer(alloc, lease.job(), scripts)?;

@@ -31,7 +31,8 @@ impl Model for Course {
 
     ghost view = { λ c. course_of c.plan c.standings.items c.wanted.items c.states.items };
 
-    ghost invariant = { λ c. AreStates (course_of c.plan c.standings.items c.wanted.items c.states.items) c.states.items };
+    ghost invariant = { λ c. AreStates (course_of c.plan c.standings.items c.wanted.items c.states.items)
+        c.states.items };
 }
 
 impl Course {
@@ -48,7 +49,8 @@ impl Course {
         ensures standings { IfOk result (λ course. course.standings ≡ standings.items) }
         ensures wanted { IfOk result (λ course. course.wanted ≡ wanted.items) }
         ensures phases { IfOk result (λ course. length course.phases ≡ length plan.nodes) }
-        ensures idle { IfOk result (λ course. (d : ℕ) → slice_index_or course.phases d Idle ≡ Idle) }
+        ensures idle { IfOk result (λ course. (d : ℕ) → slice_index_or course.phases d Idle
+            ≡ Idle) }
         ensures err { IfErr result (λ fault. fault ≡ NoMemory) }
     {
         let mut states = vec![in alloc; State::Blocked; plan.len()]?;
@@ -99,7 +101,8 @@ impl Course {
     // Begins a derivation under the lease with this number. Takes no memory.
     pub(crate) fn begin(&mut self, d: usize, lease: u64)
         requires { IsNext self.old d }
-        ensures { self.new ≡ record self.old { phases = slice_set self.old.phases d (Begun lease) } }
+        ensures { self.new
+            ≡ record self.old { phases = slice_set self.old.phases d (Begun lease) } }
     {
         self.note(d, State::Building(lease));
     }
@@ -115,7 +118,8 @@ impl Course {
     // Notes that building a derivation failed. Takes no memory.
     pub(crate) fn fail(&mut self, d: usize, reason: Reason)
         requires { HasBegun self.old d }
-        ensures { self.new ≡ record self.old { phases = slice_set self.old.phases d (Broken reason) } }
+        ensures { self.new
+            ≡ record self.old { phases = slice_set self.old.phases d (Broken reason) } }
     {
         self.note(d, State::Failed(reason));
     }
@@ -135,7 +139,8 @@ impl Course {
     // Notes the state of a derivation, by its last event.
     fn note(&mut self, d: usize, state: State)
         requires { d < length self.old.graph.nodes }
-        ensures { self.new ≡ record self.old { phases = slice_set self.old.phases d (phase_in state) } }
+        ensures { self.new
+            ≡ record self.old { phases = slice_set self.old.phases d (phase_in state) } }
     {
         self.states[d] = state;
         refresh(&self.plan, &self.standings, &mut self.states);

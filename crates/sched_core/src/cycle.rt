@@ -8,8 +8,8 @@ use nix_names::StorePath;
 use std::alloc::{AllocError, Global};
 use valid_table::Record;
 
-// Whether two different outputs lead to each other by references among the outputs, by their paths and
-// records. Costs a look-up for each reference, and a step for each that is found.
+// Whether two different outputs lead to each other by references among the outputs, by their paths
+// and records. Costs a look-up for each reference, and a step for each that is found.
 pub(crate) fn is_cyclic(
     alloc: Global,
     paths: &[StorePath],

@@ -15,11 +15,11 @@ use nix_names::StorePath;
 use std::alloc::{AllocError, Global};
 use valid_table::{Entry, Journal, Outputs, Record, Registration};
 
-// The entry that registers the outputs of the derivation with this number with these records, behind
-// the journal's entries; whether their references are permitted isn't tested. `NotLawful` where there
-// isn't one record for each output, an output is valid, a fixed output hasn't its declared digest, or
-// two outputs lead to each other; `NoMemory` may come in its place. Costs a look-up by hash for each
-// output and for each reference, and a sort of the outputs.
+// The entry that registers the outputs of the derivation with this number with these records,
+// behind the journal's entries; whether their references are permitted isn't tested. `NotLawful`
+// where there isn't one record for each output, an output is valid, a fixed output hasn't its
+// declared digest, or two outputs lead to each other; `NoMemory` may come in its place. Costs a
+// look-up by hash for each output and for each reference, and a sort of the outputs.
 pub(crate) fn done_entry(
     alloc: Global,
     plan: &Plan,
@@ -46,8 +46,8 @@ pub(crate) fn done_entry(
     Ok(Entry::Done(copy_path(alloc, plan.path(d))?, outputs))
 }
 
-// Whether outputs of this kind at these paths may be registered with these records behind a journal's
-// entries, if the records' references are permitted.
+// Whether outputs of this kind at these paths may be registered with these records behind a
+// journal's entries, if the records' references are permitted.
 fn is_lawful(
     alloc: Global,
     kind: Kind,
@@ -55,7 +55,8 @@ fn is_lawful(
     records: &[Record],
     journal: &Journal,
 ) -> Result<bool, AllocError>
-    ensures { IfOk result (λ lawful. IsTrue lawful ↔ AreLawful (registered journal.now.entries) kind paths.now records.now) }
+    ensures { IfOk result (λ lawful. IsTrue lawful
+        ↔ AreLawful (registered journal.now.entries) kind paths.now records.now) }
 {
     if records.len() != paths.len() || !are_new(journal, paths) || !have_digest(kind, records) {
         return Ok(false);

@@ -13,7 +13,8 @@ use nix_names::StorePath;
 // Costs a comparison for each, and a look-up by name for each output of its inputs.
 pub(crate) fn has_seeds(plan: &Plan, d: usize, seeds: &[StorePath]) -> bool
     requires { d < length plan.now.nodes }
-    ensures { IfSome (slice_get plan.now.nodes d) (λ node. IsTrue result ↔ (seeds.now ≡ seeds_of plan.now.nodes node.drv)) }
+    ensures { IfSome (slice_get plan.now.nodes d)
+        (λ node. IsTrue result ↔ (seeds.now ≡ seeds_of plan.now.nodes node.drv)) }
 {
     let drv = plan.drv(d);
     let inputs = plan.inputs(d);
@@ -46,8 +47,8 @@ fn behind_paths<'a>(seeds: &'a [StorePath], paths: &[StorePath]) -> Option<&'a [
     left
 }
 
-// What is left of some seeds behind the paths of the outputs that a derivation uses of its input with
-// this place.
+// What is left of some seeds behind the paths of the outputs that a derivation uses of its input
+// with this place.
 fn behind_used<'a>(
     drv: &Derivation,
     place: usize,
@@ -57,7 +58,8 @@ fn behind_used<'a>(
 ) -> Option<&'a [StorePath]>
     requires place { place < length drv.now.inputs }
     requires paths { paths.now ≡ output_paths_of used.now }
-    ensures { (input : Input) → slice_get drv.now.inputs place ≡ Some input → IsBehind seeds.now (paths_named input.names used.now) result }
+    ensures { (input : Input) → slice_get drv.now.inputs place ≡ Some input
+        → IsBehind seeds.now (paths_named input.names used.now) result }
 {
     let outputs = used.outputs();
     let mut left = Some(seeds);

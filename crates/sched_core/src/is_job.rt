@@ -92,7 +92,8 @@ fn makes(outputs: &[Output], paths: &[StorePath], made: &[JobOutput]) -> bool
 
 // Whether an output is to be made, at this path.
 fn is_made(made: &JobOutput, output: &Output, path: &StorePath) -> bool
-    ensures { IsTrue result ↔ ((made.now.name.items ≡ output.now.name.items) × (made.now.path ≡ path.now)) }
+    ensures { IsTrue result
+        ↔ ((made.now.name.items ≡ output.now.name.items) × (made.now.path ≡ path.now)) }
 {
     made.name == output.name && made.path == *path
 }

@@ -47,7 +47,8 @@ pub struct Answer {
 impl Answer {
     // What lies at the output with this number, if anything.
     pub(crate) fn tree_at(&self, n: usize) -> Option<&Tree>
-        ensures { MatchOption result (tree_at self.now n ≡ None) (λ tree. tree_at self.now n ≡ Some tree.now) }
+        ensures { MatchOption result (tree_at self.now n ≡ None)
+            (λ tree. tree_at self.now n ≡ Some tree.now) }
     {
         match self.trees.get(n) {
             Some(Some(tree)) => Some(tree),

@@ -12,8 +12,8 @@ use nix_drv::{Output, Parts};
 use nix_names::StorePath;
 use std::alloc::{AllocError, Global};
 
-// The job of the derivation with this number. Costs a copy of the derivation's parts, and a look-up by
-// name for each output of its inputs; paths share their texts.
+// The job of the derivation with this number. Costs a copy of the derivation's parts, and a look-up
+// by name for each output of its inputs; paths share their texts.
 pub(crate) fn job_of(alloc: Global, plan: &Plan, d: usize) -> Result<Job, BookFault>
     requires { d < length plan.now.nodes }
     ensures ok { IfOk result (λ job. IsJob plan.now d job) }

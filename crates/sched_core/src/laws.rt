@@ -1,4 +1,5 @@
-//! Laws over the definitions that contracts cite, each on the contract of a function that does nothing.
+//! Laws over the definitions that contracts cite, each on the contract of a function that does
+//! nothing.
 ghost use Rattle.sched_core.specs.Headline.{BeginsOnce, DonesAreAllowed, EntriesAreJournal, LeasesApart, LeasesBelow, PermittedStays, SeedsAreValid};
 ghost use Rattle.sched_core.specs.Reports.{ReportIsOne};
 ghost use Rattle.sched_core.specs.States.{StatesAgree, StatesAreOne};
@@ -17,8 +18,8 @@ pub fn verdict_is_one()
     ensures { HasOneVerdict }
 {}
 
-/// The records of a verdict on the job of a plan's derivation are one for each of its outputs, refer
-/// to permitted paths alone, have a fixed output's declared digest, and make no cycle.
+/// The records of a verdict on the job of a plan's derivation are one for each of its outputs,
+/// refer to permitted paths alone, have a fixed output's declared digest, and make no cycle.
 pub fn verdict_is_registrable()
     ensures { VerdictsAreRegistrable }
 {}
@@ -30,8 +31,8 @@ pub fn leases_are_apart()
     ensures below { LeasesBelow }
 {}
 
-/// In a legal history over derivations' files the entries are a journal: each valid path's references
-/// are valid, and no path is registered twice.
+/// In a legal history over derivations' files the entries are a journal: each valid path's
+/// references are valid, and no path is registered twice.
 pub fn entries_are_a_journal()
     ensures { EntriesAreJournal }
 {}

@@ -4,9 +4,9 @@ ghost use Rattle.std.specs.Prelude.{◌≡◌, None, Some};
 use crate::job::Job;
 use std::marker::Model;
 
-/// A derivation that a book gave out to be built: its job, its number among the book's leases, counted
-/// from 0, and what the outlet told when it was given. A contract sees these three. A lease is ended
-/// by the book that gave it, or given up.
+/// A derivation that a book gave out to be built: its job, its number among the book's leases,
+/// counted from 0, and what the outlet told when it was given. A contract sees these three. A lease
+/// is ended by the book that gave it, or given up.
 #[derive(Debug)]
 pub struct Lease<T> {
     job: Job,

@@ -1,14 +1,17 @@
-//! The book of a run: which derivations are built, which can be, and what each built output refers to.
+//! The book of a run: which derivations are built, which can be, and what each built output refers
+//! to.
 //!
 //! | Module | What is in it |
 //! |---|---|
 //! | `job` | what a builder is given, and what it answers |
 //! | `book`, `lease` | the book, and derivations that it gave out to be built |
-//! | `progress`, `permitted` | a run's history, where its derivations stand, and to what outputs may refer |
+//! | `progress` | a run's history, and where its derivations stand |
+//! | `permitted` | to what outputs may refer |
 //! | `verdict`, `checked` | the verdict on an answer, and the records that it gives |
 //! | `done_entry` | the entry of a derivation that was built |
 //! | `cycle`, `links`, `walk` | whether outputs refer to each other in a cycle |
-//! | `reason`, `standing` | why a derivation was not built, where it stands, its state, and events |
+//! | `reason` | why a derivation was not built, its state, and events |
+//! | `standing` | where a derivation stands by itself |
 //! | `course`, `states` | where each derivation of a plan stands |
 //! | `job_of`, `seeds_of` | the job of a derivation, and the paths that it is built from |
 //! | `is_job`, `has_seeds` | whether a job is that of a derivation |

@@ -80,7 +80,8 @@ fn no_links(alloc: Global, count: usize) -> Result<Vec<Vec<usize>>, AllocError>
 
 // The place of a path, if it is one of these.
 fn place_of(paths: &IndexSet<StorePath>, path: &StorePath) -> Option<usize>
-    ensures { MatchOption result (Contains paths.now.keys path.now → ⊥) (λ n. slice_get paths.now.keys n ≡ Some path.now) }
+    ensures { MatchOption result (Contains paths.now.keys path.now → ⊥)
+        (λ n. slice_get paths.now.keys n ≡ Some path.now) }
 {
     paths.get_index_of(path)
 }

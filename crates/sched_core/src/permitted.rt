@@ -15,9 +15,9 @@ use nix_names::StorePath;
 use std::alloc::Global;
 use valid_table::{Journal, TableFault, union};
 
-// The paths that are permitted to outputs at these paths, no two of which are the same, and that are
-// built from these seeds, which are valid by the journal. Costs the closure of the seeds, and a copy
-// of each path.
+// The paths that are permitted to outputs at these paths, no two of which are the same, and that
+// are built from these seeds, which are valid by the journal. Costs the closure of the seeds, and a
+// copy of each path.
 pub(crate) fn permitted(
     alloc: Global,
     journal: &Journal,
@@ -26,7 +26,8 @@ pub(crate) fn permitted(
 ) -> Result<Vec<StorePath>, BookFault>
     requires valid { All (IsValid (registered journal.now.entries)) seeds.now }
     requires distinct { IsDistinct (pointwise nat_eq) outputs.now }
-    ensures ok { IfOk result (λ paths. ArePermitted (registered journal.now.entries) seeds.now outputs.now paths.items) }
+    ensures ok { IfOk result
+        (λ paths. ArePermitted (registered journal.now.entries) seeds.now outputs.now paths.items) }
     ensures err { IfErr result (λ fault. fault ≡ NoMemory) }
 {
     let reached = closure_of(alloc, journal, seeds)?;
@@ -44,7 +45,8 @@ fn closure_of(
     seeds: &[StorePath],
 ) -> Result<Vec<StorePath>, BookFault>
     requires { All (IsValid (registered journal.now.entries)) seeds.now }
-    ensures ok { IfOk result (λ paths. IsClosure (registered journal.now.entries) seeds.now paths.items) }
+    ensures ok { IfOk result
+        (λ paths. IsClosure (registered journal.now.entries) seeds.now paths.items) }
     ensures err { IfErr result (λ fault. fault ≡ NoMemory) }
 {
     match journal.table().closure(alloc, seeds) {
@@ -58,7 +60,8 @@ fn closure_of(
 fn sorted_copy(alloc: Global, paths: &[StorePath]) -> Result<Vec<StorePath>, BookFault>
     requires { IsDistinct (pointwise nat_eq) paths.now }
     ensures rising { IfOk result (λ sorted. IsRising sorted.items) }
-    ensures same { IfOk result (λ sorted. (path : List ℕ) → Contains sorted.items path ↔ Contains paths.now path) }
+    ensures same { IfOk result (λ sorted. (path : List ℕ) → Contains sorted.items path
+        ↔ Contains paths.now path) }
     ensures err { IfErr result (λ fault. fault ≡ NoMemory) }
 {
     let mut sorted = Vec::with_capacity(alloc, paths.len())?;

@@ -58,9 +58,14 @@ impl Model for Progress {
 
     ghost Value = { Progress };
 
-    ghost view = { λ p. record { run = run_over p.course p.system.items; history = history_of p.opening p.journal.entries p.events.items; room = p.journal.room } };
+    ghost view = { λ p. record {
+      run = run_over p.course p.system.items;
+      history = history_of p.opening p.journal.entries p.events.items;
+      room = p.journal.room;
+    } };
 
-    ghost invariant = { λ p. IsKept p.system.items (history_of p.opening p.journal.entries p.events.items) p.course p.given (vec_capacity p.events) × (p.opening ≤ length p.journal.entries) };
+    ghost invariant = { λ p. IsKept p.system.items (history_of p.opening p.journal.entries p.events.items)
+        p.course p.given (vec_capacity p.events) × (p.opening ≤ length p.journal.entries) };
 }
 
 impl Progress {
@@ -153,7 +158,8 @@ impl Progress {
 
     // A derivation that can be begun, if there is one.
     pub(crate) fn next(&self) -> Option<usize>
-        ensures { MatchOption result ((d : ℕ) → CanBegin self.now.run self.now.history d → ⊥) (CanBegin self.now.run self.now.history) }
+        ensures { MatchOption result ((d : ℕ) → CanBegin self.now.run self.now.history d → ⊥)
+            (CanBegin self.now.run self.now.history) }
     {
         self.course.next()
     }
@@ -170,7 +176,8 @@ impl Progress {
     // The paths that are permitted to the job of a lease that was given and not ended.
     pub(crate) fn permitted(&self, job: &Job) -> Result<Vec<StorePath>, BookFault>
         requires { (number : ℕ) × IsBooksLease self.now.run self.now.history job.now number }
-        ensures ok { IfOk result (λ paths. ArePermittedPaths self.now.history.entries job.now paths.items) }
+        ensures ok { IfOk result
+            (λ paths. ArePermittedPaths self.now.history.entries job.now paths.items) }
         ensures err { IfErr result (λ fault. fault ≡ NoMemory) }
     {
         let alloc = *self.events.allocator();
@@ -227,18 +234,20 @@ impl Progress {
         self.course.fail(d, reason);
     }
 
-    // The entry of a derivation that was built with these records, for which there is room then. The
-    // faults are those of `done_entry`; the run and its history stay.
+    // The entry of a derivation that was built with these records, for which there is room then.
+    // The faults are those of `done_entry`; the run and its history stay.
     pub(crate) fn prepare(&mut self, d: usize, checked: &Checked) -> Result<Prepared, BookFault>
         requires { d < length self.old.run.graph.nodes }
         ensures run { self.new.run ≡ self.old.run }
         ensures history { self.new.history ≡ self.old.history }
-        ensures entry { IfOk result (λ p. IsDoneEntry self.old.run.graph d self.old.history.entries checked.now p.entry) }
+        ensures entry { IfOk result
+            (λ p. IsDoneEntry self.old.run.graph d self.old.history.entries checked.now p.entry) }
         ensures derived { IfOk result (λ p. HasDrvPath p.entry) }
         ensures copy { IfOk result (λ p. p.copy ≡ p.entry) }
         ensures shown { IfOk result (λ p. p.shown ≡ p.entry) }
         ensures room { IfOk result (λ p. length (registered_by p.entry) ≤ self.new.room) }
-        ensures err { IfErr result (IsDoneFault self.old.run.graph d self.old.history.entries checked.now) }
+        ensures err { IfErr result
+            (IsDoneFault self.old.run.graph d self.old.history.entries checked.now) }
     {
         let alloc = *self.events.allocator();
         let entry = done_entry(alloc, self.course.plan(), d, checked, &self.journal)?;
@@ -248,11 +257,12 @@ impl Progress {
         Ok(Prepared { entry, copy, shown })
     }
 
-    // Registers what a derivation built, by an entry for which there is room, and its copy. Takes no
-    // memory.
+    // Registers what a derivation built, by an entry for which there is room, and its copy. Takes
+    // no memory.
     pub(crate) fn finish(&mut self, d: usize, number: u64, entry: Entry, copy: Entry)
         requires building { phase_of self.old.history.events d ≡ Begun number }
-        requires done { (infos : List PathInfo) × IsDone self.old.run self.old.history.entries d infos entry }
+        requires done { (infos : List PathInfo)
+            × IsDone self.old.run self.old.history.entries d infos entry }
         requires derived { HasDrvPath entry }
         requires same { copy ≡ entry }
         requires room { length (registered_by entry) ≤ self.old.room }

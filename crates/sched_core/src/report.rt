@@ -42,7 +42,9 @@ pub(crate) fn report_of(alloc: Global, course: &Course) -> Result<Vec<u8>, BookF
 
 // The wanted derivations, by path.
 fn wanted_by_path<'a>(alloc: Global, course: &'a Course) -> Result<Vec<Wanted<'a>>, AllocError>
-    ensures by_path { IfOk result (λ wanted. AreByPath course.now.graph.nodes (IsWantedIn course.now) (numbers_of wanted.items)) }
+    ensures by_path { IfOk result
+        (λ wanted. AreByPath course.now.graph.nodes (IsWantedIn course.now)
+        (numbers_of wanted.items)) }
     ensures within { IfOk result (λ wanted. AreWithin (length course.now.graph.nodes) wanted.items) }
 {
     let mut wanted = wanted_of(alloc, course)?;
@@ -52,7 +54,8 @@ fn wanted_by_path<'a>(alloc: Global, course: &'a Course) -> Result<Vec<Wanted<'a
 
 // The wanted derivations, in the order of the plan.
 fn wanted_of<'a>(alloc: Global, course: &'a Course) -> Result<Vec<Wanted<'a>>, AllocError>
-    ensures { IfOk result (λ wanted. AreListed course.now.graph.nodes (IsWantedIn course.now) wanted.items) }
+    ensures { IfOk result
+        (λ wanted. AreListed course.now.graph.nodes (IsWantedIn course.now) wanted.items) }
 {
     let plan = course.plan();
     let mut wanted = Vec::new(alloc);
@@ -68,7 +71,10 @@ fn wanted_of<'a>(alloc: Global, course: &'a Course) -> Result<Vec<Wanted<'a>>, A
 // Adds the lines of some derivations.
 fn write_lines(course: &Course, wanted: &[Wanted<'_>], out: &mut Vec<u8>) -> Result<(), AllocError>
     requires { AreWithin (length course.now.graph.nodes) wanted.now }
-    ensures { OnOk result (out.new.items ≡ out.old.items ++ flat_map (λ (w : Wanted). line_at course.now.graph.nodes (course_state course.now) w.number) wanted.now) }
+    ensures { OnOk result (out.new.items ≡ out.old.items
+        ++ flat_map
+        (λ (w : Wanted). line_at course.now.graph.nodes (course_state course.now) w.number)
+        wanted.now) }
 {
     'wanted: for one in wanted {
         write_line(course.plan(), one.number, course.state(one.number), out)?;
@@ -78,7 +84,9 @@ fn write_lines(course: &Course, wanted: &[Wanted<'_>], out: &mut Vec<u8>) -> Res
 
 // Adds the lines of the roots' outputs.
 fn write_roots(course: &Course, out: &mut Vec<u8>) -> Result<(), AllocError>
-    ensures { OnOk result (out.new.items ≡ out.old.items ++ flat_map (outputs_at course.now.graph.nodes (course_state course.now)) course.now.graph.roots) }
+    ensures { OnOk result (out.new.items ≡ out.old.items
+        ++ flat_map (outputs_at course.now.graph.nodes (course_state course.now))
+        course.now.graph.roots) }
 {
     let plan = course.plan();
     let count = plan.len();
@@ -92,7 +100,8 @@ fn write_roots(course: &Course, out: &mut Vec<u8>) -> Result<(), AllocError>
 // Adds the lines of a derivation's outputs, if it was built or reused.
 fn write_root(plan: &Plan, number: usize, state: State, out: &mut Vec<u8>) -> Result<(), AllocError>
     requires { number < length plan.now.nodes }
-    ensures { OnOk result (out.new.items ≡ out.old.items ++ outputs_at plan.now.nodes (λ _. state) number) }
+    ensures { OnOk result (out.new.items ≡ out.old.items
+        ++ outputs_at plan.now.nodes (λ _. state) number) }
 {
     match state {
         State::Done | State::Reused => write_outputs(plan.output_paths(number), out),
@@ -103,7 +112,8 @@ fn write_root(plan: &Plan, number: usize, state: State, out: &mut Vec<u8>) -> Re
 // Adds the line of a derivation, if it has one.
 fn write_line(plan: &Plan, number: usize, state: State, out: &mut Vec<u8>) -> Result<(), AllocError>
     requires { number < length plan.now.nodes }
-    ensures { OnOk result (out.new.items ≡ out.old.items ++ line_at plan.now.nodes (λ _. state) number) }
+    ensures { OnOk result (out.new.items ≡ out.old.items
+        ++ line_at plan.now.nodes (λ _. state) number) }
 {
     let path = plan.path(number);
     let drv = plan.drv(number);
@@ -123,7 +133,8 @@ fn write_failed(
     reason: Reason,
     out: &mut Vec<u8>,
 ) -> Result<(), AllocError>
-    ensures { OnOk result (out.new.items ≡ out.old.items ++ why_line (codes "failed ") path.now (reason_words drv.now reason)) }
+    ensures { OnOk result (out.new.items ≡ out.old.items
+        ++ why_line (codes "failed ") path.now (reason_words drv.now reason)) }
 {
     write_front(b"failed ", path, out)?;
     write_reason(drv, reason, out)?;
@@ -138,7 +149,8 @@ fn write_refused(
     cause: Refusal,
     out: &mut Vec<u8>,
 ) -> Result<(), AllocError>
-    ensures { OnOk result (out.new.items ≡ out.old.items ++ why_line (codes "refused ") path.now (refusal_words plan.now.nodes drv.now cause)) }
+    ensures { OnOk result (out.new.items ≡ out.old.items
+        ++ why_line (codes "refused ") path.now (refusal_words plan.now.nodes drv.now cause)) }
 {
     write_front(b"refused ", path, out)?;
     write_refusal(plan, drv, cause, out)?;
@@ -147,7 +159,8 @@ fn write_refused(
 
 // Adds a line for each of some outputs.
 fn write_outputs(paths: &[StorePath], out: &mut Vec<u8>) -> Result<(), AllocError>
-    ensures { OnOk result (out.new.items ≡ out.old.items ++ flat_map (path_line (codes "output ")) paths.now) }
+    ensures { OnOk result (out.new.items ≡ out.old.items
+        ++ flat_map (path_line (codes "output ")) paths.now) }
 {
     'paths: for path in paths {
         write_path_line(b"output ", path, out)?;

@@ -10,11 +10,13 @@ use nix_drv::Derivation;
 use nix_names::StorePath;
 use std::alloc::{AllocError, Global};
 
-// The paths that the derivation with this number is built from: its sources, then the outputs that it
-// uses of each of its inputs. Costs a look-up by name for each output of its inputs.
+// The paths that the derivation with this number is built from: its sources, then the outputs that
+// it uses of each of its inputs. Costs a look-up by name for each output of its inputs.
 pub(crate) fn seeds_of(alloc: Global, plan: &Plan, d: usize) -> Result<Vec<StorePath>, AllocError>
     requires { d < length plan.now.nodes }
-    ensures { IfOk result (λ seeds. IfSome (slice_get plan.now.nodes d) (λ node. seeds.items ≡ seeds_of plan.now.nodes node.drv)) }
+    ensures { IfOk result
+        (λ seeds. IfSome (slice_get plan.now.nodes d)
+        (λ node. seeds.items ≡ seeds_of plan.now.nodes node.drv)) }
 {
     let mut seeds = Vec::new(alloc);
     add_paths(alloc, plan.sources(d), &mut seeds)?;
@@ -52,7 +54,8 @@ fn add_used(
 ) -> Result<(), AllocError>
     requires place { place < length drv.now.inputs }
     requires paths { paths.now ≡ output_paths_of used.now }
-    ensures { OnOk result ((input : Input) → slice_get drv.now.inputs place ≡ Some input → seeds.new.items ≡ seeds.old.items ++ paths_named input.names used.now) }
+    ensures { OnOk result ((input : Input) → slice_get drv.now.inputs place ≡ Some input
+        → seeds.new.items ≡ seeds.old.items ++ paths_named input.names used.now) }
 {
     let outputs = used.outputs();
     for n in 0..paths.len() {

@@ -14,16 +14,17 @@ use nix_names::StorePath;
 use std::alloc::Global;
 use valid_table::Journal;
 
-// Of each derivation, where it stands by itself behind the journal's entries, in a run for the system.
-// Costs a look-up by hash for each output, up to two where not all are valid, and for each source, and
-// a few comparisons for each entry of an environment.
+// Of each derivation, where it stands by itself behind the journal's entries, in a run for the
+// system. Costs a look-up by hash for each output, up to two where not all are valid, and for each
+// source, and a few comparisons for each entry of an environment.
 pub(crate) fn standings_of(
     alloc: Global,
     plan: &Plan,
     journal: &Journal,
     system: &[u8],
 ) -> Result<Vec<Standing>, BookFault>
-    ensures ok { IfOk result (λ standings. AreStandings system.now journal.now.entries plan.now.nodes standings.items) }
+    ensures ok { IfOk result
+        (λ standings. AreStandings system.now journal.now.entries plan.now.nodes standings.items) }
     ensures err { IfErr result (λ fault. fault ≡ BookFault.NoMemory) }
 {
     let mut standings = Vec::with_capacity(alloc, plan.len())?;
@@ -50,7 +51,8 @@ fn standing_of(plan: &Plan, d: usize, journal: &Journal, system: &[u8]) -> Stand
 // The first cause for which the derivation with this number can't be begun.
 fn own_cause(plan: &Plan, d: usize, journal: &Journal, system: &[u8]) -> Option<Refusal>
     requires { d < length plan.now.nodes }
-    ensures { IfSome (slice_get plan.now.nodes d) (λ node. result ≡ own_cause system.now journal.now.entries node.drv) }
+    ensures { IfSome (slice_get plan.now.nodes d)
+        (λ node. result ≡ own_cause system.now journal.now.entries node.drv) }
 {
     let drv = plan.drv(d);
     if drv.system() != system {

@@ -8,14 +8,15 @@ use crate::reason::{Refusal, State};
 use crate::standing::Standing;
 use drv_graph::Plan;
 
-// Gives each derivation the state that the table of states gives it; what has begun stays so. Costs a
-// look at each derivation and at each pair of one and an input of it.
+// Gives each derivation the state that the table of states gives it; what has begun stays so. Costs
+// a look at each derivation and at each pair of one and an input of it.
 pub(crate) fn refresh(plan: &Plan, standings: &[Standing], states: &mut [State])
     requires standings { length standings.now ≡ length plan.now.nodes }
     requires states { length states.old ≡ length plan.now.nodes }
     ensures count { length states.new ≡ length states.old }
     ensures phases { map phase_in states.new ≡ map phase_in states.old }
-    ensures each { AreStatesOf (rows_by plan.now standings.now (map phase_in states.old)) (length plan.now.nodes) states.new }
+    ensures each { AreStatesOf (rows_by plan.now standings.now (map phase_in states.old))
+        (length plan.now.nodes) states.new }
 {
     for d in 0..plan.len() {
         states[d] = tabled(states[d], standings[d], inputs_of(plan, d), states);
@@ -36,7 +37,8 @@ pub(crate) fn inputs_of(plan: &Plan, d: usize) -> &[usize]
 // The state that the table gives a derivation.
 fn tabled(state: State, standing: Standing, inputs: &[usize], states: &[State]) -> State
     requires { All (λ input. input < length states.now) inputs.now }
-    ensures { result ≡ by_phase (phase_in state) (by_standing standing (by_inputs (kept states.now) inputs.now)) }
+    ensures { result ≡ by_phase (phase_in state)
+        (by_standing standing (by_inputs (kept states.now) inputs.now)) }
 {
     match state {
         State::Building(_) | State::Done | State::Failed(_) => state,

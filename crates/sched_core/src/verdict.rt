@@ -19,17 +19,17 @@ use std::alloc::{AllocError, Global};
 use valid_table::Record;
 
 /// The verdict on what the builder of a job left behind, where the outputs may refer to these
-/// permitted paths alone: a record of each output, in the job's order, with the permitted paths that
-/// are found in it and a file's SHA-256.
+/// permitted paths alone: a record of each output, in the job's order, with the permitted paths
+/// that are found in it and a file's SHA-256.
 ///
 /// Else the first of these that holds: `Killed`; `ExitStatus` with a status that isn't 0;
-/// `MissingOutput` with the first output at which nothing lies; for the first output at which one of
-/// them holds, `TooLarge`, or of a fixed output `NotFlatFile` or `HashMismatch`; `OutputCycle` where
-/// two different outputs lead to each other by references among the outputs. `OutOfMemory` may come
-/// in place of any answer, where memory was refused.
+/// `MissingOutput` with the first output at which nothing lies; for the first output at which one
+/// of them holds, `TooLarge`, or of a fixed output `NotFlatFile` or `HashMismatch`; `OutputCycle`
+/// where two different outputs lead to each other by references among the outputs. `OutOfMemory`
+/// may come in place of any answer, where memory was refused.
 ///
-/// A tree is scanned as `ref_scan::scan` says, and a file's bytes are read once more for the digest.
-/// Takes memory for the records, and for the outputs and the references among them.
+/// A tree is scanned as `ref_scan::scan` says, and a file's bytes are read once more for the
+/// digest. Takes memory for the records, and for the outputs and the references among them.
 pub fn examine(
     alloc: Global,
     job: &Job,
@@ -70,7 +70,8 @@ fn paths_of(alloc: Global, outputs: &[JobOutput]) -> Result<Vec<StorePath>, Allo
 // Whether the builder ended well and left something at each output's path.
 fn check_complete(job: &Job, answer: &Answer) -> Result<(), Reason>
     ensures there { OnOk result (IsThere job.now answer.now) }
-    ensures err { IfErr result (λ why. (permitted : List (List ℕ)) → IsVerdict job.now permitted answer.now (Err why)) }
+    ensures err { IfErr result (λ why. (permitted : List (List ℕ))
+        → IsVerdict job.now permitted answer.now (Err why)) }
 {
     check_status(answer)?;
     for n in 0..job.outputs.len() {
@@ -84,7 +85,8 @@ fn check_complete(job: &Job, answer: &Answer) -> Result<(), Reason>
 // Whether the builder ended with exit status 0.
 fn check_status(answer: &Answer) -> Result<(), Reason>
     ensures ok { OnOk result (answer.now.status ≡ Some (pos 0)) }
-    ensures err { IfErr result (λ why. (job : _) (permitted : List (List ℕ)) → IsVerdict job permitted answer.now (Err why)) }
+    ensures err { IfErr result (λ why. (job : _) (permitted : List (List ℕ))
+        → IsVerdict job permitted answer.now (Err why)) }
 {
     match answer.status {
         None => Err(Reason::Killed),
@@ -126,7 +128,8 @@ fn record_of(
     requires { IsRising permitted.now }
     ensures taken { OnOk result ((why : Reason) → IsTreeFault kind.now tree.now why → ⊥) }
     ensures record { IfOk result (λ info. IsRecordOf permitted.now tree.now info) }
-    ensures err { IfErr result (λ why. (why ≡ Reason.OutOfMemory) ⊎ IsTreeFault kind.now tree.now why) }
+    ensures err { IfErr result (λ why. (why ≡ Reason.OutOfMemory)
+        ⊎ IsTreeFault kind.now tree.now why) }
 {
     let digest = checked_digest(kind, tree)?;
     let references = scan(alloc, tree, permitted)?;

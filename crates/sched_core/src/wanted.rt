@@ -10,15 +10,17 @@ use crate::standing::Standing;
 use drv_graph::Plan;
 use std::alloc::{AllocError, Global};
 
-// Of each derivation, whether it is wanted, where they stand so by themselves. Linear in the pairs of a
-// user and an input.
+// Of each derivation, whether it is wanted, where they stand so by themselves. Linear in the pairs
+// of a user and an input.
 pub(crate) fn wanted_of(
     alloc: Global,
     plan: &Plan,
     standings: &[Standing],
 ) -> Result<Vec<bool>, BookFault>
     requires { length standings.now ≡ length plan.now.nodes }
-    ensures ok { IfOk result (λ wanted. (run : Run) (opening : List Entry) → run.graph ≡ plan.now → AreStandings run.system opening plan.now.nodes standings.now → AreWanted run opening wanted.items) }
+    ensures ok { IfOk result (λ wanted. (run : Run) (opening : List Entry) → run.graph ≡ plan.now
+        → AreStandings run.system opening plan.now.nodes standings.now
+        → AreWanted run opening wanted.items) }
     ensures err { IfErr result (λ fault. fault ≡ BookFault.NoMemory) }
 {
     let mut wanted = vec![in alloc; false; plan.len()]?;
@@ -42,7 +44,8 @@ fn is_free(standing: Standing) -> bool
 fn mark(wanted: &mut [bool], numbers: &[usize])
     requires { All (λ number. number < length wanted.old) numbers.now }
     ensures count { length wanted.new ≡ length wanted.old }
-    ensures each { (d : _) → (slice_index_or wanted.new d false ≡ true) ↔ ((slice_index_or wanted.old d false ≡ true) ⊎ Contains numbers.now d) }
+    ensures each { (d : _) → (slice_index_or wanted.new d false ≡ true)
+        ↔ ((slice_index_or wanted.old d false ≡ true) ⊎ Contains numbers.now d) }
 {
     for number in numbers {
         wanted[*number] = true;

@@ -42,7 +42,8 @@ pub(crate) fn write_refusal(
     cause: Refusal,
     out: &mut Vec<u8>,
 ) -> Result<(), AllocError>
-    ensures { OnOk result (out.new.items ≡ out.old.items ++ refusal_words plan.now.nodes drv.now cause) }
+    ensures { OnOk result (out.new.items ≡ out.old.items
+        ++ refusal_words plan.now.nodes drv.now cause) }
 {
     match cause {
         Refusal::WrongSystem => write_name(b"WrongSystem", out),
@@ -59,7 +60,8 @@ fn write_missing_output(
     output: usize,
     out: &mut Vec<u8>,
 ) -> Result<(), AllocError>
-    ensures { OnOk result (out.new.items ≡ out.old.items ++ with_text (codes "MissingOutput") (spelled_names drv.now) output) }
+    ensures { OnOk result (out.new.items ≡ out.old.items
+        ++ with_text (codes "MissingOutput") (spelled_names drv.now) output) }
 {
     match drv.outputs().get(output) {
         Some(found) => write_with_string(b"MissingOutput", &found.name, out),
@@ -73,7 +75,8 @@ fn write_missing_source(
     source: usize,
     out: &mut Vec<u8>,
 ) -> Result<(), AllocError>
-    ensures { OnOk result (out.new.items ≡ out.old.items ++ with_text (codes "MissingSource") drv.now.sources source) }
+    ensures { OnOk result (out.new.items ≡ out.old.items
+        ++ with_text (codes "MissingSource") drv.now.sources source) }
 {
     match drv.sources().get(source) {
         Some(path) => write_with_value(b"MissingSource", path, out),
@@ -83,7 +86,8 @@ fn write_missing_source(
 
 // Adds that an input failed or is refused: its path.
 fn write_failed_input(plan: &Plan, input: usize, out: &mut Vec<u8>) -> Result<(), AllocError>
-    ensures { OnOk result (out.new.items ≡ out.old.items ++ with_text (codes "InputNotRealised") (paths_of plan.now.nodes) input) }
+    ensures { OnOk result (out.new.items ≡ out.old.items
+        ++ with_text (codes "InputNotRealised") (paths_of plan.now.nodes) input) }
 {
     if input < plan.len() {
         write_with_value(b"InputNotRealised", plan.path(input).text(), out)
@@ -94,7 +98,8 @@ fn write_failed_input(plan: &Plan, input: usize, out: &mut Vec<u8>) -> Result<()
 
 // Adds that an output is valid while another isn't: its path.
 fn write_valid_output(drv: &Derivation, output: usize, out: &mut Vec<u8>) -> Result<(), AllocError>
-    ensures { OnOk result (out.new.items ≡ out.old.items ++ with_text (codes "PartlyValid") (output_paths drv.now) output) }
+    ensures { OnOk result (out.new.items ≡ out.old.items
+        ++ with_text (codes "PartlyValid") (output_paths drv.now) output) }
 {
     match drv.outputs().get(output) {
         Some(found) => write_with_value(b"PartlyValid", &found.path, out),
@@ -128,7 +133,8 @@ fn write_with_value(name: &[u8], value: &[u8], out: &mut Vec<u8>) -> Result<(), 
 
 // Adds a name, and in parentheses a text as the derivations' language spells it.
 fn write_with_string(name: &[u8], text: &[u8], out: &mut Vec<u8>) -> Result<(), AllocError>
-    ensures { OnOk result (out.new.items ≡ out.old.items ++ with_value name.now (string_text text.now)) }
+    ensures { OnOk result (out.new.items ≡ out.old.items
+        ++ with_value name.now (string_text text.now)) }
 {
     out.extend_from_slice(name)?;
     out.extend_from_slice(b"(")?;

@@ -11,21 +11,28 @@ use Rattle.valid_table.specs.declared.entry.Registration.{Registration}
 use Rattle.valid_table.proofs.JournalLists.{registered-append}
 
 -- what entries with one more behind them register
-pub registered_push : (entries : List Entry) (entry : Entry) → registered (entries ++ entry ∷ []) ≡ registered entries ++ registered_by entry
-registered_push entries entry = registered-append entries (entry ∷ []) ∙ ap (λ l. registered entries ++ l) (append-nil (registered_by entry))
+pub registered_push : (entries : List Entry) (entry : Entry) → registered (entries ++ entry ∷ [])
+    ≡ registered entries ++ registered_by entry
+registered_push entries entry = registered-append entries (entry ∷ [])
+    ∙ ap (λ l. registered entries ++ l) (append-nil (registered_by entry))
 
 -- closed entries stay so with one more whose references are valid
 closed_push :
     (earlier : List Registration) (entries : List Entry) (entry : Entry) →
     IsClosedBehind earlier entries →
-    All (IsValid ((earlier ++ registered entries) ++ registered_by entry)) (references_of (registered_by entry)) →
+    All (IsValid ((earlier ++ registered entries) ++ registered_by entry))
+    (references_of (registered_by entry)) →
     IsClosedBehind earlier (entries ++ entry ∷ [])
-closed_push earlier [] entry closed valid =
-    (subst (λ rs. All (IsValid (rs ++ registered_by entry)) (references_of (registered_by entry))) (append-nil earlier) valid, tt)
+closed_push earlier [] entry closed valid = (
+  subst (λ rs. All (IsValid (rs ++ registered_by entry)) (references_of (registered_by entry)))
+      (append-nil earlier) valid,
+  tt,
+)
 closed_push earlier (first ∷ entries) entry closed valid = (
   closed.0,
   closed_push (earlier ++ registered_by first) entries entry closed.1
-      (subst (λ rs. All (IsValid (rs ++ registered_by entry)) (references_of (registered_by entry))) (sym (append_assoc earlier (registered_by first) (registered entries))) valid),
+      (subst (λ rs. All (IsValid (rs ++ registered_by entry)) (references_of (registered_by entry)))
+      (sym (append_assoc earlier (registered_by first) (registered entries))) valid),
 )
 
 -- a journal with one more entry is one

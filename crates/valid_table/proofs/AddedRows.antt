@@ -11,8 +11,13 @@ use Rattle.valid_table.specs.Valid.{IsValid}
 use Rattle.valid_table.specs.declared.entry.Registration.{Registration}
 
 -- an element's image is among the images
-pub Contains-map : {A B : Type 0} (f : A → B) (xs : List A) (x : A) → Contains xs x → Contains (map f xs) (f x)
-Contains-map f xs x has = (has.0, omega (arith, has.1, length-map xs f), get_or-map f xs has.0 x (f x) has.1 ∙ ap f has.2)
+pub Contains-map : {A B : Type 0} (f : A → B) (xs : List A) (x : A) → Contains xs x
+    → Contains (map f xs) (f x)
+Contains-map f xs x has = (
+  has.0,
+  omega (arith, has.1, length-map xs f),
+  get_or-map f xs has.0 x (f x) has.1 ∙ ap f has.2,
+)
 
 -- What is there when a row was added to some: nothing but that row was added, and it is there.
 pub record Inserted (row : ℕ) (old new : List ℕ) : Type 0 where
@@ -21,22 +26,41 @@ pub record Inserted (row : ℕ) (old new : List ℕ) : Type 0 where
   pub only : All (λ r. r ≡ row) added
   pub there : Contains new row
 
-inserted_by : (row : ℕ) (old : List ℕ) (is_there : Bool) → Contains (cond is_there old (old ++ row ∷ [])) row → Inserted row old (cond is_there old (old ++ row ∷ []))
-inserted_by row old true has = record { added = []; parts = sym (append-nil old); only = All-nil (λ r. r ≡ row); there = has }
-inserted_by row old false has = record { added = row ∷ []; parts = refl; only = All-cons (λ r. r ≡ row) row [] refl (All-nil (λ r. r ≡ row)); there = has }
+inserted_by : (row : ℕ) (old : List ℕ) (is_there : Bool)
+    → Contains (cond is_there old (old ++ row ∷ [])) row
+    → Inserted row old (cond is_there old (old ++ row ∷ []))
+inserted_by row old true has = record {
+  added = [];
+  parts = sym (append-nil old);
+  only = All-nil (λ r. r ≡ row);
+  there = has;
+}
+inserted_by row old false has = record {
+  added = row ∷ [];
+  parts = refl;
+  only = All-cons (λ r. r ≡ row) row [] refl (All-nil (λ r. r ≡ row));
+  there = has;
+}
 
 pub inserted : (row : ℕ) (old new : List ℕ) → new ≡ insert_key nat_eq old row → Inserted row old new
 inserted row old new is =
-    subst (Inserted row old) (sym is) (inserted_by row old (list_any (nat_eq row) old) (Contains-insert_key nat_eq (λ x y. (Decides-eqb x y).0) old row))
+    subst (Inserted row old) (sym is)
+    (inserted_by row old (list_any (nat_eq row) old)
+    (Contains-insert_key nat_eq (λ x y. (Decides-eqb x y).0) old row))
 
 -- paths of rows stay when rows are added
-pub paths_kept : (registrations : List Registration) (old added new : List ℕ) → new ≡ old ++ added → (path : List ℕ) → Contains (paths_at registrations old) path → Contains (paths_at registrations new) path
+pub paths_kept : (registrations : List Registration) (old added new : List ℕ) → new ≡ old ++ added
+    → (path : List ℕ) → Contains (paths_at registrations old) path
+    → Contains (paths_at registrations new) path
 paths_kept registrations old added new parts path has =
-    subst (λ (paths : List (List ℕ)). Contains paths path) (sym (ap (map (path_at registrations)) parts ∙ map-append (path_at registrations) old added))
+    subst (λ (paths : List (List ℕ)). Contains paths path)
+    (sym (ap (map (path_at registrations)) parts
+    ∙ map-append (path_at registrations) old added))
     (Contains-append_left (paths_at registrations old) (paths_at registrations added) path has)
 
 -- no path adds no rows
-pub adds_none : (registrations : List Registration) (old : List ℕ) → AreRows registrations old → AddsRows registrations old [] old
+pub adds_none : (registrations : List Registration) (old : List ℕ) → AreRows registrations old
+    → AddsRows registrations old [] old
 adds_none registrations old rows = record {
   rows = rows;
   added = [];
@@ -45,44 +69,69 @@ adds_none registrations old rows = record {
   there = All-nil (λ path. IsValid registrations path → Contains (paths_at registrations old) path);
 }
 
-asked_more : (paths : List (List ℕ)) (path : List ℕ) (some : List (List ℕ)) → All (Contains paths) some → All (Contains (paths ++ path ∷ [])) some
-asked_more paths path some asked = All-weaker (Contains paths) (Contains (paths ++ path ∷ [])) (λ p has. Contains-append_left paths (path ∷ []) p has) some asked
+asked_more : (paths : List (List ℕ)) (path : List ℕ) (some : List (List ℕ))
+    → All (Contains paths) some → All (Contains (paths ++ path ∷ [])) some
+asked_more paths path some asked = All-weaker (Contains paths) (Contains (paths ++ path ∷ []))
+    (λ p has. Contains-append_left paths (path ∷ []) p has) some asked
 
 -- a path that is not valid adds none
-pub adds_no_row : (registrations : List Registration) (old : List ℕ) (paths : List (List ℕ)) (path : List ℕ) (new : List ℕ) → AddsRows registrations old paths new → (IsValid registrations path → ⊥) → AddsRows registrations old (paths ++ path ∷ []) new
+pub adds_no_row : (registrations : List Registration) (old : List ℕ) (paths : List (List ℕ))
+    (path : List ℕ) (new : List ℕ) → AddsRows registrations old paths new
+    → (IsValid registrations path → ⊥) → AddsRows registrations old (paths ++ path ∷ []) new
 adds_no_row registrations old paths path new adds not_valid = record {
   rows = adds.rows;
   added = adds.added;
   parts = adds.parts;
   asked = asked_more paths path (paths_at registrations adds.added) adds.asked;
-  there = All-push (λ p. IsValid registrations p → Contains (paths_at registrations new) p) paths path adds.there (λ valid. absurd (not_valid valid));
+  there = All-push (λ p. IsValid registrations p → Contains (paths_at registrations new) p) paths
+      path adds.there (λ valid. absurd (not_valid valid));
 }
 
 -- a valid path adds its row
-pub adds_a_row : (registrations : List Registration) (old : List ℕ) (paths : List (List ℕ)) (path : List ℕ) (before new : List ℕ) (row : ℕ) → AddsRows registrations old paths before → IsRowOf registrations path row → new ≡ insert_key nat_eq before row → IsDistinct nat_eq new → AddsRows registrations old (paths ++ path ∷ []) new
+pub adds_a_row : (registrations : List Registration) (old : List ℕ) (paths : List (List ℕ))
+    (path : List ℕ) (before new : List ℕ) (row : ℕ) → AddsRows registrations old paths before
+    → IsRowOf registrations path row → new ≡ insert_key nat_eq before row → IsDistinct nat_eq new
+    → AddsRows registrations old (paths ++ path ∷ []) new
 adds_a_row registrations old paths path before new row adds of is distinct =
     let step = inserted row before new is in
-    let path_of : (r : ℕ) → r ≡ row → Contains (paths ++ path ∷ []) (path_at registrations r) = λ r same. subst (Contains (paths ++ path ∷ [])) (sym (ap (path_at registrations) same ∙ of.1)) (Contains-push paths path) in
-    let here : Contains (paths_at registrations new) path = subst (Contains (paths_at registrations new)) of.1 (Contains-map (path_at registrations) new row step.there) in
+    let path_of : (r : ℕ) → r ≡ row → Contains (paths ++ path ∷ []) (path_at registrations r) =
+    λ r same. subst (Contains (paths ++ path ∷ []))
+    (sym (ap (path_at registrations) same ∙ of.1)) (Contains-push paths path) in
+    let here : Contains (paths_at registrations new) path =
+    subst (Contains (paths_at registrations new)) of.1
+    (Contains-map (path_at registrations) new row step.there) in
     record {
       rows = record {
         distinct = distinct;
         below = subst (All (λ r. r < length registrations)) (sym step.parts)
             (All-append (λ r. r < length registrations) before step.added adds.rows.below
-            (All-weaker (λ r. r ≡ row) (λ r. r < length registrations) (λ r same. subst (λ n. n < length registrations) (sym same) of.0) step.added step.only));
+            (All-weaker (λ r. r ≡ row) (λ r. r < length registrations)
+            (λ r same. subst (λ n. n < length registrations) (sym same) of.0) step.added
+            step.only));
       };
       added = adds.added ++ step.added;
-      parts = step.parts ∙ ap (λ (rows : List ℕ). rows ++ step.added) adds.parts ∙ append_assoc old adds.added step.added;
-      asked = subst (All (Contains (paths ++ path ∷ []))) (sym (map-append (path_at registrations) adds.added step.added))
-          (All-append (Contains (paths ++ path ∷ [])) (paths_at registrations adds.added) (paths_at registrations step.added)
+      parts = step.parts ∙ ap (λ (rows : List ℕ). rows ++ step.added) adds.parts
+          ∙ append_assoc old adds.added step.added;
+      asked = subst (All (Contains (paths ++ path ∷ [])))
+          (sym (map-append (path_at registrations) adds.added step.added))
+          (All-append (Contains (paths ++ path ∷ [])) (paths_at registrations adds.added)
+          (paths_at registrations step.added)
           (asked_more paths path (paths_at registrations adds.added) adds.asked)
-          (All-map (Contains (paths ++ path ∷ [])) (path_at registrations) step.added (All-weaker (λ r. r ≡ row) (λ r. Contains (paths ++ path ∷ []) (path_at registrations r)) path_of step.added step.only)));
-      there = All-push (λ p. IsValid registrations p → Contains (paths_at registrations new) p) paths path
-          (All-weaker (λ p. IsValid registrations p → Contains (paths_at registrations before) p) (λ p. IsValid registrations p → Contains (paths_at registrations new) p)
-          (λ p has valid. paths_kept registrations before step.added new step.parts p (has valid)) paths adds.there)
+          (All-map (Contains (paths ++ path ∷ [])) (path_at registrations) step.added
+          (All-weaker (λ r. r ≡ row)
+          (λ r. Contains (paths ++ path ∷ []) (path_at registrations r)) path_of step.added
+          step.only)));
+      there = All-push (λ p. IsValid registrations p → Contains (paths_at registrations new) p)
+          paths path
+          (All-weaker (λ p. IsValid registrations p → Contains (paths_at registrations before) p)
+          (λ p. IsValid registrations p → Contains (paths_at registrations new) p)
+          (λ p has valid. paths_kept registrations before step.added new step.parts p (has valid))
+          paths adds.there)
           (λ valid. here);
     }
 
 -- one more path of a list
-pub taken_more : (paths : List (List ℕ)) (i : ℕ) (path : List ℕ) → i < length paths → path ≡ get_or paths i path → take (i + 1) paths ≡ take i paths ++ path ∷ []
-taken_more paths i path below at = take_more paths i path below ∙ ap (λ (p : List ℕ). take i paths ++ p ∷ []) (sym at)
+pub taken_more : (paths : List (List ℕ)) (i : ℕ) (path : List ℕ) → i < length paths → path
+    ≡ get_or paths i path → take (i + 1) paths ≡ take i paths ++ path ∷ []
+taken_more paths i path below at = take_more paths i path below
+    ∙ ap (λ (p : List ℕ). take i paths ++ p ∷ []) (sym at)

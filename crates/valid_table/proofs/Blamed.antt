@@ -16,12 +16,14 @@ use Rattle.valid_table.specs.declared.obstacle.Obstacle.TheVariants as obstacle
 use Rattle.valid_table.proofs.EnteredPaths.{unclosed_here}
 
 -- what is read twice at one place is the same
-same_read : {X : Type 0} (xs : List X) (i : ℕ) (x y : X) → slice_get xs i ≡ Some x → slice_get xs i ≡ Some y → x ≡ y
+same_read : {X : Type 0} (xs : List X) (i : ℕ) (x y : X) → slice_get xs i ≡ Some x → slice_get xs i
+    ≡ Some y → x ≡ y
 same_read xs i x y one two = let same : Some x ≡ Some y = sym one ∙ two in cc
 
 -- the places of the first unclosed reference of registrations whose first ones have none
 pub unclosed_at :
-    (known some : List Registration) (i : ℕ) (r : Registration) (references : List (List ℕ)) (place : ℕ) →
+    (known some : List Registration) (i : ℕ) (r : Registration) (references : List (List ℕ))
+    (place : ℕ) →
     All (Contains (paths_of (known ++ some))) (references_of (take i some)) →
     i < length some →
     r ≡ get_or some i r →
@@ -29,11 +31,13 @@ pub unclosed_at :
     IsFirstUnknownAt (paths_of (known ++ some)) references place →
     IsUnclosedAt known some (record { registration = i; reference = Some place })
 unclosed_at known some i r references place all lt is same first =
-    let here = unclosed_here (paths_of (known ++ some)) some i r references place all lt is same first in
+    let here = unclosed_here (paths_of (known ++ some)) some i r references place all lt is same
+    first in
     (r, place, here.0, slice_get-get_or some i r lt ∙ ap Some (sym is), refl, here.1, here.2)
 
 -- who has it is to blame, where all paths are new
-pub blamed_for_reference : (known some : List Registration) (blame : Blame) → AreNew known some → IsUnclosedAt known some blame → IsBlamed known some blame
+pub blamed_for_reference : (known some : List Registration) (blame : Blame) → AreNew known some
+    → IsUnclosedAt known some blame → IsBlamed known some blame
 blamed_for_reference known some blame new (r, place, path, at, told, read, first) =
     (r, at, subst (IsBlamedFor known some r) (sym told) (path, read, new, first))
 
@@ -47,7 +51,8 @@ blamed_or_closed known some None new closed = (new, closed)
 blamed_or_closed known some (Some blame) new at = blamed_for_reference known some blame new at
 
 -- who is to blame is one of them
-pub blamed_within : (known some : List Registration) (blame : Blame) → IsBlamed known some blame → blame.registration < length some
+pub blamed_within : (known some : List Registration) (blame : Blame) → IsBlamed known some blame
+    → blame.registration < length some
 blamed_within known some blame (r, at, blamed) = slice_get_within some blame.registration r at
 
 -- and is who is read at the place
@@ -57,7 +62,8 @@ pub blamed_read :
     slice_get some blame.registration ≡ Some r →
     IsBlamedFor known some r blame.reference
 blamed_read known some blame r (one, at, blamed) read =
-    subst (λ (x : Registration). IsBlamedFor known some x blame.reference) (same_read some blame.registration one r at read) blamed
+    subst (λ (x : Registration). IsBlamedFor known some x blame.reference)
+    (same_read some blame.registration one r at read) blamed
 
 -- by an index too
 pub blamed_index :
@@ -66,15 +72,22 @@ pub blamed_index :
     r ≡ get_or some blame.registration r →
     IsBlamedFor known some r blame.reference
 blamed_index known some blame r blamed is =
-    blamed_read known some blame r blamed (slice_get-get_or some blame.registration r (blamed_within known some blame blamed) ∙ ap Some (sym is))
+    blamed_read known some blame r blamed
+    (slice_get-get_or some blame.registration r (blamed_within known some blame blamed)
+    ∙ ap Some (sym is))
 
 -- the reference that is blamed is one of the registration's
-pub place_within : (known some : List Registration) (r : Registration) (reference : Option ℕ) → IsBlamedFor known some r reference → IfSome reference (λ place. place < length r.info.references)
+pub place_within : (known some : List Registration) (r : Registration) (reference : Option ℕ)
+    → IsBlamedFor known some r reference → IfSome reference
+    (λ place. place < length r.info.references)
 place_within known some r None blamed = tt
-place_within known some r (Some place) (path, read, new, first) = slice_get_within r.info.references place path read
+place_within known some r (Some place) (path, read, new, first) =
+    slice_get_within r.info.references place path read
 
 -- the obstacle of who is to blame stands against all
-pub obstacle_stands : (known some : List Registration) (r : Registration) (reference : Option ℕ) (o : Obstacle) → IsBlamedFor known some r reference → IsObstacleOf r reference o → IsObstacle known some o
+pub obstacle_stands : (known some : List Registration) (r : Registration) (reference : Option ℕ)
+    (o : Obstacle) → IsBlamedFor known some r reference → IsObstacleOf r reference o
+    → IsObstacle known some o
 obstacle_stands known some r None (obstacle.AlreadyValid path) blamed told = rw told blamed
 obstacle_stands known some r (Some place) (obstacle.Unclosed path) (first, read, new, is) told =
     rw (same_read r.info.references place path.now first told read) (new, is)
@@ -82,13 +95,16 @@ obstacle_stands known some r reference o blamed told = absurd told
 
 -- and the fault is what is answered
 pub taking_refused :
-    (known some : List Registration) (taken same : Type 0) (r : Registration) (reference : Option ℕ) (fault : TableFault) →
+    (known some : List Registration) (taken same : Type 0) (r : Registration) (reference : Option ℕ)
+    (fault : TableFault) →
     IsBlamedFor known some r reference →
     IsFaultOf r reference fault →
     same →
     IsTaking known some taken same (Err fault)
-taking_refused known some taken same r None (AlreadyValid path) blamed told kept = rw told (blamed, kept)
-taking_refused known some taken same r (Some place) (Unclosed path) (first, read, new, is) told kept =
+taking_refused known some taken same r None (AlreadyValid path) blamed told kept =
+    rw told (blamed, kept)
+taking_refused known some taken same r (Some place) (Unclosed path) (first, read, new, is) told
+    kept =
     rw (same_read r.info.references place path first told read) (new, is, kept)
 taking_refused known some taken same r reference fault blamed told kept = absurd told
 
@@ -100,4 +116,5 @@ pub taking_no_memory :
     result ≡ Err NoMemory →
     same →
     IsTaking known some taken same result
-taking_no_memory known some taken same result new closed is kept = subst (IsTaking known some taken same) (sym is) (new, closed, kept)
+taking_no_memory known some taken same result new closed is kept =
+    subst (IsTaking known some taken same) (sym is) (new, closed, kept)

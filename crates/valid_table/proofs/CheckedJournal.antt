@@ -20,12 +20,14 @@ use Rattle.valid_table.proofs.PathLists.{parts_at}
 
 -- a line of an entry behind earlier registrations is right
 abbrev pub IsRightBehind : List Registration → Entry → Line → Type 0
-IsRightBehind earlier entry line = IsRight (paths_of earlier) (paths_of (earlier ++ registered_by entry)) line
+IsRightBehind earlier entry line = IsRight (paths_of earlier)
+    (paths_of (earlier ++ registered_by entry)) line
 
 -- all lines of entries are right, behind earlier registrations
 abbrev pub AreRight : List Registration → List Entry → Type 0
 AreRight earlier [] = Unit {0}
-AreRight earlier (entry ∷ entries) = All (IsRightBehind earlier entry) (entry_lines entry) × AreRight (earlier ++ registered_by entry) entries
+AreRight earlier (entry ∷ entries) = All (IsRightBehind earlier entry) (entry_lines entry)
+    × AreRight (earlier ++ registered_by entry) entries
 
 -- right entries stay so with one more
 right_push :
@@ -33,11 +35,13 @@ right_push :
     AreRight earlier entries →
     All (IsRightBehind (earlier ++ registered entries) entry) (entry_lines entry) →
     AreRight earlier (entries ++ entry ∷ [])
-right_push earlier [] entry right more = (subst (λ rs. All (IsRightBehind rs entry) (entry_lines entry)) (append-nil earlier) more, tt)
+right_push earlier [] entry right more =
+    (subst (λ rs. All (IsRightBehind rs entry) (entry_lines entry)) (append-nil earlier) more, tt)
 right_push earlier (first ∷ entries) entry right more = (
   right.0,
   right_push (earlier ++ registered_by first) entries entry right.1
-      (subst (λ rs. All (IsRightBehind rs entry) (entry_lines entry)) (sym (append_assoc earlier (registered_by first) (registered entries))) more),
+      (subst (λ rs. All (IsRightBehind rs entry) (entry_lines entry))
+      (sym (append_assoc earlier (registered_by first) (registered entries))) more),
 )
 
 -- the lines of one of right entries are right
@@ -45,18 +49,23 @@ pub right_at :
     (earlier : List Registration) (before : List Entry) (entry : Entry) (after : List Entry) →
     AreRight earlier (before ++ entry ∷ after) →
     All (IsRightBehind (earlier ++ registered before) entry) (entry_lines entry)
-right_at earlier [] entry after right = subst (λ rs. All (IsRightBehind rs entry) (entry_lines entry)) (sym (append-nil earlier)) right.0
+right_at earlier [] entry after right =
+    subst (λ rs. All (IsRightBehind rs entry) (entry_lines entry)) (sym (append-nil earlier))
+    right.0
 right_at earlier (first ∷ before) entry after right =
-    subst (λ rs. All (IsRightBehind rs entry) (entry_lines entry)) (append_assoc earlier (registered_by first) (registered before))
+    subst (λ rs. All (IsRightBehind rs entry) (entry_lines entry))
+    (append_assoc earlier (registered_by first) (registered before))
     (right_at (earlier ++ registered_by first) before entry after right.1)
 
 -- the references of right lines are valid
-references_valid : (known all references : List (List ℕ)) → All (IsRight known all) (map Reference references) → All (Contains all) references
+references_valid : (known all references : List (List ℕ))
+    → All (IsRight known all) (map Reference references) → All (Contains all) references
 references_valid known all [] right = All-nil (Contains all)
 references_valid known all (path ∷ references) right =
     All-cons (Contains all) path references
     (All-head (IsRight known all) (Reference path) (map Reference references) right)
-    (references_valid known all references (All-tail (IsRight known all) (Reference path) (map Reference references) right))
+    (references_valid known all references
+    (All-tail (IsRight known all) (Reference path) (map Reference references) right))
 
 -- so the references of registrations whose lines are right are known
 references_valid_of :
@@ -69,17 +78,22 @@ references_valid_of known all entry (r ∷ rs) right =
     let rest = flat_map (lines_by (starts entry)) rs in
     let mine = All-left Right (lines_by (starts entry) r) rest right in
     All-append (Contains all) r.info.references (references_of rs)
-    (references_valid known all r.info.references (All-tail Right (starts entry r.path r.info.digest) (map Reference r.info.references) mine))
-    (references_valid_of known all entry rs (All-right Right (lines_by (starts entry) r) rest right))
+    (references_valid known all r.info.references
+    (All-tail Right (starts entry r.path r.info.digest) (map Reference r.info.references) mine))
+    (references_valid_of known all entry rs
+    (All-right Right (lines_by (starts entry) r) rest right))
 
 -- right entries are closed
-right_closed : (earlier : List Registration) (entries : List Entry) → AreRight earlier entries → IsClosedBehind earlier entries
+right_closed : (earlier : List Registration) (entries : List Entry) → AreRight earlier entries
+    → IsClosedBehind earlier entries
 right_closed earlier [] right = tt
 right_closed earlier (entry ∷ entries) right =
     let Right = IsRightBehind earlier entry in
     let all = subst (All Right) (entry_lines_are entry) right.0 in (
-      references_valid_of (paths_of earlier) (paths_of (earlier ++ registered_by entry)) entry (registered_by entry)
-          (All-right Right (header entry) (flat_map (lines_by (starts entry)) (registered_by entry)) all),
+      references_valid_of (paths_of earlier) (paths_of (earlier ++ registered_by entry)) entry
+          (registered_by entry)
+          (All-right Right (header entry) (flat_map (lines_by (starts entry)) (registered_by entry))
+          all),
       right_closed (earlier ++ registered_by entry) entries right.1,
     )
 
@@ -87,7 +101,8 @@ right_closed earlier (entry ∷ entries) right =
 split_two :
     {X : Type 0} (a : List X) (x : X) (xs : List X) (b : List X) (y : X) (ys : List X) →
     a ++ x ∷ xs ≡ b ++ y ∷ ys →
-    ((mid : List X) × (b ≡ a ++ x ∷ mid)) ⊎ (((a ≡ b) × (x ≡ y)) ⊎ ((mid : List X) × (a ≡ b ++ y ∷ mid)))
+    ((mid : List X) × (b ≡ a ++ x ∷ mid))
+    ⊎ (((a ≡ b) × (x ≡ y)) ⊎ ((mid : List X) × (a ≡ b ++ y ∷ mid)))
 split_two [] x xs [] y ys same = inr (inl (refl, cc))
 split_two [] x xs (z ∷ b) y ys same = let first : x ≡ z = cc in inl (b, ap (λ w. w ∷ b) (sym first))
 split_two (z ∷ a) x xs [] y ys same = let first : z ≡ y = cc in inr (inr (a, ap (λ w. w ∷ a) first))
@@ -102,21 +117,35 @@ split_two (z ∷ a) x xs (w ∷ b) y ys same =
     (split_two a x xs b y ys rest)
 
 -- the lines of two lists of entries
-entry_lines-append : (a b : List Entry) → length (flat_map entry_lines (a ++ b)) ≡ length (flat_map entry_lines a) + length (flat_map entry_lines b)
-entry_lines-append a b = ap length (flat_map-append entry_lines a b) ∙ length-append (flat_map entry_lines a) (flat_map entry_lines b)
+entry_lines-append : (a b : List Entry) → length (flat_map entry_lines (a ++ b))
+    ≡ length (flat_map entry_lines a) + length (flat_map entry_lines b)
+entry_lines-append a b = ap length (flat_map-append entry_lines a b)
+    ∙ length-append (flat_map entry_lines a) (flat_map entry_lines b)
 
 -- the lines of one more entry
-lines_push : (entries : List Entry) (entry : Entry) → length (lines (entries ++ entry ∷ [])) ≡ length (lines entries) + length (entry_lines entry)
-lines_push entries entry = omega (arith, entry_lines-append entries (entry ∷ []), ap length (append-nil (entry_lines entry)))
+lines_push : (entries : List Entry) (entry : Entry) → length (lines (entries ++ entry ∷ []))
+    ≡ length (lines entries) + length (entry_lines entry)
+lines_push entries entry = omega (
+  arith,
+  entry_lines-append entries (entry ∷ []),
+  ap length (append-nil (entry_lines entry)),
+)
 
 -- entries with another behind them, and more, have at least its lines more
-lines_behind : (entries : List Entry) (entry : Entry) (more : List Entry) → length (lines entries) + length (entry_lines entry) ≤ length (lines (entries ++ entry ∷ more))
+lines_behind : (entries : List Entry) (entry : Entry) (more : List Entry) → length (lines entries)
+    + length (entry_lines entry) ≤ length (lines (entries ++ entry ∷ more))
 lines_behind entries entry more =
-    omega (arith, entry_lines-append entries (entry ∷ more), length-append (entry_lines entry) (flat_map entry_lines more))
+    omega (
+      arith,
+      entry_lines-append entries (entry ∷ more),
+      length-append (entry_lines entry) (flat_map entry_lines more),
+    )
 
 -- one more of the first entries
-take_push : (entries : List Entry) (i : ℕ) (entry : Entry) → i < length entries → entry ≡ get_or entries i entry → take (i + 1) entries ≡ take i entries ++ entry ∷ []
-take_push entries i entry lt is = take_more entries i entry lt ∙ ap (λ e. take i entries ++ e ∷ []) (sym is)
+take_push : (entries : List Entry) (i : ℕ) (entry : Entry) → i < length entries → entry
+    ≡ get_or entries i entry → take (i + 1) entries ≡ take i entries ++ entry ∷ []
+take_push entries i entry lt is = take_more entries i entry lt
+    ∙ ap (λ e. take i entries ++ e ∷ []) (sym is)
 
 -- Line m of a journal is wrong.
 pub record IsWrongAt (entries : List Entry) (m : ℕ) : Type 0 where
@@ -127,22 +156,44 @@ pub record IsWrongAt (entries : List Entry) (m : ℕ) : Type 0 where
   pub wrong : IsRightBehind (registered before) entry line → ⊥
 
 -- a line with a fault is wrong
-pub wrong_line : (entries : List Entry) (m : ℕ) → IsNotClosedAt entries m ⊎ IsTwiceAt entries m → IsWrongAt entries m
+pub wrong_line : (entries : List Entry) (m : ℕ) → IsNotClosedAt entries m ⊎ IsTwiceAt entries m
+    → IsWrongAt entries m
 wrong_line entries m (inl (before, entry, path, stands, open_there)) =
-    record { before = before; entry = entry; line = Reference path; stands = stands; wrong = open_there }
+    record {
+      before = before;
+      entry = entry;
+      line = Reference path;
+      stands = stands;
+      wrong = open_there;
+    }
 wrong_line entries m (inr (before, entry, path, digest, inl stands, valid)) =
-    record { before = before; entry = entry; line = Added path digest; stands = stands; wrong = λ right. right valid }
+    record {
+      before = before;
+      entry = entry;
+      line = Added path digest;
+      stands = stands;
+      wrong = λ right. right valid;
+    }
 wrong_line entries m (inr (before, entry, path, digest, inr stands, valid)) =
-    record { before = before; entry = entry; line = Output path digest; stands = stands; wrong = λ right. right valid }
+    record {
+      before = before;
+      entry = entry;
+      line = Output path digest;
+      stands = stands;
+      wrong = λ right. right valid;
+    }
 
 -- a wrong line isn't among right ones
-pub not_among : (known all : List (List ℕ)) (before : List Line) (line : Line) (after : List Line) → All (IsRight known all) (before ++ line ∷ after) → IsRight known all line
+pub not_among : (known all : List (List ℕ)) (before : List Line) (line : Line) (after : List Line)
+    → All (IsRight known all) (before ++ line ∷ after) → IsRight known all line
 not_among known all before line after right =
-    All-head (IsRight known all) line after (All-right (IsRight known all) before (line ∷ after) right)
+    All-head (IsRight known all) line after
+    (All-right (IsRight known all) before (line ∷ after) right)
 
 -- in the entry whose first lines are right, a wrong line stands behind these
 least_within :
-    (entries pre : List Entry) (e : Entry) (first : List Line) (line : Line) (last : List Line) (m : ℕ) (w : IsWrongAt entries m) →
+    (entries pre : List Entry) (e : Entry) (first : List Line) (line : Line) (last : List Line)
+    (m : ℕ) (w : IsWrongAt entries m) →
     w.before ≡ pre →
     w.entry ≡ e →
     entry_lines e ≡ first ++ line ∷ last →
@@ -150,12 +201,15 @@ least_within :
     length first ≤ length w.stands.first
 least_within entries pre e first line last m w same_before same_entry split right =
     let s = w.stands in
-    let lines_are : s.first ++ w.line ∷ s.last ≡ first ++ line ∷ last = sym s.is_line ∙ ap entry_lines same_entry ∙ split in
+    let lines_are : s.first ++ w.line ∷ s.last ≡ first ++ line ∷ last = sym s.is_line
+    ∙ ap entry_lines same_entry ∙ split in
     ⊎_elim
     (λ h.
-    let here = not_among (paths_of (registered pre)) (paths_of (registered pre ++ registered_by e)) s.first w.line h.0 (subst (All (IsRightBehind (registered pre) e)) h.1 right) in
+    let here = not_among (paths_of (registered pre)) (paths_of (registered pre ++ registered_by e))
+    s.first w.line h.0 (subst (All (IsRightBehind (registered pre) e)) h.1 right) in
     let mine = subst (λ x. IsRightBehind (registered pre) x w.line) (sym same_entry) here in
-    absurd (w.wrong (subst (λ b. IsRightBehind (registered b) w.entry w.line) (sym same_before) mine)))
+    absurd (w.wrong
+    (subst (λ b. IsRightBehind (registered b) w.entry w.line) (sym same_before) mine)))
     (⊎_elim
     (λ h. omega (arith, ap length h.0))
     (λ h. omega (arith, ap length h.1, length-append first (line ∷ h.0))))
@@ -163,7 +217,8 @@ least_within entries pre e first line last m w same_before same_entry split righ
 
 -- behind right entries, and the right first lines of the next one, a wrong line stands no earlier
 least_wrong :
-    (entries pre : List Entry) (e : Entry) (rest : List Entry) (first : List Line) (line : Line) (last : List Line) (m : ℕ) →
+    (entries pre : List Entry) (e : Entry) (rest : List Entry) (first : List Line) (line : Line)
+    (last : List Line) (m : ℕ) →
     entries ≡ pre ++ e ∷ rest →
     AreRight [] pre →
     entry_lines e ≡ first ++ line ∷ last →
@@ -176,10 +231,16 @@ least_wrong entries pre e rest first line last m parts right split first_right w
     ⊎_elim
     (λ h.
     let all = right_at [] w.before w.entry h.0 (subst (AreRight []) h.1 right) in
-    absurd (w.wrong (not_among (paths_of (registered w.before)) (paths_of (registered w.before ++ registered_by w.entry)) s.first w.line s.last
+    absurd (w.wrong
+    (not_among (paths_of (registered w.before))
+    (paths_of (registered w.before ++ registered_by w.entry)) s.first w.line s.last
     (subst (All (IsRightBehind (registered w.before) w.entry)) s.is_line all))))
     (⊎_elim
-    (λ h. omega (arith, least_within entries pre e first line last m w h.0 h.1 split first_right, ap (λ es. length (lines es)) h.0))
+    (λ h. omega (
+      arith,
+      least_within entries pre e first line last m w h.0 h.1 split first_right,
+      ap (λ es. length (lines es)) h.0,
+    ))
     (λ h.
     let long = lines_behind pre e h.0 in
     let count = ap length split ∙ length-append first (line ∷ last) in
@@ -191,28 +252,46 @@ pub least_fault :
     (entries pre : List Entry) (e : Entry) (rest : List Entry) (line : Line) (place n : ℕ) →
     entries ≡ pre ++ e ∷ rest →
     AreRight [] pre →
-    IsRightUpTo (paths_of (registered pre)) (paths_of (registered pre ++ registered_by e)) (entry_lines e) line place →
+    IsRightUpTo (paths_of (registered pre)) (paths_of (registered pre ++ registered_by e))
+    (entry_lines e) line place →
     n ≡ length (lines pre) + place + 1 →
     IsLeastFault entries n
 least_fault entries pre e rest line place n parts right up number m fault =
-    omega (arith, least_wrong entries pre e rest up.before line up.after m parts right up.parts up.right (wrong_line entries m fault), up.is_place)
+    omega (
+      arith,
+      least_wrong entries pre e rest up.before line up.after m parts right up.parts
+          up.right (wrong_line entries m fault),
+      up.is_place,
+    )
 
 -- where that line stands
 stands_there :
     (entries pre : List Entry) (e : Entry) (rest : List Entry) (line : Line) (place n : ℕ) →
     entries ≡ pre ++ e ∷ rest →
-    IsRightUpTo (paths_of (registered pre)) (paths_of (registered pre ++ registered_by e)) (entry_lines e) line place →
+    IsRightUpTo (paths_of (registered pre)) (paths_of (registered pre ++ registered_by e))
+    (entry_lines e) line place →
     n ≡ length (lines pre) + place + 1 →
     StandsAt entries pre e line n
 stands_there entries pre e rest line place n parts up number =
-    record { after = rest; parts = parts; first = up.before; last = up.after; is_line = up.parts; number = omega (arith, up.is_place) }
+    record {
+      after = rest;
+      parts = parts;
+      first = up.before;
+      last = up.after;
+      is_line = up.parts;
+      number = omega (arith, up.is_place);
+    }
 
 -- a line that registers a known path
-twice_at : (entries before : List Entry) (entry : Entry) (line : Line) (n : ℕ) → StandsAt entries before entry line n → RegistersKnown (paths_of (registered before)) line → IsTwiceAt entries n
+twice_at : (entries before : List Entry) (entry : Entry) (line : Line) (n : ℕ)
+    → StandsAt entries before entry line n → RegistersKnown (paths_of (registered before)) line
+    → IsTwiceAt entries n
 twice_at entries before entry Version n stands known = absurd known
-twice_at entries before entry (Added path digest) n stands known = (before, entry, path, digest, inl stands, known)
+twice_at entries before entry (Added path digest) n stands known =
+    (before, entry, path, digest, inl stands, known)
 twice_at entries before entry (Deriver path) n stands known = absurd known
-twice_at entries before entry (Output path digest) n stands known = (before, entry, path, digest, inr stands, known)
+twice_at entries before entry (Output path digest) n stands known =
+    (before, entry, path, digest, inr stands, known)
 twice_at entries before entry (Reference path) n stands known = absurd known
 
 -- a line that refers to another path
@@ -230,16 +309,20 @@ open_at entries before entry (Reference path) n stands other = (before, entry, p
 -- what an entry behind others is checked against
 abbrev pub IsCheckBehind : List Entry → Entry → ℕ → Result ℕ TableFault → Type 0
 IsCheckBehind pre entry first result =
-    IsEntryCheck (paths_of (registered pre)) (paths_of (registered pre ++ registered_by entry)) (entry_lines entry) first result
+    IsEntryCheck (paths_of (registered pre)) (paths_of (registered pre ++ registered_by entry))
+    (entry_lines entry) first result
 
 -- that is what it is checked against where the known registrations are theirs
 pub check_behind :
-    (pre : List Entry) (entry : Entry) (known : List Registration) (first : ℕ) (result : Result ℕ TableFault) →
+    (pre : List Entry) (entry : Entry) (known : List Registration) (first : ℕ)
+    (result : Result ℕ TableFault) →
     known ≡ registered pre →
-    IsEntryCheck (paths_of known) (paths_of (known ++ registered_by entry)) (entry_lines entry) first result →
+    IsEntryCheck (paths_of known) (paths_of (known ++ registered_by entry)) (entry_lines entry)
+    first result →
     IsCheckBehind pre entry first result
 check_behind pre entry known first result same check =
-    subst (λ rs. IsEntryCheck (paths_of rs) (paths_of (rs ++ registered_by entry)) (entry_lines entry) first result) same check
+    subst (λ rs. IsEntryCheck (paths_of rs) (paths_of (rs ++ registered_by entry))
+    (entry_lines entry) first result) same check
 
 -- the first fault of entries
 pub first_fault :
@@ -253,14 +336,21 @@ pub first_fault :
 first_fault entries i entry first (Twice n) lt is right number (line, place, up, known, counted) =
     let parts = parts_at entries i entry lt is in
     let at : n ≡ length (lines (take i entries)) + place + 1 = omega arith in (
-      twice_at entries (take i entries) entry line n (stands_there entries (take i entries) entry (drop (i + 1) entries) line place n parts up at) known,
-      least_fault entries (take i entries) entry (drop (i + 1) entries) line place n parts right up at,
+      twice_at entries (take i entries) entry line n
+          (stands_there entries (take i entries) entry (drop (i + 1) entries) line place n parts up
+          at) known,
+      least_fault entries (take i entries) entry (drop (i + 1) entries) line place n parts right up
+          at,
     )
-first_fault entries i entry first (NotClosed n) lt is right number (line, place, up, other, counted) =
+first_fault entries i entry first (NotClosed n) lt is right number
+    (line, place, up, other, counted) =
     let parts = parts_at entries i entry lt is in
     let at : n ≡ length (lines (take i entries)) + place + 1 = omega arith in (
-      open_at entries (take i entries) entry line n (stands_there entries (take i entries) entry (drop (i + 1) entries) line place n parts up at) other,
-      least_fault entries (take i entries) entry (drop (i + 1) entries) line place n parts right up at,
+      open_at entries (take i entries) entry line n
+          (stands_there entries (take i entries) entry (drop (i + 1) entries) line place n parts up
+          at) other,
+      least_fault entries (take i entries) entry (drop (i + 1) entries) line place n parts right up
+          at,
     )
 first_fault entries i entry first NoMemory lt is right number check = tt
 first_fault entries i entry first other lt is right number check = check
@@ -284,15 +374,18 @@ pub right_more :
     All (IsRightBehind (registered (take i entries)) entry) (entry_lines entry) →
     AreRight [] (take (i + 1) entries)
 right_more entries i entry lt is right more =
-    subst (AreRight []) (sym (take_push entries i entry lt is)) (right_push [] (take i entries) entry right more)
+    subst (AreRight []) (sym (take_push entries i entry lt is))
+    (right_push [] (take i entries) entry right more)
 
 -- its lines are counted
 pub lines_more :
     (entries : List Entry) (i : ℕ) (entry : Entry) →
     i < length entries →
     entry ≡ get_or entries i entry →
-    length (lines (take (i + 1) entries)) ≡ length (lines (take i entries)) + length (entry_lines entry)
-lines_more entries i entry lt is = ap (λ es. length (lines es)) (take_push entries i entry lt is) ∙ lines_push (take i entries) entry
+    length (lines (take (i + 1) entries)) ≡ length (lines (take i entries))
+    + length (entry_lines entry)
+lines_more entries i entry lt is = ap (λ es. length (lines es)) (take_push entries i entry lt is)
+    ∙ lines_push (take i entries) entry
 
 -- and what it registers is known
 pub known_more :
@@ -308,5 +401,7 @@ known_more entries i entry known next lt is same added =
     ∙ sym (ap registered (take_push entries i entry lt is) ∙ registered_push (take i entries) entry)
 
 -- where all entries are right, they are closed
-pub closed_behind : (entries : List Entry) (i : ℕ) → length entries ≤ i → AreRight [] (take i entries) → IsClosed entries
-closed_behind entries i long right = right_closed [] entries (subst (AreRight []) (take_all i entries long) right)
+pub closed_behind : (entries : List Entry) (i : ℕ) → length entries ≤ i
+    → AreRight [] (take i entries) → IsClosed entries
+closed_behind entries i long right = right_closed [] entries
+    (subst (AreRight []) (take_all i entries long) right)

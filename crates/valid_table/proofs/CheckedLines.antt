@@ -18,7 +18,8 @@ line_count rs = length (flat_map output_lines rs)
 
 -- those of two lists of them
 line_count-append : (a b : List Registration) → line_count (a ++ b) ≡ line_count a + line_count b
-line_count-append a b = ap length (flat_map-append output_lines a b) ∙ length-append (flat_map output_lines a) (flat_map output_lines b)
+line_count-append a b = ap length (flat_map-append output_lines a b)
+    ∙ length-append (flat_map output_lines a) (flat_map output_lines b)
 
 -- those of one more
 pub line_count_more :
@@ -28,7 +29,8 @@ pub line_count_more :
     line_count (take (i + 1) rs) ≡ line_count (take i rs) + (1 + length r.info.references)
 line_count_more rs i r lt is =
     let one : line_count (r ∷ []) ≡ 1 + length r.info.references =
-    ap length (append-nil (output_lines r)) ∙ omega (arith, length-map r.info.references Reference) in
+    ap length (append-nil (output_lines r)) ∙ omega (arith, length-map r.info.references Reference)
+    in
     ap line_count (take_more rs i r lt ∙ ap (λ x. take i rs ++ x ∷ []) (sym is))
     ∙ line_count-append (take i rs) (r ∷ [])
     ∙ ap (λ n. line_count (take i rs) + n) one
@@ -41,11 +43,13 @@ pub line_count_fits :
     line_count (take i rs) + (1 + length r.info.references) ≤ line_count rs
 line_count_fits rs i r lt is =
     let whole : line_count rs ≡ line_count (take (i + 1) rs) + line_count (drop (i + 1) rs) =
-    ap line_count (sym (take-append-drop (i + 1) rs)) ∙ line_count-append (take (i + 1) rs) (drop (i + 1) rs) in
+    ap line_count (sym (take-append-drop (i + 1) rs))
+    ∙ line_count-append (take (i + 1) rs) (drop (i + 1) rs) in
     omega (arith, line_count_more rs i r lt is)
 
 -- the place of an unknown path is within the list
-pub unknown_within : (all paths : List (List ℕ)) (at : ℕ) → IsFirstUnknownAt all paths at → at < length paths
+pub unknown_within : (all paths : List (List ℕ)) (at : ℕ) → IsFirstUnknownAt all paths at → at
+    < length paths
 unknown_within all paths at (path, first, is) =
     omega (arith, ap length first.parts, length-append first.before (path ∷ first.after))
 
@@ -58,11 +62,13 @@ pub twice_here :
     n ≡ first + line_count (take i rs) →
     IsLineCheck all rs new first (Err (Twice n))
 twice_here all rs new first i n same lt closed number =
-    subst (λ k. (k < length rs) × All (Contains all) (references_of (take k rs)) × (n ≡ first + line_count (take k rs))) same (lt, closed, number)
+    subst (λ k. (k < length rs) × All (Contains all) (references_of (take k rs))
+    × (n ≡ first + line_count (take k rs))) same (lt, closed, number)
 
 -- a reference of the next registration is unknown
 pub open_here :
-    (all : List (List ℕ)) (rs : List Registration) (new first i : ℕ) (r : Registration) (references : List (List ℕ)) (at number : ℕ) →
+    (all : List (List ℕ)) (rs : List Registration) (new first i : ℕ) (r : Registration)
+    (references : List (List ℕ)) (at number : ℕ) →
     i ≤ new →
     (i ≡ new → ⊥) →
     i < length rs →
@@ -94,5 +100,8 @@ pub right_behind :
     All (Contains all) (references_of (take i rs)) →
     behind ≡ first + line_count (take i rs) →
     IsLineCheck all rs new first (Ok behind)
-right_behind all rs new first i behind upto long closed counted =
-    (omega arith, closed_all all rs i long closed, counted ∙ ap (λ l. first + line_count l) (take_all i rs long))
+right_behind all rs new first i behind upto long closed counted = (
+  omega arith,
+  closed_all all rs i long closed,
+  counted ∙ ap (λ l. first + line_count l) (take_all i rs long),
+)

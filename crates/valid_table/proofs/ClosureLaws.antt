@@ -15,63 +15,103 @@ use Rattle.valid_table.proofs.JournalLists.{closed_references_valid, still_valid
 use Rattle.valid_table.proofs.RowNumbers.{path_count}
 
 -- what an element's list has is among all
-Contains-flat_map : {A B : Type 0} (f : A → List B) (xs : List A) (x : A) (y : B) → Contains xs x → Contains (f x) y → Contains (flat_map f xs) y
+Contains-flat_map : {A B : Type 0} (f : A → List B) (xs : List A) (x : A) (y : B) → Contains xs x
+    → Contains (f x) y → Contains (flat_map f xs) y
 Contains-flat_map f [] x y has one = absurd (omega (arith, has.1))
 Contains-flat_map f (z ∷ zs) x y has one =
     ⊎_elim
-    (λ same. Contains-append_left (f z) (flat_map f zs) y (subst (λ w. Contains (f w) y) (sym same) one))
+    (λ same. Contains-append_left (f z) (flat_map f zs) y
+    (subst (λ w. Contains (f w) y) (sym same) one))
     (λ later. Contains-append_right (f z) (flat_map f zs) y (Contains-flat_map f zs x y later one))
     (Contains-cons_cases z zs x has)
 
 -- a reference of what is registered is one of the references
-refers_in : (registrations : List Registration) (path next : List ℕ) → RefersTo registrations path next → Contains (references_of registrations) next
-refers_in registrations path next refers = Contains-flat_map (λ (r : Registration). r.info.references) registrations (record { path = path; info = refers.0 }) next refers.1 refers.2
+refers_in : (registrations : List Registration) (path next : List ℕ)
+    → RefersTo registrations path next → Contains (references_of registrations) next
+refers_in registrations path next refers = Contains-flat_map
+    (λ (r : Registration). r.info.references) registrations
+    (record { path = path; info = refers.0 }) next refers.1 refers.2
 
 -- a valid path has a record
-pub registers_from_valid : (registrations : List Registration) (path : List ℕ) → IsValid registrations path → (info : PathInfo) × Registers registrations path info
+pub registers_from_valid : (registrations : List Registration) (path : List ℕ)
+    → IsValid registrations path → (info : PathInfo) × Registers registrations path info
 registers_from_valid registrations path valid =
-    let none : Registration = record { path = path; info = record { references = []; digest = None } } in
+    let none : Registration =
+    record { path = path; info = record { references = []; digest = None } } in
     let r : Registration = get_or registrations valid.0 none in
     let own : Registration = record { path = path; info = r.info } in
     let below : valid.0 < length registrations = omega (arith, valid.1, path_count registrations) in
-    let same : r.path ≡ path = sym (get_or-map (λ (x : Registration). x.path) registrations valid.0 none path below) ∙ valid.2 in
+    let same : r.path
+    ≡ path = sym
+    (get_or-map (λ (x : Registration). x.path) registrations valid.0 none path below) ∙ valid.2
+    in
     let is : r ≡ own = λ i. record { path = same i; info = r.info } in
     (r.info, (valid.0, below, get_or_default registrations valid.0 own none below ∙ is))
 
 -- what leads by first registrations does so by more of them
-pub leads_behind : (first more : List Registration) (from to : List ℕ) (steps : List (List ℕ)) → Leads first from to steps → Leads (first ++ more) from to steps
+pub leads_behind : (first more : List Registration) (from to : List ℕ) (steps : List (List ℕ))
+    → Leads first from to steps → Leads (first ++ more) from to steps
 leads_behind first more from to [] leads = (still_valid first more from leads.0, leads.1)
-leads_behind first more from to (next ∷ steps) leads =
-    ((leads.0.0, Contains-append_left first more (record { path = from; info = leads.0.0 }) leads.0.1, leads.0.2), leads_behind first more next to steps leads.1)
+leads_behind first more from to (next ∷ steps) leads = (
+  (
+    leads.0.0,
+    Contains-append_left first more (record { path = from; info = leads.0.0 })
+        leads.0.1,
+    leads.0.2,
+  ),
+  leads_behind first more next to steps leads.1,
+)
 
 -- from a valid path, more registrations lead nowhere else
-pub leads_before : (first more : List Registration) → AreReferencesValid first → IsOnce (first ++ more) → (from to : List ℕ) (steps : List (List ℕ)) → IsValid first from → Leads (first ++ more) from to steps → Leads first from to steps
+pub leads_before : (first more : List Registration) → AreReferencesValid first
+    → IsOnce (first ++ more) → (from to : List ℕ) (steps : List (List ℕ)) → IsValid first from
+    → Leads (first ++ more) from to steps → Leads first from to steps
 leads_before first more closed once from to [] valid leads = (valid, leads.1)
 leads_before first more closed once from to (next ∷ steps) valid leads =
     let had = registers_from_valid first from valid in
-    let same : leads.0.0 ≡ had.0 = one_info (first ++ more) once from leads.0.0 had.0 leads.0.1 (Contains-append_left first more (record { path = from; info = had.0 }) had.1) in
-    let refers : RefersTo first from next = (had.0, had.1, subst (λ (info : PathInfo). Contains info.references next) same leads.0.2) in
-    let next_valid : IsValid first next = All-contains (IsValid first) (references_of first) next closed (refers_in first from next refers) in
+    let same : leads.0.0 ≡ had.0 = one_info (first ++ more) once from leads.0.0 had.0 leads.0.1
+    (Contains-append_left first more (record { path = from; info = had.0 }) had.1) in
+    let refers : RefersTo first from next =
+    (had.0, had.1, subst (λ (info : PathInfo). Contains info.references next) same leads.0.2) in
+    let next_valid : IsValid first next = All-contains (IsValid first) (references_of first) next
+    closed (refers_in first from next refers) in
     (refers, leads_before first more closed once next to steps next_valid leads.1)
 
 -- a closure stays the same where more is registered
-pub closure_stays_behind : (first more : List Registration) (roots all : List (List ℕ)) → AreReferencesValid first → IsOnce (first ++ more) → All (IsValid first) roots → IsClosure first roots all → IsClosure (first ++ more) roots all
+pub closure_stays_behind : (first more : List Registration) (roots all : List (List ℕ))
+    → AreReferencesValid first → IsOnce (first ++ more) → All (IsValid first) roots
+    → IsClosure first roots all → IsClosure (first ++ more) roots all
 closure_stays_behind first more roots all closed once valid is = record {
   rising = is.rising;
   each = λ path. (
-    λ has. let h = (is.each path).0 has in (h.0, h.1, (h.2.0, leads_behind first more h.0 path h.2.0 h.2.1)),
-    λ h. (is.each path).1 (h.0, h.1, (h.2.0, leads_before first more closed once h.0 path h.2.0 (All-contains (IsValid first) roots h.0 valid h.1) h.2.1)),
+    λ has. let h = (is.each path).0 has
+        in (h.0, h.1, (h.2.0, leads_behind first more h.0 path h.2.0 h.2.1)),
+    λ h. (is.each path).1 (
+      h.0,
+      h.1,
+      (
+        h.2.0,
+        leads_before first more closed once h.0 path h.2.0
+            (All-contains (IsValid first) roots h.0 valid h.1) h.2.1,
+      ),
+    ),
   );
 }
 
 -- the law of closures
 pub closure_stays : ClosureStays
 closure_stays entries more roots all closed closed_more once valid is =
-    let whole : registered (entries ++ more) ≡ registered entries ++ registered more = flat_map-append registered_by entries more in
+    let whole : registered (entries ++ more) ≡ registered entries
+    ++ registered more = flat_map-append registered_by entries more in
     subst (λ (registrations : List Registration). IsClosure registrations roots all) (sym whole)
-    (closure_stays_behind (registered entries) (registered more) roots all (closed_references_valid entries closed) (subst IsOnce whole once) valid is)
+    (closure_stays_behind (registered entries) (registered more) roots all
+    (closed_references_valid entries closed) (subst IsOnce whole once) valid is)
 
 -- some paths have one closure
 pub closure_is_one : ClosureIsOne
 closure_is_one registrations roots a b is is' =
-    rising_same a b is.rising is'.rising (λ path. (λ has. (is'.each path).1 ((is.each path).0 has), λ has. (is.each path).1 ((is'.each path).0 has)))
+    rising_same a b is.rising is'.rising
+    (λ path. (
+      λ has. (is'.each path).1 ((is.each path).0 has),
+      λ has. (is.each path).1 ((is'.each path).0 has),
+    ))

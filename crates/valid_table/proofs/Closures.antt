@@ -13,29 +13,61 @@ use Rattle.valid_table.specs.declared.fault.TableFault.TheVariants.{NoMemory}
 use Rattle.valid_table.proofs.Reaching.{has_reached}
 
 -- the sorted paths of the followed rows are the closure of the roots
-pub closure_found : (registrations : List Registration) (roots : List (List ℕ)) (start found : List ℕ) (all : List (List ℕ)) → All (IsValid registrations) roots → AddsRows registrations [] roots start → IsFollowed registrations start found (length found) → IsRising all → HaveSame all (paths_at registrations found) → IsClosure registrations roots all
+pub closure_found : (registrations : List Registration) (roots : List (List ℕ))
+    (start found : List ℕ) (all : List (List ℕ)) → All (IsValid registrations) roots
+    → AddsRows registrations [] roots start → IsFollowed registrations start found (length found)
+    → IsRising all → HaveSame all (paths_at registrations found) → IsClosure registrations roots all
 closure_found registrations roots start found all valid begins followed rising same = record {
   rising = rising;
   each = λ path. (
     λ (has : Contains all path).
-        let reached : IsReached registrations (paths_at registrations start) path = All-contains (IsReached registrations (paths_at registrations start)) (paths_at registrations found) path followed.reached ((same path).0 has) in
-        (reached.0, All-contains (Contains roots) (paths_at registrations start) reached.0 asked reached.1, reached.2),
+        let reached : IsReached registrations (paths_at registrations start) path =
+        All-contains (IsReached registrations (paths_at registrations start))
+        (paths_at registrations found) path followed.reached ((same path).0 has) in (
+          reached.0,
+          All-contains (Contains roots) (paths_at registrations start) reached.0 asked
+              reached.1,
+          reached.2,
+        ),
     λ reached.
         let root = reached.0 in
-        let begun : Contains (paths_at registrations start) root = All-contains (λ p. IsValid registrations p → Contains (paths_at registrations start) p) roots root begins.there reached.1 (All-contains (IsValid registrations) roots root valid reached.1) in
-        let there : Contains (paths_at registrations found) root = All-contains (Contains (paths_at registrations found)) (paths_at registrations start) root followed.kept begun in
-        (same path).1 (has_reached registrations (paths_at registrations found) each_followed root path reached.2.0 there reached.2.1),
+        let begun : Contains (paths_at registrations start) root =
+        All-contains (λ p. IsValid registrations p → Contains (paths_at registrations start) p)
+        roots root begins.there reached.1
+        (All-contains (IsValid registrations) roots root valid reached.1) in
+        let there : Contains (paths_at registrations found) root =
+        All-contains (Contains (paths_at registrations found)) (paths_at registrations start)
+        root followed.kept begun in
+        (same path).1
+        (has_reached registrations (paths_at registrations found) each_followed root path
+        reached.2.0 there reached.2.1),
   );
 }
   where
     asked : All (Contains roots) (paths_at registrations start)
-    asked = subst (λ (rows : List ℕ). All (Contains roots) (paths_at registrations rows)) (sym begins.parts) begins.asked
+    asked = subst (λ (rows : List ℕ). All (Contains roots) (paths_at registrations rows))
+        (sym begins.parts) begins.asked
 
-    each_followed : All (HasReferences registrations (paths_at registrations found)) (paths_at registrations found)
-    each_followed = subst (λ (rows : List ℕ). All (HasReferences registrations (paths_at registrations found)) (paths_at registrations rows)) (take-length found) followed.followed
+    each_followed : All (HasReferences registrations (paths_at registrations found))
+        (paths_at registrations found)
+    each_followed =
+        subst (λ (rows : List ℕ). All (HasReferences registrations (paths_at registrations found))
+        (paths_at registrations rows)) (take-length found) followed.followed
 
--- where the paths of those rows are sorted, or memory is refused for it, the question for the closure is answered
-pub closing_answered : (registrations : List Registration) (roots : List (List ℕ)) (start found : List ℕ) (answer : Result (Vec (List ℕ)) TableFault) → All (IsValid registrations) roots → AddsRows registrations [] roots start → IsFollowed registrations start found (length found)
-    → IfOk answer (λ paths. IsRising paths.items) → IfOk answer (λ paths. HaveSame paths.items (paths_at registrations found)) → IfErr answer (λ fault. fault ≡ NoMemory) → IsClosing registrations roots answer
-closing_answered registrations roots start found (Ok paths) valid begins followed rising same refused = (valid, closure_found registrations roots start found paths.items valid begins followed rising same)
-closing_answered registrations roots start found (Err fault) valid begins followed rising same refused = subst (λ (f : TableFault). IsClosing registrations roots (Err f)) (sym refused) tt
+-- where the paths of those rows are sorted, or memory is refused for it, the question for the
+-- closure is answered
+pub closing_answered : (registrations : List Registration) (roots : List (List ℕ))
+    (start found : List ℕ) (answer : Result (Vec (List ℕ)) TableFault)
+    → All (IsValid registrations) roots → AddsRows registrations [] roots start
+    → IsFollowed registrations start found (length found)
+    → IfOk answer (λ paths. IsRising paths.items)
+    → IfOk answer (λ paths. HaveSame paths.items (paths_at registrations found))
+    → IfErr answer (λ fault. fault ≡ NoMemory) → IsClosing registrations roots answer
+closing_answered registrations roots start found (Ok paths) valid begins followed rising same
+    refused = (
+      valid,
+      closure_found registrations roots start found paths.items valid begins followed rising
+          same,
+    )
+closing_answered registrations roots start found (Err fault) valid begins followed rising same
+    refused = subst (λ (f : TableFault). IsClosing registrations roots (Err f)) (sym refused) tt

@@ -14,19 +14,24 @@ use Rattle.valid_table.proofs.PathLists.{parts_at}
 use Rattle.valid_table.proofs.RowNumbers.{path_count}
 
 -- the path of the registration at a place
-pub path_at : (rs : List Registration) (i : ℕ) (r : Registration) (d : List ℕ) → i < length rs → r ≡ get_or rs i r → get_or (paths_of rs) i d ≡ r.path
-path_at rs i r d lt is = get_or-map (λ (x : Registration). x.path) rs i r d lt ∙ ap (λ (x : Registration). x.path) (sym is)
+pub path_at : (rs : List Registration) (i : ℕ) (r : Registration) (d : List ℕ) → i < length rs → r
+    ≡ get_or rs i r → get_or (paths_of rs) i d ≡ r.path
+path_at rs i r d lt is = get_or-map (λ (x : Registration). x.path) rs i r d lt
+    ∙ ap (λ (x : Registration). x.path) (sym is)
 
 -- all paths were new
-pub front_all : (known : List (List ℕ)) (rs : List Registration) (n : ℕ) → length rs ≤ n → AreUnknown known (take n (paths_of rs)) → IsNewFront known (paths_of rs) (length rs)
+pub front_all : (known : List (List ℕ)) (rs : List Registration) (n : ℕ) → length rs ≤ n
+    → AreUnknown known (take n (paths_of rs)) → IsNewFront known (paths_of rs) (length rs)
 front_all known rs n all new =
     let paths = paths_of rs in
     let long = path_count rs in
-    let same : take n paths ≡ take (length rs) paths = take_all n paths (omega arith) ∙ sym (take_all (length rs) paths (omega arith)) in
+    let same : take n paths ≡ take (length rs) paths = take_all n paths (omega arith)
+    ∙ sym (take_all (length rs) paths (omega arith)) in
     record {
       within = omega arith;
       new = subst (AreUnknown known) same new;
-      next = subst (λ o. IfSome o (Contains known)) (sym (slice_get_past paths (length rs) (omega arith))) tt;
+      next = subst (λ o. IfSome o (Contains known))
+          (sym (slice_get_past paths (length rs) (omega arith))) tt;
     }
 
 -- the next path is known
@@ -69,7 +74,13 @@ pub unknown_here :
     IsFirstUnknownAt known some i
 unknown_here known some i path all lt is unknown = (
   path,
-  record { before = take i some; after = drop (i + 1) some; parts = parts_at some i path lt is; others = all; is = unknown },
+  record {
+    before = take i some;
+    after = drop (i + 1) some;
+    parts = parts_at some i path lt is;
+    others = all;
+    is = unknown;
+  },
   sym (length-take-le i some (omega arith)),
 )
 
@@ -81,23 +92,29 @@ pub known_more :
     path ≡ get_or some i path →
     Contains known path →
     All (Contains known) (take (i + 1) some)
-known_more known some i path all lt is there = All-more (Contains known) some i path lt all (subst (Contains known) is there)
+known_more known some i path all lt is there =
+    All-more (Contains known) some i path lt all (subst (Contains known) is there)
 
 -- the element behind the first ones
-middle : {X : Type 0} (xs before : List X) (x : X) (after : List X) (i : ℕ) → xs ≡ before ++ x ∷ after → i ≡ length before → slice_get xs i ≡ Some x
+middle : {X : Type 0} (xs before : List X) (x : X) (after : List X) (i : ℕ) → xs ≡ before ++ x
+    ∷ after → i ≡ length before → slice_get xs i ≡ Some x
 middle xs before x after i parts at =
-    let within : i < length xs = omega (arith, at, ap length parts, length-append before (x ∷ after)) in
-    slice_get-get_or xs i x within ∙ ap Some (ap (λ l. get_or l i x) parts ∙ get_or_at before x after x i (sym at))
+    let within : i
+    < length xs = omega (arith, at, ap length parts, length-append before (x ∷ after)) in
+    slice_get-get_or xs i x within
+    ∙ ap Some (ap (λ l. get_or l i x) parts ∙ get_or_at before x after x i (sym at))
 
 -- the first unknown reference of registrations whose first ones have none
 pub unclosed_here :
-    (known : List (List ℕ)) (rs : List Registration) (i : ℕ) (r : Registration) (references : List (List ℕ)) (place : ℕ) →
+    (known : List (List ℕ)) (rs : List Registration) (i : ℕ) (r : Registration)
+    (references : List (List ℕ)) (place : ℕ) →
     All (Contains known) (references_of (take i rs)) →
     i < length rs →
     r ≡ get_or rs i r →
     references ≡ r.info.references →
     IsFirstUnknownAt known references place →
-    (path : List ℕ) × (slice_get r.info.references place ≡ Some path) × IsFirst (Contains known) (IsUnknown known) (references_of rs) path
+    (path : List ℕ) × (slice_get r.info.references place ≡ Some path)
+    × IsFirst (Contains known) (IsUnknown known) (references_of rs) path
 unclosed_here known rs i r references place all lt is same (path, first, at) =
     let earlier = references_of (take i rs) in
     let rest = references_of (drop (i + 1) rs) in
@@ -120,7 +137,8 @@ unclosed_here known rs i r references place all lt is same (path, first, at) =
 
 -- the references of one more registration are known
 pub closed_more :
-    (known : List (List ℕ)) (rs : List Registration) (i : ℕ) (r : Registration) (references : List (List ℕ)) →
+    (known : List (List ℕ)) (rs : List Registration) (i : ℕ) (r : Registration)
+    (references : List (List ℕ)) →
     All (Contains known) (references_of (take i rs)) →
     i < length rs →
     r ≡ get_or rs i r →
@@ -129,11 +147,14 @@ pub closed_more :
     All (Contains known) (references_of (take (i + 1) rs))
 closed_more known rs i r references all lt is same more =
     subst (All (Contains known)) (sym (references_of_more rs i r lt is))
-    (All-append (Contains known) (references_of (take i rs)) r.info.references all (subst (All (Contains known)) same more))
+    (All-append (Contains known) (references_of (take i rs)) r.info.references all
+    (subst (All (Contains known)) same more))
 
 -- and so are all
-pub closed_all : (known : List (List ℕ)) (rs : List Registration) (n : ℕ) → length rs ≤ n → All (Contains known) (references_of (take n rs)) → All (Contains known) (references_of rs)
-closed_all known rs n long all = subst (λ l. All (Contains known) (references_of l)) (take_all n rs long) all
+pub closed_all : (known : List (List ℕ)) (rs : List Registration) (n : ℕ) → length rs ≤ n
+    → All (Contains known) (references_of (take n rs)) → All (Contains known) (references_of rs)
+closed_all known rs n long all = subst (λ l. All (Contains known) (references_of l))
+    (take_all n rs long) all
 
 -- the path of the registration behind the new ones is the first that is known
 first_known :
@@ -145,9 +166,11 @@ first_known :
 first_known known rs count r front lt read =
     let paths = paths_of rs in
     let path = r.path in
-    let at : get_or paths count path ≡ path = path_at rs count r path lt (sym (get_or_from_slice_get rs count r r read)) in
+    let at : get_or paths count path ≡ path =
+    path_at rs count r path lt (sym (get_or_from_slice_get rs count r r read)) in
     let within : count < length paths = omega (arith, path_count rs) in
-    let some : slice_get paths count ≡ Some path = slice_get-get_or paths count path within ∙ ap Some at in
+    let some : slice_get paths count ≡ Some path = slice_get-get_or paths count path within
+    ∙ ap Some at in
     record {
       before = take count paths;
       after = drop (count + 1) paths;
@@ -161,12 +184,15 @@ pub known_behind :
     (known : List (List ℕ)) (rs : List Registration) (count : ℕ) →
     IsNewFront known (paths_of rs) count →
     count < length rs →
-    (r : Registration) × (slice_get rs count ≡ Some r) × IsFirst (IsUnknown known) (Contains known) (paths_of rs) r.path
+    (r : Registration) × (slice_get rs count ≡ Some r)
+    × IsFirst (IsUnknown known) (Contains known) (paths_of rs) r.path
 known_behind known rs count front lt = elim (slice_get_cases rs count).1 [
   | inl (r, within, read, at) ↦ (r, read, first_known known rs count r front lt read)
   | inr (long, none) ↦ absurd (omega arith)
 ]
 
 -- where none is behind the new ones, all are new
-pub all_new : (known : List (List ℕ)) (rs : List Registration) (count : ℕ) → IsNewFront known (paths_of rs) count → length rs ≤ count → AreUnknown known (paths_of rs)
-all_new known rs count front long = subst (AreUnknown known) (take_all count (paths_of rs) (omega (arith, path_count rs))) front.new
+pub all_new : (known : List (List ℕ)) (rs : List Registration) (count : ℕ)
+    → IsNewFront known (paths_of rs) count → length rs ≤ count → AreUnknown known (paths_of rs)
+all_new known rs count front long = subst (AreUnknown known)
+    (take_all count (paths_of rs) (omega (arith, path_count rs))) front.new

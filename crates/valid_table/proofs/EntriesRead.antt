@@ -15,25 +15,35 @@ use Rattle.valid_table.proofs.Leading.{text_and}
 use Rattle.valid_table.proofs.LineSteps.{stop_behind}
 
 -- before the first entry the first line was read
-pub version_read : (dir bytes : List ℕ) (entries : List Entry) (rest : List ℕ) → bytes ≡ codes "realiser-journal 1\n" ++ rest → entries ≡ [] → SoFarEntries dir bytes entries rest
+pub version_read : (dir bytes : List ℕ) (entries : List Entry) (rest : List ℕ) → bytes
+    ≡ codes "realiser-journal 1\n" ++ rest → entries ≡ [] → SoFarEntries dir bytes entries rest
 version_read dir bytes entries rest begins none = rw none (record {
   parts = begins;
   of_dir = All-nil (IsEntryOf dir);
-  leads = λ left goes_on. stop_behind dir Start bytes Version rest left begins tt (goes_on Begun tt);
+  leads = λ left goes_on. stop_behind dir Start bytes Version rest left begins tt
+      (goes_on Begun tt);
 })
 
 -- the text of entries, and of one more
-text_more : (entries : List Entry) (entry : Entry) (rest : List ℕ) → lines_text (lines entries) ++ (lines_text (entry_lines entry) ++ rest) ≡ lines_text (lines (entries ++ entry ∷ [])) ++ rest
+text_more : (entries : List Entry) (entry : Entry) (rest : List ℕ) → lines_text (lines entries)
+    ++ (lines_text (entry_lines entry) ++ rest) ≡ lines_text (lines (entries ++ entry ∷ [])) ++ rest
 text_more entries entry rest =
     text_and (lines entries) (entry_lines entry) rest
-    ∙ ap (λ (ls : List Line). lines_text (Version ∷ ls) ++ rest) (sym (flat_map-append entry_lines entries (entry ∷ []) ∙ ap (λ (ls : List Line). flat_map entry_lines entries ++ ls) (append-nil (entry_lines entry))))
+    ∙ ap (λ (ls : List Line). lines_text (Version ∷ ls) ++ rest)
+    (sym (flat_map-append entry_lines entries (entry ∷ [])
+    ∙ ap (λ (ls : List Line). flat_map entry_lines entries ++ ls)
+    (append-nil (entry_lines entry))))
 
 -- one more entry
-pub entries_more : (dir bytes : List ℕ) (entries more : List Entry) (rest behind : List ℕ) (entry : Entry) → SoFarEntries dir bytes entries rest → HasEntry dir rest entry behind → more ≡ entries ++ entry ∷ [] → SoFarEntries dir bytes more behind
+pub entries_more : (dir bytes : List ℕ) (entries more : List Entry) (rest behind : List ℕ)
+    (entry : Entry) → SoFarEntries dir bytes entries rest → HasEntry dir rest entry behind → more
+    ≡ entries ++ entry ∷ [] → SoFarEntries dir bytes more behind
 entries_more dir bytes entries more rest behind entry so_far h pushed = rw pushed (record {
-  parts = so_far.parts ∙ ap (λ t. lines_text (lines entries) ++ t) h.parts ∙ text_more entries entry behind;
+  parts = so_far.parts ∙ ap (λ t. lines_text (lines entries) ++ t) h.parts
+      ∙ text_more entries entry behind;
   of_dir = All-push (IsEntryOf dir) entries entry so_far.of_dir h.of_dir;
-  leads = λ left goes_on. so_far.leads left (λ from begins. lead dir rest entry behind from left h begins goes_on);
+  leads = λ left goes_on.
+      so_far.leads left (λ from begins. lead dir rest entry behind from left h begins goes_on);
 })
 
 nothing_left : (rest : List ℕ) → length rest ≡ 0 → rest ≡ []
@@ -41,11 +51,13 @@ nothing_left [] h = refl
 nothing_left (b ∷ rest) h = cc
 
 -- where nothing is left, the bytes are the entries' text
-pub text_read : (dir bytes : List ℕ) (entries : List Entry) (rest : List ℕ) → SoFarEntries dir bytes entries rest → (length rest == 0) ≡ true → IsText dir entries bytes
+pub text_read : (dir bytes : List ℕ) (entries : List Entry) (rest : List ℕ)
+    → SoFarEntries dir bytes entries rest → (length rest == 0) ≡ true → IsText dir entries bytes
 unfolding text
 text_read dir bytes entries rest so_far empty =
     let none = nothing_left rest (eqb-true (length rest) 0 empty) in
     record {
       of_dir = so_far.of_dir;
-      bytes_are = inl (so_far.parts ∙ ap (λ r. lines_text (lines entries) ++ r) none ∙ append-nil (lines_text (lines entries)));
+      bytes_are = inl (so_far.parts ∙ ap (λ r. lines_text (lines entries) ++ r) none
+          ∙ append-nil (lines_text (lines entries)));
     }

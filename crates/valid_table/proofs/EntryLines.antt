@@ -16,7 +16,8 @@ use Rattle.valid_table.proofs.LineSteps.{StopsIn, first, stop_behind, stop_here,
 -- ---- where an entry has to begin
 
 -- it may begin there
-has_to_enter : (dir : List ℕ) (from : Place) (bytes : List ℕ) → HasToBegin from bytes → (line : Line) → MayBegin dir line → MayStand dir from line
+has_to_enter : (dir : List ℕ) (from : Place) (bytes : List ℕ) → HasToBegin from bytes
+    → (line : Line) → MayBegin dir line → MayStand dir from line
 has_to_enter dir Begun bytes begins line may = may
 has_to_enter dir (Within output last) bytes begins line may = within_enters dir output last line may
 has_to_enter dir from bytes begins line may = absurd begins
@@ -27,79 +28,129 @@ nothing_ahead Opened bytes begins = absurd begins
 nothing_ahead from bytes begins = tt
 
 -- behind the lines of an entry one has to begin, where no further line of it does
-end_begins : (entry : Entry) (to : Place) (rest : List ℕ) → IsBehind entry to → IsEnd entry rest → HasToBegin to rest
+end_begins : (entry : Entry) (to : Place) (rest : List ℕ) → IsBehind entry to → IsEnd entry rest
+    → HasToBegin to rest
 end_begins (Add r) (Within None last) rest is ends = ends
 end_begins (Done deriver outputs) (Within (Some output) last) rest is ends = ends
 end_begins entry to rest is ends = absurd is
 
 -- behind an entry the lines stop where they do behind a place where an entry has to begin
-pub lead : (dir bytes : List ℕ) (entry : Entry) (rest : List ℕ) (from : Place) (left : ℕ) → HasEntry dir bytes entry rest → HasToBegin from bytes
+pub lead : (dir bytes : List ℕ) (entry : Entry) (rest : List ℕ) (from : Place) (left : ℕ)
+    → HasEntry dir bytes entry rest → HasToBegin from bytes
     → ((to : Place) → HasToBegin to rest → Stops dir to rest left) → Stops dir from bytes left
 lead dir bytes entry rest from left h begins goes_on =
     stops_in dir from (entry_lines entry) bytes rest left h.parts
-    (entry_back dir (StopsIn dir rest left) (stops_back dir rest left) from entry [] (has_to_enter dir from bytes begins) h.of_dir (λ to is. goes_on to (end_begins entry to rest is h.ends)))
+    (entry_back dir (StopsIn dir rest left) (stops_back dir rest left) from entry []
+    (has_to_enter dir from bytes begins) h.of_dir
+    (λ to is. goes_on to (end_begins entry to rest is h.ends)))
 
 -- ---- where an entry stops
 
 -- with an added path's letter only such a line goes on
-bad_added : (dir : List ℕ) (from : Place) (bytes : List ℕ) (left : ℕ) → (h : IsBadFields dir 65 None bytes left) → (line : Line) (rest : List ℕ) → Goes dir from bytes line rest → ⊥
+bad_added : (dir : List ℕ) (from : Place) (bytes : List ℕ) (left : ℕ)
+    → (h : IsBadFields dir 65 None bytes left) → (line : Line) (rest : List ℕ)
+    → Goes dir from bytes line rest → ⊥
 bad_added dir from bytes left h (Added path digest) rest goes =
     let is = line_of dir from (Added path digest) goes.may in
-    h.bad path digest rest tt (record { of_dir = is.0; is_digest = is.1; parts = ap (drop 2) (sym h.begins ∙ goes.parts) })
-bad_added dir from bytes left h line rest goes = absurd (omega (arith, ap first (sym h.begins ∙ goes.parts)))
+    h.bad path digest rest tt
+    (record {
+      of_dir = is.0;
+      is_digest = is.1;
+      parts = ap (drop 2) (sym h.begins ∙ goes.parts);
+    })
+bad_added dir from bytes left h line rest goes =
+    absurd (omega (arith, ap first (sym h.begins ∙ goes.parts)))
 
 -- reading an added path stops where its line, or one of its references, is bad
-pub added_stops : (dir : List ℕ) (from : Place) (bytes : List ℕ) (left : ℕ) → StopsInRegistration dir 65 None bytes left → HasToBegin from bytes → Stops dir from bytes left
+pub added_stops : (dir : List ℕ) (from : Place) (bytes : List ℕ) (left : ℕ)
+    → StopsInRegistration dir 65 None bytes left → HasToBegin from bytes → Stops dir from bytes left
 added_stops dir from bytes left (inl h) begins =
-    subst (Stops dir from bytes) h.is_left (stop_here dir from bytes 65 (32 ∷ h.fields) h.begins (nothing_ahead from bytes begins) (bad_added dir from bytes left h))
+    subst (Stops dir from bytes) h.is_left
+    (stop_here dir from bytes 65 (32 ∷ h.fields) h.begins (nothing_ahead from bytes begins)
+    (bad_added dir from bytes left h))
 added_stops dir from bytes left (inr h) begins =
-    stop_behind dir from bytes (Added h.path h.digest) h.rest left (h.begins ∙ ap (λ (f : List ℕ). 65 ∷ 32 ∷ f) h.line.parts)
-    (has_to_enter dir from bytes begins (Added h.path h.digest) (h.line.of_dir, h.line.is_digest)) (h.stops None)
+    stop_behind dir from bytes (Added h.path h.digest) h.rest left
+    (h.begins ∙ ap (λ (f : List ℕ). 65 ∷ 32 ∷ f) h.line.parts)
+    (has_to_enter dir from bytes begins (Added h.path h.digest) (h.line.of_dir, h.line.is_digest))
+    (h.stops None)
 
 -- with a deriver's letter only such a line goes on
-bad_deriver : (dir : List ℕ) (from : Place) (bytes fields : List ℕ) → bytes ≡ 68 ∷ 32 ∷ fields → ((path rest : List ℕ) → IsDeriverLine dir fields path rest → ⊥) → (line : Line) (rest : List ℕ) → Goes dir from bytes line rest → ⊥
+bad_deriver : (dir : List ℕ) (from : Place) (bytes fields : List ℕ) → bytes ≡ 68 ∷ 32 ∷ fields
+    → ((path rest : List ℕ) → IsDeriverLine dir fields path rest → ⊥)
+    → (line : Line) (rest : List ℕ) → Goes dir from bytes line rest → ⊥
 bad_deriver dir from bytes fields begun none (Deriver path) rest goes =
     let is = line_of dir from (Deriver path) goes.may in
-    none path rest (record { line = record { of_dir = is.0; parts = ap (drop 2) (sym begun ∙ goes.parts) ∙ append_assoc path (10 ∷ []) rest }; named = is.1; ahead = goes.ahead })
-bad_deriver dir from bytes fields begun none line rest goes = absurd (omega (arith, ap first (sym begun ∙ goes.parts)))
+    none path rest
+    (record {
+      line =
+          record {
+            of_dir = is.0;
+            parts = ap (drop 2) (sym begun ∙ goes.parts)
+                ∙ append_assoc path (10 ∷ []) rest;
+          };
+      named = is.1;
+      ahead = goes.ahead;
+    })
+bad_deriver dir from bytes fields begun none line rest goes =
+    absurd (omega (arith, ap first (sym begun ∙ goes.parts)))
 
-pub deriver_stops : (dir : List ℕ) (from : Place) (bytes fields : List ℕ) → bytes ≡ 68 ∷ 32 ∷ fields → ((path rest : List ℕ) → IsDeriverLine dir fields path rest → ⊥) → HasToBegin from bytes → Stops dir from bytes (length bytes)
+pub deriver_stops : (dir : List ℕ) (from : Place) (bytes fields : List ℕ) → bytes ≡ 68 ∷ 32 ∷ fields
+    → ((path rest : List ℕ) → IsDeriverLine dir fields path rest → ⊥) → HasToBegin from bytes
+    → Stops dir from bytes (length bytes)
 deriver_stops dir from bytes fields begun none begins =
-    stop_here dir from bytes 68 (32 ∷ fields) begun (nothing_ahead from bytes begins) (bad_deriver dir from bytes fields begun none)
+    stop_here dir from bytes 68 (32 ∷ fields) begun (nothing_ahead from bytes begins)
+    (bad_deriver dir from bytes fields begun none)
 
 -- a deriver's line, from its path on
-deriver_text : (dir bytes fields path rest : List ℕ) → bytes ≡ 68 ∷ 32 ∷ fields → IsDeriverLine dir fields path rest → bytes ≡ line_text (Deriver path) ++ rest
+deriver_text : (dir bytes fields path rest : List ℕ) → bytes ≡ 68 ∷ 32 ∷ fields
+    → IsDeriverLine dir fields path rest → bytes ≡ line_text (Deriver path) ++ rest
 deriver_text dir bytes fields path rest begun line =
-    begun ∙ ap (λ (f : List ℕ). 68 ∷ 32 ∷ f) (line.line.parts ∙ sym (append_assoc path (10 ∷ []) rest))
+    begun ∙ ap (λ (f : List ℕ). 68 ∷ 32 ∷ f) (line.line.parts
+    ∙ sym (append_assoc path (10 ∷ []) rest))
 
 -- behind a deriver's line the lines stop where its outputs do
-pub done_stops : (dir : List ℕ) (from : Place) (bytes fields path rest : List ℕ) (left : ℕ) → bytes ≡ 68 ∷ 32 ∷ fields → IsDeriverLine dir fields path rest → Stops dir Opened rest left → HasToBegin from bytes → Stops dir from bytes left
+pub done_stops : (dir : List ℕ) (from : Place) (bytes fields path rest : List ℕ) (left : ℕ) → bytes
+    ≡ 68 ∷ 32 ∷ fields → IsDeriverLine dir fields path rest → Stops dir Opened rest left
+    → HasToBegin from bytes → Stops dir from bytes left
 done_stops dir from bytes fields path rest left begun line h begins =
-    stop_behind dir from bytes (Deriver path) rest left (deriver_text dir bytes fields path rest begun line)
+    stop_behind dir from bytes (Deriver path) rest left
+    (deriver_text dir bytes fields path rest begun line)
     (has_to_enter dir from bytes begins (Deriver path) (line.line.of_dir, line.named)) h
 
 -- where neither an added path nor a deriver begins, no line goes on
-nothing_begins : (dir : List ℕ) (from : Place) (bytes : List ℕ) → IsNoLine 65 bytes → IsNoLine 68 bytes → HasToBegin from bytes → (line : Line) (rest : List ℕ) → Goes dir from bytes line rest → ⊥
+nothing_begins : (dir : List ℕ) (from : Place) (bytes : List ℕ) → IsNoLine 65 bytes
+    → IsNoLine 68 bytes → HasToBegin from bytes → (line : Line) (rest : List ℕ)
+    → Goes dir from bytes line rest → ⊥
 nothing_begins dir Start bytes added derived begins line rest goes = absurd begins
 nothing_begins dir Opened bytes added derived begins line rest goes = absurd begins
-nothing_begins dir from bytes added derived begins (Added path digest) rest goes = added _ goes.parts
+nothing_begins dir from bytes added derived begins (Added path digest) rest goes =
+    added _ goes.parts
 nothing_begins dir from bytes added derived begins (Deriver path) rest goes = derived _ goes.parts
-nothing_begins dir (Within (Some output) last) bytes added derived begins (Output path digest) rest goes = begins.0 _ goes.parts
-nothing_begins dir (Within (Some output) last) bytes added derived begins (Reference path) rest goes = begins.1 _ goes.parts
-nothing_begins dir (Within None last) bytes added derived begins (Reference path) rest goes = begins _ goes.parts
+nothing_begins dir (Within (Some output) last) bytes added derived begins (Output path digest) rest
+    goes = begins.0 _ goes.parts
+nothing_begins dir (Within (Some output) last) bytes added derived begins (Reference path) rest
+    goes = begins.1 _ goes.parts
+nothing_begins dir (Within None last) bytes added derived begins (Reference path) rest goes =
+    begins _ goes.parts
 nothing_begins dir from bytes added derived begins line rest goes = absurd goes.may
 
-pub no_entry : (dir : List ℕ) (from : Place) (bytes : List ℕ) → bytes ≢ [] → IsNoLine 65 bytes → IsNoLine 68 bytes → HasToBegin from bytes → Stops dir from bytes (length bytes)
+pub no_entry : (dir : List ℕ) (from : Place) (bytes : List ℕ) → bytes ≢ [] → IsNoLine 65 bytes
+    → IsNoLine 68 bytes → HasToBegin from bytes → Stops dir from bytes (length bytes)
 no_entry dir from [] some added derived begins = absurd (some refl)
 no_entry dir from (c ∷ more) some added derived begins =
-    stop_here dir from (c ∷ more) c more refl (nothing_ahead from (c ∷ more) begins) (nothing_begins dir from (c ∷ more) added derived begins)
+    stop_here dir from (c ∷ more) c more refl (nothing_ahead from (c ∷ more) begins)
+    (nothing_begins dir from (c ∷ more) added derived begins)
 
 -- ---- entries that were read
 
-pub done_found : (dir bytes fields deriver behind rest : List ℕ) (read shown : List Registration) → bytes ≡ 68 ∷ 32 ∷ fields → IsDeriverLine dir fields deriver behind → HasOutputs dir behind read rest → shown ≡ read → HasEntry dir bytes (Done deriver shown) rest
+pub done_found : (dir bytes fields deriver behind rest : List ℕ) (read shown : List Registration)
+    → bytes ≡ 68 ∷ 32 ∷ fields → IsDeriverLine dir fields deriver behind
+    → HasOutputs dir behind read rest → shown ≡ read → HasEntry dir bytes (Done deriver shown) rest
 done_found dir bytes fields deriver behind rest read shown begun line h same = rw same (record {
-  parts = deriver_text dir bytes fields deriver behind begun line ∙ ap (λ b. line_text (Deriver deriver) ++ b) h.so_far.parts
-      ∙ sym (append_assoc (line_text (Deriver deriver)) (lines_text (flat_map output_lines read)) rest);
+  parts = deriver_text dir bytes fields deriver behind begun line
+      ∙ ap (λ b. line_text (Deriver deriver) ++ b) h.so_far.parts
+      ∙ sym (append_assoc (line_text (Deriver deriver)) (lines_text (flat_map output_lines read))
+      rest);
   of_dir = (line.line.of_dir, line.named, h.some, h.so_far.rising, h.so_far.of_dir);
   ends = (h.no_output, h.no_reference);
 })

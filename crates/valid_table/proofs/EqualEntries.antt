@@ -11,22 +11,29 @@ use Rattle.valid_table.specs.declared.entry.Entry.TheVariants.{Add, Done}
 use Rattle.valid_table.specs.declared.entry.Registration.{Registration}
 
 -- two tests, each of one part
-both_parts : {P Q R : Type 0} (a b : Bool) → Decides a P → Decides b Q → (P → Q → R) → (R → P) → (R → Q) → Decides (a && b) R
-both_parts a b first second join one two =
-    (λ h. let parts = and_parts a b h in join (first.0 parts.0) (second.0 parts.1), λ r. and_from a b (first.1 (one r)) (second.1 (two r)))
+both_parts : {P Q R : Type 0} (a b : Bool) → Decides a P → Decides b Q → (P → Q → R) → (R → P)
+    → (R → Q) → Decides (a && b) R
+both_parts a b first second join one two = (
+  λ h. let parts = and_parts a b h in join (first.0 parts.0) (second.0 parts.1),
+  λ r. and_from a b (first.1 (one r)) (second.1 (two r)),
+)
 
 -- digests
 digests_decide : (a b : Option (List ℕ)) → Decides (option_eq (pointwise nat_eq) a b) (a ≡ b)
 digests_decide None None = (λ h. refl, λ e. refl)
 digests_decide None (Some y) = (λ h. absurd (true≢false (sym h)), λ e. cc)
 digests_decide (Some x) None = (λ h. absurd (true≢false (sym h)), λ e. cc)
-digests_decide (Some x) (Some y) =
-    (λ h. ap Some ((bytes_decides x y).0 h), λ e. let same : x ≡ y = cc in (bytes_decides x y).1 same)
+digests_decide (Some x) (Some y) = (
+  λ h. ap Some ((bytes_decides x y).0 h),
+  λ e. let same : x ≡ y = cc
+      in (bytes_decides x y).1 same,
+)
 
 -- records that are equal by `==` are the same, and the other way
 records_decide : (a b : PathInfo) → Decides (same_record a b) (a ≡ b)
 records_decide a b =
-    both_parts (pointwise (pointwise nat_eq) a.references b.references) (option_eq (pointwise nat_eq) a.digest b.digest)
+    both_parts (pointwise (pointwise nat_eq) a.references b.references)
+    (option_eq (pointwise nat_eq) a.digest b.digest)
     (pointwise_decides bytes_decides a.references b.references) (digests_decide a.digest b.digest)
     (λ p q j. record { references = p j; digest = q j })
     (λ e. ap (λ (r : PathInfo). r.references) e)
@@ -35,7 +42,8 @@ records_decide a b =
 -- so are registrations
 registrations_decide : (a b : Registration) → Decides (same_registration a b) (a ≡ b)
 registrations_decide a b =
-    both_parts (pointwise nat_eq a.path b.path) (same_record a.info b.info) (bytes_decides a.path b.path) (records_decide a.info b.info)
+    both_parts (pointwise nat_eq a.path b.path) (same_record a.info b.info)
+    (bytes_decides a.path b.path) (records_decide a.info b.info)
     (λ p q j. record { path = p j; info = q j })
     (λ e. ap (λ (r : Registration). r.path) e)
     (λ e. ap (λ (r : Registration). r.info) e)

@@ -15,7 +15,8 @@ pub paths_of-append : (a b : List Registration) → paths_of (a ++ b) ≡ paths_
 paths_of-append a b = map-append (λ (r : Registration). r.path) a b
 
 -- and their references
-pub references_of-append : (a b : List Registration) → references_of (a ++ b) ≡ references_of a ++ references_of b
+pub references_of-append : (a b : List Registration) → references_of (a ++ b) ≡ references_of a
+    ++ references_of b
 references_of-append a b = flat_map-append (λ (r : Registration). r.info.references) a b
 
 -- what some entries register, and then others
@@ -23,26 +24,34 @@ pub registered-append : (a b : List Entry) → registered (a ++ b) ≡ registere
 registered-append a b = flat_map-append registered_by a b
 
 -- a valid path stays valid behind more registrations
-pub still_valid : (some more : List Registration) (path : List ℕ) → IsValid some path → IsValid (some ++ more) path
+pub still_valid : (some more : List Registration) (path : List ℕ) → IsValid some path
+    → IsValid (some ++ more) path
 still_valid some more path valid =
-    subst (λ paths. Contains paths path) (sym (paths_of-append some more)) (Contains-append_left (paths_of some) (paths_of more) path valid)
+    subst (λ paths. Contains paths path) (sym (paths_of-append some more))
+    (Contains-append_left (paths_of some) (paths_of more) path valid)
 
 -- each reference of registrations is valid, and so behind more of them
-pub valid_more : (some more : List Registration) (paths : List (List ℕ)) → All (IsValid some) paths → All (IsValid (some ++ more)) paths
-valid_more some more paths valid = All-weaker (IsValid some) (IsValid (some ++ more)) (still_valid some more) paths valid
+pub valid_more : (some more : List Registration) (paths : List (List ℕ)) → All (IsValid some) paths
+    → All (IsValid (some ++ more)) paths
+valid_more some more paths valid = All-weaker (IsValid some) (IsValid (some ++ more))
+    (still_valid some more) paths valid
 
 -- in closed entries behind registrations whose references are valid, each reference is valid
-closed_valid : (earlier : List Registration) (entries : List Entry) → AreReferencesValid earlier → IsClosedBehind earlier entries → AreReferencesValid (earlier ++ registered entries)
+closed_valid : (earlier : List Registration) (entries : List Entry) → AreReferencesValid earlier
+    → IsClosedBehind earlier entries → AreReferencesValid (earlier ++ registered entries)
 closed_valid earlier [] valid closed = subst AreReferencesValid (sym (append-nil earlier)) valid
 closed_valid earlier (entry ∷ entries) valid closed =
     let now = earlier ++ registered_by entry in
     let all : AreReferencesValid now =
     subst (All (IsValid now)) (sym (references_of-append earlier (registered_by entry)))
-    (All-append (IsValid now) (references_of earlier) (references_of (registered_by entry)) (valid_more earlier (registered_by entry) (references_of earlier) valid) closed.0) in
-    subst AreReferencesValid (append_assoc earlier (registered_by entry) (registered entries)) (closed_valid now entries all closed.1)
+    (All-append (IsValid now) (references_of earlier) (references_of (registered_by entry))
+    (valid_more earlier (registered_by entry) (references_of earlier) valid) closed.0) in
+    subst AreReferencesValid (append_assoc earlier (registered_by entry) (registered entries))
+    (closed_valid now entries all closed.1)
 
 -- in a closed list of entries each reference is valid
-pub closed_references_valid : (entries : List Entry) → IsClosed entries → AreReferencesValid (registered entries)
+pub closed_references_valid : (entries : List Entry) → IsClosed entries
+    → AreReferencesValid (registered entries)
 closed_references_valid entries closed = closed_valid [] entries (All-nil (IsValid [])) closed
 
 -- what entries register is what the first ones do, the next one and the rest
@@ -50,11 +59,13 @@ pub registered_at :
     (entries : List Entry) (i : ℕ) (entry : Entry) →
     i < length entries →
     entry ≡ get_or entries i entry →
-    registered entries ≡ (registered (take i entries) ++ registered_by entry) ++ registered (drop (i + 1) entries)
+    registered entries ≡ (registered (take i entries) ++ registered_by entry)
+    ++ registered (drop (i + 1) entries)
 registered_at entries i entry lt is =
     ap registered (parts_at entries i entry lt is)
     ∙ registered-append (take i entries) (entry ∷ drop (i + 1) entries)
-    ∙ sym (append_assoc (registered (take i entries)) (registered_by entry) (registered (drop (i + 1) entries)))
+    ∙ sym (append_assoc (registered (take i entries)) (registered_by entry)
+    (registered (drop (i + 1) entries)))
 
 -- entries without repetition have none up to one of them
 pub once_so_far :
@@ -65,7 +76,8 @@ pub once_so_far :
     IsOnce (registered (take i entries) ++ registered_by entry)
 once_so_far entries i entry once lt is =
     let front = registered (take i entries) ++ registered_by entry in
-    let parts = ap paths_of (registered_at entries i entry lt is) ∙ paths_of-append front (registered (drop (i + 1) entries)) in
+    let parts = ap paths_of (registered_at entries i entry lt is)
+    ∙ paths_of-append front (registered (drop (i + 1) entries)) in
     once_front (paths_of front) (paths_of (registered (drop (i + 1) entries))) (rw parts at once)
 
 -- the references of registrations are those of the first ones, of the next one and of the rest
@@ -73,8 +85,10 @@ pub references_of_at :
     (rs : List Registration) (i : ℕ) (r : Registration) →
     i < length rs →
     r ≡ get_or rs i r →
-    references_of rs ≡ references_of (take i rs) ++ (r.info.references ++ references_of (drop (i + 1) rs))
-references_of_at rs i r lt is = ap references_of (parts_at rs i r lt is) ∙ references_of-append (take i rs) (r ∷ drop (i + 1) rs)
+    references_of rs ≡ references_of (take i rs)
+    ++ (r.info.references ++ references_of (drop (i + 1) rs))
+references_of_at rs i r lt is = ap references_of (parts_at rs i r lt is)
+    ∙ references_of-append (take i rs) (r ∷ drop (i + 1) rs)
 
 -- those of one more registration
 pub references_of_more :

@@ -12,58 +12,88 @@ use Rattle.valid_table.proofs.LineTexts.{fields_apart, two_path_lines}
 use Rattle.valid_table.proofs.Separators.{Lacks, digest_lacks, dir_lacks, lacks_not, newline, path_lacks, same_cut, space}
 
 -- bytes that are refused, not for want of memory, are no path
-pub no_path : (dir text : List ℕ) (fault : NameFault) → (path_fault dir text ≡ Some fault) ⊎ ((path_fault dir text ≡ None) × (fault ≡ NoMemory)) → (fault ≡ NoMemory → ⊥) → IsPathOf dir text → ⊥
+pub no_path : (dir text : List ℕ) (fault : NameFault) → (path_fault dir text ≡ Some fault)
+    ⊎ ((path_fault dir text ≡ None) × (fault ≡ NoMemory)) → (fault ≡ NoMemory → ⊥)
+    → IsPathOf dir text → ⊥
 no_path dir text fault (inl wrong) other is = let none = no_fault_of_path dir text is in cc
 no_path dir text fault (inr memory) other is = other memory.1
 
 -- without a newline there is no line with a path
-pub no_path_line : (dir bytes path rest : List ℕ) → Lacks 10 bytes → IsPathLine dir bytes path rest → ⊥
+pub no_path_line : (dir bytes path rest : List ℕ) → Lacks 10 bytes → IsPathLine dir bytes path rest
+    → ⊥
 no_path_line dir bytes path rest none is = lacks_not 10 path rest (subst (Lacks 10) is.parts none)
 
 -- the path of a line is what stands before the first newline
-pub same_path_line : (dir bytes line behind path rest : List ℕ) → IsStoreDir dir → Lacks 10 line → bytes ≡ line ++ 10 ∷ behind → IsPathLine dir bytes path rest → (path ≡ line) × (rest ≡ behind)
+pub same_path_line : (dir bytes line behind path rest : List ℕ) → IsStoreDir dir → Lacks 10 line
+    → bytes ≡ line ++ 10 ∷ behind → IsPathLine dir bytes path rest → (path ≡ line) × (rest ≡ behind)
 same_path_line dir bytes line behind path rest of_dir none parts is =
-    same_cut 10 path line rest behind (path_lacks 10 newline dir path (dir_lacks 10 newline dir of_dir) is.of_dir) none (sym is.parts ∙ parts)
+    same_cut 10 path line rest behind
+    (path_lacks 10 newline dir path (dir_lacks 10 newline dir of_dir) is.of_dir) none
+    (sym is.parts ∙ parts)
 
 -- where that is no path, there is no line with a path
-pub other_path_line : (dir bytes line behind path rest : List ℕ) → IsStoreDir dir → Lacks 10 line → bytes ≡ line ++ 10 ∷ behind → (IsPathOf dir line → ⊥) → IsPathLine dir bytes path rest → ⊥
+pub other_path_line : (dir bytes line behind path rest : List ℕ) → IsStoreDir dir → Lacks 10 line
+    → bytes ≡ line ++ 10 ∷ behind → (IsPathOf dir line → ⊥) → IsPathLine dir bytes path rest → ⊥
 other_path_line dir bytes line behind path rest of_dir none parts other is =
-    other (subst (IsPathOf dir) (same_path_line dir bytes line behind path rest of_dir none parts is).0 is.of_dir)
+    other (subst (IsPathOf dir)
+    (same_path_line dir bytes line behind path rest of_dir none parts is).0 is.of_dir)
 
 -- without a space there are no fields
-pub no_space : (dir bytes path : List ℕ) (digest : Option (List ℕ)) (rest : List ℕ) → Lacks 32 bytes → IsFieldsLine dir bytes path digest rest → ⊥
+pub no_space : (dir bytes path : List ℕ) (digest : Option (List ℕ)) (rest : List ℕ) → Lacks 32 bytes
+    → IsFieldsLine dir bytes path digest rest → ⊥
 no_space dir bytes path digest rest none is =
-    lacks_not 32 path (digest_text digest ++ (10 ∷ rest)) (subst (Lacks 32) (is.parts ∙ fields_apart path digest rest) none)
+    lacks_not 32 path (digest_text digest ++ (10 ∷ rest))
+    (subst (Lacks 32) (is.parts ∙ fields_apart path digest rest) none)
 
 -- the path of the fields is what stands before the first space
-pub behind_space : (dir bytes text fields path : List ℕ) (digest : Option (List ℕ)) (rest : List ℕ) → IsStoreDir dir → Lacks 32 text → bytes ≡ text ++ 32 ∷ fields → IsFieldsLine dir bytes path digest rest → (path ≡ text) × (digest_text digest ++ (10 ∷ rest) ≡ fields)
+pub behind_space : (dir bytes text fields path : List ℕ) (digest : Option (List ℕ)) (rest : List ℕ)
+    → IsStoreDir dir → Lacks 32 text → bytes ≡ text ++ 32 ∷ fields
+    → IsFieldsLine dir bytes path digest rest → (path ≡ text)
+    × (digest_text digest ++ (10 ∷ rest) ≡ fields)
 behind_space dir bytes text fields path digest rest of_dir none parts is =
-    same_cut 32 path text (digest_text digest ++ (10 ∷ rest)) fields (path_lacks 32 space dir path (dir_lacks 32 space dir of_dir) is.of_dir) none
+    same_cut 32 path text (digest_text digest ++ (10 ∷ rest)) fields
+    (path_lacks 32 space dir path (dir_lacks 32 space dir of_dir) is.of_dir) none
     (sym (fields_apart path digest rest) ∙ sym is.parts ∙ parts)
 
 -- where no newline stands behind that space, there are no fields
-pub no_newline : (dir bytes text fields path : List ℕ) (digest : Option (List ℕ)) (rest : List ℕ) → IsStoreDir dir → Lacks 32 text → bytes ≡ text ++ 32 ∷ fields → Lacks 10 fields → IsFieldsLine dir bytes path digest rest → ⊥
+pub no_newline : (dir bytes text fields path : List ℕ) (digest : Option (List ℕ)) (rest : List ℕ)
+    → IsStoreDir dir → Lacks 32 text → bytes ≡ text ++ 32 ∷ fields → Lacks 10 fields
+    → IsFieldsLine dir bytes path digest rest → ⊥
 no_newline dir bytes text fields path digest rest of_dir none parts lacks is =
-    lacks_not 10 (digest_text digest) rest (subst (Lacks 10) (sym (behind_space dir bytes text fields path digest rest of_dir none parts is).1) lacks)
+    lacks_not 10 (digest_text digest) rest
+    (subst (Lacks 10)
+    (sym (behind_space dir bytes text fields path digest rest of_dir none parts is).1) lacks)
 
--- where no digest's text stands up to that newline, or no path up to that space, there are no fields
-pub other_digest : (dir bytes text fields line behind path : List ℕ) (digest : Option (List ℕ)) (rest : List ℕ) → IsStoreDir dir → Lacks 32 text → bytes ≡ text ++ 32 ∷ fields → Lacks 10 line → fields ≡ line ++ 10 ∷ behind → ((d : Option (List ℕ)) → IsDigest d → line ≢ digest_text d) → IsFieldsLine dir bytes path digest rest → ⊥
-other_digest dir bytes text fields line behind path digest rest of_dir none parts lacks ends other is =
+-- where no digest's text stands up to that newline, or no path up to that space, there are no
+-- fields
+pub other_digest : (dir bytes text fields line behind path : List ℕ) (digest : Option (List ℕ))
+    (rest : List ℕ) → IsStoreDir dir → Lacks 32 text → bytes ≡ text ++ 32 ∷ fields → Lacks 10 line
+    → fields ≡ line ++ 10 ∷ behind → ((d : Option (List ℕ)) → IsDigest d → line ≢ digest_text d)
+    → IsFieldsLine dir bytes path digest rest → ⊥
+other_digest dir bytes text fields line behind path digest rest of_dir none parts lacks ends other
+    is =
     let cut = behind_space dir bytes text fields path digest rest of_dir none parts is in
-    other digest is.is_digest (sym (same_cut 10 (digest_text digest) line rest behind (digest_lacks digest is.is_digest) lacks (cut.1 ∙ ends)).0)
+    other digest is.is_digest
+    (sym (same_cut 10 (digest_text digest) line rest behind (digest_lacks digest is.is_digest)
+    lacks (cut.1 ∙ ends)).0)
 
-pub other_path : (dir bytes text fields path : List ℕ) (digest : Option (List ℕ)) (rest : List ℕ) → IsStoreDir dir → Lacks 32 text → bytes ≡ text ++ 32 ∷ fields → (IsPathOf dir text → ⊥) → IsFieldsLine dir bytes path digest rest → ⊥
+pub other_path : (dir bytes text fields path : List ℕ) (digest : Option (List ℕ)) (rest : List ℕ)
+    → IsStoreDir dir → Lacks 32 text → bytes ≡ text ++ 32 ∷ fields → (IsPathOf dir text → ⊥)
+    → IsFieldsLine dir bytes path digest rest → ⊥
 other_path dir bytes text fields path digest rest of_dir none parts other is =
-    other (subst (IsPathOf dir) (behind_space dir bytes text fields path digest rest of_dir none parts is).0 is.of_dir)
+    other (subst (IsPathOf dir)
+    (behind_space dir bytes text fields path digest rest of_dir none parts is).0 is.of_dir)
 
 -- a line with another path than a `.drv` one is no deriver's
-pub not_drv : (dir bytes path behind name other rest : List ℕ) → IsPathLine dir bytes path behind → name ≡ name_of path → is_drv_name name ≡ false → IsDeriverLine dir bytes other rest → ⊥
+pub not_drv : (dir bytes path behind name other rest : List ℕ) → IsPathLine dir bytes path behind
+    → name ≡ name_of path → is_drv_name name ≡ false → IsDeriverLine dir bytes other rest → ⊥
 not_drv dir bytes path behind name other rest line named fails is =
     let same = two_path_lines dir bytes other rest path behind is.line line in
     false≢true (sym fails ∙ ap is_drv_name (named ∙ ap name_of (sym same.0)) ∙ is.named)
 
 -- nor is one that no output follows
-pub not_ahead : (dir bytes path behind other rest : List ℕ) → IsPathLine dir bytes path behind → IsNoLine 79 behind → IsDeriverLine dir bytes other rest → ⊥
+pub not_ahead : (dir bytes path behind other rest : List ℕ) → IsPathLine dir bytes path behind
+    → IsNoLine 79 behind → IsDeriverLine dir bytes other rest → ⊥
 not_ahead dir bytes path behind other rest line none is =
     let same = two_path_lines dir bytes other rest path behind is.line line in
     none is.ahead.0 (sym same.1 ∙ is.ahead.1)

@@ -14,7 +14,9 @@ abbrev pub first : List ℕ → ℕ
 first bytes = get_or bytes 0 0
 
 -- where no line goes on with bytes that begin with something, the lines stop
-pub stop_here : (dir : List ℕ) (place : Place) (bad : List ℕ) (c : ℕ) (more : List ℕ) → bad ≡ c ∷ more → Ahead place bad → ((line : Line) (rest : List ℕ) → Goes dir place bad line rest → ⊥) → Stops dir place bad (length bad)
+pub stop_here : (dir : List ℕ) (place : Place) (bad : List ℕ) (c : ℕ) (more : List ℕ) → bad ≡ c
+    ∷ more → Ahead place bad → ((line : Line) (rest : List ℕ) → Goes dir place bad line rest → ⊥)
+    → Stops dir place bad (length bad)
 stop_here dir place bad c more begins ahead stuck = record {
   lines = [];
   bad = bad;
@@ -25,11 +27,14 @@ stop_here dir place bad c more begins ahead stuck = record {
 }
 
 -- one line, and where the lines behind it stop
-pub stop_behind : (dir : List ℕ) (from : Place) (bytes : List ℕ) (line : Line) (more : List ℕ) (left : ℕ) → bytes ≡ line_text line ++ more → MayStand dir from line → Stops dir (behind from line) more left → Stops dir from bytes left
+pub stop_behind : (dir : List ℕ) (from : Place) (bytes : List ℕ) (line : Line) (more : List ℕ)
+    (left : ℕ) → bytes ≡ line_text line ++ more → MayStand dir from line
+    → Stops dir (behind from line) more left → Stops dir from bytes left
 stop_behind dir from bytes line more left parts may h = record {
   lines = line ∷ h.lines;
   bad = h.bad;
-  parts = parts ∙ ap (λ (t : List ℕ). line_text line ++ t) h.parts ∙ sym (append_assoc (line_text line) (lines_text h.lines) h.bad);
+  parts = parts ∙ ap (λ (t : List ℕ). line_text line ++ t) h.parts
+      ∙ sym (append_assoc (line_text line) (lines_text h.lines) h.bad);
   leads = (may, h.leads);
   is_left = h.is_left;
   some = h.some;
@@ -42,14 +47,19 @@ StopsIn dir rest left from lines = Stops dir from (lines_text lines ++ rest) lef
 -- they stop where those behind the first one do
 pub stops_back : (dir rest : List ℕ) (left : ℕ) → IsBackward dir (StopsIn dir rest left)
 stops_back dir rest left from line more may h =
-    stop_behind dir from (lines_text (line ∷ more) ++ rest) line (lines_text more ++ rest) left (append_assoc (line_text line) (lines_text more) rest) may h
+    stop_behind dir from (lines_text (line ∷ more) ++ rest) line (lines_text more ++ rest) left
+    (append_assoc (line_text line) (lines_text more) rest) may h
 
 -- the same bytes stop with the same left
-pub stops_in : (dir : List ℕ) (from : Place) (lines : List Line) (bytes rest : List ℕ) (left : ℕ) → bytes ≡ lines_text lines ++ rest → StopsIn dir rest left from (lines ++ []) → Stops dir from bytes left
+pub stops_in : (dir : List ℕ) (from : Place) (lines : List Line) (bytes rest : List ℕ) (left : ℕ)
+    → bytes ≡ lines_text lines ++ rest → StopsIn dir rest left from (lines ++ [])
+    → Stops dir from bytes left
 stops_in dir from lines bytes rest left parts h =
-    subst (λ b. Stops dir from b left) (ap (λ ls. lines_text ls ++ rest) (append-nil lines) ∙ sym parts) h
+    subst (λ b. Stops dir from b left) (ap (λ ls. lines_text ls ++ rest) (append-nil lines)
+    ∙ sym parts) h
 
 -- what follows from where a reader stopped
-pub stops_where : (P Q : ℕ → Type 0) → ((left : ℕ) → P left → Q left) → (stop : Stop) → StopsWhere P stop → StopsWhere Q stop
+pub stops_where : (P Q : ℕ → Type 0) → ((left : ℕ) → P left → Q left) → (stop : Stop)
+    → StopsWhere P stop → StopsWhere Q stop
 stops_where P Q weaker Memory h = tt
 stops_where P Q weaker (Left left) h = weaker left h

@@ -1,4 +1,5 @@
--- The bytes of a journal's lines: each ends in its only newline, and two lines are told apart by their bytes.
+-- The bytes of a journal's lines: each ends in its only newline, and two lines are told apart by
+-- their bytes.
 use Rattle.std.proofs.Common.{◌≡◌, ◌≢◌, ◌==◌, ℕ, not, List, [], ◌∷◌, ◌++◌, length, get_or, drop, refl, ap, sym, ◌∙◌, arith, All, Option, Some, None, Result, Ok}
 use Rattle.std.specs.Prelude.{codes, flat_map}
 use Rattle.std.proofs.lemmas.List.{append_assoc, append_cancel_left}
@@ -16,32 +17,44 @@ use Rattle.valid_table.proofs.Separators.{Lacks, bytes_everywhere, digest_lacks,
 -- ---- fields
 
 -- a path, a space, a digest and a newline, and what is behind them
-pub fields_apart : (path : List ℕ) (digest : Option (List ℕ)) (rest : List ℕ) → fields_text path digest ++ rest ≡ path ++ (32 ∷ (digest_text digest ++ (10 ∷ rest)))
+pub fields_apart : (path : List ℕ) (digest : Option (List ℕ)) (rest : List ℕ)
+    → fields_text path digest ++ rest ≡ path ++ (32 ∷ (digest_text digest ++ (10 ∷ rest)))
 fields_apart path digest rest =
     append_assoc path (32 ∷ (digest_text digest ++ (10 ∷ []))) rest
     ∙ ap (λ (more : List ℕ). path ++ (32 ∷ more)) (append_assoc (digest_text digest) (10 ∷ []) rest)
 
 -- a digest has one text
-same_digest : (a b : Option (List ℕ)) → IsDigest a → IsDigest b → digest_text a ≡ digest_text b → a ≡ b
+same_digest : (a b : Option (List ℕ)) → IsDigest a → IsDigest b → digest_text a ≡ digest_text b → a
+    ≡ b
 same_digest None None one two e = refl
-same_digest None (Some b) one two e = absurd (omega (arith, ap length e, length-encode_with lower_digits b, two.0))
-same_digest (Some a) None one two e = absurd (omega (arith, ap length e, length-encode_with lower_digits a, one.0))
+same_digest None (Some b) one two e =
+    absurd (omega (arith, ap length e, length-encode_with lower_digits b, two.0))
+same_digest (Some a) None one two e =
+    absurd (omega (arith, ap length e, length-encode_with lower_digits a, one.0))
 same_digest (Some a) (Some b) one two e =
-    let told : Result (List ℕ) FromHexError → Result (List ℕ) FromHexError → Type 0 = λ x y. x ≡ y in
-    let same : told (Ok a) (Ok b) = sym (decode_of-encode_lower a (bytes_everywhere a one.1)) ∙ ap decode_of e ∙ decode_of-encode_lower b (bytes_everywhere b two.1) in
+    let told : Result (List ℕ) FromHexError → Result (List ℕ) FromHexError → Type 0 = λ x y. x ≡ y
+    in
+    let same : told (Ok a) (Ok b) = sym (decode_of-encode_lower a (bytes_everywhere a one.1))
+    ∙ ap decode_of e ∙ decode_of-encode_lower b (bytes_everywhere b two.1) in
     cc
 
 -- bytes have one path with a newline behind it
-pub two_path_lines : (dir bytes path rest other more : List ℕ) → IsPathLine dir bytes path rest → IsPathLine dir bytes other more → (path ≡ other) × (rest ≡ more)
+pub two_path_lines : (dir bytes path rest other more : List ℕ) → IsPathLine dir bytes path rest
+    → IsPathLine dir bytes other more → (path ≡ other) × (rest ≡ more)
 two_path_lines dir bytes path rest other more one two =
     same_path 10 newline dir path other rest more one.of_dir two.of_dir (sym one.parts ∙ two.parts)
 
 -- bytes have one path with a digest behind it
-pub two_fields : (dir bytes path : List ℕ) (digest : Option (List ℕ)) (rest other : List ℕ) (sum : Option (List ℕ)) (more : List ℕ) → IsFieldsLine dir bytes path digest rest → IsFieldsLine dir bytes other sum more
+pub two_fields : (dir bytes path : List ℕ) (digest : Option (List ℕ)) (rest other : List ℕ)
+    (sum : Option (List ℕ)) (more : List ℕ) → IsFieldsLine dir bytes path digest rest
+    → IsFieldsLine dir bytes other sum more
     → (path ≡ other) × (digest ≡ sum) × (rest ≡ more)
 two_fields dir bytes path digest rest other sum more one two =
-    let paths = same_path 32 space dir path other _ _ one.of_dir two.of_dir (sym (one.parts ∙ fields_apart path digest rest) ∙ two.parts ∙ fields_apart other sum more) in
-    let digests = same_cut 10 (digest_text digest) (digest_text sum) rest more (digest_lacks digest one.is_digest) (digest_lacks sum two.is_digest) paths.1 in
+    let paths = same_path 32 space dir path other _ _ one.of_dir two.of_dir
+    (sym (one.parts ∙ fields_apart path digest rest) ∙ two.parts ∙ fields_apart other sum more)
+    in
+    let digests = same_cut 10 (digest_text digest) (digest_text sum) rest more
+    (digest_lacks digest one.is_digest) (digest_lacks sum two.is_digest) paths.1 in
     (paths.0, same_digest digest sum one.is_digest two.is_digest digests.0, digests.1)
 
 -- ---- lines
@@ -55,20 +68,27 @@ IsLineOf dir (Output path digest) = IsPathOf dir path × IsDigest digest
 IsLineOf dir (Reference path) = IsPathOf dir path
 
 -- the fields of two lines, told apart by their bytes
-same_record : (dir p q : List ℕ) (a b : Option (List ℕ)) (x y : List ℕ) → IsPathOf dir p × IsDigest a → IsPathOf dir q × IsDigest b → fields_text p a ++ x ≡ fields_text q b ++ y → (p ≡ q) × (a ≡ b) × (x ≡ y)
+same_record : (dir p q : List ℕ) (a b : Option (List ℕ)) (x y : List ℕ) → IsPathOf dir p
+    × IsDigest a → IsPathOf dir q × IsDigest b → fields_text p a ++ x ≡ fields_text q b ++ y
+    → (p ≡ q) × (a ≡ b) × (x ≡ y)
 same_record dir p q a b x y one two e =
-    two_fields dir (fields_text p a ++ x) p a x q b y (record { of_dir = one.0; is_digest = one.1; parts = refl }) (record { of_dir = two.0; is_digest = two.1; parts = e })
+    two_fields dir (fields_text p a ++ x) p a x q b y
+    (record { of_dir = one.0; is_digest = one.1; parts = refl })
+    (record { of_dir = two.0; is_digest = two.1; parts = e })
 
-same_lone_path : (dir p q x y : List ℕ) → IsPathOf dir p → IsPathOf dir q → (p ++ (10 ∷ [])) ++ x ≡ (q ++ (10 ∷ [])) ++ y → (p ≡ q) × (x ≡ y)
+same_lone_path : (dir p q x y : List ℕ) → IsPathOf dir p → IsPathOf dir q → (p ++ (10 ∷ [])) ++ x
+    ≡ (q ++ (10 ∷ [])) ++ y → (p ≡ q) × (x ≡ y)
 same_lone_path dir p q x y one two e =
-    same_path 10 newline dir p q x y one two (sym (append_assoc p (10 ∷ []) x) ∙ e ∙ append_assoc q (10 ∷ []) y)
+    same_path 10 newline dir p q x y one two (sym (append_assoc p (10 ∷ []) x) ∙ e
+    ∙ append_assoc q (10 ∷ []) y)
 
 -- the first byte
 abbrev first : List ℕ → ℕ
 first bytes = get_or bytes 0 0
 
 -- two texts that begin with lines are split alike
-pub same_lines : (dir : List ℕ) (a b : Line) (x y : List ℕ) → IsLineOf dir a → IsLineOf dir b → line_text a ++ x ≡ line_text b ++ y → (a ≡ b) × (x ≡ y)
+pub same_lines : (dir : List ℕ) (a b : Line) (x y : List ℕ) → IsLineOf dir a → IsLineOf dir b
+    → line_text a ++ x ≡ line_text b ++ y → (a ≡ b) × (x ≡ y)
 same_lines dir Version Version x y one two e = (refl, append_cancel_left (line_text Version) x y e)
 same_lines dir (Added p a) (Added q b) x y one two e =
     let same = same_record dir p q a b x y one two (ap (drop 2) e) in
@@ -97,31 +117,46 @@ body (Reference path) = codes "R " ++ path
 -- a line and what follows it
 pub line_and : (line : Line) (rest : List ℕ) → line_text line ++ rest ≡ body line ++ 10 ∷ rest
 line_and Version rest = refl
-line_and (Added path digest) rest = ap (λ (tail : List ℕ). codes "A " ++ tail) (fields_apart path digest rest ∙ sym (append_assoc path (32 ∷ digest_text digest) (10 ∷ rest)))
-line_and (Deriver path) rest = ap (λ (tail : List ℕ). codes "D " ++ tail) (append_assoc path (10 ∷ []) rest)
-line_and (Output path digest) rest = ap (λ (tail : List ℕ). codes "O " ++ tail) (fields_apart path digest rest ∙ sym (append_assoc path (32 ∷ digest_text digest) (10 ∷ rest)))
-line_and (Reference path) rest = ap (λ (tail : List ℕ). codes "R " ++ tail) (append_assoc path (10 ∷ []) rest)
+line_and (Added path digest) rest = ap (λ (tail : List ℕ). codes "A " ++ tail)
+    (fields_apart path digest rest ∙ sym (append_assoc path (32 ∷ digest_text digest) (10 ∷ rest)))
+line_and (Deriver path) rest = ap (λ (tail : List ℕ). codes "D " ++ tail)
+    (append_assoc path (10 ∷ []) rest)
+line_and (Output path digest) rest = ap (λ (tail : List ℕ). codes "O " ++ tail)
+    (fields_apart path digest rest ∙ sym (append_assoc path (32 ∷ digest_text digest) (10 ∷ rest)))
+line_and (Reference path) rest = ap (λ (tail : List ℕ). codes "R " ++ tail)
+    (append_assoc path (10 ∷ []) rest)
 
 -- a letter and a space before bytes without newlines
-lettered : (letter : ℕ) (bytes : List ℕ) → letter ≢ 10 → Lacks 10 bytes → Lacks 10 (letter ∷ 32 ∷ bytes)
-lettered letter bytes other clear = All-cons (λ b. b ≢ 10) letter (32 ∷ bytes) other (All-cons (λ b. b ≢ 10) 32 bytes (λ e. absurd (omega arith)) clear)
+lettered : (letter : ℕ) (bytes : List ℕ) → letter ≢ 10 → Lacks 10 bytes
+    → Lacks 10 (letter ∷ 32 ∷ bytes)
+lettered letter bytes other clear = All-cons (λ b. b ≢ 10) letter (32 ∷ bytes) other
+    (All-cons (λ b. b ≢ 10) 32 bytes (λ e. absurd (omega arith)) clear)
 
 -- a path and its digest have no newline
-record_lacks : (dir path : List ℕ) (digest : Option (List ℕ)) → Lacks 10 dir → IsPathOf dir path × IsDigest digest → Lacks 10 (path ++ (32 ∷ digest_text digest))
+record_lacks : (dir path : List ℕ) (digest : Option (List ℕ)) → Lacks 10 dir → IsPathOf dir path
+    × IsDigest digest → Lacks 10 (path ++ (32 ∷ digest_text digest))
 record_lacks dir path digest clear is =
-    All-append (λ b. b ≢ 10) path (32 ∷ digest_text digest) (path_lacks 10 newline dir path clear is.0)
-    (All-cons (λ b. b ≢ 10) 32 (digest_text digest) (λ e. absurd (omega arith)) (digest_lacks digest is.1))
+    All-append (λ b. b ≢ 10) path (32 ∷ digest_text digest)
+    (path_lacks 10 newline dir path clear is.0)
+    (All-cons (λ b. b ≢ 10) 32 (digest_text digest) (λ e. absurd (omega arith))
+    (digest_lacks digest is.1))
 
 -- a line has no newline before its last byte
-pub body_lacks : (dir : List ℕ) (line : Line) → Lacks 10 dir → IsLineOf dir line → Lacks 10 (body line)
+pub body_lacks : (dir : List ℕ) (line : Line) → Lacks 10 dir → IsLineOf dir line
+    → Lacks 10 (body line)
 body_lacks dir Version clear is = passing (λ b. not (b == 10)) 10 (body Version) refl refl
-body_lacks dir (Added path digest) clear is = lettered 65 _ (λ e. absurd (omega arith)) (record_lacks dir path digest clear is)
-body_lacks dir (Deriver path) clear is = lettered 68 path (λ e. absurd (omega arith)) (path_lacks 10 newline dir path clear is.0)
-body_lacks dir (Output path digest) clear is = lettered 79 _ (λ e. absurd (omega arith)) (record_lacks dir path digest clear is)
-body_lacks dir (Reference path) clear is = lettered 82 path (λ e. absurd (omega arith)) (path_lacks 10 newline dir path clear is)
+body_lacks dir (Added path digest) clear is =
+    lettered 65 _ (λ e. absurd (omega arith)) (record_lacks dir path digest clear is)
+body_lacks dir (Deriver path) clear is = lettered 68 path (λ e. absurd (omega arith))
+    (path_lacks 10 newline dir path clear is.0)
+body_lacks dir (Output path digest) clear is =
+    lettered 79 _ (λ e. absurd (omega arith)) (record_lacks dir path digest clear is)
+body_lacks dir (Reference path) clear is = lettered 82 path (λ e. absurd (omega arith))
+    (path_lacks 10 newline dir path clear is)
 
 -- the texts of so many lines are so many lines
-pub texts_are_lines : (dir : List ℕ) → Lacks 10 dir → (lines : List Line) → All (IsLineOf dir) lines → AreLines (length lines) (flat_map line_text lines)
+pub texts_are_lines : (dir : List ℕ) → Lacks 10 dir → (lines : List Line) → All (IsLineOf dir) lines
+    → AreLines (length lines) (flat_map line_text lines)
 texts_are_lines dir clear [] each = refl
 texts_are_lines dir clear (line ∷ lines) each = (
   body line,

@@ -13,11 +13,13 @@ use Rattle.valid_table.specs.Merging.{IsLeast}
 use Rattle.valid_table.specs.Unions.{IsInEither, IsUnion}
 
 -- a path at the head is in the list
-at_head : (x : List ℕ) (xs ys : List (List ℕ)) (p : List ℕ) → Contains (x ∷ []) p → Contains (x ∷ ys) p
+at_head : (x : List ℕ) (xs ys : List (List ℕ)) (p : List ℕ) → Contains (x ∷ []) p
+    → Contains (x ∷ ys) p
 at_head x xs ys p there = Contains-append_left (x ∷ []) ys p there
 
 -- a path in a list is at its head or behind it
-head_cases : (x : List ℕ) (xs : List (List ℕ)) (p : List ℕ) → Contains (x ∷ xs) p → Contains (x ∷ []) p ⊎ Contains xs p
+head_cases : (x : List ℕ) (xs : List (List ℕ)) (p : List ℕ) → Contains (x ∷ xs) p
+    → Contains (x ∷ []) p ⊎ Contains xs p
 head_cases x xs p there = Contains-append_cases (x ∷ []) xs p there
 
 -- the left list's head is the least, or the right list is empty
@@ -31,7 +33,8 @@ least_left path more right rises = record {
   right_rises = rises;
   each = λ p. (
     ⊎_elim inl (λ there. inr (Contains-later path right p there)),
-    ⊎_elim inl (λ there. ⊎_elim (λ head. inl (at_head path more more p head)) inr (head_cases path right p there)),
+    ⊎_elim inl (λ there. ⊎_elim (λ head. inl (at_head path more more p head)) inr
+        (head_cases path right p there)),
   );
   shorter = omega arith;
 }
@@ -47,16 +50,24 @@ least_right path left others rises = record {
   right_rises = λ r. r;
   each = λ p. (
     ⊎_elim (λ there. inl (Contains-later path left p there)) inr,
-    ⊎_elim (λ there. ⊎_elim (λ head. inr (at_head path others others p head)) inl (head_cases path left p there)) inr,
+    ⊎_elim (λ there. ⊎_elim (λ head. inr (at_head path others others p head)) inl
+        (head_cases path left p there)) inr,
   );
   shorter = omega arith;
 }
 
 -- both heads are the least
-pub least_both : (path other : List ℕ) (more others : List (List ℕ)) → path ≡ other → IsLeast (path ∷ more) (other ∷ others) path more others
+pub least_both : (path other : List ℕ) (more others : List (List ℕ)) → path ≡ other
+    → IsLeast (path ∷ more) (other ∷ others) path more others
 least_both path other more others same =
     subst (λ x. IsLeast (path ∷ more) (x ∷ others) path more others) same
-    (record { head = inl refl; left_rises = λ r. r; right_rises = λ r. r; each = λ p. (λ there. there, λ there. there); shorter = omega arith })
+    (record {
+      head = inl refl;
+      left_rises = λ r. r;
+      right_rises = λ r. r;
+      each = λ p. (λ there. there, λ there. there);
+      shorter = omega arith;
+    })
 
 -- the left head is less
 pub least_less :
@@ -67,7 +78,8 @@ pub least_less :
     IsLeast left right path more right
 least_less left right path other more others first second less =
     subst (λ l. IsLeast l right path more right) (sym first)
-    (least_left path more right (subst (λ r. IsRising r → IsRising (path ∷ r)) (sym second) (λ rises. (less, rises))))
+    (least_left path more right
+    (subst (λ r. IsRising r → IsRising (path ∷ r)) (sym second) (λ rises. (less, rises))))
 
 -- the right head is less
 pub least_greater :
@@ -77,9 +89,11 @@ pub least_greater :
     slice_cmp nat_cmp path other ≡ Greater →
     IsLeast left right other left others
 least_greater left right path other more others first second greater =
-    let less : slice_cmp nat_cmp other path ≡ Less = nat_list_cmp_total.antisymm other path ∙ ap ordering_reverse greater in
+    let less : slice_cmp nat_cmp other path ≡ Less = nat_list_cmp_total.antisymm other path
+    ∙ ap ordering_reverse greater in
     subst (λ r. IsLeast left r other left others) (sym second)
-    (least_right other left others (subst (λ l. IsRising l → IsRising (other ∷ l)) (sym first) (λ rises. (less, rises))))
+    (least_right other left others
+    (subst (λ l. IsRising l → IsRising (other ∷ l)) (sym first) (λ rises. (less, rises))))
 
 -- the heads are the same
 pub least_equal :
@@ -91,19 +105,24 @@ pub least_equal :
 least_equal left right path other more others first second equal =
     let same : path ≡ other = equal_from_eq path other (texts_ties path other ∙ ap is_eq equal) in
     subst (λ l. IsLeast l right path more others) (sym first)
-    (subst (λ r. IsLeast (path ∷ more) r path more others) (sym second) (least_both path other more others same))
+    (subst (λ r. IsLeast (path ∷ more) r path more others) (sym second)
+    (least_both path other more others same))
 
 -- a list that isn't empty is its first element and what is behind it
-pub first_and_rest : (xs : List (List ℕ)) (x : List ℕ) → 0 < length xs → x ≡ get_or xs 0 x → xs ≡ x ∷ take (length xs - 1) (drop 1 xs)
+pub first_and_rest : (xs : List (List ℕ)) (x : List ℕ) → 0 < length xs → x ≡ get_or xs 0 x → xs ≡ x
+    ∷ take (length xs - 1) (drop 1 xs)
 first_and_rest [] x some is = absurd (omega arith)
 first_and_rest (y ∷ ys) x some is =
-    ap (λ z. z ∷ ys) (sym is) ∙ ap (λ l. x ∷ l) (sym (take_all (length (y ∷ ys) - 1) ys (omega arith)))
+    ap (λ z. z ∷ ys) (sym is) ∙ ap (λ l. x ∷ l)
+    (sym (take_all (length (y ∷ ys) - 1) ys (omega arith)))
 
 -- a rising list goes on in another way behind one of its paths
-rising_join : (done : List (List ℕ)) (path : List ℕ) (xs ys : List (List ℕ)) → IsRising (done ++ path ∷ xs) → IsRising (path ∷ ys) → IsRising (done ++ path ∷ ys)
+rising_join : (done : List (List ℕ)) (path : List ℕ) (xs ys : List (List ℕ))
+    → IsRising (done ++ path ∷ xs) → IsRising (path ∷ ys) → IsRising (done ++ path ∷ ys)
 rising_join [] path xs ys rises behind = behind
 rising_join (x ∷ []) path xs ys rises behind = (rises.0, behind)
-rising_join (x ∷ y ∷ done) path xs ys rises behind = (rises.0, rising_join (y ∷ done) path xs ys rises.1 behind)
+rising_join (x ∷ y ∷ done) path xs ys rises behind =
+    (rises.0, rising_join (y ∷ done) path xs ys rises.1 behind)
 
 -- What is merged so far, with what is left: each rises, and they have the paths of both lists.
 pub record IsMerged (left right done more others : List (List ℕ)) : Type 0 where
@@ -112,15 +131,24 @@ pub record IsMerged (left right done more others : List (List ℕ)) : Type 0 whe
   pub each : (p : List ℕ) → IsInEither left right p ↔ IsInEither (done ++ more) (done ++ others) p
 
 -- nothing is merged at first
-pub merged_none : (left right : List (List ℕ)) → IsRising left → IsRising right → IsMerged left right [] left right
-merged_none left right rises rises' = record { left_rises = rises; right_rises = rises'; each = λ p. (λ there. there, λ there. there) }
+pub merged_none : (left right : List (List ℕ)) → IsRising left → IsRising right
+    → IsMerged left right [] left right
+merged_none left right rises rises' = record {
+  left_rises = rises;
+  right_rises = rises';
+  each = λ p. (λ there. there, λ there. there);
+}
 
 -- a path in one of two lists, behind others
-behind_either : (done xs ys us vs : List (List ℕ)) (p : List ℕ) → (IsInEither xs ys p → IsInEither us vs p) → IsInEither (done ++ xs) (done ++ ys) p → IsInEither (done ++ us) (done ++ vs) p
+behind_either : (done xs ys us vs : List (List ℕ)) (p : List ℕ)
+    → (IsInEither xs ys p → IsInEither us vs p) → IsInEither (done ++ xs) (done ++ ys) p
+    → IsInEither (done ++ us) (done ++ vs) p
 behind_either done xs ys us vs p moves there =
     let both : IsInEither xs ys p → IsInEither (done ++ us) (done ++ vs) p =
-    λ h. ⊎_elim (λ u. inl (Contains-append_right done us p u)) (λ v. inr (Contains-append_right done vs p v)) (moves h) in
-    let first : Contains done p → IsInEither (done ++ us) (done ++ vs) p = λ h. inl (Contains-append_left done us p h) in
+    λ h. ⊎_elim (λ u. inl (Contains-append_right done us p u))
+    (λ v. inr (Contains-append_right done vs p v)) (moves h) in
+    let first : Contains done p → IsInEither (done ++ us) (done ++ vs) p = λ h.
+    inl (Contains-append_left done us p h) in
     ⊎_elim
     (λ h. ⊎_elim first (λ x. both (inl x)) (Contains-append_cases done xs p h))
     (λ h. ⊎_elim first (λ y. both (inr y)) (Contains-append_cases done ys p h))
@@ -128,7 +156,8 @@ behind_either done xs ys us vs p moves there =
 
 -- one more path is merged
 pub merged_more :
-    (left right done more others : List (List ℕ)) (path : List ℕ) (behind beside pushed : List (List ℕ)) →
+    (left right done more others : List (List ℕ)) (path : List ℕ)
+    (behind beside pushed : List (List ℕ)) →
     IsMerged left right done more others →
     IsLeast more others path behind beside →
     pushed ≡ done ++ path ∷ [] →
@@ -138,24 +167,34 @@ merged_more left right done more others path behind beside pushed merged least i
     let Path : List (List ℕ) → List (List ℕ) = λ xs. done ++ path ∷ xs in
     let from : (xs : List (List ℕ)) → IsRising (path ∷ xs) → IsRising (Path xs) =
     λ xs rises. ⊎_elim
-    (λ e. rising_join done path behind xs (subst (λ l. IsRising (done ++ l)) e merged.left_rises) rises)
-    (λ e. rising_join done path beside xs (subst (λ l. IsRising (done ++ l)) e merged.right_rises) rises)
+    (λ e. rising_join done path behind xs (subst (λ l. IsRising (done ++ l)) e merged.left_rises)
+    rises)
+    (λ e. rising_join done path beside xs (subst (λ l. IsRising (done ++ l)) e merged.right_rises)
+    rises)
     least.head in
-    let joined : (xs : List (List ℕ)) → (done ++ path ∷ []) ++ xs ≡ Path xs = λ xs. append_assoc done (path ∷ []) xs in
-    let Either : List (List ℕ) → List (List ℕ) → List ℕ → Type 0 = λ us vs p. IsInEither left right p ↔ IsInEither us vs p in
+    let joined : (xs : List (List ℕ)) → (done ++ path ∷ []) ++ xs
+    ≡ Path xs = λ xs. append_assoc done (path ∷ []) xs in
+    let Either : List (List ℕ) → List (List ℕ) → List ℕ
+    → Type 0 = λ us vs p. IsInEither left right p ↔ IsInEither us vs p in
     subst Is (sym is)
     (record {
-      left_rises = subst IsRising (sym (joined behind)) (from behind (least.left_rises (rising_back done more merged.left_rises)));
-      right_rises = subst IsRising (sym (joined beside)) (from beside (least.right_rises (rising_back done others merged.right_rises)));
+      left_rises = subst IsRising (sym (joined behind))
+          (from behind (least.left_rises (rising_back done more merged.left_rises)));
+      right_rises = subst IsRising (sym (joined beside))
+          (from beside (least.right_rises (rising_back done others merged.right_rises)));
       each = λ p. subst (λ us. Either us ((done ++ path ∷ []) ++ beside) p) (sym (joined behind))
           (subst (λ vs. Either (Path behind) vs p) (sym (joined beside)) (
-            λ there. behind_either done more others (path ∷ behind) (path ∷ beside) p (least.each p).0 ((merged.each p).0 there),
-            λ there. (merged.each p).1 (behind_either done (path ∷ behind) (path ∷ beside) more others p (least.each p).1 there),
+            λ there. behind_either done more others (path ∷ behind) (path ∷ beside) p
+                (least.each p).0 ((merged.each p).0 there),
+            λ there. (merged.each p).1
+                (behind_either done (path ∷ behind) (path ∷ beside) more others p (least.each p).1
+                there),
           ));
     })
 
 -- where nothing is left, the union is merged
-pub merged_all : (left right done more others : List (List ℕ)) → IsMerged left right done more others → more ≡ [] → others ≡ [] → IsUnion left right done
+pub merged_all : (left right done more others : List (List ℕ))
+    → IsMerged left right done more others → more ≡ [] → others ≡ [] → IsUnion left right done
 merged_all left right done more others merged none none' =
     let first : done ++ more ≡ done = ap (λ l. done ++ l) none ∙ append-nil done in
     let second : done ++ others ≡ done = ap (λ l. done ++ l) none' ∙ append-nil done in
@@ -163,6 +202,7 @@ merged_all left right done more others merged none none' =
       rising = subst IsRising first merged.left_rises;
       each = λ path. (
         λ there. (merged.each path).1 (inl (subst (λ l. Contains l path) (sym first) there)),
-        λ there. ⊎_elim (λ h. subst (λ l. Contains l path) first h) (λ h. subst (λ l. Contains l path) second h) ((merged.each path).0 there),
+        λ there. ⊎_elim (λ h. subst (λ l. Contains l path) first h)
+            (λ h. subst (λ l. Contains l path) second h) ((merged.each path).0 there),
       );
     }

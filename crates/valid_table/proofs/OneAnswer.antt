@@ -19,7 +19,9 @@ use Rattle.valid_table.proofs.TextsRead.{no_fault, not_other_version}
 -- ---- a line has one fault
 
 -- a line that stands in an entry stands in the journal
-in_lines : (entries before : List Entry) (entry : Entry) (line : Line) (n : ℕ) → StandsAt entries before entry line n → (front : List Line) × (rest : List Line) × (lines entries ≡ front ++ line ∷ rest) × (n ≡ suc (length front))
+in_lines : (entries before : List Entry) (entry : Entry) (line : Line) (n : ℕ)
+    → StandsAt entries before entry line n → (front : List Line) × (rest : List Line)
+    × (lines entries ≡ front ++ line ∷ rest) × (n ≡ suc (length front))
 in_lines entries before entry line n s =
     let behind = flat_map entry_lines s.after in
     let parts : lines entries ≡ (lines before ++ s.first) ++ line ∷ (s.last ++ behind) =
@@ -27,11 +29,16 @@ in_lines entries before entry line n s =
     ∙ ap (λ (ls : List Line). Version ∷ ls) (flat_map-append entry_lines before (entry ∷ s.after))
     ∙ ap (λ (ls : List Line). lines before ++ (ls ++ behind)) s.is_line
     ∙ ap (λ (ls : List Line). lines before ++ ls) (append_assoc s.first (line ∷ s.last) behind)
-    ∙ sym (append_assoc (lines before) s.first (line ∷ (s.last ++ behind))) in
-    (lines before ++ s.first, s.last ++ behind, parts, omega (arith, s.number, length-append (lines before) s.first))
+    ∙ sym (append_assoc (lines before) s.first (line ∷ (s.last ++ behind))) in (
+      lines before ++ s.first,
+      s.last ++ behind,
+      parts,
+      omega (arith, s.number, length-append (lines before) s.first),
+    )
 
 -- one line stands at a place
-one_line : (entries before other : List Entry) (entry another : Entry) (a b : Line) (n : ℕ) → StandsAt entries before entry a n → StandsAt entries other another b n → a ≡ b
+one_line : (entries before other : List Entry) (entry another : Entry) (a b : Line) (n : ℕ)
+    → StandsAt entries before entry a n → StandsAt entries other another b n → a ≡ b
 one_line entries before other entry another a b n one two =
     let here = in_lines entries before entry a n one in
     let there = in_lines entries other another b n two in
@@ -42,13 +49,19 @@ one_line entries before other entry another a b n one two =
 
 -- so no line refers to a path and registers one
 one_fault : (entries : List Entry) (n : ℕ) → IsNotClosedAt entries n → IsTwiceAt entries n → ⊥
-one_fault entries n (before, entry, path, stands, open_there) (other, another, again, digest, inl added, valid) =
-    let same = one_line entries before other entry another (Reference path) (Added again digest) n stands added in cc
-one_fault entries n (before, entry, path, stands, open_there) (other, another, again, digest, inr output, valid) =
-    let same = one_line entries before other entry another (Reference path) (Output again digest) n stands output in cc
+one_fault entries n (before, entry, path, stands, open_there)
+    (other, another, again, digest, inl added, valid) =
+    let same = one_line entries before other entry another (Reference path) (Added again digest) n
+    stands added in cc
+one_fault entries n (before, entry, path, stands, open_there)
+    (other, another, again, digest, inr output, valid) =
+    let same = one_line entries before other entry another (Reference path) (Output again digest) n
+    stands output in cc
 
 -- two least lines with a fault are the same
-one_least : (entries : List Entry) (m n : ℕ) → IsNotClosedAt entries m ⊎ IsTwiceAt entries m → IsLeastFault entries m → IsNotClosedAt entries n ⊎ IsTwiceAt entries n → IsLeastFault entries n → m ≡ n
+one_least : (entries : List Entry) (m n : ℕ) → IsNotClosedAt entries m ⊎ IsTwiceAt entries m
+    → IsLeastFault entries m → IsNotClosedAt entries n ⊎ IsTwiceAt entries n
+    → IsLeastFault entries n → m ≡ n
 one_least entries m n here least there also = omega (arith, least n there, also m here)
 
 -- ---- answers
@@ -58,7 +71,8 @@ abbrev AreOne : Result (List Entry) TableFault → Result (List Entry) TableFaul
 AreOne a b = (a ≡ b) ⊎ (a ≡ Err NoMemory) ⊎ (b ≡ Err NoMemory)
 
 -- want of memory apart, entries have one answer
-one_check : (entries : List Entry) (a b : Result (List Entry) TableFault) → IsChecking entries a → IsChecking entries b → AreOne a b
+one_check : (entries : List Entry) (a b : Result (List Entry) TableFault) → IsChecking entries a
+    → IsChecking entries b → AreOne a b
 one_check entries (Err NoMemory) b one two = inr (inl refl)
 one_check entries a (Err NoMemory) one two = inr (inr refl)
 one_check entries (Ok a) (Ok b) one two = inl (ap Ok (one.0 ∙ sym two.0))
@@ -67,7 +81,8 @@ one_check entries (Ok a) (Err (Twice n)) one two = absurd (no_fault entries n on
 one_check entries (Err (NotClosed m)) (Ok b) one two = absurd (no_fault entries m two.1 (inl one.0))
 one_check entries (Err (Twice m)) (Ok b) one two = absurd (no_fault entries m two.1 (inr one.0))
 one_check entries (Err (NotClosed m)) (Err (NotClosed n)) one two =
-    inl (ap (λ (k : ℕ). Err (NotClosed k)) (one_least entries m n (inl one.0) one.1 (inl two.0) two.1))
+    inl (ap (λ (k : ℕ). Err (NotClosed k))
+    (one_least entries m n (inl one.0) one.1 (inl two.0) two.1))
 one_check entries (Err (Twice m)) (Err (Twice n)) one two =
     inl (ap (λ (k : ℕ). Err (Twice k)) (one_least entries m n (inr one.0) one.1 (inr two.0) two.1))
 one_check entries (Err (NotClosed m)) (Err (Twice n)) one two =
@@ -82,7 +97,8 @@ one_check entries (Err (Twice m)) (Err b) one two = absurd two
 one_check entries a b one two = absurd one
 
 -- bytes past the limit
-too_long : (dir bytes : List ℕ) (b : Result (List Entry) TableFault) → max_len < length bytes → IsReading dir bytes b → Err TooLong ≡ b
+too_long : (dir bytes : List ℕ) (b : Result (List Entry) TableFault) → max_len < length bytes
+    → IsReading dir bytes b → Err TooLong ≡ b
 too_long dir bytes (Err TooLong) long h = refl
 too_long dir bytes (Err WrongVersion) long h = absurd (omega (arith, h.0))
 too_long dir bytes (Err (BadLine n)) long h = absurd (omega (arith, h.0))
@@ -90,26 +106,35 @@ too_long dir bytes (Err NoMemory) long h = absurd (omega (arith, h.0))
 too_long dir bytes b long h = absurd (omega (arith, h.within))
 
 -- bytes of another version
-wrong_version : (dir bytes : List ℕ) (b : Result (List Entry) TableFault) → length bytes ≤ max_len → IsOtherVersion bytes → IsReading dir bytes b → Err WrongVersion ≡ b
+wrong_version : (dir bytes : List ℕ) (b : Result (List Entry) TableFault) → length bytes ≤ max_len
+    → IsOtherVersion bytes → IsReading dir bytes b → Err WrongVersion ≡ b
 wrong_version dir bytes (Err TooLong) within other h = absurd (omega arith)
 wrong_version dir bytes (Err WrongVersion) within other h = refl
 wrong_version dir bytes (Err (BadLine n)) within other h = absurd (h.1 other)
 wrong_version dir bytes (Err NoMemory) within other h = absurd (h.1 other)
-wrong_version dir bytes b within other h = absurd (not_other_version dir bytes h.entries h.is_text other)
+wrong_version dir bytes b within other h = absurd
+    (not_other_version dir bytes h.entries h.is_text other)
 
 -- bytes with a bad line
-wrong_line : (dir bytes : List ℕ) (n : ℕ) (b : Result (List Entry) TableFault) → IsStoreDir dir → length bytes ≤ max_len → (IsOtherVersion bytes → ⊥) → IsBadLine dir bytes n → IsReading dir bytes b → AreOne (Err (BadLine n)) b
+wrong_line : (dir bytes : List ℕ) (n : ℕ) (b : Result (List Entry) TableFault) → IsStoreDir dir
+    → length bytes ≤ max_len → (IsOtherVersion bytes → ⊥) → IsBadLine dir bytes n
+    → IsReading dir bytes b → AreOne (Err (BadLine n)) b
 wrong_line dir bytes n (Err TooLong) is_dir within one bad h = absurd (omega arith)
 wrong_line dir bytes n (Err WrongVersion) is_dir within one bad h = absurd (one h.1)
-wrong_line dir bytes n (Err (BadLine m)) is_dir within one bad h = inl (ap (λ (k : ℕ). Err (BadLine k)) (bad_line_is_one dir bytes n m is_dir bad h.2))
+wrong_line dir bytes n (Err (BadLine m)) is_dir within one bad h =
+    inl (ap (λ (k : ℕ). Err (BadLine k)) (bad_line_is_one dir bytes n m is_dir bad h.2))
 wrong_line dir bytes n (Err NoMemory) is_dir within one bad h = inr (inr refl)
-wrong_line dir bytes n b is_dir within one bad h = absurd (texts_have_no_bad_line dir bytes h.entries n is_dir h.is_text bad)
+wrong_line dir bytes n b is_dir within one bad h =
+    absurd (texts_have_no_bad_line dir bytes h.entries n is_dir h.is_text bad)
 
 -- the text of entries
-read_as : (dir bytes : List ℕ) (a b : Result (List Entry) TableFault) → IsStoreDir dir → IsReadAs dir bytes a → IsReading dir bytes b → AreOne a b
+read_as : (dir bytes : List ℕ) (a b : Result (List Entry) TableFault) → IsStoreDir dir
+    → IsReadAs dir bytes a → IsReading dir bytes b → AreOne a b
 read_as dir bytes a (Err TooLong) is_dir is h = absurd (omega (arith, is.within))
-read_as dir bytes a (Err WrongVersion) is_dir is h = absurd (not_other_version dir bytes is.entries is.is_text h.1)
-read_as dir bytes a (Err (BadLine n)) is_dir is h = absurd (texts_have_no_bad_line dir bytes is.entries n is_dir is.is_text h.2)
+read_as dir bytes a (Err WrongVersion) is_dir is h =
+    absurd (not_other_version dir bytes is.entries is.is_text h.1)
+read_as dir bytes a (Err (BadLine n)) is_dir is h =
+    absurd (texts_have_no_bad_line dir bytes is.entries n is_dir is.is_text h.2)
 read_as dir bytes a (Err NoMemory) is_dir is h = inr (inr refl)
 read_as dir bytes a b is_dir is h =
     let same = text_has_one_list dir bytes is.entries h.entries is.is_text h.is_text in
@@ -118,15 +143,18 @@ read_as dir bytes a b is_dir is h =
 -- two answers for the same bytes are the same, or one is want of memory
 pub answer_is_one : AnswerIsOne
 answer_is_one dir bytes (Err TooLong) b is_dir one two = inl (too_long dir bytes b one two)
-answer_is_one dir bytes (Err WrongVersion) b is_dir one two = inl (wrong_version dir bytes b one.0 one.1 two)
-answer_is_one dir bytes (Err (BadLine n)) b is_dir one two = wrong_line dir bytes n b is_dir one.0 one.1 one.2 two
+answer_is_one dir bytes (Err WrongVersion) b is_dir one two =
+    inl (wrong_version dir bytes b one.0 one.1 two)
+answer_is_one dir bytes (Err (BadLine n)) b is_dir one two =
+    wrong_line dir bytes n b is_dir one.0 one.1 one.2 two
 answer_is_one dir bytes (Err NoMemory) b is_dir one two = inr (inl refl)
 answer_is_one dir bytes a b is_dir one two = read_as dir bytes a b is_dir one two
 
 -- the text of a journal is read as just that journal, want of memory apart
 pub journal_texts_are_read : JournalTextsAreRead
 journal_texts_are_read dir bytes entries answer is_dir within is journal h =
-    elim (answer_is_one dir bytes (Ok entries) answer is_dir (record { within = within; entries = entries; is_text = is; checked = (refl, journal) }) h) [
+    elim (answer_is_one dir bytes (Ok entries) answer is_dir
+    (record { within = within; entries = entries; is_text = is; checked = (refl, journal) }) h) [
       | inl same ↦ inl (sym same)
       | inr (inl other) ↦ cc other
       | inr (inr memory) ↦ inr memory

@@ -16,20 +16,31 @@ use Rattle.valid_table.proofs.LineTexts.{body, line_and}
 -- ---- bytes tell lines
 
 -- lines that end a journal from one place are the same where their bytes are
-lines_told : (dir : List ℕ) (from : Place) (a b : List Line) → Ends dir from a → Ends dir from b → lines_text a ≡ lines_text b → a ≡ b
+lines_told : (dir : List ℕ) (from : Place) (a b : List Line) → Ends dir from a → Ends dir from b
+    → lines_text a ≡ lines_text b → a ≡ b
 lines_told dir from a b one two e =
-    elim (aligned dir a b [] [] (lines_of dir MayEnd from a one) (lines_of dir MayEnd from b two) (ap (λ (t : List ℕ). t ++ []) e)) [
-      | inl d ↦ sym (d.1 ∙ ap (λ (c : List Line). a ++ c) (none d.0 (d.2 ∙ append-nil (lines_text d.0))) ∙ append-nil a)
-      | inr d ↦ d.1 ∙ ap (λ (c : List Line). b ++ c) (none d.0 (d.2 ∙ append-nil (lines_text d.0))) ∙ append-nil b
+    elim (aligned dir a b [] [] (lines_of dir MayEnd from a one) (lines_of dir MayEnd from b two)
+    (ap (λ (t : List ℕ). t ++ []) e)) [
+      | inl d ↦ sym
+          (d.1 ∙ ap (λ (c : List Line). a ++ c) (none d.0 (d.2 ∙ append-nil (lines_text d.0)))
+          ∙ append-nil a)
+      | inr d ↦ d.1 ∙ ap (λ (c : List Line). b ++ c) (none d.0 (d.2 ∙ append-nil (lines_text d.0)))
+          ∙ append-nil b
     ]
   where
     none : (c : List Line) → [] ≡ lines_text c → c ≡ []
     none [] e = refl
-    none (line ∷ c) e = absurd (omega (arith, ap length (e ∙ line_and line (lines_text c)), length-append (body line) (10 ∷ lines_text c)))
+    none (line ∷ c) e =
+        absurd (omega (
+          arith,
+          ap length (e ∙ line_and line (lines_text c)),
+          length-append (body line) (10 ∷ lines_text c),
+        ))
 
 -- ---- lines tell entries
 
--- What lines tell: their entries and, at their front, the references and the outputs of what begins before them.
+-- What lines tell: their entries and, at their front, the references and the outputs of what begins
+-- before them.
 record Told : Type 0 where
   pub references : List (List ℕ)
   pub outputs : List Registration
@@ -37,18 +48,36 @@ record Told : Type 0 where
 
 -- what a path registers with a digest and the references behind it
 abbrev registration : List ℕ → Option (List ℕ) → Told → Registration
-registration path digest later = record { path = path; info = record { references = later.references; digest = digest } }
+registration path digest later =
+    record { path = path; info = record { references = later.references; digest = digest } }
 
 -- what a line tells with what those behind it tell
 abbrev with_line : Line → Told → Told
 with_line Version later = later
 with_line (Added path digest) later =
-    record { references = []; outputs = []; entries = Add (registration path digest later) ∷ later.entries }
-with_line (Deriver path) later = record { references = []; outputs = []; entries = Done path later.outputs ∷ later.entries }
+    record {
+      references = [];
+      outputs = [];
+      entries = Add (registration path digest later)
+          ∷ later.entries;
+    }
+with_line (Deriver path) later = record {
+  references = [];
+  outputs = [];
+  entries = Done path later.outputs ∷ later.entries;
+}
 with_line (Output path digest) later =
-    record { references = []; outputs = registration path digest later ∷ later.outputs; entries = later.entries }
+    record {
+      references = [];
+      outputs = registration path digest later ∷ later.outputs;
+      entries = later.entries;
+    }
 with_line (Reference path) later =
-    record { references = path ∷ later.references; outputs = later.outputs; entries = later.entries }
+    record {
+      references = path ∷ later.references;
+      outputs = later.outputs;
+      entries = later.entries;
+    }
 
 -- what lines tell
 abbrev told : List Line → Told
@@ -57,31 +86,45 @@ told (line ∷ come) = with_line line (told come)
 
 -- the lines of references tell these
 references_told :
-    (references : List (List ℕ)) (come : List Line) (outputs : List Registration) (entries : List Entry) →
+    (references : List (List ℕ)) (come : List Line) (outputs : List Registration)
+    (entries : List Entry) →
     told come ≡ record { references = []; outputs = outputs; entries = entries } →
-    told (map Reference references ++ come) ≡ record { references = references; outputs = outputs; entries = entries }
+    told (map Reference references ++ come) ≡ record {
+      references = references;
+      outputs = outputs;
+      entries = entries;
+    }
 references_told [] come outputs entries e = e
-references_told (path ∷ references) come outputs entries e = ap (with_line (Reference path)) (references_told references come outputs entries e)
+references_told (path ∷ references) come outputs entries e =
+    ap (with_line (Reference path)) (references_told references come outputs entries e)
 
 -- those of outputs tell these
 outputs_told :
     (outputs : List Registration) (come : List Line) (entries : List Entry) →
     told come ≡ record { references = []; outputs = []; entries = entries } →
-    told (flat_map output_lines outputs ++ come) ≡ record { references = []; outputs = outputs; entries = entries }
+    told (flat_map output_lines outputs ++ come)
+    ≡ record { references = []; outputs = outputs; entries = entries }
 outputs_told [] come entries e = e
 outputs_told (r ∷ outputs) come entries e =
     let start = Output r.path r.info.digest in
     let later = flat_map output_lines outputs ++ come in
-    ap (λ (some : List Line). with_line start (told some)) (append_assoc (map Reference r.info.references) (flat_map output_lines outputs) come)
-    ∙ ap (with_line start) (references_told r.info.references later outputs entries (outputs_told outputs come entries e))
+    ap (λ (some : List Line). with_line start (told some))
+    (append_assoc (map Reference r.info.references) (flat_map output_lines outputs) come)
+    ∙ ap (with_line start)
+    (references_told r.info.references later outputs entries
+    (outputs_told outputs come entries e))
 
 -- those of entries tell these
-entries_told : (entries : List Entry) → told (flat_map entry_lines entries) ≡ record { references = []; outputs = []; entries = entries }
+entries_told : (entries : List Entry) → told (flat_map entry_lines entries)
+    ≡ record { references = []; outputs = []; entries = entries }
 entries_told [] = refl
 entries_told (Add r ∷ entries) =
-    ap (with_line (Added r.path r.info.digest)) (references_told r.info.references (flat_map entry_lines entries) [] entries (entries_told entries))
+    ap (with_line (Added r.path r.info.digest))
+    (references_told r.info.references (flat_map entry_lines entries) [] entries
+    (entries_told entries))
 entries_told (Done deriver outputs ∷ entries) =
-    ap (with_line (Deriver deriver)) (outputs_told outputs (flat_map entry_lines entries) entries (entries_told entries))
+    ap (with_line (Deriver deriver))
+    (outputs_told outputs (flat_map entry_lines entries) entries (entries_told entries))
 
 -- entries with the same lines are the same
 same_entries : (a b : List Entry) → lines a ≡ lines b → a ≡ b

@@ -18,61 +18,94 @@ use Rattle.valid_table.proofs.LineSteps.{StopsIn, first, stop_behind, stop_here,
 use Rattle.valid_table.proofs.RisingPaths.{above_of_rising, rising_more}
 
 -- outputs' lines, and those of one more
-text_more : (outputs : List Registration) (o : Registration) (behind : List ℕ) → lines_text (flat_map output_lines outputs) ++ (registration_text 79 o ++ behind) ≡ lines_text (flat_map output_lines (outputs ++ o ∷ [])) ++ behind
+text_more : (outputs : List Registration) (o : Registration) (behind : List ℕ)
+    → lines_text (flat_map output_lines outputs) ++ (registration_text 79 o ++ behind)
+    ≡ lines_text (flat_map output_lines (outputs ++ o ∷ [])) ++ behind
 text_more outputs o behind =
     text_and (flat_map output_lines outputs) (output_lines o) behind
-    ∙ ap (λ (ls : List Line). lines_text ls ++ behind) (sym (flat_map-append output_lines outputs (o ∷ []) ∙ ap (λ (ls : List Line). flat_map output_lines outputs ++ ls) (append-nil (output_lines o))))
+    ∙ ap (λ (ls : List Line). lines_text ls ++ behind)
+    (sym (flat_map-append output_lines outputs (o ∷ [])
+    ∙ ap (λ (ls : List Line). flat_map output_lines outputs ++ ls)
+    (append-nil (output_lines o))))
 
 -- ---- where an output stops
 
-may_follow : (dir : List ℕ) (before last : Option (List ℕ)) (path : List ℕ) (digest : Option (List ℕ)) → MayStand dir (place_at before last) (Output path digest) → MayFollow dir before path digest
+may_follow : (dir : List ℕ) (before last : Option (List ℕ)) (path : List ℕ)
+    (digest : Option (List ℕ)) → MayStand dir (place_at before last) (Output path digest)
+    → MayFollow dir before path digest
 may_follow dir None last path digest may = may
 may_follow dir (Some output) last path digest may = may
 
 -- there an output's letter comes
-letter_ahead : (before last : Option (List ℕ)) (bytes fields : List ℕ) → bytes ≡ 79 ∷ 32 ∷ fields → Ahead (place_at before last) bytes
+letter_ahead : (before last : Option (List ℕ)) (bytes fields : List ℕ) → bytes ≡ 79 ∷ 32 ∷ fields
+    → Ahead (place_at before last) bytes
 letter_ahead None last bytes fields begins = (fields, begins)
 letter_ahead (Some output) last bytes fields begins = tt
 
 -- with an output's letter only an output's line goes on
-stuck : (dir : List ℕ) (before last : Option (List ℕ)) (bytes : List ℕ) (left : ℕ) → (h : IsBadFields dir 79 before bytes left) → (line : Line) (rest : List ℕ) → Goes dir (place_at before last) bytes line rest → ⊥
+stuck : (dir : List ℕ) (before last : Option (List ℕ)) (bytes : List ℕ) (left : ℕ)
+    → (h : IsBadFields dir 79 before bytes left) → (line : Line) (rest : List ℕ)
+    → Goes dir (place_at before last) bytes line rest → ⊥
 stuck dir before last bytes left h (Output path digest) rest go =
     let may = may_follow dir before last path digest go.may in
-    h.bad path digest rest may.2 (record { of_dir = may.0; is_digest = may.1; parts = ap (drop 2) (sym h.begins ∙ go.parts) })
-stuck dir before last bytes left h line rest go = absurd (omega (arith, ap first (sym h.begins ∙ go.parts)))
+    h.bad path digest rest may.2
+    (record {
+      of_dir = may.0;
+      is_digest = may.1;
+      parts = ap (drop 2) (sym h.begins ∙ go.parts);
+    })
+stuck dir before last bytes left h line rest go =
+    absurd (omega (arith, ap first (sym h.begins ∙ go.parts)))
 
 -- reading an output stops where its line, or one of its references, is bad
-output_stops : (dir : List ℕ) (before last : Option (List ℕ)) (bytes : List ℕ) (left : ℕ) → StopsInRegistration dir 79 before bytes left → Stops dir (place_at before last) bytes left
+output_stops : (dir : List ℕ) (before last : Option (List ℕ)) (bytes : List ℕ) (left : ℕ)
+    → StopsInRegistration dir 79 before bytes left → Stops dir (place_at before last) bytes left
 output_stops dir before last bytes left (inl h) =
-    subst (Stops dir (place_at before last) bytes) h.is_left (stop_here dir (place_at before last) bytes 79 (32 ∷ h.fields) h.begins (letter_ahead before last bytes h.fields h.begins) (stuck dir before last bytes left h))
+    subst (Stops dir (place_at before last) bytes) h.is_left
+    (stop_here dir (place_at before last) bytes 79 (32 ∷ h.fields) h.begins
+    (letter_ahead before last bytes h.fields h.begins) (stuck dir before last bytes left h))
 output_stops dir before last bytes left (inr h) =
-    stop_behind dir (place_at before last) bytes (Output h.path h.digest) h.rest left (h.begins ∙ ap (λ (f : List ℕ). 79 ∷ 32 ∷ f) h.line.parts)
-    (may_stand dir before last h.path h.digest (h.line.of_dir, h.line.is_digest, h.above)) (h.stops (Some h.path))
+    stop_behind dir (place_at before last) bytes (Output h.path h.digest) h.rest left
+    (h.begins ∙ ap (λ (f : List ℕ). 79 ∷ 32 ∷ f) h.line.parts)
+    (may_stand dir before last h.path h.digest (h.line.of_dir, h.line.is_digest, h.above))
+    (h.stops (Some h.path))
 
-pub outputs_stop : (dir bytes : List ℕ) (outputs : List Registration) (rest : List ℕ) (before : Option (List ℕ)) (left : ℕ) → SoFarOutputs dir bytes outputs rest → before ≡ last_or None (paths_of outputs)
+pub outputs_stop : (dir bytes : List ℕ) (outputs : List Registration) (rest : List ℕ)
+    (before : Option (List ℕ)) (left : ℕ) → SoFarOutputs dir bytes outputs rest → before
+    ≡ last_or None (paths_of outputs)
     → StopsInRegistration dir 79 before rest left → Stops dir Opened bytes left
 outputs_stop dir bytes outputs rest before left so_far is h =
     stops_in dir Opened (flat_map output_lines outputs) bytes rest left so_far.parts
-    (outputs_back dir (StopsIn dir rest left) (stops_back dir rest left) outputs None None [] so_far.of_dir (above_of_rising (paths_of outputs) so_far.rising)
-    (λ reference. output_stops dir _ reference rest left (subst (λ o. StopsInRegistration dir 79 o rest left) is h)))
+    (outputs_back dir (StopsIn dir rest left) (stops_back dir rest left) outputs None None []
+    so_far.of_dir (above_of_rising (paths_of outputs) so_far.rising)
+    (λ reference. output_stops dir _ reference rest left
+    (subst (λ o. StopsInRegistration dir 79 o rest left) is h)))
 
 -- ---- outputs that were read
 
 -- one more output
-pub outputs_more : (dir bytes : List ℕ) (outputs more : List Registration) (rest behind : List ℕ) (before : Option (List ℕ)) (o : Registration) → SoFarOutputs dir bytes outputs rest → before ≡ last_or None (paths_of outputs)
-    → HasRegistration dir 79 before rest o behind → more ≡ outputs ++ o ∷ [] → SoFarOutputs dir bytes more behind
+pub outputs_more : (dir bytes : List ℕ) (outputs more : List Registration) (rest behind : List ℕ)
+    (before : Option (List ℕ)) (o : Registration) → SoFarOutputs dir bytes outputs rest → before
+    ≡ last_or None (paths_of outputs)
+    → HasRegistration dir 79 before rest o behind → more ≡ outputs ++ o ∷ []
+    → SoFarOutputs dir bytes more behind
 outputs_more dir bytes outputs more rest behind before o so_far is h pushed =
     rw pushed (record {
-      parts = so_far.parts ∙ ap (λ t. lines_text (flat_map output_lines outputs) ++ t) h.parts ∙ text_more outputs o behind;
+      parts = so_far.parts ∙ ap (λ t. lines_text (flat_map output_lines outputs) ++ t) h.parts
+          ∙ text_more outputs o behind;
       of_dir = All-push (IsOf dir) outputs o so_far.of_dir h.of_dir;
       rising = subst IsRising (sym (map-append (λ (r : Registration). r.path) outputs (o ∷ [])))
-          (rising_more (paths_of outputs) o.path so_far.rising (subst (λ b. IsAbove b o.path) is h.above));
+          (rising_more (paths_of outputs) o.path so_far.rising
+          (subst (λ b. IsAbove b o.path) is h.above));
       ended = inr h.ends;
     })
 
 -- where an output begins at first, and none at last, there is one
-pub outputs_end : (dir bytes : List ℕ) (outputs : List Registration) (rest : List ℕ) → BeginsOutput bytes → SoFarOutputs dir bytes outputs rest → IsNoLine 79 rest → HasOutputs dir bytes outputs rest
-outputs_end dir bytes [] rest begins so_far none = absurd (none begins.0 (sym so_far.parts ∙ begins.1))
+pub outputs_end : (dir bytes : List ℕ) (outputs : List Registration) (rest : List ℕ)
+    → BeginsOutput bytes → SoFarOutputs dir bytes outputs rest → IsNoLine 79 rest
+    → HasOutputs dir bytes outputs rest
+outputs_end dir bytes [] rest begins so_far none =
+    absurd (none begins.0 (sym so_far.parts ∙ begins.1))
 outputs_end dir bytes (o ∷ outputs) rest begins so_far none = record {
   so_far = so_far;
   some = λ empty. cc empty;

@@ -19,36 +19,47 @@ pub once_apart :
 once_apart before after path once (k, lt, is) =
     let all = before ++ path ∷ after in
     let at_k : get_or all k path ≡ path = get_or_append_left before (path ∷ after) path k lt ∙ is in
-    let at_n : get_or all (length before) path ≡ path = get_or_at before path after path (length before) refl in
-    let apart = apart_from_distinct (pointwise nat_eq) all k (length before) path once lt (omega (arith, length-append before (path ∷ after))) in
+    let at_n : get_or all (length before) path
+    ≡ path = get_or_at before path after path (length before) refl in
+    let apart = apart_from_distinct (pointwise nat_eq) all k (length before) path once lt
+    (omega (arith, length-append before (path ∷ after))) in
     let same = nat_list_eq_equiv.refl path in
     false≢true (sym apart ∙ rw (at_k, at_n) same)
 
 -- the front of a list without repetition has none
-pub once_front : (before after : List (List ℕ)) → IsDistinct (pointwise nat_eq) (before ++ after) → IsDistinct (pointwise nat_eq) before
+pub once_front : (before after : List (List ℕ)) → IsDistinct (pointwise nat_eq) (before ++ after)
+    → IsDistinct (pointwise nat_eq) before
 once_front before after once =
     IsDistinct-from_apart (pointwise nat_eq) before
     (λ i j d lt below.
     let at_i = get_or_append_left before after d i (omega arith) in
     let at_j = get_or_append_left before after d j below in
     rw (← at_i, ← at_j)
-    (apart_from_distinct (pointwise nat_eq) (before ++ after) i j d once lt (omega (arith, length-append before after))))
+    (apart_from_distinct (pointwise nat_eq) (before ++ after) i j d once lt
+    (omega (arith, length-append before after))))
 
 -- a list is its first elements, the next one and the rest
-pub parts_at : {X : Type 0} (xs : List X) (i : ℕ) (x : X) → i < length xs → x ≡ get_or xs i x → xs ≡ take i xs ++ x ∷ drop (i + 1) xs
+pub parts_at : {X : Type 0} (xs : List X) (i : ℕ) (x : X) → i < length xs → x ≡ get_or xs i x → xs
+    ≡ take i xs ++ x ∷ drop (i + 1) xs
 parts_at xs i x lt is =
-    sym (take-append-drop i xs) ∙ ap (λ l. take i xs ++ l) (drop_more xs i x lt ∙ ap (λ y. y ∷ drop (i + 1) xs) (sym is))
+    sym (take-append-drop i xs) ∙ ap (λ l. take i xs ++ l)
+    (drop_more xs i x lt ∙ ap (λ y. y ∷ drop (i + 1) xs) (sym is))
 
 -- a known path differs from each unknown one
-apart_from_unknown : (x : List ℕ) (xs ys : List (List ℕ)) → AreUnknown (x ∷ xs) ys → AllByRecursion (λ y. pointwise nat_eq x y ≡ false) ys
+apart_from_unknown : (x : List ℕ) (xs ys : List (List ℕ)) → AreUnknown (x ∷ xs) ys
+    → AllByRecursion (λ y. pointwise nat_eq x y ≡ false) ys
 apart_from_unknown x xs [] new = tt
 apart_from_unknown x xs (y ∷ ys) new = (
-  false_from_ne_true _ (λ same. All-head (IsUnknown (x ∷ xs)) y ys new (0, omega arith, equal_from_eq x y same)),
+  false_from_ne_true _
+      (λ same. All-head (IsUnknown (x ∷ xs)) y ys new (0, omega arith, equal_from_eq x y same)),
   apart_from_unknown x xs ys (All-tail (IsUnknown (x ∷ xs)) y ys new),
 )
 
 -- a path that differs from each of two lists does from both, one behind the other
-apart_from_both : (x : List ℕ) (xs ys : List (List ℕ)) → AllByRecursion (λ y. pointwise nat_eq x y ≡ false) xs → AllByRecursion (λ y. pointwise nat_eq x y ≡ false) ys → AllByRecursion (λ y. pointwise nat_eq x y ≡ false) (xs ++ ys)
+apart_from_both : (x : List ℕ) (xs ys : List (List ℕ))
+    → AllByRecursion (λ y. pointwise nat_eq x y ≡ false) xs
+    → AllByRecursion (λ y. pointwise nat_eq x y ≡ false) ys
+    → AllByRecursion (λ y. pointwise nat_eq x y ≡ false) (xs ++ ys)
 apart_from_both x [] ys first second = second
 apart_from_both x (z ∷ zs) ys first second = (first.0, apart_from_both x zs ys first.1 second)
 
@@ -62,6 +73,9 @@ pub distinct_append :
 distinct_append [] paths first second new = second
 distinct_append (x ∷ xs) paths first second new =
     let Eq = pointwise nat_eq in
-    IsDistinct-cons Eq x (xs ++ paths) (apart_from_both x xs paths (IsDistinct-head Eq x xs first) (apart_from_unknown x xs paths new))
+    IsDistinct-cons Eq x (xs ++ paths)
+    (apart_from_both x xs paths (IsDistinct-head Eq x xs first)
+    (apart_from_unknown x xs paths new))
     (distinct_append xs paths (IsDistinct-tail Eq x xs first) second
-    (All-weaker (IsUnknown (x ∷ xs)) (IsUnknown xs) (λ y unknown there. unknown (Contains-append_right (x ∷ []) xs y there)) paths new))
+    (All-weaker (IsUnknown (x ∷ xs)) (IsUnknown xs)
+    (λ y unknown there. unknown (Contains-append_right (x ∷ []) xs y there)) paths new))

@@ -14,14 +14,25 @@ use Rattle.valid_table.proofs.LineTexts.{body, line_and}
 
 -- a line has a byte
 line_some : (line : Line) → 1 ≤ length (line_text line)
-line_some line = omega (arith, ap length (line_and line []), length-append (line_text line) [], length-append (body line) (10 ∷ []))
+line_some line = omega (
+  arith,
+  ap length (line_and line []),
+  length-append (line_text line) [],
+  length-append (body line) (10 ∷ []),
+)
 
 -- lines are at most as many as their bytes
 lines_fit : (some : List Line) → length some ≤ length (lines_text some)
 lines_fit [] = omega arith
-lines_fit (line ∷ some) = omega (arith, line_some line, lines_fit some, length-append (line_text line) (lines_text some))
+lines_fit (line ∷ some) = omega (
+  arith,
+  line_some line,
+  lines_fit some,
+  length-append (line_text line) (lines_text some),
+)
 
-pub few_lines : (dir bytes : List ℕ) (entries : List Entry) → length bytes ≤ max_len → IsText dir entries bytes → length (lines entries) ≤ 67108865
+pub few_lines : (dir bytes : List ℕ) (entries : List Entry) → length bytes ≤ max_len
+    → IsText dir entries bytes → length (lines entries) ≤ 67108865
 unfolding text
 few_lines dir bytes entries within is =
     elim is.bytes_are [
@@ -31,10 +42,17 @@ few_lines dir bytes entries within is =
 
 -- no more bytes are left than there are
 pub left_within : (dir bytes : List ℕ) (left : ℕ) → Stops dir Start bytes left → left ≤ length bytes
-left_within dir bytes left h = omega (arith, h.is_left, ap length h.parts, length-append (lines_text h.lines) h.bad)
+left_within dir bytes left h = omega (
+  arith,
+  h.is_left,
+  ap length h.parts,
+  length-append (lines_text h.lines) h.bad,
+)
 
 -- the line behind the newlines before the place where lines stop is the first bad one
-pub bad_line_number : (dir bytes : List ℕ) (left n : ℕ) → IsStoreDir dir → Stops dir Start bytes left → n ≡ 1 + length (places (is_byte 10) (take (length bytes - left) bytes)) → IsBadLine dir bytes n
+pub bad_line_number : (dir bytes : List ℕ) (left n : ℕ) → IsStoreDir dir
+    → Stops dir Start bytes left → n ≡ 1 + length
+    (places (is_byte 10) (take (length bytes - left) bytes)) → IsBadLine dir bytes n
 bad_line_number dir bytes left n of_dir h number =
     let same : suc (length h.lines) ≡ n = omega (arith, stops_count dir bytes left of_dir h) in
     subst (IsBadLine dir bytes) same (bad_line dir bytes left of_dir h)

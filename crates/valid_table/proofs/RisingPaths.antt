@@ -12,7 +12,8 @@ abbrev pub AreAbove : Option (List ℕ) → List (List ℕ) → Type 0
 AreAbove before [] = Unit {0}
 AreAbove before (path ∷ paths) = IsAbove before path × AreAbove (Some path) paths
 
-behind_first : (path : List ℕ) (paths : List (List ℕ)) → IsRising (path ∷ paths) → AreAbove (Some path) paths
+behind_first : (path : List ℕ) (paths : List (List ℕ)) → IsRising (path ∷ paths)
+    → AreAbove (Some path) paths
 behind_first path [] h = tt
 behind_first path (next ∷ paths) h = (h.0, behind_first next paths h.1)
 
@@ -20,7 +21,8 @@ pub above_of_rising : (paths : List (List ℕ)) → IsRising paths → AreAbove 
 above_of_rising [] h = tt
 above_of_rising (path ∷ paths) h = (tt, behind_first path paths h)
 
-rising_first : (path : List ℕ) (paths : List (List ℕ)) → AreAbove (Some path) paths → IsRising (path ∷ paths)
+rising_first : (path : List ℕ) (paths : List (List ℕ)) → AreAbove (Some path) paths
+    → IsRising (path ∷ paths)
 rising_first path [] h = tt
 rising_first path (next ∷ paths) h = (h.0, rising_first next paths h.1)
 
@@ -29,7 +31,8 @@ rising_of_above [] h = tt
 rising_of_above (path ∷ paths) h = rising_first path paths h.1
 
 -- one more path above the last
-pub rising_more : (paths : List (List ℕ)) (path : List ℕ) → IsRising paths → IsAbove (last_or None paths) path → IsRising (paths ++ path ∷ [])
+pub rising_more : (paths : List (List ℕ)) (path : List ℕ) → IsRising paths
+    → IsAbove (last_or None paths) path → IsRising (paths ++ path ∷ [])
 rising_more [] path h above = tt
 rising_more (x ∷ []) path h above = (above, tt)
 rising_more (x ∷ y ∷ paths) path h above = (h.0, rising_more (y ∷ paths) path h.1 above)
@@ -43,11 +46,15 @@ last_is (x ∷ y ∷ xs) =
     ap (slice_get (x ∷ y ∷ xs)) at ∙ last_is (y ∷ xs)
 
 -- the last of what is made of each element is made of the last
-pub last_map : {A B : Type 0} (f : A → B) (o : Option A) (xs : List A) → last_or (option_map f o) (map f xs) ≡ option_map f (last_or o xs)
+pub last_map : {A B : Type 0} (f : A → B) (o : Option A) (xs : List A)
+    → last_or (option_map f o) (map f xs) ≡ option_map f (last_or o xs)
 last_map f o [] = refl
 last_map f o (x ∷ xs) = last_map f (Some x) xs
 
 -- the path of the last registration, as it was looked up
-pub last_path_is : (registrations : List Registration) (last : Registration) → Some last ≡ slice_get registrations (length registrations - 1) → Some last.path ≡ last_or None (paths_of registrations)
+pub last_path_is : (registrations : List Registration) (last : Registration) → Some last
+    ≡ slice_get registrations (length registrations - 1) → Some last.path
+    ≡ last_or None (paths_of registrations)
 last_path_is registrations last at =
-    ap (option_map (λ (r : Registration). r.path)) (at ∙ last_is registrations) ∙ sym (last_map (λ (r : Registration). r.path) None registrations)
+    ap (option_map (λ (r : Registration). r.path)) (at ∙ last_is registrations)
+    ∙ sym (last_map (λ (r : Registration). r.path) None registrations)

@@ -17,7 +17,8 @@ pub first_not_valid :
 first_not_valid registrations roots i root copy below at same valid not_valid = record {
   before = take i roots;
   after = drop (suc i) roots;
-  parts = split_at roots i root below ∙ ap (λ (r : List ℕ). take i roots ++ r ∷ drop (suc i) roots) (sym at ∙ sym same);
+  parts = split_at roots i root below ∙ ap (λ (r : List ℕ). take i roots ++ r ∷ drop (suc i) roots)
+      (sym at ∙ sym same);
   others = valid;
   is = rw same not_valid;
 }

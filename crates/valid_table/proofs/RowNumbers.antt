@@ -18,35 +18,55 @@ use Rattle.valid_table.specs.Valid.{IsOnce, IsValid}
 use Rattle.valid_table.specs.declared.entry.Registration.{Registration}
 
 -- the paths that rows register are their keys
-pub paths_are_keys : (rows : List (List ℕ × PathInfo)) → paths_of (registrations_of rows) ≡ keys_of rows
-paths_are_keys rows = map-map (λ (r : Registration). r.path) (λ (row : List ℕ × PathInfo). record { path = row.0; info = row.1 }) rows
+pub paths_are_keys : (rows : List (List ℕ × PathInfo)) → paths_of (registrations_of rows)
+    ≡ keys_of rows
+paths_are_keys rows = map-map (λ (r : Registration). r.path)
+    (λ (row : List ℕ × PathInfo). record { path = row.0; info = row.1 }) rows
 
 -- there are as many paths as rows
-pub path_count : (registrations : List Registration) → length (paths_of registrations) ≡ length registrations
+pub path_count : (registrations : List Registration) → length (paths_of registrations)
+    ≡ length registrations
 path_count registrations = length-map registrations (λ (r : Registration). r.path)
 
 -- a row is a registration
 pub row_count : (rows : List (List ℕ × PathInfo)) → length (registrations_of rows) ≡ length rows
-row_count rows = length-map rows (λ (row : List ℕ × PathInfo). let r : Registration = record { path = row.0; info = row.1 } in r)
+row_count rows =
+    length-map rows (λ (row : List ℕ × PathInfo). let r : Registration =
+    record { path = row.0; info = row.1 } in r)
 
 -- what a look-up by index answers is the row of the path, or that it is not valid
-pub row_found : {S : Type 0} (m : IndexMap (List ℕ) PathInfo S) (path : List ℕ) (row : Option ℕ) → row ≡ index_of_by (pointwise nat_eq path) m → is_some row ≡ is_some (get_by (pointwise nat_eq path) m) → MatchOption row (IsValid (registrations_of m.entries) path → ⊥) (IsRowOf (registrations_of m.entries) path)
+pub row_found : {S : Type 0} (m : IndexMap (List ℕ) PathInfo S) (path : List ℕ) (row : Option ℕ)
+    → row ≡ index_of_by (pointwise nat_eq path) m → is_some row
+    ≡ is_some (get_by (pointwise nat_eq path) m)
+    → MatchOption row (IsValid (registrations_of m.entries) path → ⊥)
+    (IsRowOf (registrations_of m.entries) path)
 row_found m path None is found =
     λ valid.
-    let has : Contains (keys m) path = subst (λ (ks : List (List ℕ)). Contains ks path) (paths_are_keys m.entries) valid in
+    let has : Contains (keys m) path = subst (λ (ks : List (List ℕ)). Contains ks path)
+    (paths_are_keys m.entries) valid in
     false≢true (found ∙ (hash_map_contains_key_iff nat_list_eq_equiv equal_from_eq m path).1 has)
 row_found m path (Some row) is found =
     let at = position-Some (pointwise nat_eq path) (keys m) row [] (sym is) in
     let here : path ≡ get_or (keys m) row [] = equal_from_eq path (get_or (keys m) row []) at.1 in (
-      omega (arith, at.0, path_count (registrations_of m.entries), ap length (paths_are_keys m.entries)),
+      omega (
+        arith,
+        at.0,
+        path_count (registrations_of m.entries),
+        ap length (paths_are_keys m.entries),
+      ),
       ap (λ (ks : List (List ℕ)). get_or ks row []) (paths_are_keys m.entries) ∙ sym here,
     )
 
 -- a path with a row is valid
-pub valid_from_row : (registrations : List Registration) (path : List ℕ) (row : ℕ) → IsRowOf registrations path row → IsValid registrations path
+pub valid_from_row : (registrations : List Registration) (path : List ℕ) (row : ℕ)
+    → IsRowOf registrations path row → IsValid registrations path
 valid_from_row registrations path row of =
-    let below : row < length (paths_of registrations) = omega (arith, of.0, path_count registrations) in (row, below, get_or_default (paths_of registrations) row path [] below ∙ of.1)
+    let below : row < length (paths_of registrations) =
+    omega (arith, of.0, path_count registrations)
+    in (row, below, get_or_default (paths_of registrations) row path [] below ∙ of.1)
 
 -- the keys of a map are apart, so no path is registered twice
-pub once_from_unique : (rows : List (List ℕ × PathInfo)) → IsDistinct (pointwise nat_eq) (keys_of rows) → IsOnce (registrations_of rows)
-once_from_unique rows unique = subst (IsDistinct (pointwise nat_eq)) (sym (paths_are_keys rows)) unique
+pub once_from_unique : (rows : List (List ℕ × PathInfo))
+    → IsDistinct (pointwise nat_eq) (keys_of rows) → IsOnce (registrations_of rows)
+once_from_unique rows unique = subst (IsDistinct (pointwise nat_eq)) (sym (paths_are_keys rows))
+    unique

@@ -20,18 +20,22 @@ abbrev pub compared : List ℕ → Registration → Ordering
 compared path r = slice_cmp nat_cmp r.path path
 
 -- the path of the registration at a place
-path_at : (rs : List Registration) (i : ℕ) (r : Registration) (d : List ℕ) → i < length rs → get_or (paths_of rs) i d ≡ (get_or rs i r).path
+path_at : (rs : List Registration) (i : ℕ) (r : Registration) (d : List ℕ) → i < length rs
+    → get_or (paths_of rs) i d ≡ (get_or rs i r).path
 path_at rs i r d lt = get_or-map (λ (x : Registration). x.path) rs i r d lt
 
 -- of neighbours in a rising list the second is not less
-pub rising_sorted_at : (rs : List Registration) (k : ℕ) (d : Registration) → IsRising (paths_of rs) → k + 1 < length rs → is_lt (slice_cmp nat_cmp (get_or rs (k + 1) d).path (get_or rs k d).path) ≡ false
+pub rising_sorted_at : (rs : List Registration) (k : ℕ) (d : Registration) → IsRising (paths_of rs)
+    → k + 1 < length rs → is_lt (slice_cmp nat_cmp (get_or rs (k + 1) d).path (get_or rs k d).path)
+    ≡ false
 rising_sorted_at [] k d rises lt = absurd (omega arith)
 rising_sorted_at (x ∷ []) k d rises lt = absurd (omega arith)
 rising_sorted_at (x ∷ y ∷ rs) zero d rises lt =
     ap is_lt (nat_list_cmp_total.antisymm y.path x.path ∙ ap ordering_reverse rises.0)
 rising_sorted_at (x ∷ y ∷ rs) (suc k) d rises lt =
     let next : suc (k + 1) ≡ suc k + 1 = omega arith in
-    subst (λ n. is_lt (slice_cmp nat_cmp (get_or (x ∷ y ∷ rs) n d).path (get_or (y ∷ rs) k d).path) ≡ false) next
+    subst (λ n. is_lt (slice_cmp nat_cmp (get_or (x ∷ y ∷ rs) n d).path (get_or (y ∷ rs) k d).path)
+    ≡ false) next
     (rising_sorted_at (y ∷ rs) k d rises.1 (omega arith))
 
 -- a search tells whether a path is registered
@@ -43,22 +47,34 @@ pub search_tells :
     IsTrue (is_ok found) ↔ IsValid rs path
 search_tells rs path (Ok i) rises within here = (
   λ _.
-      let none : Registration = record { path = path; info = record { references = []; digest = None } } in
-      let same : (get_or rs i none).path ≡ path = equal_from_eq _ path (texts_ties (get_or rs i none).path path ∙ ap is_eq (here none)) in
-      (i, omega (arith, length-map rs (λ (r : Registration). r.path)), path_at rs i none path within ∙ same),
+      let none : Registration =
+      record { path = path; info = record { references = []; digest = None } } in
+      let same : (get_or rs i none).path ≡ path =
+      equal_from_eq _ path (texts_ties (get_or rs i none).path path ∙ ap is_eq (here none)) in (
+        i,
+        omega (arith, length-map rs (λ (r : Registration). r.path)),
+        path_at rs i none path within ∙ same,
+      ),
   λ _. refl,
 )
 search_tells rs path (Err i) rises within apart = (
   λ no. absurd (false≢true no),
   λ valid.
-      let none : Registration = record { path = path; info = record { references = []; digest = None } } in
+      let none : Registration =
+      record { path = path; info = record { references = []; digest = None } } in
       let k = valid.0 in
-      let lt : k < length rs = omega (arith, valid.1, length-map rs (λ (r : Registration). r.path)) in
-      let parts = apart (searchable_from_sorted nat_list_cmp_total (λ (r : Registration). r.path) rs path (λ j d low below. rising_sorted_at rs j d rises below)) in
+      let lt : k < length rs = omega (arith, valid.1, length-map rs (λ (r : Registration). r.path))
+      in
+      let parts = apart
+      (searchable_from_sorted nat_list_cmp_total (λ (r : Registration). r.path) rs path
+      (λ j d low below. rising_sorted_at rs j d rises below)) in
       let same : compared path (get_or rs k none) ≡ Equal =
-      ap (λ p. slice_cmp nat_cmp p path) (sym (path_at rs k none path lt) ∙ valid.2) ∙ tied_itself nat_list_cmp_total path in
+      ap (λ p. slice_cmp nat_cmp p path) (sym (path_at rs k none path lt) ∙ valid.2)
+      ∙ tied_itself nat_list_cmp_total path in
       ⊎_elim
-      (λ before. let less : compared path (get_or rs k none) ≡ Less = parts.0 k none (omega arith) before in cc)
-      (λ behind. let more : compared path (get_or rs k none) ≡ Greater = parts.1 k none behind lt in cc)
+      (λ before. let less : compared path (get_or rs k none)
+      ≡ Less = parts.0 k none (omega arith) before in cc)
+      (λ behind. let more : compared path (get_or rs k none) ≡ Greater = parts.1 k none behind lt
+      in cc)
       (cases_lt k i),
 )

@@ -1,4 +1,5 @@
--- Newlines and spaces part a text in one way only, where what stands before them has none; paths and digests have none.
+-- Newlines and spaces part a text in one way only, where what stands before them has none; paths
+-- and digests have none.
 use Rattle.std.proofs.Common.{◌≡◌, ◌≢◌, ℕ, Bool, true, false, List, [], ◌∷◌, ◌++◌, ◌<◌, length, inl, inr, Option, Some, None, refl, sym, ap, ◌∙◌, subst, arith, IsTrue}
 use Rattle.std.specs.List.{All, AllPass, flat_map, list_all}
 use Rattle.std.proofs.lemmas.Bool.{and_parts, cases_lt, false≢true}
@@ -19,7 +20,8 @@ Lacks b xs = All (λ x. x ≢ b) xs
 -- ---- where a text is cut
 
 -- two texts up to the first such byte are the same, where the wholes are
-pub same_cut : (b : ℕ) (xs ys x y : List ℕ) → Lacks b xs → Lacks b ys → xs ++ (b ∷ x) ≡ ys ++ (b ∷ y) → (xs ≡ ys) × (x ≡ y)
+pub same_cut : (b : ℕ) (xs ys x y : List ℕ) → Lacks b xs → Lacks b ys → xs ++ (b ∷ x) ≡ ys
+    ++ (b ∷ y) → (xs ≡ ys) × (x ≡ y)
 same_cut b [] [] x y none other e = (refl, cc)
 same_cut b [] (c ∷ ys) x y none other e =
     let same : c ≡ b = cc in
@@ -29,20 +31,24 @@ same_cut b (a ∷ xs) [] x y none other e =
     absurd (All-head (λ z. z ≢ b) a xs none same)
 same_cut b (a ∷ xs) (c ∷ ys) x y none other e =
     let rest : xs ++ (b ∷ x) ≡ ys ++ (b ∷ y) = cc in
-    let same = same_cut b xs ys x y (All-tail (λ z. z ≢ b) a xs none) (All-tail (λ z. z ≢ b) c ys other) rest in
+    let same = same_cut b xs ys x y (All-tail (λ z. z ≢ b) a xs none)
+    (All-tail (λ z. z ≢ b) c ys other) rest in
     (cc (same.0), same.1)
 
 -- a text has such a byte
 pub lacks_not : (b : ℕ) (xs rest : List ℕ) → Lacks b (xs ++ (b ∷ rest)) → ⊥
 lacks_not b [] rest none = All-head (λ z. z ≢ b) b rest none refl
-lacks_not b (x ∷ xs) rest none = lacks_not b xs rest (All-tail (λ z. z ≢ b) x (xs ++ (b ∷ rest)) none)
+lacks_not b (x ∷ xs) rest none = lacks_not b xs rest
+    (All-tail (λ z. z ≢ b) x (xs ++ (b ∷ rest)) none)
 
 -- a byte that fails a test is none of those that pass
 pub apart : (test : ℕ → Bool) (b : ℕ) (xs : List ℕ) → test b ≡ false → AllPass test xs → Lacks b xs
 apart test b xs fails pass =
-    All-weaker (λ x. test x ≡ true) (λ x. x ≢ b) (λ x passes same. false≢true (sym fails ∙ ap test (sym same) ∙ passes)) xs pass
+    All-weaker (λ x. test x ≡ true) (λ x. x ≢ b)
+    (λ x passes same. false≢true (sym fails ∙ ap test (sym same) ∙ passes)) xs pass
 
-pub passing : (test : ℕ → Bool) (b : ℕ) (xs : List ℕ) → test b ≡ false → list_all test xs ≡ true → Lacks b xs
+pub passing : (test : ℕ → Bool) (b : ℕ) (xs : List ℕ) → test b ≡ false → list_all test xs ≡ true
+    → Lacks b xs
 passing test b xs fails pass = apart test b xs fails (AllPass-from_list_all test xs pass)
 
 -- ---- paths
@@ -56,17 +62,30 @@ pub record IsSeparator (b : ℕ) : Type 0 where
 
 pub newline : IsSeparator 10
 unfolding is_name_char
-newline = record { no_name = refl; no_digit = refl; no_slash = λ e. absurd (omega arith); no_dash = λ e. absurd (omega arith) }
+newline = record {
+  no_name = refl;
+  no_digit = refl;
+  no_slash = λ e. absurd (omega arith);
+  no_dash = λ e. absurd (omega arith);
+}
 
 pub space : IsSeparator 32
 unfolding is_name_char
-space = record { no_name = refl; no_digit = refl; no_slash = λ e. absurd (omega arith); no_dash = λ e. absurd (omega arith) }
+space = record {
+  no_name = refl;
+  no_digit = refl;
+  no_slash = λ e. absurd (omega arith);
+  no_dash = λ e. absurd (omega arith);
+}
 
-components_lack : (b : ℕ) → IsSeparator b → (parts : List (List ℕ)) → All (λ part. IsTrue (is_component part)) parts → Lacks b (flat_map (λ part. 47 ∷ part) parts)
+components_lack : (b : ℕ) → IsSeparator b → (parts : List (List ℕ))
+    → All (λ part. IsTrue (is_component part)) parts → Lacks b (flat_map (λ part. 47 ∷ part) parts)
 unfolding is_component
 components_lack b is [] each = All-nil (λ z. z ≢ b)
 components_lack b is (part ∷ parts) each =
-    let chars = (and_parts _ _ (and_parts _ _ (and_parts _ _ (All-head (λ p. IsTrue (is_component p)) part parts each)).0).0).1 in
+    let chars = (and_parts _ _
+    (and_parts _ _
+    (and_parts _ _ (All-head (λ p. IsTrue (is_component p)) part parts each)).0).0).1 in
     All-append (λ z. z ≢ b) (47 ∷ part) (flat_map (λ part. 47 ∷ part) parts)
     (All-cons (λ z. z ≢ b) 47 part is.no_slash (passing is_name_char b part is.no_name chars))
     (components_lack b is parts (All-tail (λ p. IsTrue (is_component p)) part parts each))
@@ -76,29 +95,35 @@ pub dir_lacks : (b : ℕ) → IsSeparator b → (dir : List ℕ) → IsStoreDir 
 dir_lacks b is dir h = subst (Lacks b) (sym h.parts) (components_lack b is h.components h.each)
 
 -- nor has what stands behind the folder in a path
-behind_dir : (b : ℕ) → IsSeparator b → (dir path : List ℕ) → IsPathOf dir path → (rest : List ℕ) × (path ≡ dir ++ rest) × Lacks b rest
+behind_dir : (b : ℕ) → IsSeparator b → (dir path : List ℕ) → IsPathOf dir path → (rest : List ℕ)
+    × (path ≡ dir ++ rest) × Lacks b rest
 unfolding is_hash_part is_name
 behind_dir b is dir path h = (
   47 ∷ h.hash ++ (45 ∷ h.name),
   h.parts,
   All-append (λ z. z ≢ b) (47 ∷ h.hash) (45 ∷ h.name)
-      (All-cons (λ z. z ≢ b) 47 h.hash is.no_slash (passing is_digit b h.hash is.no_digit (and_parts _ _ h.is_hash).1))
-      (All-cons (λ z. z ≢ b) 45 h.name is.no_dash (passing is_name_char b h.name is.no_name (and_parts _ _ (and_parts _ _ h.named).0).1)),
+      (All-cons (λ z. z ≢ b) 47 h.hash is.no_slash
+      (passing is_digit b h.hash is.no_digit (and_parts _ _ h.is_hash).1))
+      (All-cons (λ z. z ≢ b) 45 h.name is.no_dash
+      (passing is_name_char b h.name is.no_name (and_parts _ _ (and_parts _ _ h.named).0).1)),
 )
 
 -- a path of a folder without one has none
-pub path_lacks : (b : ℕ) → IsSeparator b → (dir path : List ℕ) → Lacks b dir → IsPathOf dir path → Lacks b path
+pub path_lacks : (b : ℕ) → IsSeparator b → (dir path : List ℕ) → Lacks b dir → IsPathOf dir path
+    → Lacks b path
 path_lacks b is dir path clear h =
     let parts = behind_dir b is dir path h in
     subst (Lacks b) (sym parts.1) (All-append (λ z. z ≢ b) dir parts.0 clear parts.2)
 
 -- two paths of a folder up to a separator are the same, where the wholes are
-pub same_path : (b : ℕ) → IsSeparator b → (dir p q x y : List ℕ) → IsPathOf dir p → IsPathOf dir q → p ++ (b ∷ x) ≡ q ++ (b ∷ y) → (p ≡ q) × (x ≡ y)
+pub same_path : (b : ℕ) → IsSeparator b → (dir p q x y : List ℕ) → IsPathOf dir p → IsPathOf dir q
+    → p ++ (b ∷ x) ≡ q ++ (b ∷ y) → (p ≡ q) × (x ≡ y)
 same_path b is dir p q x y one two e =
     let a = behind_dir b is dir p one in
     let c = behind_dir b is dir q two in
     let whole : dir ++ (a.0 ++ (b ∷ x)) ≡ dir ++ (c.0 ++ (b ∷ y)) =
-    sym (ap (λ (t : List ℕ). t ++ (b ∷ x)) a.1 ∙ append_assoc dir a.0 (b ∷ x)) ∙ e ∙ ap (λ (t : List ℕ). t ++ (b ∷ y)) c.1 ∙ append_assoc dir c.0 (b ∷ y) in
+    sym (ap (λ (t : List ℕ). t ++ (b ∷ x)) a.1 ∙ append_assoc dir a.0 (b ∷ x)) ∙ e
+    ∙ ap (λ (t : List ℕ). t ++ (b ∷ y)) c.1 ∙ append_assoc dir c.0 (b ∷ y) in
     let same = same_cut b a.0 c.0 x y a.2 c.2 (append_cancel_left dir _ _ whole) in
     (a.1 ∙ ap (λ (t : List ℕ). dir ++ t) same.0 ∙ sym c.1, same.1)
 
@@ -114,7 +139,9 @@ bytes_everywhere xs each i =
 
 -- a digest's text has no newline
 pub digest_lacks : (digest : Option (List ℕ)) → IsDigest digest → Lacks 10 (digest_text digest)
-digest_lacks None is = All-cons (λ z. z ≢ 10) 45 [] (λ e. absurd (omega arith)) (All-nil (λ z. z ≢ 10))
+digest_lacks None is = All-cons (λ z. z ≢ 10) 45 [] (λ e. absurd (omega arith))
+    (All-nil (λ z. z ≢ 10))
 digest_lacks (Some digest) is =
     apart is_hex_digit 10 (encode_lower digest) refl
-    (decode_of-ok (encode_lower digest) digest (decode_of-encode_lower digest (bytes_everywhere digest is.1))).1
+    (decode_of-ok (encode_lower digest) digest
+    (decode_of-encode_lower digest (bytes_everywhere digest is.1))).1

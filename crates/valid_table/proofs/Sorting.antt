@@ -21,40 +21,64 @@ use Rattle.valid_table.proofs.Reaching.{same_place}
 use Rattle.valid_table.proofs.RowNumbers.{path_count}
 
 -- the paths of distinct rows are distinct
-paths_distinct : (registrations : List Registration) → IsOnce registrations → (rows : List ℕ) → AreRows registrations rows → IsDistinct (pointwise nat_eq) (paths_at registrations rows)
-paths_distinct registrations once rows are = IsDistinct-from_apart (pointwise nat_eq) (paths_at registrations rows) apart
+paths_distinct : (registrations : List Registration) → IsOnce registrations → (rows : List ℕ)
+    → AreRows registrations rows → IsDistinct (pointwise nat_eq) (paths_at registrations rows)
+paths_distinct registrations once rows are = IsDistinct-from_apart (pointwise nat_eq)
+    (paths_at registrations rows) apart
   where
     paths : List (List ℕ)
     paths = paths_at registrations rows
 
-    row_at : (k : ℕ) (d : List ℕ) → k < length rows → get_or paths k d ≡ get_or (paths_of registrations) (get_or rows k 0) []
+    row_at : (k : ℕ) (d : List ℕ) → k < length rows → get_or paths k d
+        ≡ get_or (paths_of registrations) (get_or rows k 0) []
     row_at k d below = get_or-map (path_at registrations) rows k 0 d below
 
     within : (k : ℕ) → k < length rows → get_or rows k 0 < length (paths_of registrations)
-    within k below = let h = All-get_or (λ r. r < length registrations) rows k 0 below are.below in omega (arith, h, path_count registrations)
+    within k below = let h = All-get_or (λ r. r < length registrations) rows k 0 below are.below
+        in omega (arith, h, path_count registrations)
 
-    apart : (i j : ℕ) (d : List ℕ) → i < j → j < length paths → pointwise nat_eq (get_or paths i d) (get_or paths j d) ≡ false
+    apart : (i j : ℕ) (d : List ℕ) → i < j → j < length paths
+        → pointwise nat_eq (get_or paths i d) (get_or paths j d) ≡ false
     apart i j d before below =
-        let in_j : j < length rows = omega (arith, below, length-map rows (path_at registrations)) in
+        let in_j : j < length rows = omega (arith, below, length-map rows (path_at registrations))
+        in
         let in_i : i < length rows = omega arith in
         false_from_ne_true _ (λ same.
-        let one : get_or rows i 0 ≡ get_or rows j 0 = same_place (paths_of registrations) once _ _ (within i in_i) (within j in_j) (sym (row_at i d in_i) ∙ equal_from_eq _ _ same ∙ row_at j d in_j) in
-        false≢true (sym (apart_from_distinct nat_eq rows i j 0 are.distinct before in_j) ∙ ap (λ r. nat_eq r (get_or rows j 0)) one ∙ nat_eq_equiv.refl (get_or rows j 0)))
+        let one : get_or rows i 0 ≡ get_or rows j 0 =
+        same_place (paths_of registrations) once _ _ (within i in_i) (within j in_j)
+        (sym (row_at i d in_i) ∙ equal_from_eq _ _ same ∙ row_at j d in_j) in
+        false≢true (sym (apart_from_distinct nat_eq rows i j 0 are.distinct before in_j)
+        ∙ ap (λ r. nat_eq r (get_or rows j 0)) one ∙ nat_eq_equiv.refl (get_or rows j 0)))
 
 -- the sorted paths of rows rise
-pub sorted_rising : (registrations : List Registration) → IsOnce registrations → (rows : List ℕ) → AreRows registrations rows → (paths sorted : List (List ℕ)) → paths ≡ paths_at registrations rows → IsPermutation paths sorted → IsSorted (slice_cmp nat_cmp) sorted → IsRising sorted
+pub sorted_rising : (registrations : List Registration) → IsOnce registrations → (rows : List ℕ)
+    → AreRows registrations rows → (paths sorted : List (List ℕ)) → paths
+    ≡ paths_at registrations rows → IsPermutation paths sorted → IsSorted (slice_cmp nat_cmp) sorted
+    → IsRising sorted
 sorted_rising registrations once rows are paths sorted is moved ordered =
     rising_sorted sorted ordered
-    (IsDistinct-IsPermutation (pointwise nat_eq) nat_list_eq_equiv.symm paths sorted moved (subst (IsDistinct (pointwise nat_eq)) (sym is) (paths_distinct registrations once rows are)))
+    (IsDistinct-IsPermutation (pointwise nat_eq) nat_list_eq_equiv.symm paths sorted moved
+    (subst (IsDistinct (pointwise nat_eq)) (sym is)
+    (paths_distinct registrations once rows are)))
 
 -- and are the same
-pub sorted_same : (paths sorted wanted : List (List ℕ)) → paths ≡ wanted → IsPermutation paths sorted → HaveSame sorted wanted
+pub sorted_same : (paths sorted wanted : List (List ℕ)) → paths ≡ wanted
+    → IsPermutation paths sorted → HaveSame sorted wanted
 sorted_same paths sorted wanted is moved =
-    subst (HaveSame sorted) is (λ path. (Contains-permutation sorted paths path (IsPermutation-sym paths sorted moved), Contains-permutation paths sorted path moved))
+    subst (HaveSame sorted) is
+    (λ path. (
+      Contains-permutation sorted paths path (IsPermutation-sym paths sorted moved),
+      Contains-permutation paths sorted path moved,
+    ))
 
 -- one more row's path
-pub paths_more : (registrations : List Registration) (rows : List ℕ) (i : ℕ) (path : List ℕ) (so_far pushed : List (List ℕ)) → i < length rows → so_far ≡ paths_at registrations (take i rows) → slice_get (paths_of registrations) (get_or rows i 0) ≡ Some path → pushed ≡ so_far ++ path ∷ [] → pushed ≡ paths_at registrations (take (i + 1) rows)
+pub paths_more : (registrations : List Registration) (rows : List ℕ) (i : ℕ) (path : List ℕ)
+    (so_far pushed : List (List ℕ)) → i < length rows → so_far
+    ≡ paths_at registrations (take i rows) → slice_get (paths_of registrations) (get_or rows i 0)
+    ≡ Some path → pushed ≡ so_far ++ path ∷ [] → pushed ≡ paths_at registrations (take (i + 1) rows)
 paths_more registrations rows i path so_far pushed below before at is =
     is ∙ ap (λ (paths : List (List ℕ)). paths ++ path ∷ []) before
-    ∙ ap (λ (p : List ℕ). paths_at registrations (take i rows) ++ p ∷ []) (sym (get_or_from_slice_get (paths_of registrations) (get_or rows i 0) path [] at))
-    ∙ sym (ap (map (path_at registrations)) (take_more rows i 0 below) ∙ map-append (path_at registrations) (take i rows) (get_or rows i 0 ∷ []))
+    ∙ ap (λ (p : List ℕ). paths_at registrations (take i rows) ++ p ∷ [])
+    (sym (get_or_from_slice_get (paths_of registrations) (get_or rows i 0) path [] at))
+    ∙ sym (ap (map (path_at registrations)) (take_more rows i 0 below)
+    ∙ map-append (path_at registrations) (take i rows) (get_or rows i 0 ∷ []))

@@ -21,33 +21,43 @@ use Rattle.valid_table.proofs.PathLists.{once_apart, parts_at}
 use Rattle.valid_table.proofs.RowNumbers.{paths_are_keys}
 
 -- a row is among the registrations
-registers_row : (rows : List (List ℕ × PathInfo)) (path : List ℕ) (info : PathInfo) → Contains rows (path, info) → Registers (registrations_of rows) path info
+registers_row : (rows : List (List ℕ × PathInfo)) (path : List ℕ) (info : PathInfo)
+    → Contains rows (path, info) → Registers (registrations_of rows) path info
 registers_row [] path info (k, lt, is) = absurd (omega arith)
-registers_row (row ∷ rows) path info (zero, lt, is) = (0, omega arith, ap (λ (r : List ℕ × PathInfo). record { path = r.0; info = r.1 }) is)
+registers_row (row ∷ rows) path info (zero, lt, is) =
+    (0, omega arith, ap (λ (r : List ℕ × PathInfo). record { path = r.0; info = r.1 }) is)
 registers_row (row ∷ rows) path info (suc k, lt, is) =
-    let (n, below, same) = registers_row rows path info (k, omega arith, is) in (suc n, omega arith, same)
+    let (n, below, same) = registers_row rows path info (k, omega arith, is)
+    in (suc n, omega arith, same)
 
 -- what a look-up by path finds
 pub found_row :
     (rows : List (List ℕ × PathInfo)) (path : List ℕ) (found : Option (Bor PathInfo)) →
     option_copied found ≡ lookup (pointwise nat_eq path) rows →
-    MatchOption found (IsValid (registrations_of rows) path → ⊥) (λ info. Registers (registrations_of rows) path info.now)
+    MatchOption found (IsValid (registrations_of rows) path → ⊥)
+    (λ info. Registers (registrations_of rows) path info.now)
 found_row rows path None is = λ valid.
-    let there = IsSome-lookup_from_Contains nat_list_eq_equiv path rows (subst (λ keys. Contains keys path) (paths_are_keys rows) valid) in
+    let there = IsSome-lookup_from_Contains nat_list_eq_equiv path rows
+    (subst (λ keys. Contains keys path) (paths_are_keys rows) valid) in
     true≢false (sym there ∙ ap is_some (sym is))
-found_row rows path (Some info) is = registers_row rows path info.now (Contains-from_lookup equal_from_eq path info.now rows (sym is))
+found_row rows path (Some info) is = registers_row rows path info.now
+    (Contains-from_lookup equal_from_eq path info.now rows (sym is))
 
 -- a path that isn't among the keys is not found
-not_found : (rows : List (List ℕ × PathInfo)) (path : List ℕ) → (Contains (keys_of rows) path → ⊥) → lookup (pointwise nat_eq path) rows ≡ None
+not_found : (rows : List (List ℕ × PathInfo)) (path : List ℕ) → (Contains (keys_of rows) path → ⊥)
+    → lookup (pointwise nat_eq path) rows ≡ None
 not_found rows path apart = go (lookup (pointwise nat_eq path) rows) refl
   where
-    go : (found : Option PathInfo) → lookup (pointwise nat_eq path) rows ≡ found → lookup (pointwise nat_eq path) rows ≡ None
+    go : (found : Option PathInfo) → lookup (pointwise nat_eq path) rows ≡ found
+        → lookup (pointwise nat_eq path) rows ≡ None
     go None is = is
-    go (Some info) is = absurd (apart (Contains-keys_from_lookup equal_from_eq path rows (ap is_some is)))
+    go (Some info) is =
+        absurd (apart (Contains-keys_from_lookup equal_from_eq path rows (ap is_some is)))
 
 -- one more row
 pub row_added :
-    {S : Type 0} (rows : IndexMap (List ℕ) PathInfo S) (before rs : List Registration) (i : ℕ) (r : Registration) (new : List (List ℕ × PathInfo)) →
+    {S : Type 0} (rows : IndexMap (List ℕ) PathInfo S) (before rs : List Registration) (i : ℕ)
+    (r : Registration) (new : List (List ℕ × PathInfo)) →
     IsOnce (before ++ rs) →
     registrations_of rows.entries ≡ before ++ take i rs →
     i < length rs →
@@ -56,12 +66,18 @@ pub row_added :
     registrations_of new ≡ before ++ take (i + 1) rs
 row_added rows before rs i r new once is_so lt is added =
     let front = before ++ take i rs in
-    let parts = ap paths_of (ap (λ l. before ++ l) (parts_at rs i r lt is) ∙ sym (append_assoc before (take i rs) (r ∷ drop (i + 1) rs))) ∙ paths_of-append front (r ∷ drop (i + 1) rs) in
-    let keys : keys_of rows.entries ≡ paths_of front = sym (paths_are_keys rows.entries) ∙ ap paths_of is_so in
-    let apart = once_apart (paths_of front) (paths_of (drop (i + 1) rs)) r.path (rw parts at once) in
-    let none = not_found rows.entries r.path (λ there. apart (subst (λ ks. Contains ks r.path) keys there)) in
+    let parts = ap paths_of (ap (λ l. before ++ l) (parts_at rs i r lt is)
+    ∙ sym (append_assoc before (take i rs) (r ∷ drop (i + 1) rs)))
+    ∙ paths_of-append front (r ∷ drop (i + 1) rs) in
+    let keys : keys_of rows.entries ≡ paths_of front = sym (paths_are_keys rows.entries)
+    ∙ ap paths_of is_so in
+    let apart = once_apart (paths_of front) (paths_of (drop (i + 1) rs)) r.path (rw parts at once)
+    in
+    let none = not_found rows.entries r.path
+    (λ there. apart (subst (λ ks. Contains ks r.path) keys there)) in
     ap registrations_of (added ∙ insert_entry-new (pointwise nat_eq) rows r.path r.info none)
-    ∙ map_push (λ (row : List ℕ × PathInfo). record { path = row.0; info = row.1 }) rows.entries (r.path, r.info)
+    ∙ map_push (λ (row : List ℕ × PathInfo). record { path = row.0; info = row.1 }) rows.entries
+    (r.path, r.info)
     ∙ ap (λ l. l ++ r ∷ []) is_so
     ∙ append_assoc before (take i rs) (r ∷ [])
     ∙ ap (λ l. before ++ l) (ap (λ x. take i rs ++ x ∷ []) is ∙ sym (take_more rs i r lt))
@@ -80,19 +96,25 @@ has_row_says rows path found is =
 
 -- a row that is moved in
 pub row_pushed :
-    {S : Type 0} (rows : IndexMap (List ℕ) PathInfo S) (r : Registration) (new : List (List ℕ × PathInfo)) →
+    {S : Type 0} (rows : IndexMap (List ℕ) PathInfo S) (r : Registration)
+    (new : List (List ℕ × PathInfo)) →
     IsNotValid (registrations_of rows.entries) r.path →
     new ≡ insert_entry (pointwise nat_eq) rows.entries r.path r.info →
     registrations_of new ≡ registrations_of rows.entries ++ r ∷ []
 row_pushed rows r new fresh added =
-    let none = not_found rows.entries r.path (λ there. fresh (subst (λ ks. Contains ks r.path) (sym (paths_are_keys rows.entries)) there)) in
+    let none = not_found rows.entries r.path
+    (λ there.
+    fresh (subst (λ ks. Contains ks r.path) (sym (paths_are_keys rows.entries)) there)) in
     ap registrations_of (added ∙ insert_entry-new (pointwise nat_eq) rows r.path r.info none)
-    ∙ map_push (λ (row : List ℕ × PathInfo). record { path = row.0; info = row.1 }) rows.entries (r.path, r.info)
+    ∙ map_push (λ (row : List ℕ × PathInfo). record { path = row.0; info = row.1 }) rows.entries
+    (r.path, r.info)
 
 -- the path of a registration behind others is not valid by them, where no path is registered twice
-pub next_new : (known later : List Registration) (r : Registration) → IsOnce (known ++ r ∷ later) → IsNotValid known r.path
+pub next_new : (known later : List Registration) (r : Registration) → IsOnce (known ++ r ∷ later)
+    → IsNotValid known r.path
 next_new known later r once =
-    once_apart (paths_of known) (paths_of later) r.path (subst (IsDistinct (pointwise nat_eq)) (paths_of-append known (r ∷ later)) once)
+    once_apart (paths_of known) (paths_of later) r.path
+    (subst (IsDistinct (pointwise nat_eq)) (paths_of-append known (r ∷ later)) once)
 
 -- what holds where there is a value holds where there is one
 pub on_ok : {T E P : Type 0} (result : Result T E) → IsOk result → OnOk result P → P

@@ -14,27 +14,35 @@ use Rattle.valid_table.proofs.JournalLists.{paths_of-append, references_of-appen
 use Rattle.valid_table.proofs.PathLists.{distinct_append}
 
 -- new registrations that rise repeat no path behind known ones
-pub once_more : (known some : List Registration) → IsOnce known → IsRising (paths_of some) → AreNew known some → IsOnce (known ++ some)
+pub once_more : (known some : List Registration) → IsOnce known → IsRising (paths_of some)
+    → AreNew known some → IsOnce (known ++ some)
 once_more known some once rising new =
     subst (IsDistinct (pointwise nat_eq)) (sym (paths_of-append known some))
-    (distinct_append (paths_of known) (paths_of some) once (distinct_from_rising (paths_of some) rising) new)
+    (distinct_append (paths_of known) (paths_of some) once
+    (distinct_from_rising (paths_of some) rising) new)
 
 -- closed registrations behind known ones whose references are valid: all references are
-pub valid_with_more : (known some : List Registration) → AreReferencesValid known → AreClosed known some → AreReferencesValid (known ++ some)
+pub valid_with_more : (known some : List Registration) → AreReferencesValid known
+    → AreClosed known some → AreReferencesValid (known ++ some)
 valid_with_more known some valid closed =
     let all = known ++ some in
     subst (All (IsValid all)) (sym (references_of-append known some))
-    (All-append (IsValid all) (references_of known) (references_of some) (valid_more known some (references_of known) valid) closed)
+    (All-append (IsValid all) (references_of known) (references_of some)
+    (valid_more known some (references_of known) valid) closed)
 
 -- a path that is valid by two lists of registrations is so by one of them
-pub valid_cases : (known some : List Registration) (path : List ℕ) → IsValid (known ++ some) path → IsValid known path ⊎ IsValid some path
+pub valid_cases : (known some : List Registration) (path : List ℕ) → IsValid (known ++ some) path
+    → IsValid known path ⊎ IsValid some path
 valid_cases known some path valid =
-    Contains-append_cases (paths_of known) (paths_of some) path (subst (λ paths. Contains paths path) (paths_of-append known some) valid)
+    Contains-append_cases (paths_of known) (paths_of some) path
+    (subst (λ paths. Contains paths path) (paths_of-append known some) valid)
 
 -- and one that is by the second
-pub valid_by_some : (known some : List Registration) (path : List ℕ) → IsValid some path → IsValid (known ++ some) path
+pub valid_by_some : (known some : List Registration) (path : List ℕ) → IsValid some path
+    → IsValid (known ++ some) path
 valid_by_some known some path valid =
-    subst (λ paths. Contains paths path) (sym (paths_of-append known some)) (Contains-append_right (paths_of known) (paths_of some) path valid)
+    subst (λ paths. Contains paths path) (sym (paths_of-append known some))
+    (Contains-append_right (paths_of known) (paths_of some) path valid)
 
 -- a list that isn't empty has an element
 pub some_elements : {X : Type 0} (xs : List X) → (xs ≡ [] → ⊥) → 1 ≤ length xs

@@ -23,39 +23,50 @@ use Rattle.valid_table.proofs.Versions.{by_number}
 -- ---- the version
 
 -- a journal's text isn't that of another version
-pub not_other_version : (dir bytes : List ℕ) (entries : List Entry) → IsText dir entries bytes → IsOtherVersion bytes → ⊥
+pub not_other_version : (dir bytes : List ℕ) (entries : List Entry) → IsText dir entries bytes
+    → IsOtherVersion bytes → ⊥
 unfolding text
 not_other_version dir bytes entries is other =
     elim is.bytes_are [
       | inl whole ↦
           let rest = flat_map line_text (flat_map entry_lines entries) in
-          let one : Lacks 10 (codes "1") = All-cons (λ b. b ≢ 10) 49 [] (λ e. absurd (omega arith)) (All-nil (λ b. b ≢ 10)) in
-          ((by_number bytes (codes "1" ++ 10 ∷ rest) (codes "1") rest whole refl one).1 other).2 refl
+          let one : Lacks 10 (codes "1") = All-cons (λ b. b ≢ 10) 49 [] (λ e. absurd (omega arith))
+          (All-nil (λ b. b ≢ 10)) in
+          ((by_number bytes (codes "1" ++ 10 ∷ rest) (codes "1") rest whole refl one).1 other).2
+          refl
       | inr none ↦ absurd (omega (arith, ap length (sym none.1 ∙ other.parts)))
     ]
 
 -- ---- journals have no wrong line
 
 -- of paths without repetition, none is among those before it
-later_new : (known paths : List (List ℕ)) → IsDistinct (pointwise nat_eq) (known ++ paths) → AreUnknown known paths
+later_new : (known paths : List (List ℕ)) → IsDistinct (pointwise nat_eq) (known ++ paths)
+    → AreUnknown known paths
 later_new known paths once k d lt there =
     let path = get_or paths k d in
     let parts = parts_at paths k path lt (get_or_default paths k d path lt) in
     let before = known ++ take k paths in
-    let all = ap (λ l. known ++ l) parts ∙ sym (append_assoc known (take k paths) (path ∷ drop (k + 1) paths)) in
-    once_apart before (drop (k + 1) paths) path (subst (IsDistinct (pointwise nat_eq)) all once) (Contains-append_left known (take k paths) path there)
+    let all = ap (λ l. known ++ l) parts ∙ sym
+    (append_assoc known (take k paths) (path ∷ drop (k + 1) paths)) in
+    once_apart before (drop (k + 1) paths) path (subst (IsDistinct (pointwise nat_eq)) all once)
+    (Contains-append_left known (take k paths) path there)
 
 -- closed entries that register no path twice are right
-journal_right : (earlier : List Registration) (entries : List Entry) → IsClosedBehind earlier entries → IsOnce (earlier ++ registered entries) → AreRight earlier entries
+journal_right : (earlier : List Registration) (entries : List Entry)
+    → IsClosedBehind earlier entries → IsOnce (earlier ++ registered entries)
+    → AreRight earlier entries
 journal_right earlier [] closed once = tt
 journal_right earlier (entry ∷ entries) closed once =
     let rs = registered_by entry in
     let now = earlier ++ rs in
     let later = registered entries in
     let all : IsOnce (now ++ later) = subst IsOnce (sym (append_assoc earlier rs later)) once in
-    let front = once_front (paths_of now) (paths_of later) (subst (IsDistinct (pointwise nat_eq)) (paths_of-append now later) all) in
-    let new = later_new (paths_of earlier) (paths_of rs) (subst (IsDistinct (pointwise nat_eq)) (paths_of-append earlier rs) front) in (
-      subst (All (IsRightBehind earlier entry)) (sym (entry_lines_are entry)) (up_to (paths_of earlier) (paths_of now) entry rs new closed.0),
+    let front = once_front (paths_of now) (paths_of later)
+    (subst (IsDistinct (pointwise nat_eq)) (paths_of-append now later) all) in
+    let new = later_new (paths_of earlier) (paths_of rs)
+    (subst (IsDistinct (pointwise nat_eq)) (paths_of-append earlier rs) front) in (
+      subst (All (IsRightBehind earlier entry)) (sym (entry_lines_are entry))
+          (up_to (paths_of earlier) (paths_of now) entry rs new closed.0),
       journal_right now entries closed.1 all,
     )
 
@@ -64,9 +75,12 @@ right_not_wrong : (entries : List Entry) (m : ℕ) → AreRight [] entries → I
 right_not_wrong entries m right w =
     let s = w.stands in
     let here = right_at [] w.before w.entry s.after (subst (AreRight []) s.parts right) in
-    w.wrong (not_among (paths_of (registered w.before)) (paths_of (registered w.before ++ registered_by w.entry)) s.first w.line s.last
+    w.wrong (not_among (paths_of (registered w.before))
+    (paths_of (registered w.before ++ registered_by w.entry)) s.first w.line s.last
     (subst (All (IsRightBehind (registered w.before) w.entry)) s.is_line here))
 
 -- no line of a journal is at fault
-pub no_fault : (entries : List Entry) (m : ℕ) → IsJournal entries → IsNotClosedAt entries m ⊎ IsTwiceAt entries m → ⊥
-no_fault entries m is fault = right_not_wrong entries m (journal_right [] entries is.closed is.once) (wrong_line entries m fault)
+pub no_fault : (entries : List Entry) (m : ℕ) → IsJournal entries → IsNotClosedAt entries m
+    ⊎ IsTwiceAt entries m → ⊥
+no_fault entries m is fault = right_not_wrong entries m (journal_right [] entries is.closed is.once)
+    (wrong_line entries m fault)

@@ -24,31 +24,38 @@ IsFirstValid known some path = IsFirst (IsNotValid known) (IsValid known) (paths
 
 -- a path is the first of their references that is valid neither by known ones nor by themselves
 abbrev pub IsFirstUnclosed : (known some : List Registration) → List ℕ → Type 0
-IsFirstUnclosed known some path = IsFirst (IsValid (known ++ some)) (IsNotValid (known ++ some)) (references_of some) path
+IsFirstUnclosed known some path = IsFirst (IsValid (known ++ some)) (IsNotValid (known ++ some))
+    (references_of some) path
 
 -- what stands against some registrations behind known ones
 abbrev pub IsObstacle : (known some : List Registration) → Obstacle → Type 0
 IsObstacle known some (obstacle.AlreadyValid path) = IsFirstValid known some path.now
-IsObstacle known some (obstacle.Unclosed path) = AreNew known some × IsFirstUnclosed known some path.now
+IsObstacle known some (obstacle.Unclosed path) = AreNew known some
+    × IsFirstUnclosed known some path.now
 
--- What is answered where some registrations are to be taken in behind known ones: they are, or nothing changes. Memory is
--- refused only where nothing stands against them.
-abbrev pub IsTaking : (known some : List Registration) (taken same : Type 0) → Result ⊤ TableFault → Type 0
+-- What is answered where some registrations are to be taken in behind known ones: they are, or
+-- nothing changes. Memory is refused only where nothing stands against them.
+abbrev pub IsTaking : (known some : List Registration) (taken same : Type 0) → Result ⊤ TableFault
+    → Type 0
 IsTaking known some taken same (Ok _) = AreNew known some × AreClosed known some × taken
 IsTaking known some taken same (Err (AlreadyValid path)) = IsFirstValid known some path × same
-IsTaking known some taken same (Err (Unclosed path)) = AreNew known some × IsFirstUnclosed known some path × same
+IsTaking known some taken same (Err (Unclosed path)) = AreNew known some
+    × IsFirstUnclosed known some path × same
 IsTaking known some taken same (Err NoMemory) = AreNew known some × AreClosed known some × same
 IsTaking known some taken same (Err other) = ⊥
 
 -- what is answered where an entry is to be added to a list of entries, and the list behind that
 abbrev pub IsAdding : (old new : List Entry) → Entry → Result ⊤ TableFault → Type 0
-IsAdding old new entry result = IsTaking (registered old) (registered_by entry) (new ≡ old ++ entry ∷ []) (new ≡ old) result
+IsAdding old new entry result = IsTaking (registered old) (registered_by entry)
+    (new ≡ old ++ entry ∷ []) (new ≡ old) result
 
--- What is answered where a lent entry is to be registered behind known registrations, and the registrations behind that. A
--- fault copies the path that it names, so want of memory may stand in its place.
+-- What is answered where a lent entry is to be registered behind known registrations, and the
+-- registrations behind that. A fault copies the path that it names, so want of memory may stand in
+-- its place.
 abbrev pub IsRegistering : (old new : List Registration) → Entry → Result ⊤ TableFault → Type 0
 IsRegistering old new entry (Err NoMemory) = new ≡ old
-IsRegistering old new entry result = IsTaking old (registered_by entry) (new ≡ old ++ registered_by entry) (new ≡ old) result
+IsRegistering old new entry result = IsTaking old (registered_by entry)
+    (new ≡ old ++ registered_by entry) (new ≡ old) result
 
 -- none of the paths that an entry registers is valid
 abbrev pub IsNew : List Entry → Entry → Type 0

@@ -12,14 +12,17 @@ use Rattle.valid_table.specs.declared.obstacle.Obstacle.TheVariants as obstacle
 abbrev pub IsBlamedFor : (known some : List Registration) → Registration → Option ℕ → Type 0
 IsBlamedFor known some registration None = IsFirstValid known some registration.path
 IsBlamedFor known some registration (Some place) =
-    (path : List ℕ) × (slice_get registration.info.references place ≡ Some path) × AreNew known some × IsFirstUnclosed known some path
+    (path : List ℕ) × (slice_get registration.info.references place ≡ Some path) × AreNew known some
+    × IsFirstUnclosed known some path
 
 -- which of some registrations is to blame, behind known ones
 abbrev pub IsBlamed : (known some : List Registration) → Blame → Type 0
 IsBlamed known some blame =
-    (registration : Registration) × (slice_get some blame.registration ≡ Some registration) × IsBlamedFor known some registration blame.reference
+    (registration : Registration) × (slice_get some blame.registration ≡ Some registration)
+    × IsBlamedFor known some registration blame.reference
 
--- at these places is the first reference of some registrations that is valid neither by known ones nor by themselves
+-- at these places is the first reference of some registrations that is valid neither by known ones
+-- nor by themselves
 abbrev pub IsUnclosedAt : (known some : List Registration) → Blame → Type 0
 IsUnclosedAt known some blame =
     (registration : Registration) × (place : ℕ) × (path : List ℕ)
@@ -29,11 +32,13 @@ IsUnclosedAt known some blame =
 -- the obstacle of a registration that is blamed so
 abbrev pub IsObstacleOf : Registration → Option ℕ → Obstacle → Type 0
 IsObstacleOf registration None (obstacle.AlreadyValid path) = path.now ≡ registration.path
-IsObstacleOf registration (Some place) (obstacle.Unclosed path) = slice_get registration.info.references place ≡ Some path.now
+IsObstacleOf registration (Some place) (obstacle.Unclosed path) =
+    slice_get registration.info.references place ≡ Some path.now
 IsObstacleOf registration reference other = ⊥
 
 -- and its fault
 abbrev pub IsFaultOf : Registration → Option ℕ → TableFault → Type 0
 IsFaultOf registration None (AlreadyValid path) = path ≡ registration.path
-IsFaultOf registration (Some place) (Unclosed path) = slice_get registration.info.references place ≡ Some path
+IsFaultOf registration (Some place) (Unclosed path) = slice_get registration.info.references place
+    ≡ Some path
 IsFaultOf registration reference other = ⊥

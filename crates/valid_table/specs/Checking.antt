@@ -1,4 +1,5 @@
--- How the lines of entries are checked one after the other, behind the paths that earlier entries register.
+-- How the lines of entries are checked one after the other, behind the paths that earlier entries
+-- register.
 use Rattle.std.specs.Prelude.{◌≡◌, ◌+◌, ◌<◌, ◌≤◌, ℕ, List, [], ◌∷◌, ◌++◌, All, Contains, Result, Ok, Err, flat_map, length, take}
 use Rattle.valid_table.specs.Entering.{IsFirstUnknownAt}
 use Rattle.valid_table.specs.Texts.{Line, Version, Added, Deriver, Output, Reference, output_lines}
@@ -39,32 +40,41 @@ RefersToOther all (Output path digest) = ⊥
 RefersToOther all (Reference path) = Contains all path → ⊥
 
 -- Some lines are right up to this one, which stands at this place among them, counted from 0.
-pub record IsRightUpTo (known all : List (List ℕ)) (some : List Line) (line : Line) (place : ℕ) : Type 0 where
+pub record IsRightUpTo (known all : List (List ℕ)) (some : List Line) (line : Line) (place : ℕ)
+    : Type 0 where
   pub before : List Line
   pub after : List Line
   pub parts : some ≡ before ++ line ∷ after
   pub is_place : place ≡ length before
   pub right : All (IsRight known all) before
 
--- What is answered for the lines of an entry, the first of which has this number: the number of the line behind them, or
--- that of the first wrong one.
-abbrev pub IsEntryCheck : (known all : List (List ℕ)) → (some : List Line) → (first : ℕ) → Result ℕ TableFault → Type 0
-IsEntryCheck known all some first (Ok behind) = All (IsRight known all) some × (behind ≡ first + length some)
+-- What is answered for the lines of an entry, the first of which has this number: the number of the
+-- line behind them, or that of the first wrong one.
+abbrev pub IsEntryCheck : (known all : List (List ℕ)) → (some : List Line) → (first : ℕ)
+    → Result ℕ TableFault → Type 0
+IsEntryCheck known all some first (Ok behind) = All (IsRight known all) some
+    × (behind ≡ first + length some)
 IsEntryCheck known all some first (Err (Twice n)) =
-    (line : Line) × (place : ℕ) × IsRightUpTo known all some line place × RegistersKnown known line × (n ≡ first + place)
+    (line : Line) × (place : ℕ) × IsRightUpTo known all some line place × RegistersKnown known line
+    × (n ≡ first + place)
 IsEntryCheck known all some first (Err (NotClosed n)) =
-    (line : Line) × (place : ℕ) × IsRightUpTo known all some line place × RefersToOther all line × (n ≡ first + place)
+    (line : Line) × (place : ℕ) × IsRightUpTo known all some line place × RefersToOther all line
+    × (n ≡ first + place)
 IsEntryCheck known all some first (Err NoMemory) = Unit {0}
 IsEntryCheck known all some first (Err other) = ⊥
 
 -- what is answered for the lines of registrations, the first so many of which have new paths
-abbrev pub IsLineCheck : (all : List (List ℕ)) → List Registration → (new first : ℕ) → Result ℕ TableFault → Type 0
+abbrev pub IsLineCheck : (all : List (List ℕ)) → List Registration → (new first : ℕ)
+    → Result ℕ TableFault → Type 0
 IsLineCheck all rs new first (Ok behind) =
-    (length rs ≤ new) × All (Contains all) (references_of rs) × (behind ≡ first + length (flat_map output_lines rs))
+    (length rs ≤ new) × All (Contains all) (references_of rs)
+    × (behind ≡ first + length (flat_map output_lines rs))
 IsLineCheck all rs new first (Err (Twice n)) =
-    (new < length rs) × All (Contains all) (references_of (take new rs)) × (n ≡ first + length (flat_map output_lines (take new rs)))
+    (new < length rs) × All (Contains all) (references_of (take new rs))
+    × (n ≡ first + length (flat_map output_lines (take new rs)))
 IsLineCheck all rs new first (Err (NotClosed n)) =
     (before : List Registration) × (r : Registration) × (after : List Registration) × (place : ℕ)
     × (rs ≡ before ++ r ∷ after) × (length before < new) × All (Contains all) (references_of before)
-    × IsFirstUnknownAt all r.info.references place × (n ≡ first + length (flat_map output_lines before) + 1 + place)
+    × IsFirstUnknownAt all r.info.references place
+    × (n ≡ first + length (flat_map output_lines before) + 1 + place)
 IsLineCheck all rs new first (Err other) = ⊥

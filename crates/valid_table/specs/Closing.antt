@@ -1,4 +1,5 @@
--- How a closure is found: rows are followed to the rows of their references. Rows are counted from 0, in the order of what was registered.
+-- How a closure is found: rows are followed to the rows of their references. Rows are counted from
+-- 0, in the order of what was registered.
 use Rattle.std.specs.Prelude.{◌≡◌, ◌↔◌, ◌<◌, ◌++◌, ℕ, List, All, Contains, length, map, nat_eq, slice_index_or, take, []}
 use Rattle.std.specs.List.{IsDistinct}
 use Rattle.valid_table.specs.Closure.{Reaches}
@@ -27,26 +28,34 @@ pub record AreRows (registrations : List Registration) (rows : List ℕ) : Type 
 abbrev pub HaveSame : List (List ℕ) → List (List ℕ) → Type 0
 HaveSame left right = (path : List ℕ) → Contains left path ↔ Contains right path
 
--- Behind old rows stand new ones, of paths that are asked for; each path that is asked for and valid has its row there.
-pub record AddsRows (registrations : List Registration) (old : List ℕ) (paths : List (List ℕ)) (new : List ℕ) : Type 0 where
+-- Behind old rows stand new ones, of paths that are asked for; each path that is asked for and
+-- valid has its row there.
+pub record AddsRows (registrations : List Registration) (old : List ℕ) (paths : List (List ℕ))
+    (new : List ℕ) : Type 0 where
   pub rows : AreRows registrations new
   pub added : List ℕ
   pub parts : new ≡ old ++ added
   pub asked : All (Contains paths) (paths_at registrations added)
-  pub there : All (λ path. IsValid registrations path → Contains (paths_at registrations new) path) paths
+  pub there : All (λ path. IsValid registrations path → Contains (paths_at registrations new) path)
+      paths
 
 -- one of some paths reaches a path
 abbrev pub IsReached : List Registration → List (List ℕ) → List ℕ → Type 0
-IsReached registrations roots path = (root : List ℕ) × Contains roots root × Reaches registrations root path
+IsReached registrations roots path = (root : List ℕ) × Contains roots root
+    × Reaches registrations root path
 
 -- each valid reference of a path is in a list
 abbrev pub HasReferences : List Registration → List (List ℕ) → List ℕ → Type 0
-HasReferences registrations paths path = (next : List ℕ) → RefersTo registrations path next → IsValid registrations next → Contains paths next
+HasReferences registrations paths path = (next : List ℕ) → RefersTo registrations path next
+    → IsValid registrations next → Contains paths next
 
--- Rows that were found from a start: it is among them, each of their paths is reached from it, and the valid references of the first
--- of them, so many, are among their paths.
-pub record IsFollowed (registrations : List Registration) (start found : List ℕ) (count : ℕ) : Type 0 where
+-- Rows that were found from a start: it is among them, each of their paths is reached from it, and
+-- the valid references of the first of them, so many, are among their paths.
+pub record IsFollowed (registrations : List Registration) (start found : List ℕ) (count : ℕ)
+    : Type 0 where
   pub rows : AreRows registrations found
   pub kept : All (Contains (paths_at registrations found)) (paths_at registrations start)
-  pub reached : All (IsReached registrations (paths_at registrations start)) (paths_at registrations found)
-  pub followed : All (HasReferences registrations (paths_at registrations found)) (paths_at registrations (take count found))
+  pub reached : All (IsReached registrations (paths_at registrations start))
+      (paths_at registrations found)
+  pub followed : All (HasReferences registrations (paths_at registrations found))
+      (paths_at registrations (take count found))

@@ -19,4 +19,5 @@ pub record IsNewFront (known paths : List (List ℕ)) (count : ℕ) : Type 0 whe
 -- the first of some paths that isn't known stands at this place, counted from 0
 abbrev pub IsFirstUnknownAt : (known paths : List (List ℕ)) → ℕ → Type 0
 IsFirstUnknownAt known paths at =
-    (path : List ℕ) × (first : IsFirst (Contains known) (IsUnknown known) paths path) × (at ≡ length first.before)
+    (path : List ℕ) × (first : IsFirst (Contains known) (IsUnknown known) paths path)
+    × (at ≡ length first.before)

@@ -12,7 +12,8 @@ use Rattle.valid_table.specs.declared.entry.Registration.{Registration}
 -- of records
 abbrev pub same_record : PathInfo → PathInfo → Bool
 same_record a b =
-    pointwise (pointwise nat_eq) a.references b.references && option_eq (pointwise nat_eq) a.digest b.digest
+    pointwise (pointwise nat_eq) a.references b.references
+    && option_eq (pointwise nat_eq) a.digest b.digest
 
 -- of registrations
 abbrev pub same_registration : Registration → Registration → Bool
@@ -35,7 +36,8 @@ same_record_laws =
 -- that of registrations is one
 pub same_registration_laws : IsEquivalence same_registration
 same_registration_laws =
-    and_equiv (on_equiv (λ (r : Registration). r.path) nat_list_eq_equiv) (on_equiv (λ (r : Registration). r.info) same_record_laws)
+    and_equiv (on_equiv (λ (r : Registration). r.path) nat_list_eq_equiv)
+    (on_equiv (λ (r : Registration). r.info) same_record_laws)
 
 -- that of outputs is one
 pub same_outputs_laws : IsEquivalence (pointwise same_registration)
@@ -61,7 +63,8 @@ entry_back : (a b : Entry) → same_entry a b ≡ same_entry b a
 entry_back (Add a) (Add b) = same_registration_laws.symm a b
 entry_back (Add a) (Done deriver outputs) = refl
 entry_back (Done deriver outputs) (Add b) = refl
-entry_back (Done deriver outputs) (Done other others) = done_laws.symm (deriver, outputs) (other, others)
+entry_back (Done deriver outputs) (Done other others) =
+    done_laws.symm (deriver, outputs) (other, others)
 
 -- equal entries are equal to the same entries
 entry_alike : (a b c : Entry) → same_entry a b ≡ true → same_entry a c ≡ same_entry b c

@@ -5,8 +5,10 @@ use Rattle.valid_table.specs.Texts.{Line, Added, Output, Reference, lines, entry
 use Rattle.valid_table.specs.Valid.{IsValid}
 use Rattle.valid_table.specs.declared.entry.Entry.{Entry}
 
--- Line n of a journal is this line of this entry, which stands behind these entries. Lines are counted from 1.
-pub record StandsAt (entries : List Entry) (before : List Entry) (entry : Entry) (line : Line) (n : ℕ) : Type 0 where
+-- Line n of a journal is this line of this entry, which stands behind these entries. Lines are
+-- counted from 1.
+pub record StandsAt (entries : List Entry) (before : List Entry) (entry : Entry) (line : Line)
+    (n : ℕ) : Type 0 where
   pub after : List Entry
   pub parts : entries ≡ before ++ entry ∷ after
   pub first : List Line
@@ -18,13 +20,15 @@ pub record StandsAt (entries : List Entry) (before : List Entry) (entry : Entry)
 abbrev pub IsNotClosedAt : List Entry → ℕ → Type 0
 IsNotClosedAt entries n =
     (before : List Entry) × (entry : Entry) × (path : List ℕ)
-    × StandsAt entries before entry (Reference path) n × (IsValid (registered before ++ registered_by entry) path → ⊥)
+    × StandsAt entries before entry (Reference path) n
+    × (IsValid (registered before ++ registered_by entry) path → ⊥)
 
 -- line n registers a path that an earlier entry registered
 abbrev pub IsTwiceAt : List Entry → ℕ → Type 0
 IsTwiceAt entries n =
     (before : List Entry) × (entry : Entry) × (path : List ℕ) × (digest : Option (List ℕ))
-    × (StandsAt entries before entry (Added path digest) n ⊎ StandsAt entries before entry (Output path digest) n)
+    × (StandsAt entries before entry (Added path digest) n
+    ⊎ StandsAt entries before entry (Output path digest) n)
     × IsValid (registered before) path
 
 -- no line before line n has one of these faults

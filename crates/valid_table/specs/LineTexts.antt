@@ -21,4 +21,5 @@ references_text paths = lines_text (map Reference paths)
 
 -- the lines of a registration, the first of them with this letter
 abbrev pub registration_text : ℕ → Registration → List ℕ
-registration_text letter r = letter ∷ 32 ∷ (fields_text r.path r.info.digest ++ references_text r.info.references)
+registration_text letter r = letter ∷ 32
+    ∷ (fields_text r.path r.info.digest ++ references_text r.info.references)

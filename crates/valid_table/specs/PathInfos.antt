@@ -1,4 +1,5 @@
--- What a store keeps of a valid path (Dolstra's thesis, section 5.5; Nix manual, "Store Object": references).
+-- What a store keeps of a valid path (Dolstra's thesis, section 5.5; Nix manual, "Store Object":
+-- references).
 use Rattle.std.specs.Prelude.{ℕ, List, Option}
 
 -- A path's references and, where it is a file, the digest of its bytes.

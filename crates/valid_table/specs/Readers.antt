@@ -27,31 +27,37 @@ pub record IsPathLine (dir bytes path rest : List ℕ) : Type 0 where
   pub of_dir : IsPathOf dir path
   pub parts : bytes ≡ path ++ 10 ∷ rest
 
--- The bytes are the path of a derivation's file, a newline and the rest, which begins with an output.
+-- The bytes are the path of a derivation's file, a newline and the rest, which begins with an
+-- output.
 pub record IsDeriverLine (dir bytes path rest : List ℕ) : Type 0 where
   pub line : IsPathLine dir bytes path rest
   pub named : IsDrvPath path
   pub ahead : BeginsOutput rest
 
 -- The bytes are a path of the store folder, a space, a digest's text, a newline and the rest.
-pub record IsFieldsLine (dir bytes path : List ℕ) (digest : Option (List ℕ)) (rest : List ℕ) : Type 0 where
+pub record IsFieldsLine (dir bytes path : List ℕ) (digest : Option (List ℕ)) (rest : List ℕ)
+    : Type 0 where
   pub of_dir : IsPathOf dir path
   pub is_digest : IsDigest digest
   pub parts : bytes ≡ fields_text path digest ++ rest
 
 -- The bytes are the lines of these references and the rest.
-pub record SoFarReferences (dir bytes : List ℕ) (references : List (List ℕ)) (rest : List ℕ) : Type 0 where
+pub record SoFarReferences (dir bytes : List ℕ) (references : List (List ℕ)) (rest : List ℕ)
+    : Type 0 where
   pub parts : bytes ≡ references_text references ++ rest
   pub of_dir : All (IsPathOf dir) references
   pub rising : IsRising references
 
 -- The same, where no such line begins at the rest.
-pub record HasReferences (dir bytes : List ℕ) (references : List (List ℕ)) (rest : List ℕ) : Type 0 where
+pub record HasReferences (dir bytes : List ℕ) (references : List (List ℕ)) (rest : List ℕ)
+    : Type 0 where
   pub so_far : SoFarReferences dir bytes references rest
   pub ends : IsNoLine 82 rest
 
--- The bytes are the lines of a registration, above the path before it, and the rest, at which no reference begins.
-pub record HasRegistration (dir : List ℕ) (letter : ℕ) (before : Option (List ℕ)) (bytes : List ℕ) (r : Registration) (rest : List ℕ) : Type 0 where
+-- The bytes are the lines of a registration, above the path before it, and the rest, at which no
+-- reference begins.
+pub record HasRegistration (dir : List ℕ) (letter : ℕ) (before : Option (List ℕ)) (bytes : List ℕ)
+    (r : Registration) (rest : List ℕ) : Type 0 where
   pub parts : bytes ≡ registration_text letter r ++ rest
   pub of_dir : IsOf dir r
   pub above : IsAbove before r.path
@@ -59,17 +65,20 @@ pub record HasRegistration (dir : List ℕ) (letter : ℕ) (before : Option (Lis
 
 -- no line with a path above the one before it and a digest stands there
 abbrev pub HasNoFields : List ℕ → Option (List ℕ) → List ℕ → Type 0
-HasNoFields dir before bytes = (path : List ℕ) (digest : Option (List ℕ)) (rest : List ℕ) → IsAbove before path → IsFieldsLine dir bytes path digest rest → ⊥
+HasNoFields dir before bytes = (path : List ℕ) (digest : Option (List ℕ)) (rest : List ℕ)
+    → IsAbove before path → IsFieldsLine dir bytes path digest rest → ⊥
 
 -- a line with this letter is bad
-pub record IsBadFields (dir : List ℕ) (letter : ℕ) (before : Option (List ℕ)) (bytes : List ℕ) (left : ℕ) : Type 0 where
+pub record IsBadFields (dir : List ℕ) (letter : ℕ) (before : Option (List ℕ)) (bytes : List ℕ)
+    (left : ℕ) : Type 0 where
   pub fields : List ℕ
   pub begins : bytes ≡ letter ∷ 32 ∷ fields
   pub is_left : length bytes ≡ left
   pub bad : HasNoFields dir before fields
 
 -- a line with this letter is good, and one behind it, of its references, is bad
-pub record HasBadReference (dir : List ℕ) (letter : ℕ) (before : Option (List ℕ)) (bytes : List ℕ) (left : ℕ) : Type 0 where
+pub record HasBadReference (dir : List ℕ) (letter : ℕ) (before : Option (List ℕ)) (bytes : List ℕ)
+    (left : ℕ) : Type 0 where
   pub fields : List ℕ
   pub begins : bytes ≡ letter ∷ 32 ∷ fields
   pub path : List ℕ
@@ -81,17 +90,21 @@ pub record HasBadReference (dir : List ℕ) (letter : ℕ) (before : Option (Lis
 
 -- reading a registration stops
 abbrev pub StopsInRegistration : List ℕ → ℕ → Option (List ℕ) → List ℕ → ℕ → Type 0
-StopsInRegistration dir letter before bytes left = IsBadFields dir letter before bytes left ⊎ HasBadReference dir letter before bytes left
+StopsInRegistration dir letter before bytes left = IsBadFields dir letter before bytes left
+    ⊎ HasBadReference dir letter before bytes left
 
--- The bytes are the lines of these outputs and the rest, at which no reference begins, if there is an output.
-pub record SoFarOutputs (dir bytes : List ℕ) (outputs : List Registration) (rest : List ℕ) : Type 0 where
+-- The bytes are the lines of these outputs and the rest, at which no reference begins, if there is
+-- an output.
+pub record SoFarOutputs (dir bytes : List ℕ) (outputs : List Registration) (rest : List ℕ)
+    : Type 0 where
   pub parts : bytes ≡ lines_text (flat_map output_lines outputs) ++ rest
   pub of_dir : All (IsOf dir) outputs
   pub rising : IsRising (paths_of outputs)
   pub ended : (outputs ≡ []) ⊎ IsNoLine 82 rest
 
 -- The same of at least one output, where neither an output nor a reference begins at the rest.
-pub record HasOutputs (dir bytes : List ℕ) (outputs : List Registration) (rest : List ℕ) : Type 0 where
+pub record HasOutputs (dir bytes : List ℕ) (outputs : List Registration) (rest : List ℕ)
+    : Type 0 where
   pub so_far : SoFarOutputs dir bytes outputs rest
   pub some : outputs ≢ []
   pub no_output : IsNoLine 79 rest
@@ -115,8 +128,10 @@ HasToBegin (Within None last) bytes = IsNoLine 82 bytes
 HasToBegin (Within (Some output) last) bytes = IsNoLine 79 bytes × IsNoLine 82 bytes
 HasToBegin place bytes = ⊥
 
--- The bytes are the lines of a journal with these entries, and the rest, where an entry has to begin.
+-- The bytes are the lines of a journal with these entries, and the rest, where an entry has to
+-- begin.
 pub record SoFarEntries (dir bytes : List ℕ) (entries : List Entry) (rest : List ℕ) : Type 0 where
   pub parts : bytes ≡ lines_text (lines entries) ++ rest
   pub of_dir : All (IsEntryOf dir) entries
-  pub leads : (left : ℕ) → ((from : Place) → HasToBegin from rest → Stops dir from rest left) → Stops dir Start bytes left
+  pub leads : (left : ℕ) → ((from : Place) → HasToBegin from rest → Stops dir from rest left)
+      → Stops dir Start bytes left

@@ -1,4 +1,5 @@
--- What `Journal::read` answers for the bytes of a file, case by case. The cases exclude one another, want of memory apart.
+-- What `Journal::read` answers for the bytes of a file, case by case. The cases exclude one
+-- another, want of memory apart.
 use Rattle.std.specs.Prelude.{◌≡◌, ◌≤◌, ◌<◌, ℕ, List, length, Result, Ok, Err}
 use Rattle.valid_table.specs.BadLines.{IsBadLine, IsOtherVersion}
 use Rattle.valid_table.specs.LineFaults.{IsLeastFault, IsNotClosedAt, IsTwiceAt}
@@ -37,6 +38,7 @@ answered (Err fault) = Err fault
 abbrev pub IsReading : (dir bytes : List ℕ) → Result (List Entry) TableFault → Type 0
 IsReading dir bytes (Err TooLong) = max_len < length bytes
 IsReading dir bytes (Err WrongVersion) = (length bytes ≤ max_len) × IsOtherVersion bytes
-IsReading dir bytes (Err (BadLine n)) = (length bytes ≤ max_len) × (IsOtherVersion bytes → ⊥) × IsBadLine dir bytes n
+IsReading dir bytes (Err (BadLine n)) = (length bytes ≤ max_len) × (IsOtherVersion bytes → ⊥)
+    × IsBadLine dir bytes n
 IsReading dir bytes (Err NoMemory) = (length bytes ≤ max_len) × (IsOtherVersion bytes → ⊥)
 IsReading dir bytes answer = IsReadAs dir bytes answer

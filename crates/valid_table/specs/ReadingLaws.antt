@@ -10,16 +10,20 @@ use Rattle.valid_table.specs.declared.fault.TableFault.TheVariants.{NoMemory}
 
 -- one text is that of one list of entries
 abbrev pub TextHasOneList : Type 0
-TextHasOneList = (dir bytes : List ℕ) (a b : List Entry) → IsText dir a bytes → IsText dir b bytes → a ≡ b
+TextHasOneList = (dir bytes : List ℕ) (a b : List Entry) → IsText dir a bytes → IsText dir b bytes
+    → a ≡ b
 
 -- the text of a journal, within the limit, is read as just that journal, want of memory apart
 abbrev pub JournalTextsAreRead : Type 0
 JournalTextsAreRead =
-    (dir bytes : List ℕ) (entries : List Entry) (answer : Result (List Entry) TableFault) → IsStoreDir dir → length bytes ≤ max_len
-    → IsText dir entries bytes → IsJournal entries → IsReading dir bytes answer → (answer ≡ Ok entries) ⊎ (answer ≡ Err NoMemory)
+    (dir bytes : List ℕ) (entries : List Entry) (answer : Result (List Entry) TableFault)
+    → IsStoreDir dir → length bytes ≤ max_len
+    → IsText dir entries bytes → IsJournal entries → IsReading dir bytes answer
+    → (answer ≡ Ok entries) ⊎ (answer ≡ Err NoMemory)
 
 -- two answers for the same bytes are the same, or one is want of memory
 abbrev pub AnswerIsOne : Type 0
 AnswerIsOne =
-    (dir bytes : List ℕ) (a b : Result (List Entry) TableFault) → IsStoreDir dir → IsReading dir bytes a → IsReading dir bytes b
+    (dir bytes : List ℕ) (a b : Result (List Entry) TableFault) → IsStoreDir dir
+    → IsReading dir bytes a → IsReading dir bytes b
     → (a ≡ b) ⊎ (a ≡ Err NoMemory) ⊎ (b ≡ Err NoMemory)

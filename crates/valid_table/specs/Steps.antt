@@ -1,4 +1,5 @@
--- How the lines of a journal follow one another, as its readers see it: which line may stand at a place, and the place behind it.
+-- How the lines of a journal follow one another, as its readers see it: which line may stand at a
+-- place, and the place behind it.
 use Rattle.std.specs.Prelude.{◌≡◌, ◌≢◌, ℕ, List, [], ◌∷◌, ◌++◌, Option, Some, None, length}
 use Rattle.std.specs.Cmp.Lexicographic.{slice_cmp}
 use Rattle.std.specs.Ordering.{nat_cmp}
@@ -8,8 +9,8 @@ use Rattle.valid_table.specs.BadLines.{BeginsOutput}
 use Rattle.valid_table.specs.LineTexts.{lines_text}
 use Rattle.valid_table.specs.Texts.{IsDigest, Line, Version, Added, Deriver, Output, Reference, line_text}
 
--- A place between lines: before line 1, behind it, behind a deriver, or within the lines of an output, or of an added path,
--- behind its last reference, if any.
+-- A place between lines: before line 1, behind it, behind a deriver, or within the lines of an
+-- output, or of an added path, behind its last reference, if any.
 pub data Place : Type 0 where
   Start : Place
   Begun : Place
@@ -36,7 +37,8 @@ abbrev pub MayStand : List ℕ → Place → Line → Type 0
 MayStand dir Start Version = Unit {0}
 MayStand dir Begun line = MayBegin dir line
 MayStand dir (Within output last) (Reference path) = IsPathOf dir path × IsAbove last path
-MayStand dir (Within (Some before) last) (Output path digest) = MayFollow dir (Some before) path digest
+MayStand dir (Within (Some before) last) (Output path digest) =
+    MayFollow dir (Some before) path digest
 MayStand dir (Within output last) line = MayBegin dir line
 MayStand dir Opened (Output path digest) = MayFollow dir None path digest
 MayStand dir place line = ⊥
@@ -61,7 +63,8 @@ LeadsTo dir Is from [] = Is from
 LeadsTo dir Is from (line ∷ more) = MayStand dir from line × LeadsTo dir Is (behind from line) more
 
 -- From a place the bytes go on with a line that may stand there, and then with the rest.
-pub record Goes (dir : List ℕ) (from : Place) (bytes : List ℕ) (line : Line) (rest : List ℕ) : Type 0 where
+pub record Goes (dir : List ℕ) (from : Place) (bytes : List ℕ) (line : Line) (rest : List ℕ)
+    : Type 0 where
   pub parts : bytes ≡ line_text line ++ rest
   pub may : MayStand dir from line
   pub ahead : Ahead (behind from line) rest
@@ -71,7 +74,8 @@ pub record IsStuck (dir bytes : List ℕ) (place : Place) : Type 0 where
   pub ahead : Ahead place bytes
   pub stuck : (line : Line) (rest : List ℕ) → Goes dir place bytes line rest → ⊥
 
--- The lines from a place stop, with so many bytes left, of which no line can be made that may stand there.
+-- The lines from a place stop, with so many bytes left, of which no line can be made that may stand
+-- there.
 pub record Stops (dir : List ℕ) (from : Place) (bytes : List ℕ) (left : ℕ) : Type 0 where
   pub lines : List Line
   pub bad : List ℕ

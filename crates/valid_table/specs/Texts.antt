@@ -8,7 +8,8 @@ use Rattle.valid_table.specs.declared.entry.Entry.{Entry}
 use Rattle.valid_table.specs.declared.entry.Entry.TheVariants.{Add, Done}
 use Rattle.valid_table.specs.declared.entry.Registration.{Registration}
 
--- One line: the version, an added path, a deriver, an output, or a reference of the added path or output before it.
+-- One line: the version, an added path, a deriver, an output, or a reference of the added path or
+-- output before it.
 pub data Line : Type 0 where
   Version : Line
   Added : (path : List ℕ) (digest : Option (List ℕ)) → Line
@@ -58,13 +59,16 @@ pub record IsOf (dir : List ℕ) (r : Registration) : Type 0 where
   pub references : All (IsPathOf dir) r.info.references
   pub rising : IsRising r.info.references
 
--- an entry is of the store folder: a `.drv` path with its outputs, at least one and strictly rising, or an added path
+-- an entry is of the store folder: a `.drv` path with its outputs, at least one and strictly
+-- rising, or an added path
 abbrev pub IsEntryOf : List ℕ → Entry → Type 0
 IsEntryOf dir (Add r) = IsOf dir r
 IsEntryOf dir (Done deriver outputs) =
-    IsPathOf dir deriver × IsDrvPath deriver × (outputs ≢ []) × IsRising (paths_of outputs) × All (IsOf dir) outputs
+    IsPathOf dir deriver × IsDrvPath deriver × (outputs ≢ []) × IsRising (paths_of outputs)
+    × All (IsOf dir) outputs
 
--- The bytes are the text of these entries, which are of the store folder; no bytes at all are the text of none.
+-- The bytes are the text of these entries, which are of the store folder; no bytes at all are the
+-- text of none.
 pub record IsText (dir : List ℕ) (entries : List Entry) (bytes : List ℕ) : Type 0 where
   pub of_dir : All (IsEntryOf dir) entries
   pub bytes_are : (bytes ≡ text entries) ⊎ ((entries ≡ []) × (bytes ≡ []))

@@ -1,4 +1,5 @@
--- *Valid*: which paths a list of registrations makes valid, and what it says of them (Dolstra's thesis, section 5.5).
+-- *Valid*: which paths a list of registrations makes valid, and what it says of them (Dolstra's
+-- thesis, section 5.5).
 use Rattle.std.specs.Prelude.{ℕ, List, [], ◌∷◌, ◌++◌, nat_eq, flat_map, All, Contains}
 use Rattle.std.specs.List.{IsDistinct}
 use Rattle.std.specs.Cmp.Lexicographic.{pointwise}
@@ -23,7 +24,8 @@ IsNotValid registrations path = IsValid registrations path → ⊥
 
 -- a path is a reference of a registered one
 abbrev pub RefersTo : List Registration → List ℕ → List ℕ → Type 0
-RefersTo registrations path next = (info : PathInfo) × Registers registrations path info × Contains info.references next
+RefersTo registrations path next = (info : PathInfo) × Registers registrations path info
+    × Contains info.references next
 
 -- the references of some registrations, in their order
 abbrev pub references_of : List Registration → List (List ℕ)
@@ -33,7 +35,8 @@ references_of registrations = flat_map (λ (r : Registration). r.info.references
 abbrev pub AreReferencesValid : List Registration → Type 0
 AreReferencesValid registrations = All (IsValid registrations) (references_of registrations)
 
--- *Closed*, behind the registrations of earlier entries: each reference in an entry is registered by an earlier entry or by the same one
+-- *Closed*, behind the registrations of earlier entries: each reference in an entry is registered
+-- by an earlier entry or by the same one
 abbrev pub IsClosedBehind : List Registration → List Entry → Type 0
 IsClosedBehind earlier [] = Unit {0}
 IsClosedBehind earlier (entry ∷ entries) =
@@ -53,7 +56,8 @@ HasDrvPath (Done deriver outputs) = IsDrvPath deriver
 abbrev pub IsOnce : List Registration → Type 0
 IsOnce registrations = IsDistinct (pointwise nat_eq) (paths_of registrations)
 
--- What holds of each journal: it is closed, registers no path twice, and has derivations' files alone as derivers.
+-- What holds of each journal: it is closed, registers no path twice, and has derivations' files
+-- alone as derivers.
 pub record IsJournal (entries : List Entry) : Type 0 where
   pub closed : IsClosed entries
   pub once : IsOnce (registered entries)

@@ -1,5 +1,5 @@
-//! Files of the tests of loading. Nix 2.8.0 wrote the last six; the paths of the others were computed
-//! apart, with Python's hashlib.
+//! Files of the tests of loading. Nix 2.8.0 wrote the last six; the paths of the others were
+//! computed apart, with Python's hashlib.
 
 /// A file: its path and its bytes.
 pub(crate) struct File {

@@ -8,5 +8,9 @@ use Rattle.drv_graph.proofs.expected.expected_paths.Goals as goal
 
 pub returns-in_ok-inner-in-Addressed : goal.returns-in_ok-inner-in-Addressed
 returns-in_ok-inner-in-Addressed c =
-    subst (λ (k : Kind). IfOk c.output_paths.result (λ paths. AreExpected c.args.dir.now c.args.name.now k c.args.drv.now c.args.hashes.now paths.items)) (sym c.in-Addressed.is)
-    (addressed_from c.args.dir.now c.args.name.now c.in_ok-inner-in-Addressed.inner c.args.drv.now c.args.hashes.now (map output_of c.outputs.result.now) c.output_paths.result c.in_ok-inner-in-Addressed.ensures c.outputs.ensures c.output_paths.ensures)
+    subst (λ (k : Kind). IfOk c.output_paths.result
+    (λ paths. AreExpected c.args.dir.now c.args.name.now k c.args.drv.now c.args.hashes.now
+    paths.items)) (sym c.in-Addressed.is)
+    (addressed_from c.args.dir.now c.args.name.now c.in_ok-inner-in-Addressed.inner c.args.drv.now
+    c.args.hashes.now (map output_of c.outputs.result.now) c.output_paths.result
+    c.in_ok-inner-in-Addressed.ensures c.outputs.ensures c.output_paths.ensures)

@@ -8,11 +8,16 @@ use Rattle.drv_graph.proofs.expected.output_paths.Goals as goal
 
 pub loop-output-preserved : goal.loop-output-preserved
 loop-output-preserved c =
-    took_more (map (output_path c.args.dir.now c.args.name.now c.args.inner.now) (map output_of c.args.outputs.now)) c.loop-output.output-index
-    (output_path c.args.dir.now c.args.name.now c.args.inner.now (output_of c.output-item.result)) c.loop-output.paths.items _
-    (seen_twice (output_path c.args.dir.now c.args.name.now c.args.inner.now) output_of c.args.outputs.now c.loop-output.output-index c.output-item.result c.loop-output-test.true c.output-item.is)
+    took_more (map (output_path c.args.dir.now c.args.name.now c.args.inner.now)
+    (map output_of c.args.outputs.now)) c.loop-output.output-index
+    (output_path c.args.dir.now c.args.name.now c.args.inner.now (output_of c.output-item.result))
+    c.loop-output.paths.items _
+    (seen_twice (output_path c.args.dir.now c.args.name.now c.args.inner.now) output_of
+    c.args.outputs.now c.loop-output.output-index c.output-item.result c.loop-output-test.true
+    c.output-item.is)
     c.loop-output.invariant
     (c.in_ok-push.ensures.items
     ∙ ap (λ (path : List ℕ). c.loop-output.paths.items ++ path ∷ [])
     (c.in_ok-addressed_path.ensures
-    ∙ ap (λ (output : List ℕ). store_path (codes "output:" ++ output) c.args.inner.now c.args.dir.now (path_name c.args.name.now output)) c.deref.ensures.value))
+    ∙ ap (λ (output : List ℕ). store_path (codes "output:" ++ output) c.args.inner.now
+    c.args.dir.now (path_name c.args.name.now output)) c.deref.ensures.value))

@@ -4,4 +4,5 @@ use Rattle.drv_graph.specs.ExpectedPaths.{output_path}
 use Rattle.drv_graph.proofs.expected.output_paths.Given as goal
 
 abbrev pub invariant-loop-output : goal.invariant-loop-output
-invariant-loop-output l = l.paths.items ≡ take l.output-index (map (output_path l.dir l.name l.inner) (map output_of l.outputs))
+invariant-loop-output l = l.paths.items ≡ take l.output-index
+    (map (output_path l.dir l.name l.inner) (map output_of l.outputs))

@@ -4,25 +4,37 @@ use Rattle.drv_graph.proofs.fill.fill_outputs.Goals as goal
 
 pub returns-in_err-plan-clause-filling : goal.returns-in_err-plan-clause-filling
 returns-in_err-plan-clause-filling g c =
-    let p = err_from_is_err_and c.from_residual-in_err-plan.result c.from_residual-in_err-plan.ensures.1 in
+    let p = err_from_is_err_and c.from_residual-in_err-plan.result
+    c.from_residual-in_err-plan.ensures.1 in
     rw (p.1, p.2)
-    (load_refused c.args.dir.now (g.S.DrvSource.gives c.args.source.now) c.args.name.now c.args.draft.now c.in_ok-target.target c.in_ok-target.ensures.ok c.in_err-plan.field-0.0 c.in_err-plan.ensures.loading)
+    (load_refused c.args.dir.now (g.S.DrvSource.gives c.args.source.now) c.args.name.now
+    c.args.draft.now c.in_ok-target.target c.in_ok-target.ensures.ok c.in_err-plan.field-0.0
+    c.in_err-plan.ensures.loading)
 
 pub returns-in_err-filled-clause-filling : goal.returns-in_err-filled-clause-filling
 returns-in_err-filled-clause-filling g c =
-    let p = err_from_is_err_and c.from_residual-in_err-filled.result c.from_residual-in_err-filled.ensures.1 in
+    let p = err_from_is_err_and c.from_residual-in_err-filled.result
+    c.from_residual-in_err-filled.ensures.1 in
     rw (p.1, p.2)
-    (fill_refused c.args.dir.now (g.S.DrvSource.gives c.args.source.now) c.args.name.now c.args.draft.now c.in_ok-target.target c.in_ok-target.ensures.ok c.in_ok-plan.plan c.in_ok-plan.ensures.loading
+    (fill_refused c.args.dir.now (g.S.DrvSource.gives c.args.source.now) c.args.name.now
+    c.args.draft.now c.in_ok-target.target c.in_ok-target.ensures.ok c.in_ok-plan.plan
+    c.in_ok-plan.ensures.loading
     c.in_err-filled.field-0.0 c.in_err-filled.ensures.err)
 
 pub returns-in_err-path-clause-filling : goal.returns-in_err-path-clause-filling
 returns-in_err-path-clause-filling g c =
-    let p = err_from_is_err_and c.from_residual-in_err-path.result c.from_residual-in_err-path.ensures.1 in
+    let p = err_from_is_err_and c.from_residual-in_err-path.result
+    c.from_residual-in_err-path.ensures.1 in
     rw (p.1, p.2)
-    (text_refused c.args.dir.now (g.S.DrvSource.gives c.args.source.now) c.args.name.now c.args.draft.now c.in_ok-target.target c.in_ok-target.ensures.ok c.in_ok-plan.plan c.in_ok-plan.ensures.loading
-    c.in_ok-filled.filled c.in_ok-filled.ensures.ok c.in_err-path.field-0.0 c.in_err-path.ensures.err)
+    (text_refused c.args.dir.now (g.S.DrvSource.gives c.args.source.now) c.args.name.now
+    c.args.draft.now c.in_ok-target.target c.in_ok-target.ensures.ok c.in_ok-plan.plan
+    c.in_ok-plan.ensures.loading
+    c.in_ok-filled.filled c.in_ok-filled.ensures.ok c.in_err-path.field-0.0
+    c.in_err-path.ensures.err)
 
 pub returns-clause-filling : goal.returns-clause-filling
 returns-clause-filling g c =
-    filling_right c.args.dir.now (g.S.DrvSource.gives c.args.source.now) c.args.name.now c.args.draft.now c.in_ok-target.target c.in_ok-target.ensures.ok c.in_ok-plan.plan c.in_ok-plan.ensures.loading
+    filling_right c.args.dir.now (g.S.DrvSource.gives c.args.source.now) c.args.name.now
+    c.args.draft.now c.in_ok-target.target c.in_ok-target.ensures.ok c.in_ok-plan.plan
+    c.in_ok-plan.ensures.loading
     c.in_ok-filled.filled c.in_ok-filled.ensures.ok c.in_ok-path.path c.in_ok-path.ensures.ok

@@ -9,10 +9,12 @@ returns-in_default c = no_digits _ c.in_default.field-0 (sym c.from_hex.ensures 
 pub returns-then-eq : goal.returns-then-eq
 returns-then-eq c = (
   decoded c.args.text.now c.in-Ok.digest (sym c.from_hex.ensures ∙ c.in-Ok.is),
-  told_same _ _ (encode_lower c.in-Ok.digest) c.eq.result c.eq.ensures (c.as_slice.ensures ∙ c.digits_of.ensures) c.if-eq.true,
+  told_same _ _ (encode_lower c.in-Ok.digest) c.eq.result c.eq.ensures
+      (c.as_slice.ensures ∙ c.digits_of.ensures) c.if-eq.true,
 )
 
 pub returns-else-eq : goal.returns-else-eq
 returns-else-eq c =
     other_digits _ c.in-Ok.digest (sym c.from_hex.ensures ∙ c.in-Ok.is)
-    (told_other _ _ (encode_lower c.in-Ok.digest) c.eq.result c.eq.ensures (c.as_slice.ensures ∙ c.digits_of.ensures) c.if-eq.false)
+    (told_other _ _ (encode_lower c.in-Ok.digest) c.eq.result c.eq.ensures
+    (c.as_slice.ensures ∙ c.digits_of.ensures) c.if-eq.false)

@@ -8,5 +8,6 @@ abbrev pub invariant-roots : goal.invariant-roots
 invariant-roots g l = record {
   keeps : GivesSame (g.S.DrvSource.gives l.fn.source) (g.S.DrvSource.gives l.source);
   counts : g.S.DrvSource.failures l.fn.source ≤ g.S.DrvSource.failures l.source;
-  some : IsReachedSome l.dir (g.S.DrvSource.gives l.fn.source) l.roots (take l.place l.roots) l.found l.numbers.keys;
+  some : IsReachedSome l.dir (g.S.DrvSource.gives l.fn.source) l.roots (take l.place l.roots)
+      l.found l.numbers.keys;
 }

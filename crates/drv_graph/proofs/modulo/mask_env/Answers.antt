@@ -14,15 +14,22 @@ loop-entry-preserved c =
     let with_value : List ℕ → DrvEntry = λ value. record { key = was.key.items; value = value } in
     elim c.if-is_some.branch [
       | then-is_some w ↦
-          written_more entry_of (masked_entry names) c.args.env.now c.loop-entry.env c.if-is_some.env c.loop-entry.entry-index _ c.entry-item.result
+          written_more entry_of (masked_entry names) c.args.env.now c.loop-entry.env
+          c.if-is_some.env c.loop-entry.entry-index _ c.entry-item.result
           (omega arith) c.loop-entry.auto.env c.loop-entry.invariant w.env-is
           (ap with_value w.clear.ensures.items
-          ∙ masked_found names (entry_of was) c.deref.result.now c.output_place.result c.output_place.ensures.found c.deref.ensures.value (sym c.is_some.ensures ∙ w.if-is_some.true))
+          ∙ masked_found names (entry_of was) c.deref.result.now c.output_place.result
+          c.output_place.ensures.found c.deref.ensures.value
+          (sym c.is_some.ensures ∙ w.if-is_some.true))
       | else-is_some w ↦
-          written_more entry_of (masked_entry names) c.args.env.now c.loop-entry.env c.if-is_some.env c.loop-entry.entry-index was c.entry-item.result
+          written_more entry_of (masked_entry names) c.args.env.now c.loop-entry.env
+          c.if-is_some.env c.loop-entry.entry-index was c.entry-item.result
           (omega arith) c.loop-entry.auto.env c.loop-entry.invariant w.env-is
-          (masked_missing names (entry_of was) c.deref.result.now c.output_place.result c.output_place.ensures.found c.deref.ensures.value (sym c.is_some.ensures ∙ w.if-is_some.false))
+          (masked_missing names (entry_of was) c.deref.result.now c.output_place.result
+          c.output_place.ensures.found c.deref.ensures.value
+          (sym c.is_some.ensures ∙ w.if-is_some.false))
     ]
 
 pub returns : goal.returns
-returns c = written_all entry_of (masked_entry (names_of c.args.drv.now.outputs)) c.args.env.now c.loop-entry.env c.loop-entry.entry-index (omega arith) c.loop-entry.invariant
+returns c = written_all entry_of (masked_entry (names_of c.args.drv.now.outputs)) c.args.env.now
+    c.loop-entry.env c.loop-entry.entry-index (omega arith) c.loop-entry.invariant

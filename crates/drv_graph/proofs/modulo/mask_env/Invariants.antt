@@ -5,4 +5,5 @@ use Rattle.drv_graph.proofs.modulo.mask_env.Given as goal
 
 abbrev pub invariant-loop-entry : goal.invariant-loop-entry
 invariant-loop-entry l =
-    map entry_of l.env ≡ map (masked_entry (names_of l.drv.outputs)) (take l.entry-index (map entry_of l.fn.env)) ++ drop l.entry-index (map entry_of l.fn.env)
+    map entry_of l.env ≡ map (masked_entry (names_of l.drv.outputs))
+    (take l.entry-index (map entry_of l.fn.env)) ++ drop l.entry-index (map entry_of l.fn.env)

@@ -4,4 +4,5 @@ use Rattle.drv_graph.specs.Modulo.{replaced}
 use Rattle.drv_graph.proofs.modulo.replaced.Given as goal
 
 abbrev pub invariant-loop-place : goal.invariant-loop-place
-invariant-loop-place l = map input_of l.placed.items ≡ take l.place (replaced (map input_of l.inputs) l.hashes)
+invariant-loop-place l = map input_of l.placed.items
+    ≡ take l.place (replaced (map input_of l.inputs) l.hashes)

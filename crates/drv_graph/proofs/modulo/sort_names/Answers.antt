@@ -12,14 +12,20 @@ use Rattle.drv_graph.proofs.modulo.sort_names.Goals as goal
 pub loop-input-preserved : goal.loop-input-preserved
 loop-input-preserved c =
     let was = get_or c.loop-input.inputs c.loop-input.input-index c.input-item.result in
-    let names = names_sorted was.names.items c.sort_unstable.new.self.items c.dedup.new.self.items c.sort_unstable.ensures.permutation c.sort_unstable.ensures.sorted
+    let names = names_sorted was.names.items c.sort_unstable.new.self.items c.dedup.new.self.items
+    c.sort_unstable.ensures.permutation c.sort_unstable.ensures.sorted
     (dedup_is (λ (x y : Vec ℕ). pointwise nat_eq x.items y.items) _ _ c.dedup.ensures.filtered) in
-    let step = zipped_in_place IsNameSorted input_of c.args.inputs.now c.loop-input.inputs _ c.loop-input.input-index (record { path = was.path; names = c.dedup.new.self }) c.input-item.result
-    (omega arith) c.loop-input.auto.inputs c.loop-input.invariant.sorted c.loop-input.invariant.rest refl
+    let step = zipped_in_place IsNameSorted input_of c.args.inputs.now c.loop-input.inputs _
+    c.loop-input.input-index (record { path = was.path; names = c.dedup.new.self })
+    c.input-item.result
+    (omega arith) c.loop-input.auto.inputs c.loop-input.invariant.sorted c.loop-input.invariant.rest
+    refl
     (record { path = refl; rising = names.0; names = names.1 }) in
     record { sorted = step.0; rest = step.1 }
 
 pub returns : goal.returns
 returns c =
-    zipped_all IsNameSorted (map input_of c.args.inputs.now) (map input_of c.loop-input.inputs) c.loop-input.input-index
-    (omega (arith, length-map c.args.inputs.now input_of)) (omega (arith, length-map c.loop-input.inputs input_of)) c.loop-input.invariant.sorted
+    zipped_all IsNameSorted (map input_of c.args.inputs.now) (map input_of c.loop-input.inputs)
+    c.loop-input.input-index
+    (omega (arith, length-map c.args.inputs.now input_of))
+    (omega (arith, length-map c.loop-input.inputs input_of)) c.loop-input.invariant.sorted

@@ -6,6 +6,7 @@ use Rattle.drv_graph.proofs.modulo.sort_names.Given as goal
 
 abbrev pub invariant-loop-input : goal.invariant-loop-input
 invariant-loop-input l = record {
-  sorted : AllZip IsNameSorted (take l.input-index (map input_of l.fn.inputs)) (take l.input-index (map input_of l.inputs));
+  sorted : AllZip IsNameSorted (take l.input-index (map input_of l.fn.inputs))
+      (take l.input-index (map input_of l.inputs));
   rest : drop l.input-index (map input_of l.inputs) ≡ drop l.input-index (map input_of l.fn.inputs);
 }

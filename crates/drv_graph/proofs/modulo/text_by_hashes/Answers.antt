@@ -9,17 +9,28 @@ use Rattle.drv_graph.proofs.modulo.text_by_hashes.Goals as goal
 
 pub returns-then-mask : goal.returns-then-mask
 returns-then-mask c =
-    let given = c.in_ok-replaced.ensures ∙ ap (λ (inputs : List Input). replaced inputs c.args.hashes.now) c.inputs.ensures in
-    text_from c.args.drv.now (masked c.args.drv.now) c.args.hashes.now c.args.mask (map input_of c.as_slice-inputs.result.now) c.masked_text.result
-    (subst (λ (inputs : List Input). IsUnited inputs (map input_of c.as_slice-inputs.result.now)) given
-    (subst (λ (items : List InputStruct). IsUnited (map input_of c.in_ok-replaced.replaced.items) (map input_of items)) (sym c.as_slice-inputs.ensures.value) c.in_ok-united.ensures))
-    (sym (ap (λ (b : Bool). if b then masked c.args.drv.now else c.args.drv.now) c.if-mask.true)) c.masked_text.ensures
+    let given = c.in_ok-replaced.ensures ∙ ap
+    (λ (inputs : List Input). replaced inputs c.args.hashes.now) c.inputs.ensures in
+    text_from c.args.drv.now (masked c.args.drv.now) c.args.hashes.now c.args.mask
+    (map input_of c.as_slice-inputs.result.now) c.masked_text.result
+    (subst (λ (inputs : List Input). IsUnited inputs (map input_of c.as_slice-inputs.result.now))
+    given
+    (subst (λ (items : List InputStruct). IsUnited (map input_of c.in_ok-replaced.replaced.items)
+    (map input_of items)) (sym c.as_slice-inputs.ensures.value) c.in_ok-united.ensures))
+    (sym (ap (λ (b : Bool). if b then masked c.args.drv.now else c.args.drv.now) c.if-mask.true))
+    c.masked_text.ensures
 
 pub returns : goal.returns
 returns c =
-    let given = c.in_ok-replaced.ensures ∙ ap (λ (inputs : List Input). replaced inputs c.args.hashes.now) c.inputs.ensures in
-    text_from c.args.drv.now c.args.drv.now c.args.hashes.now c.args.mask (map input_of c.as_slice-inputs.result.now) c.text_with_inputs.result
-    (subst (λ (inputs : List Input). IsUnited inputs (map input_of c.as_slice-inputs.result.now)) given
-    (subst (λ (items : List InputStruct). IsUnited (map input_of c.in_ok-replaced.replaced.items) (map input_of items)) (sym c.as_slice-inputs.ensures.value) c.in_ok-united.ensures))
+    let given = c.in_ok-replaced.ensures ∙ ap
+    (λ (inputs : List Input). replaced inputs c.args.hashes.now) c.inputs.ensures in
+    text_from c.args.drv.now c.args.drv.now c.args.hashes.now c.args.mask
+    (map input_of c.as_slice-inputs.result.now) c.text_with_inputs.result
+    (subst (λ (inputs : List Input). IsUnited inputs (map input_of c.as_slice-inputs.result.now))
+    given
+    (subst (λ (items : List InputStruct). IsUnited (map input_of c.in_ok-replaced.replaced.items)
+    (map input_of items)) (sym c.as_slice-inputs.ensures.value) c.in_ok-united.ensures))
     (sym (ap (λ (b : Bool). if b then masked c.args.drv.now else c.args.drv.now) c.if-mask.false))
-    (subst (λ (d : Drv). IfOk c.text_with_inputs.result (λ text. IsLooseText (with_inputs d (map input_of c.as_slice-inputs.result.now)) text.items)) c.parts.ensures.parts c.text_with_inputs.ensures)
+    (subst (λ (d : Drv). IfOk c.text_with_inputs.result
+    (λ text. IsLooseText (with_inputs d (map input_of c.as_slice-inputs.result.now))
+    text.items)) c.parts.ensures.parts c.text_with_inputs.ensures)

@@ -15,7 +15,9 @@ use Rattle.drv_graph.proofs.modulo.united.Goals as goal
 pub gather-requires : goal.gather-requires
 gather-requires c =
     sorted_map path_of _
-    (c.sort_unstable_by.ensures.sorted (λ (a b : Input). is_lt (slice_cmp nat_cmp a.path.items b.path.items)) (ranks_by nat_list_cmp_total path_of) (answers_always _ _ _ (λ f a r g h. search rules)))
+    (c.sort_unstable_by.ensures.sorted
+    (λ (a b : Input). is_lt (slice_cmp nat_cmp a.path.items b.path.items))
+    (ranks_by nat_list_cmp_total path_of) (answers_always _ _ _ (λ f a r g h. search rules)))
 
 pub returns : goal.returns
 returns c =
@@ -23,6 +25,9 @@ returns c =
     let gathered = c.in_ok-gathered.gathered in
     let long : length sorted ≡ gathered.len = omega arith in
     rw (take_at sorted (drop (length sorted) gathered.items) gathered.len long)
-    (united_from (map input_of c.args.inputs.items) (map input_of gathered.items) (map input_of sorted)
-    (gathered_moved _ _ _ (IsPermutation-map input_of _ _ c.sort_unstable_by.ensures.permutation) c.in_ok-gathered.ensures)
-    (subst (λ (items : List Input). AllZip IsNameSorted (map input_of items) (map input_of sorted)) c.deref_mut.ensures.value c.sort_names.ensures))
+    (united_from (map input_of c.args.inputs.items) (map input_of gathered.items)
+    (map input_of sorted)
+    (gathered_moved _ _ _ (IsPermutation-map input_of _ _ c.sort_unstable_by.ensures.permutation)
+    c.in_ok-gathered.ensures)
+    (subst (λ (items : List Input). AllZip IsNameSorted (map input_of items) (map input_of sorted))
+    c.deref_mut.ensures.value c.sort_names.ensures))

@@ -15,26 +15,42 @@ loop-name-preserved c =
     let path = c.args.used.now.path.now in
     let drv = c.args.used.now.drv.now in
     let use_of : List ℕ → Use = λ name. record { input = path; output = name; drv = drv } in
-    let found = Contains-slice_get (output_names drv) c.in-Some.field-0 c.as_slice-name.result.now c.in-Some.ensures.found in
-    all_took_more IsKnownUse (uses_of path drv (map bytes_of c.args.names.now)) c.loop-name.name-index (use_of c.name-item.result.items)
-    (seen_twice use_of bytes_of c.args.names.now c.loop-name.name-index c.name-item.result c.loop-name-test.true c.name-item.is)
-    c.loop-name.invariant (subst (λ (n : List ℕ). Contains (output_names drv) n) c.as_slice-name.ensures.value found)
+    let found = Contains-slice_get (output_names drv) c.in-Some.field-0 c.as_slice-name.result.now
+    c.in-Some.ensures.found in
+    all_took_more IsKnownUse (uses_of path drv (map bytes_of c.args.names.now))
+    c.loop-name.name-index (use_of c.name-item.result.items)
+    (seen_twice use_of bytes_of c.args.names.now c.loop-name.name-index c.name-item.result
+    c.loop-name-test.true c.name-item.is)
+    c.loop-name.invariant
+    (subst (λ (n : List ℕ). Contains (output_names drv) n) c.as_slice-name.ensures.value found)
 
 pub returns-in_default-clause-err : goal.returns-in_default-clause-err
 returns-in_default-clause-err c =
     let path = c.args.used.now.path.now in
     let drv = c.args.used.now.drv.now in
     let use_of : List ℕ → Use = λ name. record { input = path; output = name; drv = drv } in
-    unknown_use (uses_of path drv (map bytes_of c.args.names.now)) (use_of c.name-item.result.items) _
-    (first_without IsKnownUse (uses_of path drv (map bytes_of c.args.names.now)) c.loop-name.name-index (use_of c.name-item.result.items)
-    (seen_twice use_of bytes_of c.args.names.now c.loop-name.name-index c.name-item.result c.loop-name-test.true c.name-item.is)
-    c.loop-name.invariant (λ has. c.in_default.ensures.found (subst (λ (n : List ℕ). Contains (output_names drv) n) (sym c.as_slice-name.ensures.value) has)))
-    (subst (λ (n : List ℕ). IsUnknownOutput path n c.in_ok-unknown_output.field-0) c.as_slice-name.ensures.value c.in_ok-unknown_output.ensures)
+    unknown_use (uses_of path drv (map bytes_of c.args.names.now)) (use_of c.name-item.result.items)
+    _
+    (first_without IsKnownUse (uses_of path drv (map bytes_of c.args.names.now))
+    c.loop-name.name-index (use_of c.name-item.result.items)
+    (seen_twice use_of bytes_of c.args.names.now c.loop-name.name-index c.name-item.result
+    c.loop-name-test.true c.name-item.is)
+    c.loop-name.invariant
+    (λ has. c.in_default.ensures.found
+    (subst (λ (n : List ℕ). Contains (output_names drv) n) (sym c.as_slice-name.ensures.value)
+    has)))
+    (subst (λ (n : List ℕ). IsUnknownOutput path n c.in_ok-unknown_output.field-0)
+    c.as_slice-name.ensures.value c.in_ok-unknown_output.ensures)
 
 pub returns-clause-ok : goal.returns-clause-ok
 returns-clause-ok c =
     let path = c.args.used.now.path.now in
     let drv = c.args.used.now.drv.now in
     let use_of : List ℕ → Use = λ name. record { input = path; output = name; drv = drv } in
-    all_took_all IsKnownUse (uses_of path drv (map bytes_of c.args.names.now)) c.loop-name.name-index
-    (omega (arith, length-map (map bytes_of c.args.names.now) use_of, length-map c.args.names.now bytes_of)) c.loop-name.invariant
+    all_took_all IsKnownUse (uses_of path drv (map bytes_of c.args.names.now))
+    c.loop-name.name-index
+    (omega (
+      arith,
+      length-map (map bytes_of c.args.names.now) use_of,
+      length-map c.args.names.now bytes_of,
+    )) c.loop-name.invariant

@@ -6,4 +6,6 @@ use Rattle.drv_graph.specs.UsedInputs.{uses_of}
 use Rattle.drv_graph.proofs.outputs.check_used.Given as goal
 
 abbrev pub invariant-loop-name : goal.invariant-loop-name
-invariant-loop-name l = All IsKnownUse (take l.name-index (uses_of l.used.path.now l.used.drv.now (map bytes_of l.names)))
+invariant-loop-name l =
+    All IsKnownUse
+    (take l.name-index (uses_of l.used.path.now l.used.drv.now (map bytes_of l.names)))

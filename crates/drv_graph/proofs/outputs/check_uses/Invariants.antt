@@ -6,4 +6,5 @@ use Rattle.drv_graph.specs.UsedInputs.{drvs_of}
 use Rattle.drv_graph.proofs.outputs.check_uses.Given as goal
 
 abbrev pub invariant-loop-place : goal.invariant-loop-place
-invariant-loop-place l = All IsKnownUse (uses (take l.place (map input_of l.inputs)) (take l.place (drvs_of l.used)))
+invariant-loop-place l =
+    All IsKnownUse (uses (take l.place (map input_of l.inputs)) (take l.place (drvs_of l.used)))

@@ -19,23 +19,46 @@ loop-entry-preserved c =
     let IsPlacedHere = IsPlacedEntry names c.args.paths.now in
     elim c.match-output_place.branch [
       | in-Some+in_ok-place_value w ↦
-          let at : slice_get names w.in-Some.place ≡ Some was.key.items = subst (λ (key : List ℕ). slice_get names w.in-Some.place ≡ Some key) c.deref.ensures.value w.in-Some.ensures.found in
-          let within : w.in-Some.place < length names = slice_get_within names w.in-Some.place was.key.items at in
-          let below : w.in-Some.place < length c.args.paths.now = omega (arith, within, c.requires, length-map c.args.draft.now.outputs (λ (o : Output). o.name)) in
-          let at_path : slice_get c.args.paths.now w.in-Some.place ≡ Some w.index-paths-place.result =
-          slice_get_read c.args.paths.now (length c.args.paths.now) w.in-Some.place w.index-paths-place.result refl below w.index-paths-place.is in
-          let step = zipped_in_place IsPlacedHere entry_of c.args.env.now c.loop-entry.env c.match-output_place.env c.loop-entry.entry-index _ c.entry-item.result
-          (omega arith) c.loop-entry.auto.env c.loop-entry.invariant.placed c.loop-entry.invariant.rest w.env-is
-          (entry_under names c.args.paths.now (entry_of was) _ w.in-Some.place w.index-paths-place.result w.in-Some.ensures.rising at at_path refl w.in_ok-place_value.ensures) in
+          let at : slice_get names w.in-Some.place
+          ≡ Some was.key.items =
+          subst (λ (key : List ℕ). slice_get names w.in-Some.place ≡ Some key)
+          c.deref.ensures.value w.in-Some.ensures.found in
+          let within : w.in-Some.place < length names =
+          slice_get_within names w.in-Some.place was.key.items at in
+          let below : w.in-Some.place < length c.args.paths.now =
+          omega (
+            arith,
+            within,
+            c.requires,
+            length-map c.args.draft.now.outputs (λ (o : Output). o.name),
+          ) in
+          let at_path : slice_get c.args.paths.now w.in-Some.place
+          ≡ Some w.index-paths-place.result =
+          slice_get_read c.args.paths.now (length c.args.paths.now) w.in-Some.place
+          w.index-paths-place.result refl below w.index-paths-place.is in
+          let step = zipped_in_place IsPlacedHere entry_of c.args.env.now c.loop-entry.env
+          c.match-output_place.env c.loop-entry.entry-index _ c.entry-item.result
+          (omega arith) c.loop-entry.auto.env c.loop-entry.invariant.placed
+          c.loop-entry.invariant.rest w.env-is
+          (entry_under names c.args.paths.now (entry_of was) _ w.in-Some.place
+          w.index-paths-place.result w.in-Some.ensures.rising at at_path refl
+          w.in_ok-place_value.ensures) in
           record { placed = step.0; rest = step.1 }
       | in_default w ↦
-          let none : Contains names was.key.items → ⊥ = subst (λ (key : List ℕ). Contains names key → ⊥) c.deref.ensures.value w.in_default.ensures.found in
-          let step = zipped_in_place IsPlacedHere entry_of c.args.env.now c.loop-entry.env c.match-output_place.env c.loop-entry.entry-index was c.entry-item.result
-          (omega arith) c.loop-entry.auto.env c.loop-entry.invariant.placed c.loop-entry.invariant.rest w.env-is (entry_other names c.args.paths.now (entry_of was) none) in
+          let none : Contains names was.key.items
+          → ⊥ = subst (λ (key : List ℕ). Contains names key → ⊥) c.deref.ensures.value
+          w.in_default.ensures.found in
+          let step = zipped_in_place IsPlacedHere entry_of c.args.env.now c.loop-entry.env
+          c.match-output_place.env c.loop-entry.entry-index was c.entry-item.result
+          (omega arith) c.loop-entry.auto.env c.loop-entry.invariant.placed
+          c.loop-entry.invariant.rest w.env-is
+          (entry_other names c.args.paths.now (entry_of was) none) in
           record { placed = step.0; rest = step.1 }
     ]
 
 pub returns : goal.returns
 returns c =
-    zipped_all (IsPlacedEntry (names_of c.args.draft.now.outputs) c.args.paths.now) (map entry_of c.args.env.now) (map entry_of c.loop-entry.env) c.loop-entry.entry-index
-    (omega (arith, length-map c.args.env.now entry_of)) (omega (arith, length-map c.loop-entry.env entry_of)) c.loop-entry.invariant.placed
+    zipped_all (IsPlacedEntry (names_of c.args.draft.now.outputs) c.args.paths.now)
+    (map entry_of c.args.env.now) (map entry_of c.loop-entry.env) c.loop-entry.entry-index
+    (omega (arith, length-map c.args.env.now entry_of))
+    (omega (arith, length-map c.loop-entry.env entry_of)) c.loop-entry.invariant.placed

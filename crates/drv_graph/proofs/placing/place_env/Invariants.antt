@@ -7,6 +7,7 @@ use Rattle.drv_graph.proofs.placing.place_env.Given as goal
 
 abbrev pub invariant-loop-entry : goal.invariant-loop-entry
 invariant-loop-entry l = record {
-  placed : AllZip (IsPlacedEntry (names_of l.draft.outputs) l.paths) (take l.entry-index (map entry_of l.fn.env)) (take l.entry-index (map entry_of l.env));
+  placed : AllZip (IsPlacedEntry (names_of l.draft.outputs) l.paths)
+      (take l.entry-index (map entry_of l.fn.env)) (take l.entry-index (map entry_of l.env));
   rest : drop l.entry-index (map entry_of l.env) ≡ drop l.entry-index (map entry_of l.fn.env);
 }

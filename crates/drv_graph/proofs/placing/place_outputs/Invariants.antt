@@ -4,4 +4,5 @@ use Rattle.drv_graph.specs.Placing.{placed_outputs}
 use Rattle.drv_graph.proofs.placing.place_outputs.Given as goal
 
 abbrev pub invariant-loop-place : goal.invariant-loop-place
-invariant-loop-place l = map output_of l.outputs ≡ placed_outputs (map output_of l.fn.outputs) (take l.place l.paths)
+invariant-loop-place l = map output_of l.outputs
+    ≡ placed_outputs (map output_of l.fn.outputs) (take l.place l.paths)

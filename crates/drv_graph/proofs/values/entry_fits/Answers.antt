@@ -13,14 +13,27 @@ use Rattle.drv_graph.proofs.values.entry_fits.Goals as goal
 
 pub returns-in-Some : goal.returns-in-Some
 returns-in-Some c =
-    let within = slice_get_within (env_keys c.args.drv.now) c.in-Some.place c.as_slice-name.result.now c.in-Some.ensures.found in
+    let within = slice_get_within (env_keys c.args.drv.now) c.in-Some.place
+    c.as_slice-name.result.now c.in-Some.ensures.found in
     let below : c.in-Some.place < length c.env-env.result.now =
-    omega (arith, within, length-map c.args.drv.now.env (λ (e : EnvEntry). e.key), ap length c.env-env.ensures, length-map c.env-env.result.now entry_of) in
-    entry_answer c.args.in_draft c.args.drv.now.env c.args.output.now.name.items c.args.path.now c.fits.result c.in-Some.place (entry_of c.index-env-place.result) c.in-Some.ensures.rising
+    omega (
+      arith,
+      within,
+      length-map c.args.drv.now.env (λ (e : EnvEntry). e.key),
+      ap length c.env-env.ensures,
+      length-map c.env-env.result.now entry_of,
+    ) in
+    entry_answer c.args.in_draft c.args.drv.now.env c.args.output.now.name.items c.args.path.now
+    c.fits.result c.in-Some.place (entry_of c.index-env-place.result) c.in-Some.ensures.rising
     (c.in-Some.ensures.found ∙ ap (λ (n : List ℕ). Some n) c.as_slice-name.ensures.value)
-    (ap (λ (es : List EnvEntry). slice_get es c.in-Some.place) (sym c.env-env.ensures) ∙ seen_at entry_of c.env-env.result.now c.in-Some.place c.index-env-place.result below c.index-env-place.is)
-    (subst (λ (v : List ℕ). MatchBool c.fits.result (FitsIn c.args.in_draft v c.args.path.now) (FitsIn c.args.in_draft v c.args.path.now → ⊥)) c.deref.ensures.value c.fits.ensures)
+    (ap (λ (es : List EnvEntry). slice_get es c.in-Some.place) (sym c.env-env.ensures)
+    ∙ seen_at entry_of c.env-env.result.now c.in-Some.place c.index-env-place.result below
+    c.index-env-place.is)
+    (subst (λ (v : List ℕ). MatchBool c.fits.result (FitsIn c.args.in_draft v c.args.path.now)
+    (FitsIn c.args.in_draft v c.args.path.now → ⊥)) c.deref.ensures.value c.fits.ensures)
 
 pub returns-in-None : goal.returns-in-None
 returns-in-None c =
-    no_misfit c.args.in_draft c.args.drv.now.env c.as_slice-name.result.now c.args.output.now.name.items c.args.path.now c.in-None.ensures.found c.as_slice-name.ensures.value
+    no_misfit c.args.in_draft c.args.drv.now.env c.as_slice-name.result.now
+    c.args.output.now.name.items c.args.path.now c.in-None.ensures.found
+    c.as_slice-name.ensures.value

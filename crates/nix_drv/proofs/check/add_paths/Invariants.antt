@@ -6,6 +6,8 @@ use Rattle.nix_drv.proofs.check.add_paths.Given as goal
 
 abbrev pub invariant-loop-item : goal.invariant-loop-item
 invariant-loop-item g l = record {
-  added : l.refs.items ≡ l.fn.refs.items ++ map (λ item. key g.T.Element.form (g.T.Element.value item)) (take l.item-index l.items);
-  good : All (IsPathOf l.dir) (map (λ item. key g.T.Element.form (g.T.Element.value item)) (take l.item-index l.items));
+  added : l.refs.items ≡ l.fn.refs.items ++ map
+      (λ item. key g.T.Element.form (g.T.Element.value item)) (take l.item-index l.items);
+  good : All (IsPathOf l.dir)
+      (map (λ item. key g.T.Element.form (g.T.Element.value item)) (take l.item-index l.items));
 }

@@ -13,13 +13,22 @@ returns-in_err-add_paths-clause-err c =
 
 pub returns-in_err-add_paths-2-clause-err : goal.returns-in_err-add_paths-2-clause-err
 returns-in_err-add_paths-2-clause-err c =
-    let p = err_from_is_err_and c.from_residual-in_err-add_paths-2.result c.from_residual-in_err-add_paths-2.ensures.1 in
-    rw (p.1, p.2) (sources_fault _ _ _ _ _ c.inputs.ensures c.sources.ensures c.in_ok-add_paths.ensures.good c.in_err-add_paths-2.ensures.err)
+    let p = err_from_is_err_and c.from_residual-in_err-add_paths-2.result
+    c.from_residual-in_err-add_paths-2.ensures.1 in
+    rw (p.1, p.2)
+    (sources_fault _ _ _ _ _ c.inputs.ensures c.sources.ensures c.in_ok-add_paths.ensures.good
+    c.in_err-add_paths-2.ensures.err)
 
 pub returns-clause-ok : goal.returns-clause-ok
 returns-clause-ok c =
     let pushed : c.add_paths-2.new.refs.items ≡ paths_of c.args.drv.now =
-    rw (c.in_ok-add_paths-2.ensures.added, c.in_ok-add_paths.ensures.added, c.new-refs.ensures.items) (sym (paths_are _ _ _ c.inputs.ensures c.sources.ensures)) in (
-      all_good _ _ _ _ c.inputs.ensures c.sources.ensures c.in_ok-add_paths.ensures.good c.in_ok-add_paths-2.ensures.good,
-      references_from (paths_of c.args.drv.now) _ _ _ pushed c.sort_unstable.ensures.permutation c.sort_unstable.ensures.sorted (dedup_is _ _ _ c.dedup.ensures.filtered),
+    rw (
+      c.in_ok-add_paths-2.ensures.added,
+      c.in_ok-add_paths.ensures.added,
+      c.new-refs.ensures.items,
+    ) (sym (paths_are _ _ _ c.inputs.ensures c.sources.ensures)) in (
+      all_good _ _ _ _ c.inputs.ensures c.sources.ensures c.in_ok-add_paths.ensures.good
+          c.in_ok-add_paths-2.ensures.good,
+      references_from (paths_of c.args.drv.now) _ _ _ pushed c.sort_unstable.ensures.permutation
+          c.sort_unstable.ensures.sorted (dedup_is _ _ _ c.dedup.ensures.filtered),
     )

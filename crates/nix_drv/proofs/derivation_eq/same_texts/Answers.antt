@@ -5,4 +5,5 @@ use Rattle.nix_drv.proofs.EqualDerivations.{seen_alike}
 use Rattle.nix_drv.proofs.derivation_eq.same_texts.Goals as goal
 
 pub returns : goal.returns
-returns c = seen_alike (pointwise nat_eq) bytes_of c.args.a.now c.args.b.now (map bytes_of c.args.a.now) (map bytes_of c.args.b.now) c.eq.result refl refl c.eq.ensures
+returns c = seen_alike (pointwise nat_eq) bytes_of c.args.a.now c.args.b.now
+    (map bytes_of c.args.a.now) (map bytes_of c.args.b.now) c.eq.result refl refl c.eq.ensures

@@ -8,5 +8,7 @@ use Rattle.nix_drv.proofs.element.pass_list.Given as goal
 -- the elements that are left decide what the list does
 abbrev pub invariant-items : goal.invariant-items
 invariant-items g l =
-    pass_among (order_of l.order) (key g.T.Element.form) (pass g.T.Element.form) (option_map (λ (k : Bor (List ℕ)). k.now) l.before) l.at (map g.T.Element.value (drop l.item-index l.items))
+    pass_among (order_of l.order) (key g.T.Element.form) (pass g.T.Element.form)
+    (option_map (λ (k : Bor (List ℕ)). k.now) l.before) l.at
+    (map g.T.Element.value (drop l.item-index l.items))
     ≡ pass (Many (order_of l.order) g.T.Element.form) l.place (map g.T.Element.value l.items)

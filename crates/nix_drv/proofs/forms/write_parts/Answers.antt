@@ -12,6 +12,10 @@ returns c =
     let p = c.args.parts.now in
     on_ok c.write_build.result _ _
     (λ h. rw (with_inputs_value p c.args.inputs.now) (parts_written c.args.out.now.items _ _ _ _
-    (map (λ (o : Output). output_value (output_of o)) p.outputs.items) (map (λ (i : Input). input_value (input_of i)) c.args.inputs.now) (map bytes_of p.sources.items) (parts_build p)
-    (rw c.deref.ensures.value at c.in_ok-write_list_behind.ensures) c.in_ok-write_list_behind-2.ensures (rw c.deref-2.ensures.value at c.in_ok-write_list_behind-3.ensures) h))
+    (map (λ (o : Output). output_value (output_of o)) p.outputs.items)
+    (map (λ (i : Input). input_value (input_of i)) c.args.inputs.now)
+    (map bytes_of p.sources.items) (parts_build p)
+    (rw c.deref.ensures.value at c.in_ok-write_list_behind.ensures)
+    c.in_ok-write_list_behind-2.ensures
+    (rw c.deref-2.ensures.value at c.in_ok-write_list_behind-3.ensures) h))
     c.write_build.ensures

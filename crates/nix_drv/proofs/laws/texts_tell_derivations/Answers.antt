@@ -8,4 +8,5 @@ pub returns-clause-one_derivation : goal.returns-clause-one_derivation
 returns-clause-one_derivation c = one_drv
 
 pub returns-clause-none_within : goal.returns-clause-none_within
-returns-clause-none_within c = λ drv other. no_text_within derivation_form derivation_clear (drv_value drv) (drv_value other)
+returns-clause-none_within c = λ drv other. no_text_within derivation_form derivation_clear
+    (drv_value drv) (drv_value other)

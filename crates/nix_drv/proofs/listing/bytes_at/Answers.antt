@@ -4,7 +4,11 @@ use Rattle.nix_drv.proofs.CheckedListings.{bytes_found}
 use Rattle.nix_drv.proofs.listing.bytes_at.Goals as goal
 
 pub returns-in_err-bytes : goal.returns-in_err-bytes
-returns-in_err-bytes c = rw c.from_residual.ensures (bytes_found (same_bytes c.args.path.now) c.args.files.now.entries None c.in_err-bytes.ensures.value)
+returns-in_err-bytes c = rw c.from_residual.ensures
+    (bytes_found (same_bytes c.args.path.now) c.args.files.now.entries None
+    c.in_err-bytes.ensures.value)
 
 pub returns : goal.returns
-returns c = ap (λ (bytes : List ℕ). Some bytes) c.deref.ensures.value ∙ bytes_found (same_bytes c.args.path.now) c.args.files.now.entries (Some c.in_ok-bytes.bytes.now) c.in_ok-bytes.ensures.value
+returns c = ap (λ (bytes : List ℕ). Some bytes) c.deref.ensures.value
+    ∙ bytes_found (same_bytes c.args.path.now) c.args.files.now.entries
+    (Some c.in_ok-bytes.bytes.now) c.in_ok-bytes.ensures.value

@@ -6,10 +6,12 @@ use Rattle.nix_names.proofs.base32.bytes_of.Goals as goal
 
 pub loop-at-preserved : goal.loop-at-preserved
 loop-at-preserved c =
-    digits_of_push 256 c.args.n (text_number c.args.text.now) c.loop-at.at c.loop-at.bytes.items c.push.new.self.items c.byte_of.result
+    digits_of_push 256 c.args.n (text_number c.args.text.now) c.loop-at.at c.loop-at.bytes.items
+    c.push.new.self.items c.byte_of.result
     c.loop-at-test.true c.loop-at.invariant c.byte_of.ensures c.in_ok-push.ensures.items
 
 pub returns : goal.returns
 returns c =
     let number = text_number c.args.text.now in
-    c.loop-at.invariant ∙ take_all c.loop-at.at (digits_of 256 c.args.n number) (omega (arith, length_digits_of 256 c.args.n number))
+    c.loop-at.invariant ∙ take_all c.loop-at.at (digits_of 256 c.args.n number)
+    (omega (arith, length_digits_of 256 c.args.n number))

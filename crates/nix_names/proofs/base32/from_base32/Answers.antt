@@ -5,7 +5,8 @@ use Rattle.nix_names.proofs.Base32Reading.{text_where_no_fault, text_stands}
 use Rattle.nix_names.proofs.base32.from_base32.Goals as goal
 
 pub bytes_of-requires-clause-digits : goal.bytes_of-requires-clause-digits
-bytes_of-requires-clause-digits c = (text_where_no_fault c.args.text.now c.args.n (sym c.in_default.ensures)).digits
+bytes_of-requires-clause-digits c =
+    (text_where_no_fault c.args.text.now c.args.n (sym c.in_default.ensures)).digits
 
 pub returns : goal.returns
 returns c =
@@ -15,6 +16,7 @@ returns c =
       none,
       (
         ap length c.in_ok-bytes_of.ensures ∙ length_digits_of 256 c.args.n (text_number text),
-        subst (λ bytes. StandsFor text bytes) (sym c.in_ok-bytes_of.ensures) (text_stands text c.args.n is),
+        subst (λ bytes. StandsFor text bytes) (sym c.in_ok-bytes_of.ensures)
+            (text_stands text c.args.n is),
       ),
     )

@@ -7,13 +7,17 @@ use Rattle.nix_names.proofs.base32.to_base32.Goals as goal
 
 pub loop-i-preserved : goal.loop-i-preserved
 loop-i-preserved c =
-    base32_push c.args.bytes.now (string_bytes c.loop-i.text) (string_bytes c.push.new.self) c.loop-i.i c.text_len-len.result c.digit_at.result c.digit_char.result
-    (omega arith) c.text_len-len.ensures c.loop-i.invariant c.digit_at.ensures c.digit_char.ensures c.in_ok-push.ensures.bytes
+    base32_push c.args.bytes.now (string_bytes c.loop-i.text) (string_bytes c.push.new.self)
+    c.loop-i.i c.text_len-len.result c.digit_at.result c.digit_char.result
+    (omega arith) c.text_len-len.ensures c.loop-i.invariant c.digit_at.ensures c.digit_char.ensures
+    c.in_ok-push.ensures.bytes
 
 pub returns-clause-text : goal.returns-clause-text
 returns-clause-text c =
-    c.loop-i.invariant ∙ take_all c.loop-i.i (base32 c.args.bytes.now) (omega (arith, length_base32 c.args.bytes.now))
+    c.loop-i.invariant ∙ take_all c.loop-i.i (base32 c.args.bytes.now)
+    (omega (arith, length_base32 c.args.bytes.now))
 
 pub returns-clause-stands : goal.returns-clause-stands
 returns-clause-stands c =
-    subst (λ t. StandsFor t c.args.bytes.now) (sym (returns-clause-text c)) (base32_stands c.args.bytes.now (bytes_below c.args.bytes.now c.type_inv.bytes))
+    subst (λ t. StandsFor t c.args.bytes.now) (sym (returns-clause-text c))
+    (base32_stands c.args.bytes.now (bytes_below c.args.bytes.now c.type_inv.bytes))

@@ -8,4 +8,5 @@ pub returns : goal.returns
 unfolding fold
 returns c =
     fill_by_all (λ j. folded_at j 0 c.args.digest.now) c.loop-i.folded 20 0 c.loop-i.invariant.long
-    (λ j below. folded_past _ j c.loop-i.i c.args.digest.now (omega arith) (c.loop-i.invariant.each j below))
+    (λ j below. folded_past _ j c.loop-i.i c.args.digest.now (omega arith)
+    (c.loop-i.invariant.each j below))

@@ -8,12 +8,18 @@ use Rattle.nix_names.proofs.making.make_path.Goals as goal
 
 pub join_path-requires-clause-is_hash : goal.join_path-requires-clause-is_hash
 join_path-requires-clause-is_hash c =
-    let spelled = c.as_bytes.ensures.value ∙ c.in_ok-hash.ensures.text ∙ ap base32 c.fold20.ensures in
+    let spelled = c.as_bytes.ensures.value ∙ c.in_ok-hash.ensures.text ∙ ap base32 c.fold20.ensures
+    in
     ap is_hash_part spelled ∙ hash_part_of_fold _
 
 pub returns : goal.returns
 returns c =
-    let digest_is = c.fingerprint_digest-digest.ensures ∙ ap (λ dir. sha256 (fingerprint c.args.kind.now c.args.inner.now dir c.args.name.now)) c.text.ensures.value in
-    answers_of _ c.join_path.result _ _ (ap (λ b. if b then None else Some BadName) (sym c.is_name.ensures ∙ c.if-not-is_name.false))
-    (λ path joined. made_path _ _ _ _ path _ _ _ joined (c.as_bytes.ensures.value ∙ c.in_ok-hash.ensures.text) c.fold20.ensures digest_is)
+    let digest_is = c.fingerprint_digest-digest.ensures
+    ∙ ap (λ dir. sha256 (fingerprint c.args.kind.now c.args.inner.now dir c.args.name.now))
+    c.text.ensures.value in
+    answers_of _ c.join_path.result _ _
+    (ap (λ b. if b then None else Some BadName)
+    (sym c.is_name.ensures ∙ c.if-not-is_name.false))
+    (λ path joined. made_path _ _ _ _ path _ _ _ joined
+    (c.as_bytes.ensures.value ∙ c.in_ok-hash.ensures.text) c.fold20.ensures digest_is)
     c.join_path.ensures.ok c.join_path.ensures.only

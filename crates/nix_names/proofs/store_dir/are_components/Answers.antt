@@ -7,5 +7,6 @@ use Rattle.nix_names.proofs.store_dir.are_components.Goals as goal
 pub returns : goal.returns
 returns c =
     all_from_yields_List is_component _ _ _ c.all.ensures.ran
-    (YieldsList-from_slice_split _ (λ b. b == 47) c.args.parts.now c.split.ensures.rest c.split.ensures.done c.split.ensures.closure (λ x b q k. search rules))
+    (YieldsList-from_slice_split _ (λ b. b == 47) c.args.parts.now c.split.ensures.rest
+    c.split.ensures.done c.split.ensures.closure (λ x b q k. search rules))
     (λ x b q k. search rules)

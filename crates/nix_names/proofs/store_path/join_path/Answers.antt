@@ -7,7 +7,8 @@ pub join_text-requires : goal.join_text-requires
 join_text-requires c =
     let hash = hash_part_len _ c.requires.is_hash in
     let name = name_len _ c.requires.named in
-    let dir : length c.text.result.now ≤ 255 = rw c.text.ensures.value c.text.ensures.is_dir.short in
+    let dir : length c.text.result.now ≤ 255 = rw c.text.ensures.value c.text.ensures.is_dir.short
+    in
     omega arith
 
 pub invariant_of-result : goal.invariant_of-result
@@ -15,4 +16,5 @@ invariant_of-result c =
     let dir = c.text.ensures in
     stored c.args.dir.now (path_text c.args.dir.now c.args.hash.now c.args.name.now) _ dir.is_dir
     (path_of_parts _ _ _ c.requires.is_hash c.requires.named)
-    (c.in_ok-from_vec.ensures ∙ c.in_ok-text.ensures ∙ ap (λ d. path_text d c.args.hash.now c.args.name.now) dir.value)
+    (c.in_ok-from_vec.ensures ∙ c.in_ok-text.ensures
+    ∙ ap (λ d. path_text d c.args.hash.now c.args.name.now) dir.value)

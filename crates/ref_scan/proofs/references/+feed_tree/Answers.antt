@@ -8,7 +8,9 @@ pub loop-name-init : goal.loop-name-init
 loop-name-init t c =
     record {
       permitted = refl;
-      ended = ap (λ l. c.args.scanner.now.ended ++ l) (ap pieces_below c.deref-name-items.ensures.value ∙ sym (pieces_dir c.in-Dir.members) ∙ ap pieces (sym c.in-Dir.is));
+      ended = ap (λ l. c.args.scanner.now.ended ++ l)
+          (ap pieces_below c.deref-name-items.ensures.value ∙ sym (pieces_dir c.in-Dir.members)
+          ∙ ap pieces (sym c.in-Dir.is));
       present = c.requires;
     }
 
@@ -21,10 +23,14 @@ loop-name-preserved t c =
     let name = c.deref-in-loop-name.result.now in
     let rest = pieces_below (drop (c.loop-name.name-index + 1) items) in
     let ahead = left_from items c.loop-name.name-index member (omega arith) c.loop-name-item.is in
-    let fed = c.feed_tree.ensures ∙ ap (λ f. feed_of f.permitted (f.ended ++ pieces member.tree) []) c.feed_list-in-loop-name.ensures in
-    let whole = ap (λ n. old.ended ++ (n ∷ (pieces member.tree ++ rest))) c.deref-in-loop-name.ensures.value ∙ ap (λ l. old.ended ++ pieces_below l) (sym ahead) ∙ held.ended in
+    let fed = c.feed_tree.ensures ∙ ap (λ f. feed_of f.permitted (f.ended ++ pieces member.tree) [])
+    c.feed_list-in-loop-name.ensures in
+    let whole = ap (λ n. old.ended ++ (n ∷ (pieces member.tree ++ rest)))
+    c.deref-in-loop-name.ensures.value ∙ ap (λ l. old.ended ++ pieces_below l) (sym ahead)
+    ∙ held.ended in
     record {
       permitted = ap (λ f. f.permitted) fed ∙ held.permitted;
-      ended = ap (λ f. f.ended ++ rest) fed ∙ member_fed old.ended (pieces member.tree) rest _ old.present name held.present whole;
+      ended = ap (λ f. f.ended ++ rest) fed ∙ member_fed old.ended (pieces member.tree) rest _
+          old.present name held.present whole;
       present = ap (λ f. f.present) fed;
     }

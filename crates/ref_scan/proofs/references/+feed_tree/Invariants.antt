@@ -9,6 +9,7 @@ decreases-feed_tree l = goal.size-feed_tree l
 abbrev pub invariant-loop-name : goal.invariant-loop-name
 invariant-loop-name l = record {
   permitted : l.scanner.permitted ≡ l.initial.scanner.permitted;
-  ended : l.scanner.ended ++ pieces_below (drop l.name-index l.name-items) ≡ l.initial.scanner.ended ++ pieces l.fn.tree;
+  ended : l.scanner.ended ++ pieces_below (drop l.name-index l.name-items) ≡ l.initial.scanner.ended
+      ++ pieces l.fn.tree;
   present : l.scanner.present ≡ [];
 }

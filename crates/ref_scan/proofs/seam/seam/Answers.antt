@@ -12,5 +12,7 @@ returns c =
     let head = front ∙ ap (λ l. l ++ c.args.tail.now) c.new-seam.ensures in
     let two = c.try_extend_from_slice-2 in
     let short = length-take c.min.result c.args.piece.now in
-    let whole = on_ok two.result _ (two.ensures.variant.1 (omega (arith, ap length head))) two.ensures.ok in
-    joined c.args.tail.now c.args.piece.now one.new.self.items two.new.self.items c.min.result head whole c.min.ensures
+    let whole = on_ok two.result _ (two.ensures.variant.1 (omega (arith, ap length head)))
+    two.ensures.ok in
+    joined c.args.tail.now c.args.piece.now one.new.self.items two.new.self.items c.min.result head
+    whole c.min.ensures

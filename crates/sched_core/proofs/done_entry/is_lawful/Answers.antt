@@ -4,6 +4,8 @@ use Rattle.sched_core.proofs.done_entry.is_lawful.Goals as goal
 
 pub returns : goal.returns
 returns c =
-    judged (registered c.args.journal.now.entries) c.args.kind c.args.paths.now c.args.records.now c.in_ok-is_cyclic.field-0
+    judged (registered c.args.journal.now.entries) c.args.kind c.args.paths.now c.args.records.now
+    c.in_ok-is_cyclic.field-0
     c.if-records-paths.false
-    (c.are_new.ensures.0 c.if-not-are_new.false) (c.have_digest.ensures.0 c.if-not-have_digest.false) c.in_ok-is_cyclic.ensures
+    (c.are_new.ensures.0 c.if-not-are_new.false)
+    (c.have_digest.ensures.0 c.if-not-have_digest.false) c.in_ok-is_cyclic.ensures

@@ -7,22 +7,37 @@ use Rattle.sched_core.proofs.has_seeds.behind_used.Goals.{then-uses+in-Some, the
 
 pub loop-n-preserved : goal.loop-n-preserved
 loop-n-preserved c =
-    used_step c.args.drv.now.inputs c.args.place c.args.used.now c.args.seeds.now c.args.paths.now c.outputs-outputs.result.now c.loop-n.n
-    c.index-outputs-n.result c.deref.result.now c.uses.result c.loop-n.left c.if-uses.left c.outputs-outputs.ensures c.requires.paths c.loop-n-test.true c.index-outputs-n.is
-    (c.deref.ensures.value ∙ ap (λ (o : Output). o.name.items) (sym c.index-outputs-n.is)) c.uses.ensures
+    used_step c.args.drv.now.inputs c.args.place c.args.used.now c.args.seeds.now c.args.paths.now
+    c.outputs-outputs.result.now c.loop-n.n
+    c.index-outputs-n.result c.deref.result.now c.uses.result c.loop-n.left c.if-uses.left
+    c.outputs-outputs.ensures c.requires.paths c.loop-n-test.true c.index-outputs-n.is
+    (c.deref.ensures.value ∙ ap (λ (o : Output). o.name.items) (sym c.index-outputs-n.is))
+    c.uses.ensures
     (elim c.if-uses.branch [
       | then-uses+in-Some w ↦
           inl (
             w.if-uses.true,
-            element_some c.loop-n.left c.if-uses.left w.behind_path-left.result w.in-Some.rest c.args.paths.now c.loop-n.n w.index-paths-n.result c.loop-n-test.true w.index-paths-n.is w.in-Some.is
+            element_some c.loop-n.left c.if-uses.left w.behind_path-left.result w.in-Some.rest
+                c.args.paths.now c.loop-n.n w.index-paths-n.result c.loop-n-test.true
+                w.index-paths-n.is w.in-Some.is
                 w.behind_path-left.ensures w.left-is,
           )
-      | then-uses+in-None w ↦ inl (w.if-uses.true, element_none c.loop-n.left c.if-uses.left c.args.paths.now c.loop-n.n w.in-None.is w.left-is)
+      | then-uses+in-None w ↦ inl (
+        w.if-uses.true,
+        element_none c.loop-n.left c.if-uses.left c.args.paths.now c.loop-n.n w.in-None.is
+            w.left-is,
+      )
       | else-uses w ↦ inr (w.if-uses.false, w.left-is)
     ])
     c.loop-n.invariant
 
 pub returns : goal.returns
 returns c =
-    used_all c.args.drv.now.inputs c.args.place c.args.used.now c.args.seeds.now c.loop-n.n c.loop-n.left
-    (omega (arith, c.loop-n-test.false, paths_count_is c.args.used.now c.args.paths.now c.requires.paths)) c.loop-n.invariant
+    used_all c.args.drv.now.inputs c.args.place c.args.used.now c.args.seeds.now c.loop-n.n
+    c.loop-n.left
+    (omega (
+      arith,
+      c.loop-n-test.false,
+      paths_count_is c.args.used.now c.args.paths.now
+          c.requires.paths,
+    )) c.loop-n.invariant

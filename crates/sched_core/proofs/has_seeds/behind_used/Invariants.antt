@@ -6,4 +6,5 @@ use Rattle.sched_core.proofs.SeedParts.{first_named}
 use Rattle.sched_core.proofs.has_seeds.behind_used.Given as goal
 
 abbrev pub invariant-loop-n : goal.invariant-loop-n
-invariant-loop-n l = (input : Input) → slice_get l.drv.inputs l.place ≡ Some input → IsBehind l.seeds (first_named input.names l.used.outputs l.n) l.left
+invariant-loop-n l = (input : Input) → slice_get l.drv.inputs l.place ≡ Some input
+    → IsBehind l.seeds (first_named input.names l.used.outputs l.n) l.left

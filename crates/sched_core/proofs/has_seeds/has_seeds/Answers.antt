@@ -13,26 +13,43 @@ pub loop-place-preserved : goal.loop-place-preserved
 loop-place-preserved c =
     let nodes = c.args.plan.now.nodes in
     let numbers = c.inputs-inputs.result.now in
-    let within = input_within nodes c.args.d c.drv-drv.result.now numbers c.loop-place.place c.requires c.drv-drv.ensures c.inputs-inputs.ensures.numbers c.loop-place-test.true in
-    input_step nodes c.args.d c.drv-drv.result.now c.drv-used.result.now numbers c.loop-place.place _ c.args.seeds.now c.loop-place.left c.match-left.left c.inputs-inputs.ensures.sound.distinct
-    c.drv-drv.ensures c.inputs-inputs.ensures.numbers (slice_get-get_or numbers c.loop-place.place _ c.loop-place-test.true) c.drv-used.ensures within
+    let within = input_within nodes c.args.d c.drv-drv.result.now numbers c.loop-place.place
+    c.requires c.drv-drv.ensures c.inputs-inputs.ensures.numbers c.loop-place-test.true in
+    input_step nodes c.args.d c.drv-drv.result.now c.drv-used.result.now numbers c.loop-place.place
+    _ c.args.seeds.now c.loop-place.left c.match-left.left
+    c.inputs-inputs.ensures.sound.distinct
+    c.drv-drv.ensures c.inputs-inputs.ensures.numbers
+    (slice_get-get_or numbers c.loop-place.place _ c.loop-place-test.true) c.drv-used.ensures
+    within
     (elim c.match-left.branch [
       | in-Some w ↦
-          input_some c.drv-drv.result.now.inputs c.loop-place.place c.drv-used.result.now c.loop-place.left c.match-left.left w.behind_used-left.result w.in-Some.rest w.in-Some.is w.behind_used-left.ensures w.left-is
-      | in-None w ↦ input_none c.drv-drv.result.now.inputs c.loop-place.place c.drv-used.result.now c.loop-place.left c.match-left.left w.in-None.is w.left-is
+          input_some c.drv-drv.result.now.inputs c.loop-place.place c.drv-used.result.now
+          c.loop-place.left c.match-left.left w.behind_used-left.result w.in-Some.rest
+          w.in-Some.is w.behind_used-left.ensures w.left-is
+      | in-None w ↦ input_none c.drv-drv.result.now.inputs c.loop-place.place c.drv-used.result.now
+          c.loop-place.left c.match-left.left w.in-None.is w.left-is
     ])
     c.loop-place.invariant
 
 pub returns-in-Some-left : goal.returns-in-Some-left
 returns-in-Some-left c =
     let nodes = c.args.plan.now.nodes in
-    let behind = seeds_left nodes c.args.d c.inputs-inputs.result.now c.args.seeds.now c.loop-place.place c.loop-place.left c.inputs-inputs.ensures.numbers c.loop-place-test.false c.loop-place.invariant in
+    let behind = seeds_left nodes c.args.d c.inputs-inputs.result.now c.args.seeds.now
+    c.loop-place.place c.loop-place.left c.inputs-inputs.ensures.numbers c.loop-place-test.false
+    c.loop-place.invariant in
     seeds_told nodes c.args.d c.args.seeds.now c.in-Some-left.rest c.is_empty.result
-    (subst (λ o. IfSome (slice_get nodes c.args.d) (λ (node : Node). IsBehind c.args.seeds.now (seeds_of nodes node.drv) o)) c.in-Some-left.is behind)
+    (subst (λ o. IfSome (slice_get nodes c.args.d)
+    (λ (node : Node). IsBehind c.args.seeds.now (seeds_of nodes node.drv) o)) c.in-Some-left.is
+    behind)
     (nothing_told c.in-Some-left.rest.now c.is_empty.result c.is_empty.ensures)
 
 pub returns-in-None-left : goal.returns-in-None-left
 returns-in-None-left c =
     let nodes = c.args.plan.now.nodes in
-    let behind = seeds_left nodes c.args.d c.inputs-inputs.result.now c.args.seeds.now c.loop-place.place c.loop-place.left c.inputs-inputs.ensures.numbers c.loop-place-test.false c.loop-place.invariant in
-    seeds_untold nodes c.args.d c.args.seeds.now (subst (λ o. IfSome (slice_get nodes c.args.d) (λ (node : Node). IsBehind c.args.seeds.now (seeds_of nodes node.drv) o)) c.in-None-left.is behind)
+    let behind = seeds_left nodes c.args.d c.inputs-inputs.result.now c.args.seeds.now
+    c.loop-place.place c.loop-place.left c.inputs-inputs.ensures.numbers c.loop-place-test.false
+    c.loop-place.invariant in
+    seeds_untold nodes c.args.d c.args.seeds.now
+    (subst (λ o. IfSome (slice_get nodes c.args.d)
+    (λ (node : Node). IsBehind c.args.seeds.now (seeds_of nodes node.drv) o)) c.in-None-left.is
+    behind)

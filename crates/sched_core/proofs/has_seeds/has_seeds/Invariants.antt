@@ -6,4 +6,5 @@ use Rattle.sched_core.proofs.SeedParts.{first_seeds}
 use Rattle.sched_core.proofs.has_seeds.has_seeds.Given as goal
 
 abbrev pub invariant-loop-place : goal.invariant-loop-place
-invariant-loop-place l = (node : Node) → slice_get l.plan.nodes l.d ≡ Some node → IsBehind l.seeds (first_seeds l.plan.nodes node l.place) l.left
+invariant-loop-place l = (node : Node) → slice_get l.plan.nodes l.d ≡ Some node
+    → IsBehind l.seeds (first_seeds l.plan.nodes node l.place) l.left

@@ -7,17 +7,22 @@ use Rattle.sched_core.proofs.is_job.is_job.Goals as goal
 pub returns-then-not-same_kind : goal.returns-then-not-same_kind
 returns-then-not-same_kind c = (
   λ told. absurd (false≢true told),
-  λ is. absurd (false≢true (sym c.if-not-same_kind.true ∙ c.same_kind.ensures.1 (kind_of_job c.args.plan.now c.args.d c.args.job.now _ c.kind.ensures is))),
+  λ is. absurd (false≢true (sym c.if-not-same_kind.true
+      ∙ c.same_kind.ensures.1
+      (kind_of_job c.args.plan.now c.args.d c.args.job.now _ c.kind.ensures is))),
 )
 
 pub returns-then-not-has_recipe : goal.returns-then-not-has_recipe
 returns-then-not-has_recipe c = (
   λ told. absurd (false≢true told),
-  λ is. absurd (false≢true (sym c.if-not-has_recipe.true ∙ c.has_recipe.ensures.1 (recipe_of c.args.plan.now c.args.d c.args.job.now _ c.drv-drv.ensures is))),
+  λ is. absurd (false≢true (sym c.if-not-has_recipe.true
+      ∙ c.has_recipe.ensures.1
+      (recipe_of c.args.plan.now c.args.d c.args.job.now _ c.drv-drv.ensures is))),
 )
 
 pub makes-requires : goal.makes-requires
-makes-requires c = as_many_paths c.args.plan.now _ _ _ _ c.requires c.drv-drv.ensures c.outputs.ensures c.output_paths.ensures
+makes-requires c = as_many_paths c.args.plan.now _ _ _ _ c.requires c.drv-drv.ensures
+    c.outputs.ensures c.output_paths.ensures
 
 pub returns-then-not-makes : goal.returns-then-not-makes
 returns-then-not-makes c = (
@@ -27,12 +32,17 @@ returns-then-not-makes c = (
       (false≢true
       (sym c.if-not-makes.true
       ∙ c.makes.ensures.1
-      (rw c.deref.ensures.value (makes_of c.args.plan.now c.args.d c.args.job.now _ _ _ c.drv-drv.ensures c.outputs.ensures c.output_paths.ensures is)))),
+      (rw c.deref.ensures.value
+      (makes_of c.args.plan.now c.args.d c.args.job.now _ _ _ c.drv-drv.ensures
+      c.outputs.ensures c.output_paths.ensures is)))),
 )
 
 pub returns : goal.returns
 returns c =
-    job_by_parts c.args.plan.now c.args.d c.args.job.now _ _ _ _ c.has_seeds.result c.requires c.drv-drv.ensures c.if-job-d.false c.kind.ensures
-    (c.same_kind.ensures.0 c.if-not-same_kind.false) (c.has_recipe.ensures.0 c.if-not-has_recipe.false) c.outputs.ensures c.output_paths.ensures
-    (subst (MakesAt c.outputs.result.now c.output_paths.result.now) c.deref.ensures.value (c.makes.ensures.0 c.if-not-makes.false))
+    job_by_parts c.args.plan.now c.args.d c.args.job.now _ _ _ _ c.has_seeds.result c.requires
+    c.drv-drv.ensures c.if-job-d.false c.kind.ensures
+    (c.same_kind.ensures.0 c.if-not-same_kind.false)
+    (c.has_recipe.ensures.0 c.if-not-has_recipe.false) c.outputs.ensures c.output_paths.ensures
+    (subst (MakesAt c.outputs.result.now c.output_paths.result.now) c.deref.ensures.value
+    (c.makes.ensures.0 c.if-not-makes.false))
     (rw (← c.deref-2.ensures.value) c.has_seeds.ensures)

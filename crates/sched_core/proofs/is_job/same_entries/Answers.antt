@@ -12,6 +12,8 @@ returns-then-not-same_entry c = (
       (false≢true
       (sym c.if-not-same_entry.true
       ∙ c.same_entry.ensures.1
-      (same_there entry_of entry_of c.args.left.now c.args.right.now c.loop-n.n c.index-left-n.result c.index-right-n.result (omega (arith, c.loop-n-test.true))
-      (omega (arith, c.loop-n-test.true, c.loop-n.invariant.0)) c.index-left-n.is c.index-right-n.is same))),
+      (same_there entry_of entry_of c.args.left.now c.args.right.now c.loop-n.n
+      c.index-left-n.result c.index-right-n.result (omega (arith, c.loop-n-test.true))
+      (omega (arith, c.loop-n-test.true, c.loop-n.invariant.0)) c.index-left-n.is c.index-right-n.is
+      same))),
 )

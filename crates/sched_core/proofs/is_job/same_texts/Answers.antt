@@ -6,5 +6,7 @@ use Rattle.sched_core.proofs.is_job.same_texts.Goals as goal
 
 pub returns : goal.returns
 returns c =
-    let same = c.eq.ensures ∙ sym (pointwise-map bytes_of (pointwise nat_eq) c.args.left.now c.args.right.now) in
-    rw same (pointwise_decides bytes_decides (map bytes_of c.args.left.now) (map bytes_of c.args.right.now))
+    let same = c.eq.ensures
+    ∙ sym (pointwise-map bytes_of (pointwise nat_eq) c.args.left.now c.args.right.now) in
+    rw same (pointwise_decides bytes_decides (map bytes_of c.args.left.now)
+    (map bytes_of c.args.right.now))

@@ -7,13 +7,18 @@ pub loop-n-preserved : goal.loop-n-preserved
 loop-n-preserved c =
     let low : c.loop-n.n < length c.args.paths.now = c.loop-n-test.true in
     rw c.in_ok-push.ensures.items
-    (made_more c.args.outputs.now c.args.paths.now c.loop-n.made.items c.loop-n.n c.index-outputs-n.result c.index-paths-n.result _ low c.requires
-    c.index-outputs-n.is c.index-paths-n.is (c.in_ok-name.ensures.items ∙ c.deref.ensures.value ∙ ap (λ (o : Output). o.name.items) (sym c.index-outputs-n.is)) c.in_ok-path.ensures c.loop-n.invariant)
+    (made_more c.args.outputs.now c.args.paths.now c.loop-n.made.items c.loop-n.n
+    c.index-outputs-n.result c.index-paths-n.result _ low c.requires
+    c.index-outputs-n.is c.index-paths-n.is (c.in_ok-name.ensures.items ∙ c.deref.ensures.value
+    ∙ ap (λ (o : Output). o.name.items) (sym c.index-outputs-n.is)) c.in_ok-path.ensures
+    c.loop-n.invariant)
 
 pub returns-clause-names : goal.returns-clause-names
 returns-clause-names c =
-    (made_all c.args.outputs.now c.args.paths.now c.loop-n.made.items c.loop-n.n c.loop-n-test.false c.requires c.loop-n.invariant).0
+    (made_all c.args.outputs.now c.args.paths.now c.loop-n.made.items c.loop-n.n c.loop-n-test.false
+    c.requires c.loop-n.invariant).0
 
 pub returns-clause-paths : goal.returns-clause-paths
 returns-clause-paths c =
-    (made_all c.args.outputs.now c.args.paths.now c.loop-n.made.items c.loop-n.n c.loop-n-test.false c.requires c.loop-n.invariant).1
+    (made_all c.args.outputs.now c.args.paths.now c.loop-n.made.items c.loop-n.n c.loop-n-test.false
+    c.requires c.loop-n.invariant).1

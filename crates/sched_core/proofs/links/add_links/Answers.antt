@@ -12,13 +12,21 @@ pub loop-reference-preserved : goal.loop-reference-preserved
 loop-reference-preserved c =
     let keys = c.args.paths.now.keys in
     let references = take c.loop-reference.reference-index c.args.references.now in
-    rw (taken_more c.args.references.now c.loop-reference.reference-index c.reference-item.result c.loop-reference-test.true c.reference-item.is)
+    rw (taken_more c.args.references.now c.loop-reference.reference-index c.reference-item.result
+    c.loop-reference-test.true c.reference-item.is)
     (elim c.match-place_of.branch [
       | in-Some+in_ok-push w ↦
           rw w.own-is
-          (adds_place keys references c.reference-item.result c.args.own.now.items c.loop-reference.own.items _ w.in-Some.to c.requires c.loop-reference.invariant w.in-Some.ensures w.in_ok-push.ensures.items)
-      | in_default w ↦ rw w.own-is (adds_no_place keys references c.reference-item.result c.args.own.now.items c.loop-reference.own.items c.loop-reference.invariant w.in_default.ensures)
+          (adds_place keys references c.reference-item.result c.args.own.now.items
+          c.loop-reference.own.items _ w.in-Some.to c.requires c.loop-reference.invariant
+          w.in-Some.ensures w.in_ok-push.ensures.items)
+      | in_default w ↦ rw w.own-is
+          (adds_no_place keys references c.reference-item.result c.args.own.now.items
+          c.loop-reference.own.items c.loop-reference.invariant w.in_default.ensures)
     ])
 
 pub returns : goal.returns
-returns c = subst (λ refs. AddsLinks c.args.paths.now.keys refs c.args.own.now.items c.loop-reference.own.items) (take_all c.loop-reference.reference-index c.args.references.now c.loop-reference-test.false) c.loop-reference.invariant
+returns c = subst (λ refs. AddsLinks c.args.paths.now.keys refs c.args.own.now.items
+    c.loop-reference.own.items)
+    (take_all c.loop-reference.reference-index c.args.references.now c.loop-reference-test.false)
+    c.loop-reference.invariant

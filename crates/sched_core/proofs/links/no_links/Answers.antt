@@ -4,6 +4,9 @@ use Rattle.sched_core.proofs.links.no_links.Goals as goal
 
 pub loop-preserved : goal.loop-preserved
 loop-preserved c = record {
-  count = ap length c.in_ok-push.ensures.items ∙ length-append c.loop.links.items (c.new.result ∷ []) ∙ ap (λ n. n + 1) c.loop.invariant.count;
-  none = no_links_more c.loop.links.items c.push.new.self.items c.new.result c.loop.invariant.none c.new.ensures.items c.in_ok-push.ensures.items;
+  count = ap length c.in_ok-push.ensures.items
+      ∙ length-append c.loop.links.items (c.new.result ∷ [])
+      ∙ ap (λ n. n + 1) c.loop.invariant.count;
+  none = no_links_more c.loop.links.items c.push.new.self.items c.new.result c.loop.invariant.none
+      c.new.ensures.items c.in_ok-push.ensures.items;
 }

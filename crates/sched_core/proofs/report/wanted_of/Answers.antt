@@ -16,15 +16,29 @@ pub loop-number-preserved : goal.loop-number-preserved
 loop-number-preserved c =
     elim c.if-is_wanted.branch [
       | then-is_wanted+in_ok-push w ↦
-          listed_new c.args.course.now c.loop-number.number c.loop-number.wanted.items c.if-is_wanted.wanted.items _
-          (subst (λ (g : Graph). AreDistinct (paths_of g.nodes)) c.plan-plan.ensures c.len-number-end.ensures.sound.distinct) refl
-          (subst (λ (g : Graph). slice_get (paths_of g.nodes) c.loop-number.number ≡ Some w.path-path.result.now) c.plan-plan.ensures w.path-path.ensures)
-          (sym c.is_wanted.ensures ∙ w.if-is_wanted.true) (ap (λ (v : Vec Wanted). v.items) w.wanted-is ∙ w.in_ok-push.ensures.items) c.loop-number.invariant
+          listed_new c.args.course.now c.loop-number.number c.loop-number.wanted.items
+          c.if-is_wanted.wanted.items _
+          (subst (λ (g : Graph). AreDistinct (paths_of g.nodes)) c.plan-plan.ensures
+          c.len-number-end.ensures.sound.distinct) refl
+          (subst (λ (g : Graph). slice_get (paths_of g.nodes) c.loop-number.number
+          ≡ Some w.path-path.result.now) c.plan-plan.ensures w.path-path.ensures)
+          (sym c.is_wanted.ensures ∙ w.if-is_wanted.true)
+          (ap (λ (v : Vec Wanted). v.items) w.wanted-is ∙ w.in_ok-push.ensures.items)
+          c.loop-number.invariant
       | else-is_wanted w ↦
-          rw w.wanted-is (listed_skip c.args.course.now c.loop-number.number c.loop-number.wanted.items (sym c.is_wanted.ensures ∙ w.if-is_wanted.false) c.loop-number.invariant)
+          rw w.wanted-is
+          (listed_skip c.args.course.now c.loop-number.number c.loop-number.wanted.items
+          (sym c.is_wanted.ensures ∙ w.if-is_wanted.false) c.loop-number.invariant)
     ]
 
 pub returns : goal.returns
 returns c =
     listed_all c.args.course.now c.loop-number.number c.loop-number.wanted.items
-    (omega (arith, c.loop-number-test.false, c.loop-number.auto.number-end, c.len-number-end.ensures.value, ap (λ (g : Graph). length g.nodes) c.plan-plan.ensures)) c.loop-number.invariant
+    (omega (
+      arith,
+      c.loop-number-test.false,
+      c.loop-number.auto.number-end,
+      c.len-number-end.ensures.value,
+      ap (λ (g : Graph). length g.nodes) c.plan-plan.ensures,
+    ))
+    c.loop-number.invariant

@@ -6,4 +6,5 @@ use Rattle.sched_core.proofs.report.wanted_of.Given as goal
 -- the wanted ones of the derivations so far are listed
 abbrev pub invariant-loop-number : goal.invariant-loop-number
 invariant-loop-number l =
-    AreListed l.course.graph.nodes (λ d. (d < l.number) × (slice_index_or l.course.wanted d false ≡ true)) l.wanted.items
+    AreListed l.course.graph.nodes (λ d. (d < l.number)
+    × (slice_index_or l.course.wanted d false ≡ true)) l.wanted.items

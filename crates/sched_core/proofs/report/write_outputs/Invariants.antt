@@ -6,4 +6,5 @@ use Rattle.sched_core.proofs.report.write_outputs.Given as goal
 -- what is written, and the lines of the outputs that are left
 abbrev pub invariant-paths : goal.invariant-paths
 invariant-paths l =
-    l.out.items ++ flat_map (path_line (codes "output ")) (drop l.path-index l.paths) ≡ l.initial.out.items ++ flat_map (path_line (codes "output ")) l.paths
+    l.out.items ++ flat_map (path_line (codes "output ")) (drop l.path-index l.paths)
+    ≡ l.initial.out.items ++ flat_map (path_line (codes "output ")) l.paths

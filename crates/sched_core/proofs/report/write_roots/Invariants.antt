@@ -8,4 +8,5 @@ use Rattle.sched_core.proofs.report.write_roots.Given as goal
 abbrev pub invariant-roots : goal.invariant-roots
 invariant-roots l =
     let lines : ℕ → List ℕ = outputs_at l.course.graph.nodes (course_state l.course) in
-    l.out.items ++ flat_map lines (drop l.root-index l.course.graph.roots) ≡ l.initial.out.items ++ flat_map lines l.course.graph.roots
+    l.out.items ++ flat_map lines (drop l.root-index l.course.graph.roots) ≡ l.initial.out.items
+    ++ flat_map lines l.course.graph.roots

@@ -10,15 +10,22 @@ loop-n-init c = adds_none c.args.drv.now.inputs c.args.place c.args.used.now c.a
 
 pub loop-n-preserved : goal.loop-n-preserved
 loop-n-preserved c =
-    output_seen c.args.drv.now.inputs c.args.place c.args.used.now c.args.seeds.now.items c.loop-n.seeds.items _ c.args.paths.now c.outputs-outputs.result.now c.loop-n.n
-    c.index-outputs-n.result c.deref.result.now c.uses.result c.outputs-outputs.ensures c.requires.paths c.loop-n-test.true c.index-outputs-n.is (c.deref.ensures.value ∙ ap (λ (o : Output). o.name.items) (sym c.index-outputs-n.is)) c.uses.ensures
+    output_seen c.args.drv.now.inputs c.args.place c.args.used.now c.args.seeds.now.items
+    c.loop-n.seeds.items _ c.args.paths.now c.outputs-outputs.result.now c.loop-n.n
+    c.index-outputs-n.result c.deref.result.now c.uses.result c.outputs-outputs.ensures
+    c.requires.paths c.loop-n-test.true c.index-outputs-n.is
+    (c.deref.ensures.value ∙ ap (λ (o : Output). o.name.items) (sym c.index-outputs-n.is))
+    c.uses.ensures
     (elim c.if-uses.branch [
       | then-uses+in_ok-path+in_ok-push w ↦
           inl (
             w.if-uses.true,
             ap (λ v. v.items) w.seeds-is ∙ w.in_ok-push.ensures.items
                 ∙ ap (λ p. c.loop-n.seeds.items ++ p ∷ [])
-                (w.in_ok-path.ensures ∙ sym (get_or_from_slice_get c.args.paths.now c.loop-n.n w.index-paths-n.result [] (read_at c.args.paths.now c.loop-n.n w.index-paths-n.result c.loop-n-test.true w.index-paths-n.is))),
+                (w.in_ok-path.ensures
+                ∙ sym (get_or_from_slice_get c.args.paths.now c.loop-n.n w.index-paths-n.result
+                [] (read_at c.args.paths.now c.loop-n.n w.index-paths-n.result
+                c.loop-n-test.true w.index-paths-n.is))),
           )
       | else-uses w ↦ inr (w.if-uses.false, ap (λ v. v.items) w.seeds-is)
     ])
@@ -26,5 +33,11 @@ loop-n-preserved c =
 
 pub returns : goal.returns
 returns c =
-    adds_all c.args.drv.now.inputs c.args.place c.args.used.now c.args.seeds.now.items c.loop-n.seeds.items c.loop-n.n
-    (omega (arith, c.loop-n-test.false, paths_count_is c.args.used.now c.args.paths.now c.requires.paths)) c.loop-n.invariant
+    adds_all c.args.drv.now.inputs c.args.place c.args.used.now c.args.seeds.now.items
+    c.loop-n.seeds.items c.loop-n.n
+    (omega (
+      arith,
+      c.loop-n-test.false,
+      paths_count_is c.args.used.now c.args.paths.now
+          c.requires.paths,
+    )) c.loop-n.invariant

@@ -8,12 +8,22 @@ use Rattle.sched_core.proofs.standings.own_cause.Goals as goal
 pub returns-in_err-source : goal.returns-in_err-source
 returns-in_err-source c =
     rw c.from_residual.ensures
-    (subst (λ found. IfSome (slice_get c.args.plan.now.nodes c.args.d) (λ node. cause_at MissingSource found ≡ own_cause c.args.system.now c.args.journal.now.entries node.drv)) c.in_err-source.was
-    (last_cause c.args.system.now c.args.journal.now.entries c.args.plan.now.nodes c.args.d c.drv-drv.result.now c.output_paths.result.now c.sources.result.now c.first_missing.result
-    c.drv-drv.ensures c.output_paths.ensures c.sources.ensures (search rules) (sym c.is_unsupported.ensures ∙ c.if-is_unsupported.false) (search rules) c.first_missing.ensures))
+    (subst (λ found. IfSome (slice_get c.args.plan.now.nodes c.args.d)
+    (λ node. cause_at MissingSource found
+    ≡ own_cause c.args.system.now c.args.journal.now.entries node.drv)) c.in_err-source.was
+    (last_cause c.args.system.now c.args.journal.now.entries c.args.plan.now.nodes c.args.d
+    c.drv-drv.result.now c.output_paths.result.now c.sources.result.now c.first_missing.result
+    c.drv-drv.ensures c.output_paths.ensures c.sources.ensures (search rules)
+    (sym c.is_unsupported.ensures ∙ c.if-is_unsupported.false) (search rules)
+    c.first_missing.ensures))
 
 pub returns : goal.returns
 returns c =
-    subst (λ found. IfSome (slice_get c.args.plan.now.nodes c.args.d) (λ node. cause_at MissingSource found ≡ own_cause c.args.system.now c.args.journal.now.entries node.drv)) c.in_ok-source.was
-    (last_cause c.args.system.now c.args.journal.now.entries c.args.plan.now.nodes c.args.d c.drv-drv.result.now c.output_paths.result.now c.sources.result.now c.first_missing.result
-    c.drv-drv.ensures c.output_paths.ensures c.sources.ensures (search rules) (sym c.is_unsupported.ensures ∙ c.if-is_unsupported.false) (search rules) c.first_missing.ensures)
+    subst (λ found. IfSome (slice_get c.args.plan.now.nodes c.args.d)
+    (λ node. cause_at MissingSource found
+    ≡ own_cause c.args.system.now c.args.journal.now.entries node.drv)) c.in_ok-source.was
+    (last_cause c.args.system.now c.args.journal.now.entries c.args.plan.now.nodes c.args.d
+    c.drv-drv.result.now c.output_paths.result.now c.sources.result.now c.first_missing.result
+    c.drv-drv.ensures c.output_paths.ensures c.sources.ensures (search rules)
+    (sym c.is_unsupported.ensures ∙ c.if-is_unsupported.false) (search rules)
+    c.first_missing.ensures)

@@ -4,4 +4,5 @@ use Rattle.sched_core.specs.declared.job.JobOutput.{JobOutput}
 use Rattle.sched_core.proofs.verdict.paths_of.Given as goal
 
 abbrev pub invariant-loop-output : goal.invariant-loop-output
-invariant-loop-output l = l.paths.items ≡ map (λ (o : JobOutput). o.path) (take l.output-index l.outputs)
+invariant-loop-output l = l.paths.items ≡ map (λ (o : JobOutput). o.path)
+    (take l.output-index l.outputs)

@@ -1,4 +1,5 @@
--- The walk stands at its trail's last, and the start was met; each step passes a link, or enters or leaves a number.
+-- The walk stands at its trail's last, and the start was met; each step passes a link, or enters or
+-- leaves a number.
 use Rattle.std.proofs.Common.{◌+◌, length}
 use Rattle.std.specs.List.{sum_by}
 use Rattle.sched_core.specs.Walking.{IsMet, IsWalk, KeepsMet, weight}

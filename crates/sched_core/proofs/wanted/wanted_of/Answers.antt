@@ -11,41 +11,73 @@ loop-d-init c =
     let before = c.in_ok-wanted.wanted.items in
     let lent : c.deref_mut.result.now ≡ before = c.deref_mut.ensures.value in
     let none : before ≡ replicate (length c.args.plan.now.nodes) false =
-    c.in_ok-wanted.ensures.items_if_clones_equal (λ y is. is) ∙ ap (λ n. replicate n false) c.len.ensures.value in
-    let size : c.in_ok-wanted.wanted.len ≡ length c.mark.new.wanted = c.in_ok-wanted.wanted.ok.0 ∙ sym (c.mark.ensures.count ∙ ap length lent) in
+    c.in_ok-wanted.ensures.items_if_clones_equal (λ y is. is)
+    ∙ ap (λ n. replicate n false) c.len.ensures.value in
+    let size : c.in_ok-wanted.wanted.len ≡ length c.mark.new.wanted = c.in_ok-wanted.wanted.ok.0
+    ∙ sym (c.mark.ensures.count ∙ ap length lent) in
     let marks : Marks before c.mark.new.wanted c.args.plan.now.roots =
-    subst (Marks before c.mark.new.wanted) c.roots.ensures (subst (λ l. Marks l c.mark.new.wanted c.roots.result.now) lent (record { count = c.mark.ensures.count; each = c.mark.ensures.each })) in
-    subst (λ l. AreMarked c.args.plan.now c.args.standings.now l c.len-d.result) (sym (written c.mark.new.wanted _ c.in_ok-wanted.wanted.len size))
-    (roots_marked c.args.plan.now c.args.standings.now before c.mark.new.wanted c.len-d.result c.len-d.ensures.value (none ∙ ap (λ n. replicate n false) (sym c.len-d.ensures.value)) marks)
+    subst (Marks before c.mark.new.wanted) c.roots.ensures
+    (subst (λ l. Marks l c.mark.new.wanted c.roots.result.now) lent
+    (record { count = c.mark.ensures.count; each = c.mark.ensures.each })) in
+    subst (λ l. AreMarked c.args.plan.now c.args.standings.now l c.len-d.result)
+    (sym (written c.mark.new.wanted _ c.in_ok-wanted.wanted.len size))
+    (roots_marked c.args.plan.now c.args.standings.now before c.mark.new.wanted c.len-d.result
+    c.len-d.ensures.value (none ∙ ap (λ n. replicate n false) (sym c.len-d.ensures.value))
+    marks)
 
 pub loop-d-preserved-then-is_free : goal.loop-d-preserved-then-is_free
 loop-d-preserved-then-is_free c =
     let d = c.loop-d.d - 1 in
     let before = c.loop-d.wanted.items in
-    let low : d < length c.args.plan.now.nodes = omega (arith, c.loop-d-test.true, c.loop-d.auto.d, c.len-d.ensures.value) in
+    let low : d < length c.args.plan.now.nodes =
+    omega (arith, c.loop-d-test.true, c.loop-d.auto.d, c.len-d.ensures.value) in
     let next : c.loop-d.d ≡ d + 1 = omega (arith, c.loop-d-test.true) in
-    let lent : c.deref_mut-then-is_free.result.now ≡ before = c.deref_mut-then-is_free.ensures.value in
-    let size : c.loop-d.wanted.len ≡ length c.mark-then-is_free.new.wanted = c.loop-d.wanted.ok.0 ∙ sym (c.mark-then-is_free.ensures.count ∙ ap length lent) in
+    let lent : c.deref_mut-then-is_free.result.now ≡ before = c.deref_mut-then-is_free.ensures.value
+    in
+    let size : c.loop-d.wanted.len ≡ length c.mark-then-is_free.new.wanted = c.loop-d.wanted.ok.0
+    ∙ sym (c.mark-then-is_free.ensures.count ∙ ap length lent) in
     let marks : Marks before c.mark-then-is_free.new.wanted c.inputs.result.now =
-    subst (λ l. Marks l c.mark-then-is_free.new.wanted c.inputs.result.now) lent (record { count = c.mark-then-is_free.ensures.count; each = c.mark-then-is_free.ensures.each }) in
-    let marked : IsMarked before d = read_is before d c.index.result.now false (omega (arith, low, c.loop-d.invariant.count)) c.index.ensures ∙ c.if-index.true in
-    let stands : slice_index_or c.args.standings.now d Free ≡ Free = any_default c.args.standings.now d Free _ (omega (arith, low, c.requires)) ∙ c.is_free.ensures.0 c.if-is_free.true in
-    subst (λ l. AreMarked c.args.plan.now c.args.standings.now l d) (sym (written c.mark-then-is_free.new.wanted _ c.loop-d.wanted.len size))
-    (inputs_marked c.args.plan.now c.args.standings.now before c.mark-then-is_free.new.wanted c.inputs.result.now c.loop-d.d d c.len-d.ensures.sound low next c.inputs.ensures.numbers marked stands marks c.loop-d.invariant)
+    subst (λ l. Marks l c.mark-then-is_free.new.wanted c.inputs.result.now) lent
+    (record {
+      count = c.mark-then-is_free.ensures.count;
+      each = c.mark-then-is_free.ensures.each;
+    }) in
+    let marked : IsMarked before d = read_is before d c.index.result.now false
+    (omega (arith, low, c.loop-d.invariant.count)) c.index.ensures ∙ c.if-index.true in
+    let stands : slice_index_or c.args.standings.now d Free
+    ≡ Free = any_default c.args.standings.now d Free _ (omega (arith, low, c.requires))
+    ∙ c.is_free.ensures.0 c.if-is_free.true in
+    subst (λ l. AreMarked c.args.plan.now c.args.standings.now l d)
+    (sym (written c.mark-then-is_free.new.wanted _ c.loop-d.wanted.len size))
+    (inputs_marked c.args.plan.now c.args.standings.now before c.mark-then-is_free.new.wanted
+    c.inputs.result.now c.loop-d.d d c.len-d.ensures.sound low next c.inputs.ensures.numbers
+    marked stands marks c.loop-d.invariant)
 
 pub loop-d-preserved : goal.loop-d-preserved
 loop-d-preserved c = elim c.else-index.branch [
   | else-index-via-then-index+else-is_free w ↦
-      passed_over c.args.plan.now c.args.standings.now c.loop-d.wanted.items c.loop-d.d (c.loop-d.d - 1) (omega (arith, c.loop-d-test.true))
+      passed_over c.args.plan.now c.args.standings.now c.loop-d.wanted.items c.loop-d.d
+      (c.loop-d.d - 1) (omega (arith, c.loop-d-test.true))
       (λ marked stands.
-      let low : c.loop-d.d - 1 < length c.args.standings.now = omega (arith, c.loop-d-test.true, c.loop-d.auto.d, c.len-d.ensures.value, c.requires) in
-      false≢true (sym w.if-is_free.false ∙ w.is_free.ensures.1 (any_default c.args.standings.now (c.loop-d.d - 1) _ Free low ∙ stands)))
+      let low : c.loop-d.d - 1 < length c.args.standings.now =
+      omega (arith, c.loop-d-test.true, c.loop-d.auto.d, c.len-d.ensures.value, c.requires) in
+      false≢true (sym w.if-is_free.false ∙ w.is_free.ensures.1
+      (any_default c.args.standings.now (c.loop-d.d - 1) _ Free low ∙ stands)))
       c.loop-d.invariant
   | else-index-via-else-index w ↦
-      passed_over c.args.plan.now c.args.standings.now c.loop-d.wanted.items c.loop-d.d (c.loop-d.d - 1) (omega (arith, c.loop-d-test.true))
+      passed_over c.args.plan.now c.args.standings.now c.loop-d.wanted.items c.loop-d.d
+      (c.loop-d.d - 1) (omega (arith, c.loop-d-test.true))
       (λ marked stands.
-      let low : c.loop-d.d - 1 < length c.loop-d.wanted.items = omega (arith, c.loop-d-test.true, c.loop-d.auto.d, c.len-d.ensures.value, c.loop-d.invariant.count) in
-      let told = read_is c.loop-d.wanted.items (c.loop-d.d - 1) c.index.result.now false low c.index.ensures in
+      let low : c.loop-d.d - 1 < length c.loop-d.wanted.items =
+      omega (
+        arith,
+        c.loop-d-test.true,
+        c.loop-d.auto.d,
+        c.len-d.ensures.value,
+        c.loop-d.invariant.count,
+      ) in
+      let told = read_is c.loop-d.wanted.items (c.loop-d.d - 1) c.index.result.now false low
+      c.index.ensures in
       false≢true (sym (told ∙ w.if-index.false) ∙ marked))
       c.loop-d.invariant
 ]
@@ -53,4 +85,5 @@ loop-d-preserved c = elim c.else-index.branch [
 pub returns-clause-ok : goal.returns-clause-ok
 returns-clause-ok c =
     wanted_are c.args.plan.now c.args.standings.now c.loop-d.wanted.items
-    (subst (AreMarked c.args.plan.now c.args.standings.now c.loop-d.wanted.items) (omega (arith, c.loop-d-test.false)) c.loop-d.invariant)
+    (subst (AreMarked c.args.plan.now c.args.standings.now c.loop-d.wanted.items)
+    (omega (arith, c.loop-d-test.false)) c.loop-d.invariant)

@@ -9,11 +9,21 @@ use Rattle.sched_core.proofs.words.write_failed_input.Goals as goal
 pub returns-then-input-len : goal.returns-then-input-len
 returns-then-input-len c =
     added_same c.write_with_value.result _ _ _ _
-    (ap (with_value (codes "InputNotRealised")) c.text.ensures.value ∙ with_found (codes "InputNotRealised") (paths_of c.args.plan.now.nodes) c.args.input _ c.path.ensures)
+    (ap (with_value (codes "InputNotRealised")) c.text.ensures.value
+    ∙ with_found (codes "InputNotRealised") (paths_of c.args.plan.now.nodes) c.args.input _
+    c.path.ensures)
     c.write_with_value.ensures
 
 pub returns-else-input-len : goal.returns-else-input-len
 returns-else-input-len c =
     let nodes = c.args.plan.now.nodes in
-    let none = slice_get_past (paths_of nodes) c.args.input (omega (arith, c.if-input-len.false, c.len.ensures.value, length-map nodes (λ (n : Node). n.path))) in
-    added_same c.write_with_number.result _ _ _ _ (with_none (codes "InputNotRealised") (paths_of nodes) c.args.input none) c.write_with_number.ensures
+    let none = slice_get_past (paths_of nodes) c.args.input
+    (omega (
+      arith,
+      c.if-input-len.false,
+      c.len.ensures.value,
+      length-map nodes (λ (n : Node). n.path),
+    )) in
+    added_same c.write_with_number.result _ _ _ _
+    (with_none (codes "InputNotRealised") (paths_of nodes) c.args.input none)
+    c.write_with_number.ensures

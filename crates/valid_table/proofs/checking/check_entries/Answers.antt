@@ -20,18 +20,25 @@ loop-entry-init c = record {
 
 pub check_entry-requires : goal.check_entry-requires
 check_entry-requires c =
-    let fits = lines_fit c.args.entries.now c.loop-entry.entry-index c.entry-item.result c.loop-entry-test.true c.entry-item.is in
-    record { few = omega (arith, c.requires.few, c.loop-entry.invariant.number); once = c.loop-entry.invariant.once }
+    let fits = lines_fit c.args.entries.now c.loop-entry.entry-index c.entry-item.result
+    c.loop-entry-test.true c.entry-item.is in
+    record {
+      few = omega (arith, c.requires.few, c.loop-entry.invariant.number);
+      once = c.loop-entry.invariant.once;
+    }
 
 pub returns-in_err-line-clause-err : goal.returns-in_err-line-clause-err
 returns-in_err-line-clause-err c =
     let entries = c.args.entries.now in
     let i = c.loop-entry.entry-index in
     let entry = c.entry-item.result in
-    let check = check_behind (take i entries) entry (registrations_of c.loop-entry.rows.entries) c.loop-entry.line (Err c.in_err-line.field-0.0) c.loop-entry.invariant.rows c.in_err-line.ensures.checked in
+    let check = check_behind (take i entries) entry (registrations_of c.loop-entry.rows.entries)
+    c.loop-entry.line (Err c.in_err-line.field-0.0) c.loop-entry.invariant.rows
+    c.in_err-line.ensures.checked in
     let p = err_from_is_err_and c.from_residual.result c.from_residual.ensures.1 in
     rw (p.1, p.2)
-    (first_fault entries i entry c.loop-entry.line c.in_err-line.field-0.0 c.loop-entry-test.true c.entry-item.is c.loop-entry.invariant.right c.loop-entry.invariant.number check)
+    (first_fault entries i entry c.loop-entry.line c.in_err-line.field-0.0 c.loop-entry-test.true
+    c.entry-item.is c.loop-entry.invariant.right c.loop-entry.invariant.number check)
 
 pub loop-entry-preserved : goal.loop-entry-preserved
 loop-entry-preserved c =
@@ -40,11 +47,19 @@ loop-entry-preserved c =
     let entry = c.entry-item.result in
     let lt = c.loop-entry-test.true in
     let is = c.entry-item.is in
-    let check = check_behind (take i entries) entry (registrations_of c.loop-entry.rows.entries) c.loop-entry.line (Ok c.in_ok-line.line) c.loop-entry.invariant.rows c.in_ok-line.ensures.checked in
+    let check = check_behind (take i entries) entry (registrations_of c.loop-entry.rows.entries)
+    c.loop-entry.line (Ok c.in_ok-line.line) c.loop-entry.invariant.rows
+    c.in_ok-line.ensures.checked in
     record {
       right = right_more entries i entry lt is c.loop-entry.invariant.right check.0;
-      rows = known_more entries i entry (registrations_of c.loop-entry.rows.entries) _ lt is c.loop-entry.invariant.rows c.in_ok-line.ensures.added;
-      number = omega (arith, lines_more entries i entry lt is, c.loop-entry.invariant.number, check.1);
+      rows = known_more entries i entry (registrations_of c.loop-entry.rows.entries) _ lt is
+          c.loop-entry.invariant.rows c.in_ok-line.ensures.added;
+      number = omega (
+        arith,
+        lines_more entries i entry lt is,
+        c.loop-entry.invariant.number,
+        check.1,
+      );
       once = c.in_ok-line.ensures.unique;
     }
 
@@ -55,16 +70,25 @@ pub of_rows-requires-clause-closed : goal.of_rows-requires-clause-closed
 of_rows-requires-clause-closed c =
     let entries = c.args.entries.now in
     let all : registrations_of c.loop-entry.rows.entries ≡ registered entries =
-    c.loop-entry.invariant.rows ∙ ap registered (take_all c.loop-entry.entry-index entries c.loop-entry-test.false) in
-    rw all (closed_references_valid entries (closed_behind entries c.loop-entry.entry-index c.loop-entry-test.false c.loop-entry.invariant.right))
+    c.loop-entry.invariant.rows ∙ ap registered
+    (take_all c.loop-entry.entry-index entries c.loop-entry-test.false) in
+    rw all (closed_references_valid entries
+    (closed_behind entries c.loop-entry.entry-index c.loop-entry-test.false
+    c.loop-entry.invariant.right))
 
 pub returns-clause-closed : goal.returns-clause-closed
-returns-clause-closed c = closed_behind c.args.entries.now c.loop-entry.entry-index c.loop-entry-test.false c.loop-entry.invariant.right
+returns-clause-closed c = closed_behind c.args.entries.now c.loop-entry.entry-index
+    c.loop-entry-test.false c.loop-entry.invariant.right
 
 pub returns-clause-once : goal.returns-clause-once
 returns-clause-once c =
-    subst IsOnce (c.loop-entry.invariant.rows ∙ ap registered (take_all c.loop-entry.entry-index c.args.entries.now c.loop-entry-test.false)) c.loop-entry.invariant.once
+    subst IsOnce (c.loop-entry.invariant.rows
+    ∙ ap registered
+    (take_all c.loop-entry.entry-index c.args.entries.now c.loop-entry-test.false))
+    c.loop-entry.invariant.once
 
 pub returns-clause-table : goal.returns-clause-table
 returns-clause-table c =
-    c.of_rows.ensures ∙ c.loop-entry.invariant.rows ∙ ap registered (take_all c.loop-entry.entry-index c.args.entries.now c.loop-entry-test.false)
+    c.of_rows.ensures ∙ c.loop-entry.invariant.rows
+    ∙ ap registered
+    (take_all c.loop-entry.entry-index c.args.entries.now c.loop-entry-test.false)

@@ -7,38 +7,74 @@ use Rattle.valid_table.proofs.checking.check_lines.Goals as goal
 
 pub returns-then-place-new : goal.returns-then-place-new
 returns-then-place-new c =
-    twice_here (paths_of (registrations_of c.args.rows.now.entries ++ c.args.registrations.now)) c.args.registrations.now c.args.new c.args.line c.loop-place.place c.loop-place.line c.if-place-new.true c.loop-place-test.true c.loop-place.invariant.closed c.loop-place.invariant.number
+    twice_here (paths_of (registrations_of c.args.rows.now.entries ++ c.args.registrations.now))
+    c.args.registrations.now c.args.new c.args.line c.loop-place.place c.loop-place.line
+    c.if-place-new.true c.loop-place-test.true c.loop-place.invariant.closed
+    c.loop-place.invariant.number
 
 pub overflow_add-result : goal.overflow_add-result
 overflow_add-result c =
-    let fits = line_count_fits c.args.registrations.now c.loop-place.place c.index-registrations-place.result c.loop-place-test.true c.index-registrations-place.is in
+    let fits = line_count_fits c.args.registrations.now c.loop-place.place
+    c.index-registrations-place.result c.loop-place-test.true c.index-registrations-place.is in
     omega (arith, c.requires.few, c.loop-place.invariant.number)
 
 pub overflow_add-result-in-Some : goal.overflow_add-result-in-Some
 overflow_add-result-in-Some c =
-    let fits = line_count_fits c.args.registrations.now c.loop-place.place c.index-registrations-place.result c.loop-place-test.true c.index-registrations-place.is in
-    let within = unknown_within (paths_of (registrations_of c.args.rows.now.entries ++ c.args.registrations.now)) c.references-references.result.now c.in-Some.at c.in-Some.ensures in
-    omega (arith, c.requires.few, c.loop-place.invariant.number, ap length c.references-references.ensures.value)
+    let fits = line_count_fits c.args.registrations.now c.loop-place.place
+    c.index-registrations-place.result c.loop-place-test.true c.index-registrations-place.is in
+    let within = unknown_within
+    (paths_of (registrations_of c.args.rows.now.entries ++ c.args.registrations.now))
+    c.references-references.result.now c.in-Some.at c.in-Some.ensures in
+    omega (
+      arith,
+      c.requires.few,
+      c.loop-place.invariant.number,
+      ap length c.references-references.ensures.value,
+    )
 
 pub returns-in-Some : goal.returns-in-Some
 returns-in-Some c =
-    open_here (paths_of (registrations_of c.args.rows.now.entries ++ c.args.registrations.now)) c.args.registrations.now c.args.new c.args.line c.loop-place.place c.index-registrations-place.result c.references-references.result.now c.in-Some.at c.loop-place.line c.loop-place.invariant.new c.if-place-new.false c.loop-place-test.true c.index-registrations-place.is c.references-references.ensures.value c.loop-place.invariant.closed c.in-Some.ensures c.loop-place.invariant.number
+    open_here (paths_of (registrations_of c.args.rows.now.entries ++ c.args.registrations.now))
+    c.args.registrations.now c.args.new c.args.line c.loop-place.place
+    c.index-registrations-place.result c.references-references.result.now c.in-Some.at
+    c.loop-place.line c.loop-place.invariant.new c.if-place-new.false c.loop-place-test.true
+    c.index-registrations-place.is c.references-references.ensures.value
+    c.loop-place.invariant.closed c.in-Some.ensures c.loop-place.invariant.number
 
 pub overflow_add-line-in-loop-place : goal.overflow_add-line-in-loop-place
 overflow_add-line-in-loop-place c =
-    let fits = line_count_fits c.args.registrations.now c.loop-place.place c.index-registrations-place.result c.loop-place-test.true c.index-registrations-place.is in
-    omega (arith, c.requires.few, c.loop-place.invariant.number, ap length c.references-references.ensures.value)
+    let fits = line_count_fits c.args.registrations.now c.loop-place.place
+    c.index-registrations-place.result c.loop-place-test.true c.index-registrations-place.is in
+    omega (
+      arith,
+      c.requires.few,
+      c.loop-place.invariant.number,
+      ap length c.references-references.ensures.value,
+    )
 
 pub loop-place-preserved : goal.loop-place-preserved
 loop-place-preserved c =
     let rs = c.args.registrations.now in
-    let more = line_count_more rs c.loop-place.place c.index-registrations-place.result c.loop-place-test.true c.index-registrations-place.is in
+    let more = line_count_more rs c.loop-place.place c.index-registrations-place.result
+    c.loop-place-test.true c.index-registrations-place.is in
     record {
-      new = let upto = c.loop-place.invariant.new in let other = c.if-place-new.false in omega arith;
-      closed = closed_more (paths_of (registrations_of c.args.rows.now.entries ++ c.args.registrations.now)) rs c.loop-place.place c.index-registrations-place.result c.references-references.result.now c.loop-place.invariant.closed c.loop-place-test.true c.index-registrations-place.is c.references-references.ensures.value c.in_default.ensures;
-      number = omega (arith, c.loop-place.invariant.number, ap length c.references-references.ensures.value);
+      new = let upto = c.loop-place.invariant.new in let other = c.if-place-new.false
+          in omega arith;
+      closed = closed_more
+          (paths_of (registrations_of c.args.rows.now.entries ++ c.args.registrations.now)) rs
+          c.loop-place.place c.index-registrations-place.result c.references-references.result.now
+          c.loop-place.invariant.closed c.loop-place-test.true c.index-registrations-place.is
+          c.references-references.ensures.value c.in_default.ensures;
+      number = omega (
+        arith,
+        c.loop-place.invariant.number,
+        ap length c.references-references.ensures.value,
+      );
     }
 
 pub returns : goal.returns
 returns c =
-    right_behind (paths_of (registrations_of c.args.rows.now.entries ++ c.args.registrations.now)) c.args.registrations.now c.args.new c.args.line c.loop-place.place c.loop-place.line c.loop-place.invariant.new c.loop-place-test.false c.loop-place.invariant.closed c.loop-place.invariant.number
+    right_behind (paths_of (registrations_of c.args.rows.now.entries ++ c.args.registrations.now))
+    c.args.registrations.now c.args.new c.args.line c.loop-place.place c.loop-place.line
+    c.loop-place.invariant.new c.loop-place-test.false c.loop-place.invariant.closed
+    c.loop-place.invariant.number

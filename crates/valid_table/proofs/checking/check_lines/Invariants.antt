@@ -9,6 +9,7 @@ use Rattle.valid_table.proofs.checking.check_lines.Given as goal
 abbrev pub invariant-loop-place : goal.invariant-loop-place
 invariant-loop-place l = record {
   new : l.place ≤ l.new;
-  closed : All (IsValid (registrations_of l.rows.entries ++ l.registrations)) (references_of (take l.place l.registrations));
+  closed : All (IsValid (registrations_of l.rows.entries ++ l.registrations))
+      (references_of (take l.place l.registrations));
   number : l.line ≡ l.fn.line + length (flat_map output_lines (take l.place l.registrations));
 }

@@ -8,10 +8,15 @@ pub loop-path-preserved : goal.loop-path-preserved
 loop-path-preserved c =
     let registrations = registrations_of c.args.rows.now.entries in
     let paths = take c.loop-path.path-index c.args.paths.now in
-    rw (taken_more c.args.paths.now c.loop-path.path-index c.path-item.result c.loop-path-test.true c.path-item.is)
+    rw (taken_more c.args.paths.now c.loop-path.path-index c.path-item.result c.loop-path-test.true
+    c.path-item.is)
     (elim c.match-row_of.branch [
       | in-Some+in_ok-insert w ↦
           rw w.found-is
-          (adds_a_row registrations c.args.found.now.keys paths c.path-item.result c.loop-path.found.keys _ w.in-Some.row c.loop-path.invariant w.in-Some.ensures w.in_ok-insert.ensures.keys w.insert.ensures.unique)
-      | in_default w ↦ rw w.found-is (adds_no_row registrations c.args.found.now.keys paths c.path-item.result c.loop-path.found.keys c.loop-path.invariant w.in_default.ensures)
+          (adds_a_row registrations c.args.found.now.keys paths c.path-item.result
+          c.loop-path.found.keys _ w.in-Some.row c.loop-path.invariant w.in-Some.ensures
+          w.in_ok-insert.ensures.keys w.insert.ensures.unique)
+      | in_default w ↦ rw w.found-is
+          (adds_no_row registrations c.args.found.now.keys paths c.path-item.result
+          c.loop-path.found.keys c.loop-path.invariant w.in_default.ensures)
     ])

@@ -5,4 +5,5 @@ use Rattle.valid_table.specs.Tables.{registrations_of}
 use Rattle.valid_table.proofs.closing.add_rows.Given as goal
 
 abbrev pub invariant-loop-path : goal.invariant-loop-path
-invariant-loop-path l = AddsRows (registrations_of l.rows.entries) l.fn.found.keys (take l.path-index l.paths) l.found.keys
+invariant-loop-path l = AddsRows (registrations_of l.rows.entries) l.fn.found.keys
+    (take l.path-index l.paths) l.found.keys

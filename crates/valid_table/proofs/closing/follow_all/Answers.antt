@@ -6,11 +6,13 @@ use Rattle.valid_table.proofs.RowNumbers.{row_count}
 use Rattle.valid_table.proofs.closing.follow_all.Goals as goal
 
 pub loop-next-init : goal.loop-next-init
-loop-next-init c = followed_none (registrations_of c.args.rows.now.entries) c.args.found.now.keys c.requires.rows
+loop-next-init c = followed_none (registrations_of c.args.rows.now.entries) c.args.found.now.keys
+    c.requires.rows
 
 pub loop-next-smaller : goal.loop-next-smaller
 loop-next-smaller c =
-    let few = few_rows (registrations_of c.args.rows.now.entries) c.loop-next.found.keys c.loop-next.invariant.rows in
+    let few = few_rows (registrations_of c.args.rows.now.entries) c.loop-next.found.keys
+    c.loop-next.invariant.rows in
     omega (arith, few, c.loop-next-test.true, c.len.ensures.len)
 
 pub loop-next-preserved : goal.loop-next-preserved
@@ -21,10 +23,20 @@ loop-next-preserved c =
     let next = c.loop-next.next in
     let row = get_or found next 0 in
     let within : next < length found = omega (arith, c.loop-next-test.true, c.len.ensures.len) in
-    let below : row < length rows = omega (arith, row_below registrations found next c.loop-next.invariant.rows within, row_count rows) in
+    let below : row
+    < length rows =
+    omega (
+      arith,
+      row_below registrations found next c.loop-next.invariant.rows within,
+      row_count rows,
+    ) in
     let at = rw c.as_slice.ensures.keys at c.index.ensures in
     let adds = rw c.references.ensures.value at c.in_ok-add_rows.ensures in
-    followed_more registrations c.requires.once c.args.found.now.keys found _ next row _ c.loop-next.invariant within (get_or_default found next 0 row within) (row_registers rows row _ below at) adds
+    followed_more registrations c.requires.once c.args.found.now.keys found _ next row _
+    c.loop-next.invariant within (get_or_default found next 0 row within)
+    (row_registers rows row _ below at) adds
 
 pub returns : goal.returns
-returns c = followed_all (registrations_of c.args.rows.now.entries) c.args.found.now.keys c.loop-next.found.keys c.loop-next.next c.loop-next.invariant (omega (arith, c.loop-next-test.false, c.len.ensures.len))
+returns c = followed_all (registrations_of c.args.rows.now.entries) c.args.found.now.keys
+    c.loop-next.found.keys c.loop-next.next c.loop-next.invariant
+    (omega (arith, c.loop-next-test.false, c.len.ensures.len))

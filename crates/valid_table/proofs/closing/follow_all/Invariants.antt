@@ -5,7 +5,8 @@ use Rattle.valid_table.specs.Tables.{registrations_of}
 use Rattle.valid_table.proofs.closing.follow_all.Given as goal
 
 abbrev pub invariant-loop-next : goal.invariant-loop-next
-invariant-loop-next l = IsFollowed (registrations_of l.rows.entries) l.fn.found.keys l.found.keys l.next
+invariant-loop-next l = IsFollowed (registrations_of l.rows.entries) l.fn.found.keys l.found.keys
+    l.next
 
 abbrev pub decreases-loop-next : goal.decreases-loop-next
 decreases-loop-next l = length (registrations_of l.rows.entries) - l.next

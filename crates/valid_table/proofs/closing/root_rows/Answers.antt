@@ -10,19 +10,27 @@ use Rattle.valid_table.proofs.closing.root_rows.Goals as goal
 
 pub returns-in_default-clause-err : goal.returns-in_default-clause-err
 returns-in_default-clause-err c =
-    first_not_valid (registrations_of c.args.rows.now.entries) c.args.roots.now c.loop-root.root-index c.root-item.result _ c.loop-root-test.true c.root-item.is c.in_ok-copy_path.ensures.ok c.loop-root.invariant.valid c.in_default.ensures
+    first_not_valid (registrations_of c.args.rows.now.entries) c.args.roots.now
+    c.loop-root.root-index c.root-item.result _ c.loop-root-test.true c.root-item.is
+    c.in_ok-copy_path.ensures.ok c.loop-root.invariant.valid c.in_default.ensures
 
 pub loop-root-preserved : goal.loop-root-preserved
 loop-root-preserved c =
     let registrations = registrations_of c.args.rows.now.entries in
     let roots = take c.loop-root.root-index c.args.roots.now in
     let root = c.root-item.result in
-    rw (taken_more c.args.roots.now c.loop-root.root-index root c.loop-root-test.true c.root-item.is)
+    rw (taken_more c.args.roots.now c.loop-root.root-index root c.loop-root-test.true
+    c.root-item.is)
     (record {
-      valid = All-push (IsValid registrations) roots root c.loop-root.invariant.valid (valid_from_row registrations root c.in-Some.row c.in-Some.ensures);
-      added = adds_a_row registrations [] roots root c.loop-root.found.keys _ c.in-Some.row c.loop-root.invariant.added c.in-Some.ensures c.in_ok-insert.ensures.keys c.insert.ensures.unique;
+      valid = All-push (IsValid registrations) roots root c.loop-root.invariant.valid
+          (valid_from_row registrations root c.in-Some.row c.in-Some.ensures);
+      added = adds_a_row registrations [] roots root c.loop-root.found.keys _ c.in-Some.row
+          c.loop-root.invariant.added c.in-Some.ensures c.in_ok-insert.ensures.keys
+          c.insert.ensures.unique;
     })
 
 pub returns-clause-valid : goal.returns-clause-valid
 returns-clause-valid c =
-    subst (All (IsValid (registrations_of c.args.rows.now.entries))) (take_all c.loop-root.root-index c.args.roots.now c.loop-root-test.false) c.loop-root.invariant.valid
+    subst (All (IsValid (registrations_of c.args.rows.now.entries)))
+    (take_all c.loop-root.root-index c.args.roots.now c.loop-root-test.false)
+    c.loop-root.invariant.valid

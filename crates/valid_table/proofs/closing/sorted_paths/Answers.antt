@@ -13,19 +13,30 @@ loop-row-preserved c =
     let rows = c.args.rows.now.entries in
     let registrations = registrations_of rows in
     let numbers = c.as_slice-row-items.result.now in
-    let at : slice_get (paths_of registrations) (get_or numbers c.loop-row.row-index 0) ≡ Some c.index.result.now = rw (paths_are_keys rows, ← c.keys-texts.ensures.rest) c.index.ensures in
-    paths_more registrations numbers c.loop-row.row-index c.index.result.now c.loop-row.paths.items c.push.new.self.items c.loop-row-test.true c.loop-row.invariant at (rw c.in_ok-copy_path.ensures.ok at c.in_ok-push.ensures.items)
+    let at : slice_get (paths_of registrations) (get_or numbers c.loop-row.row-index 0)
+    ≡ Some c.index.result.now = rw (paths_are_keys rows, ← c.keys-texts.ensures.rest)
+    c.index.ensures in
+    paths_more registrations numbers c.loop-row.row-index c.index.result.now c.loop-row.paths.items
+    c.push.new.self.items c.loop-row-test.true c.loop-row.invariant at
+    (rw c.in_ok-copy_path.ensures.ok at c.in_ok-push.ensures.items)
 
 pub returns-clause-rising : goal.returns-clause-rising
 returns-clause-rising c =
     let registrations = registrations_of c.args.rows.now.entries in
     let numbers = c.as_slice-row-items.result.now in
-    let all : c.loop-row.paths.items ≡ paths_at registrations c.args.found.now.keys = c.loop-row.invariant ∙ ap (paths_at registrations) (take_all c.loop-row.row-index numbers c.loop-row-test.false ∙ c.as_slice-row-items.ensures.keys) in
-    sorted_rising registrations c.requires.once c.args.found.now.keys c.requires.rows _ _ all c.sort_unstable.ensures.permutation c.sort_unstable.ensures.sorted
+    let all : c.loop-row.paths.items ≡ paths_at registrations c.args.found.now.keys =
+    c.loop-row.invariant ∙ ap (paths_at registrations)
+    (take_all c.loop-row.row-index numbers c.loop-row-test.false
+    ∙ c.as_slice-row-items.ensures.keys) in
+    sorted_rising registrations c.requires.once c.args.found.now.keys c.requires.rows _ _ all
+    c.sort_unstable.ensures.permutation c.sort_unstable.ensures.sorted
 
 pub returns-clause-same : goal.returns-clause-same
 returns-clause-same c =
     let registrations = registrations_of c.args.rows.now.entries in
     let numbers = c.as_slice-row-items.result.now in
-    let all : c.loop-row.paths.items ≡ paths_at registrations c.args.found.now.keys = c.loop-row.invariant ∙ ap (paths_at registrations) (take_all c.loop-row.row-index numbers c.loop-row-test.false ∙ c.as_slice-row-items.ensures.keys) in
+    let all : c.loop-row.paths.items ≡ paths_at registrations c.args.found.now.keys =
+    c.loop-row.invariant ∙ ap (paths_at registrations)
+    (take_all c.loop-row.row-index numbers c.loop-row-test.false
+    ∙ c.as_slice-row-items.ensures.keys) in
     sorted_same _ _ _ all c.sort_unstable.ensures.permutation

@@ -5,4 +5,5 @@ use Rattle.valid_table.specs.Tables.{registrations_of}
 use Rattle.valid_table.proofs.closing.sorted_paths.Given as goal
 
 abbrev pub invariant-loop-row : goal.invariant-loop-row
-invariant-loop-row l = l.paths.items ≡ paths_at (registrations_of l.rows.entries) (take l.row-index l.row-items)
+invariant-loop-row l = l.paths.items ≡ paths_at (registrations_of l.rows.entries)
+    (take l.row-index l.row-items)

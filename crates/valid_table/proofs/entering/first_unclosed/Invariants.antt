@@ -6,4 +6,5 @@ use Rattle.valid_table.specs.Valid.{IsValid, references_of}
 use Rattle.valid_table.proofs.entering.first_unclosed.Given as goal
 
 abbrev pub invariant-loop-place : goal.invariant-loop-place
-invariant-loop-place l = All (IsValid (registrations_of l.rows.entries ++ l.registrations)) (references_of (take l.place l.registrations))
+invariant-loop-place l = All (IsValid (registrations_of l.rows.entries ++ l.registrations))
+    (references_of (take l.place l.registrations))

@@ -6,4 +6,5 @@ use Rattle.valid_table.specs.Valid.{IsValid}
 use Rattle.valid_table.proofs.entering.first_unknown.Given as goal
 
 abbrev pub invariant-loop-place : goal.invariant-loop-place
-invariant-loop-place l = All (IsValid (registrations_of l.rows.entries ++ l.registrations)) (take l.place l.paths)
+invariant-loop-place l = All (IsValid (registrations_of l.rows.entries ++ l.registrations))
+    (take l.place l.paths)

@@ -6,4 +6,5 @@ use Rattle.valid_table.specs.Tables.{registrations_of}
 use Rattle.valid_table.proofs.entering.new_front.Given as goal
 
 abbrev pub invariant-loop-count : goal.invariant-loop-count
-invariant-loop-count l = AreUnknown (paths_of (registrations_of l.rows.entries)) (take l.count (paths_of l.registrations))
+invariant-loop-count l = AreUnknown (paths_of (registrations_of l.rows.entries))
+    (take l.count (paths_of l.registrations))

@@ -7,8 +7,14 @@ use Rattle.valid_table.proofs.entry.is_rising.Goals as goal
 pub returns-then-not-is_lt : goal.returns-then-not-is_lt
 returns-then-not-is_lt c = (
   λ no. absurd (false≢true no),
-  λ rises. absurd (false≢true (c.if-not-is_lt.ensures ∙ ap is_lt c.cmp-order.ensures ∙ rising_at c.args.registrations.now c.loop-i.i _ _ rises (omega arith) (omega arith))),
+  λ rises. absurd
+      (false≢true (c.if-not-is_lt.ensures ∙ ap is_lt c.cmp-order.ensures
+      ∙ rising_at c.args.registrations.now c.loop-i.i _ _ rises (omega arith) (omega arith))),
 )
 
 pub returns : goal.returns
-returns c = (λ _. rising_from_neighbours c.args.registrations.now (λ k d lt. c.loop-i.invariant k d (omega (arith, c.loop-i-test.false))), λ _. refl)
+returns c = (
+  λ _. rising_from_neighbours c.args.registrations.now
+      (λ k d lt. c.loop-i.invariant k d (omega (arith, c.loop-i-test.false))),
+  λ _. refl,
+)

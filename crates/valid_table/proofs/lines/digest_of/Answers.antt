@@ -5,17 +5,21 @@ use Rattle.valid_table.proofs.lines.digest_of.Goals as goal
 
 pub returns-in_default : goal.returns-in_default
 returns-in_default c =
-    no_digits _ c.in_default.field-0 (told_other _ _ (codes "-") c.eq.result c.eq.ensures c.as_slice.ensures c.if-eq.false)
+    no_digits _ c.in_default.field-0
+    (told_other _ _ (codes "-") c.eq.result c.eq.ensures c.as_slice.ensures c.if-eq.false)
     (sym c.from_hex.ensures ∙ c.in_default.is)
 
 pub returns-then-eq-2 : goal.returns-then-eq-2
 returns-then-eq-2 c = (
   decoded c.args.text.now c.in-Ok.digest (sym c.from_hex.ensures ∙ c.in-Ok.is),
-  told_same _ _ (encode_lower c.in-Ok.digest) c.eq-2.result c.eq-2.ensures (c.as_slice-2.ensures ∙ c.digits_of.ensures) c.if-eq-2.true,
+  told_same _ _ (encode_lower c.in-Ok.digest) c.eq-2.result c.eq-2.ensures
+      (c.as_slice-2.ensures ∙ c.digits_of.ensures) c.if-eq-2.true,
 )
 
 pub returns-else-eq-2 : goal.returns-else-eq-2
 returns-else-eq-2 c =
-    other_digits _ c.in-Ok.digest (told_other _ _ (codes "-") c.eq.result c.eq.ensures c.as_slice.ensures c.if-eq.false)
+    other_digits _ c.in-Ok.digest
+    (told_other _ _ (codes "-") c.eq.result c.eq.ensures c.as_slice.ensures c.if-eq.false)
     (sym c.from_hex.ensures ∙ c.in-Ok.is)
-    (told_other _ _ (encode_lower c.in-Ok.digest) c.eq-2.result c.eq-2.ensures (c.as_slice-2.ensures ∙ c.digits_of.ensures) c.if-eq-2.false)
+    (told_other _ _ (encode_lower c.in-Ok.digest) c.eq-2.result c.eq-2.ensures
+    (c.as_slice-2.ensures ∙ c.digits_of.ensures) c.if-eq-2.false)

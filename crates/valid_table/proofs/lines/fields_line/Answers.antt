@@ -7,15 +7,19 @@ returns-in_default c = λ path digest rest. no_space _ _ path digest rest c.in_d
 
 pub returns-in_default-2 : goal.returns-in_default-2
 returns-in_default-2 c = λ path digest rest.
-    other_path _ _ c.in-Some.text.now c.in-Some.fields.now path digest rest c.in_ok-path.ensures.is_dir c.in-Some.ensures.0 c.in-Some.ensures.1
+    other_path _ _ c.in-Some.text.now c.in-Some.fields.now path digest rest
+    c.in_ok-path.ensures.is_dir c.in-Some.ensures.0 c.in-Some.ensures.1
     (MatchOption-at_none _ _ c.in_default-2.is c.in_ok-path.ensures.path)
 
 pub returns-in_default-cut : goal.returns-in_default-cut
 returns-in_default-cut c = λ path digest rest.
-    no_newline _ _ c.in-Some.text.now c.in-Some.fields.now path digest rest c.in_ok-path.ensures.is_dir c.in-Some.ensures.0 c.in-Some.ensures.1
+    no_newline _ _ c.in-Some.text.now c.in-Some.fields.now path digest rest
+    c.in_ok-path.ensures.is_dir c.in-Some.ensures.0 c.in-Some.ensures.1
     c.in_default-cut.ensures
 
 pub returns-in-None : goal.returns-in-None
 returns-in-None c = λ path digest rest.
-    other_digest _ _ c.in-Some.text.now c.in-Some.fields.now c.in-Some-cut.digest.now c.in-Some-cut.rest.now path digest rest
-    c.in_ok-path.ensures.is_dir c.in-Some.ensures.0 c.in-Some.ensures.1 c.in-Some-cut.ensures.0 c.in-Some-cut.ensures.1 c.in-None.ensures
+    other_digest _ _ c.in-Some.text.now c.in-Some.fields.now c.in-Some-cut.digest.now
+    c.in-Some-cut.rest.now path digest rest
+    c.in_ok-path.ensures.is_dir c.in-Some.ensures.0 c.in-Some.ensures.1 c.in-Some-cut.ensures.0
+    c.in-Some-cut.ensures.1 c.in-None.ensures

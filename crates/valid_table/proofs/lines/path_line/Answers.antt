@@ -7,5 +7,6 @@ returns-in_default c = λ path rest. no_path_line _ _ path rest c.in_default.ens
 
 pub returns-in-None : goal.returns-in-None
 returns-in-None c = λ path rest.
-    other_path_line _ _ c.in-Some.line.now c.in-Some.rest.now path rest c.in_ok-path.ensures.is_dir c.in-Some.ensures.0 c.in-Some.ensures.1
+    other_path_line _ _ c.in-Some.line.now c.in-Some.rest.now path rest c.in_ok-path.ensures.is_dir
+    c.in-Some.ensures.0 c.in-Some.ensures.1
     (MatchOption-at_none _ _ c.in-None.is c.in_ok-path.ensures.path)

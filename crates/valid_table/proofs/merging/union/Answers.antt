@@ -6,16 +6,20 @@ pub paths-init : goal.paths-init
 paths-init c =
     let left = c.args.left.now in
     let right = c.args.right.now in
-    subst (λ l. IsMerged left right l left right) (sym c.in_ok-paths.ensures.items) (merged_none left right c.requires.left c.requires.right)
+    subst (λ l. IsMerged left right l left right) (sym c.in_ok-paths.ensures.items)
+    (merged_none left right c.requires.left c.requires.right)
 
 pub paths-smaller : goal.paths-smaller
 paths-smaller c = c.in-Some.ensures.shorter
 
 pub paths-preserved : goal.paths-preserved
 paths-preserved c =
-    merged_more c.args.left.now c.args.right.now c.paths.paths.items c.paths.more.now c.paths.others.now c.in-Some.path.now c.in-Some.behind.now c.in-Some.beside.now c.push.new.self.items c.paths.invariant c.in-Some.ensures
+    merged_more c.args.left.now c.args.right.now c.paths.paths.items c.paths.more.now
+    c.paths.others.now c.in-Some.path.now c.in-Some.behind.now c.in-Some.beside.now
+    c.push.new.self.items c.paths.invariant c.in-Some.ensures
     (rw c.in_ok-copy_path.ensures.ok at c.in_ok-push.ensures.items)
 
 pub returns-clause-ok : goal.returns-clause-ok
 returns-clause-ok c =
-    merged_all c.args.left.now c.args.right.now c.paths.paths.items c.paths.more.now c.paths.others.now c.paths.invariant c.in_default.ensures.0 c.in_default.ensures.1
+    merged_all c.args.left.now c.args.right.now c.paths.paths.items c.paths.more.now
+    c.paths.others.now c.paths.invariant c.in_default.ensures.0 c.in_default.ensures.1

@@ -5,10 +5,12 @@ use Rattle.valid_table.proofs.RegistrationLines.{low_fields, no_fields}
 use Rattle.valid_table.proofs.reading.fields_above.Goals as goal
 
 pub returns-in_default : goal.returns-in_default
-returns-in_default c = no_fields c.args.dir.now _ c.args.bytes.now (MatchOption-at_none _ _ c.in_default.is c.in_ok-path.ensures)
+returns-in_default c = no_fields c.args.dir.now _ c.args.bytes.now
+    (MatchOption-at_none _ _ c.in_default.is c.in_ok-path.ensures)
 
 pub returns : goal.returns
 returns c =
     let unlike = c.if-is_above.false in
-    low_fields c.args.dir.now _ c.args.bytes.now c.in-Some.path c.in-Some.digest c.in-Some.rest.now (MatchOption-at_some _ _ _ c.in-Some.is c.in_ok-path.ensures)
+    low_fields c.args.dir.now _ c.args.bytes.now c.in-Some.path c.in-Some.digest c.in-Some.rest.now
+    (MatchOption-at_some _ _ _ c.in-Some.is c.in_ok-path.ensures)
     (λ above. false≢true (sym unlike ∙ c.is_above.ensures.1 above))

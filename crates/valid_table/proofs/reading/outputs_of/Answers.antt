@@ -11,11 +11,14 @@ pub returns-in_err-output-clause-left : goal.returns-in_err-output-clause-left
 returns-in_err-output-clause-left c =
     let p = err_from_is_err_and c.from_residual.result c.from_residual.ensures.1 in
     rw (p.1, p.2) (stops_where _ _
-    (λ left h. outputs_stop _ _ _ _ _ left c.outputs.invariant (c.last_path-before.ensures ∙ ap (λ os. last_or None (paths_of os)) c.deref.ensures.value) h)
+    (λ left h. outputs_stop _ _ _ _ _ left c.outputs.invariant
+    (c.last_path-before.ensures ∙ ap (λ os. last_or None (paths_of os)) c.deref.ensures.value)
+    h)
     c.in_err-output.field-0.0 c.in_err-output.ensures.left)
 
 pub outputs-preserved : goal.outputs-preserved
 outputs-preserved c =
-    outputs_more _ _ _ c.push.new.self.items _ c.in-Some.behind.now _ c.in-Some.output c.outputs.invariant
+    outputs_more _ _ _ c.push.new.self.items _ c.in-Some.behind.now _ c.in-Some.output
+    c.outputs.invariant
     (c.last_path-before.ensures ∙ ap (λ os. last_or None (paths_of os)) c.deref.ensures.value)
     (MatchOption-at_some _ _ _ c.in-Some.is c.in_ok-output.ensures.ok) c.in_ok-push.ensures.items

@@ -8,20 +8,27 @@ use Rattle.valid_table.proofs.reading.references_of.Goals as goal
 pub returns-in_default-2-clause-left : goal.returns-in_default-2-clause-left
 returns-in_default-2-clause-left c = λ output.
     references_lead _ output _ _ _ _ c.references.invariant
-    (bad_reference _ output (last_or None c.references.references.items) _ c.in-Some.fields.now c.in-Some.ensures
+    (bad_reference _ output (last_or None c.references.references.items) _ c.in-Some.fields.now
+    c.in-Some.ensures
     (MatchOption-at_none _ _ c.in_default-2.is c.in_ok-path.ensures))
 
 pub returns-then-not-is_above-clause-left : goal.returns-then-not-is_above-clause-left
 returns-then-not-is_above-clause-left c = λ output.
     let unlike = c.if-not-is_above.true in
     references_lead _ output _ _ _ _ c.references.invariant
-    (low_reference _ output (last_or None c.references.references.items) _ c.in-Some.fields.now c.in-Some-2.path c.in-Some-2.behind.now
+    (low_reference _ output (last_or None c.references.references.items) _ c.in-Some.fields.now
+    c.in-Some-2.path c.in-Some-2.behind.now
     c.in-Some.ensures (MatchOption-at_some _ _ _ c.in-Some-2.is c.in_ok-path.ensures)
-    (λ above. false≢true (sym unlike ∙ c.is_above.ensures.1 (above_looked_up _ _ _ c.in-Some-2.path c.deref.ensures.value c.last.ensures.value above))))
+    (λ above. false≢true
+    (sym unlike
+    ∙ c.is_above.ensures.1
+    (above_looked_up _ _ _ c.in-Some-2.path c.deref.ensures.value c.last.ensures.value above))))
 
 pub references-preserved : goal.references-preserved
 references-preserved c =
-    references_more _ _ _ c.push.new.self.items _ c.in-Some.fields.now c.in-Some-2.path c.in-Some-2.behind.now c.references.invariant
+    references_more _ _ _ c.push.new.self.items _ c.in-Some.fields.now c.in-Some-2.path
+    c.in-Some-2.behind.now c.references.invariant
     c.in-Some.ensures (MatchOption-at_some _ _ _ c.in-Some-2.is c.in_ok-path.ensures)
-    (above_last _ _ _ c.in-Some-2.path c.deref.ensures.value c.last.ensures.value (c.is_above.ensures.0 c.if-not-is_above.false))
+    (above_last _ _ _ c.in-Some-2.path c.deref.ensures.value c.last.ensures.value
+    (c.is_above.ensures.0 c.if-not-is_above.false))
     c.in_ok-push.ensures.items

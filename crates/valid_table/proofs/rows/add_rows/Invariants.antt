@@ -5,4 +5,5 @@ use Rattle.valid_table.proofs.rows.add_rows.Given as goal
 
 abbrev pub invariant-loop-registration : goal.invariant-loop-registration
 invariant-loop-registration l =
-    registrations_of l.rows.entries ≡ registrations_of l.fn.rows.entries ++ take l.registration-index l.registrations
+    registrations_of l.rows.entries ≡ registrations_of l.fn.rows.entries
+    ++ take l.registration-index l.registrations

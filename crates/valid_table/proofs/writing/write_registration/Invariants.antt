@@ -5,4 +5,5 @@ use Rattle.valid_table.proofs.writing.write_registration.Given as goal
 -- what is written, and the lines of the references that are left
 abbrev pub invariant-references : goal.invariant-references
 invariant-references l =
-    l.out.items ++ references_text (drop l.reference-index l.reference-items) ≡ l.initial.out.items ++ references_text l.reference-items
+    l.out.items ++ references_text (drop l.reference-index l.reference-items) ≡ l.initial.out.items
+    ++ references_text l.reference-items

@@ -7,12 +7,21 @@ use Rattle.drv_graph.proofs.plan.Plan.load.Goals as goal
 
 pub invariant_of-result : goal.invariant_of-result
 invariant_of-result g c =
-    let same : c.in_ok-roots.roots.items ≡ c.in_ok-found.field-0.roots.keys = c.in_ok-roots.ensures.items ∙ c.as_slice.ensures.keys in
-    subst (λ numbers. AreKept c.in_ok-found.field-0.found.nodes.items × IsSound (record { nodes = nodes_of c.in_ok-found.field-0.found.nodes.items; roots = numbers })) (sym same)
-    (sound_found c.args.dir.now (g.S.DrvSource.gives c.args.source.now) c.args.roots.now c.in_ok-found.field-0.found c.in_ok-found.field-0.roots.keys c.in_ok-found.ensures.walking)
+    let same : c.in_ok-roots.roots.items ≡ c.in_ok-found.field-0.roots.keys =
+    c.in_ok-roots.ensures.items ∙ c.as_slice.ensures.keys in
+    subst (λ numbers. AreKept c.in_ok-found.field-0.found.nodes.items
+    × IsSound
+    (record { nodes = nodes_of c.in_ok-found.field-0.found.nodes.items; roots = numbers }))
+    (sym same)
+    (sound_found c.args.dir.now (g.S.DrvSource.gives c.args.source.now) c.args.roots.now
+    c.in_ok-found.field-0.found c.in_ok-found.field-0.roots.keys c.in_ok-found.ensures.walking)
 
 pub returns-clause-loading : goal.returns-clause-loading
 returns-clause-loading g c =
-    let same : c.in_ok-roots.roots.items ≡ c.in_ok-found.field-0.roots.keys = c.in_ok-roots.ensures.items ∙ c.as_slice.ensures.keys in
-    subst (λ numbers. IsPlan c.args.dir.now (g.S.DrvSource.gives c.args.source.now) c.args.roots.now (record { nodes = nodes_of c.in_ok-found.field-0.found.nodes.items; roots = numbers })) (sym same)
-    (plan_found c.args.dir.now (g.S.DrvSource.gives c.args.source.now) c.args.roots.now c.in_ok-found.field-0.found c.in_ok-found.field-0.roots.keys c.in_ok-found.ensures.walking)
+    let same : c.in_ok-roots.roots.items ≡ c.in_ok-found.field-0.roots.keys =
+    c.in_ok-roots.ensures.items ∙ c.as_slice.ensures.keys in
+    subst (λ numbers. IsPlan c.args.dir.now (g.S.DrvSource.gives c.args.source.now) c.args.roots.now
+    (record { nodes = nodes_of c.in_ok-found.field-0.found.nodes.items; roots = numbers }))
+    (sym same)
+    (plan_found c.args.dir.now (g.S.DrvSource.gives c.args.source.now) c.args.roots.now
+    c.in_ok-found.field-0.found c.in_ok-found.field-0.roots.keys c.in_ok-found.ensures.walking)

@@ -11,11 +11,18 @@ loop-place-preserved c =
     let place = c.loop-place.place in
     let sieve = c.loop-place.sieve.items in
     let held = c.loop-place.invariant in
-    let taken = taken_with paths place c.index-paths-place.result (omega arith) c.index-paths-place.is in
+    let taken = taken_with paths place c.index-paths-place.result (omega arith)
+    c.index-paths-place.is in
     let long : place ≡ length (take place paths) = omega (arith, length-take place paths) in
-    let slot : slot_of (length sieve) c.part_of-part.result ≡ c.slot_of.result = ap (λ n. slot_of n c.part_of-part.result) held.slots ∙ sym c.slot_of.ensures.value in
-    let more = indexes_more (take place paths) c.loop-place.places c.insert.new.self sieve c.index-paths-place.result c.part_of-part.result place long c.part_of-part.ensures.value c.part_of-part.ensures.is_part held.indexes c.in_ok-insert.ensures.updates.0 in
+    let slot : slot_of (length sieve) c.part_of-part.result
+    ≡ c.slot_of.result = ap (λ n. slot_of n c.part_of-part.result) held.slots
+    ∙ sym c.slot_of.ensures.value in
+    let more = indexes_more (take place paths) c.loop-place.places c.insert.new.self sieve
+    c.index-paths-place.result c.part_of-part.result place long c.part_of-part.ensures.value
+    c.part_of-part.ensures.is_part held.indexes c.in_ok-insert.ensures.updates.0 in
     record {
-      indexes = rw taken (subst (λ n. Indexes (take place paths ++ c.index-paths-place.result ∷ []) c.insert.new.self (set sieve n true)) slot more);
+      indexes = rw taken
+          (subst (λ n. Indexes (take place paths ++ c.index-paths-place.result ∷ [])
+          c.insert.new.self (set sieve n true)) slot more);
       slots = length-set sieve c.slot_of.result true ∙ held.slots;
     }

@@ -11,14 +11,24 @@ invariant_of-self c =
     let one = c.search.new.met in
     let two = c.search-2.new.met in
     let lent = c.deref_mut.ensures.value in
-    let long : length one ≡ s.met.len = omega (arith, c.search.ensures.count, c.deref_mut.ensures.len) in
+    let long : length one ≡ s.met.len = omega
+    (arith, c.search.ensures.count, c.deref_mut.ensures.len) in
     let same = written one (drop (length one) s.met.items) s.met.len long in
     let lent' = c.deref_mut-2.ensures.value ∙ same in
     let long' : length two ≡ s.met.len = omega (arith, c.search-2.ensures.count, ap length lent') in
-    let same' = written two (drop (length two) (take s.met.len (one ++ drop (length one) s.met.items))) s.met.len long' in
-    let first = subst (λ met. Searched s.index.places met one seam) lent (subst (Searched s.index.places c.deref_mut.result.now one) c.as_slice-2.ensures.value c.search.ensures) in
+    let same' = written two
+    (drop (length two) (take s.met.len (one ++ drop (length one) s.met.items))) s.met.len long'
+    in
+    let first = subst (λ met. Searched s.index.places met one seam) lent
+    (subst (Searched s.index.places c.deref_mut.result.now one) c.as_slice-2.ensures.value
+    c.search.ensures) in
     let second = subst (λ met. Searched s.index.places met two piece) lent' c.search-2.ensures in
-    let seam_is : seam ≡ s.tail.items ++ take 31 piece = c.seam-seam.ensures ∙ ap (λ l. l ++ take 31 piece) c.as_slice.ensures.value in
-    let kept = c.tail_behind-self-inside.ensures s.fed.present (c.as_slice-3.ensures.value ∙ seam_is ∙ ap (λ l. l ++ take 31 piece) c.self.invariant.kept) in
+    let seam_is : seam ≡ s.tail.items ++ take 31 piece = c.seam-seam.ensures
+    ∙ ap (λ l. l ++ take 31 piece) c.as_slice.ensures.value in
+    let kept = c.tail_behind-self-inside.ensures s.fed.present
+    (c.as_slice-3.ensures.value ∙ seam_is ∙ ap (λ l. l ++ take 31 piece) c.self.invariant.kept)
+    in
     rw (same', c.and-self-inside.ensures.0, c.and-self-inside.ensures.1)
-    (scanned_fed s.permitted.items s.fed.ended s.fed.present piece seam s.index.places s.index.sieve.items s.met.items one two s.tail.items c.tail_behind-self-inside.result.items c.self.invariant seam_is first second kept)
+    (scanned_fed s.permitted.items s.fed.ended s.fed.present piece seam s.index.places
+    s.index.sieve.items s.met.items one two s.tail.items c.tail_behind-self-inside.result.items
+    c.self.invariant seam_is first second kept)

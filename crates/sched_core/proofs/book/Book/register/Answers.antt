@@ -6,42 +6,68 @@ use Rattle.sched_core.proofs.book.Book.register.Goals as goal
 
 pub append-requires-clause-new : goal.append-requires-clause-new
 append-requires-clause-new g c =
-    let asked = subst (λ (l : Ledger). IsBooksLease l.run l.history c.args.lease.now.job c.args.lease.now.number → MayAllRefer l.history.entries c.args.lease.now.job c.args.checked.now)
+    let asked = subst (λ (l : Ledger). IsBooksLease l.run l.history c.args.lease.now.job
+    c.args.lease.now.number → MayAllRefer l.history.entries c.args.lease.now.job
+    c.args.checked.now)
     (sym c.self.view_is) c.requires in
-    let lease : IsBooksLease c.self.inside.progress.run c.self.inside.progress.history c.args.lease.now.job c.args.lease.now.number =
+    let lease : IsBooksLease c.self.inside.progress.run c.self.inside.progress.history
+    c.args.lease.now.job c.args.lease.now.number =
     rw (← c.job-job.ensures, ← c.number.ensures) (c.has_given.ensures.0 c.if-not-has_given.false) in
-    let done : IsDone c.self.inside.progress.run c.self.inside.progress.history.entries c.args.lease.now.job.derivation c.args.checked.now c.in_ok-entry.field-0.entry =
-    done_under_lease _ _ _ _ _ _ lease (asked lease) (rw (← c.job-job.ensures) c.in_ok-entry.ensures.entry) in
+    let done : IsDone c.self.inside.progress.run c.self.inside.progress.history.entries
+    c.args.lease.now.job.derivation c.args.checked.now c.in_ok-entry.field-0.entry =
+    done_under_lease _ _ _ _ _ _ lease (asked lease)
+    (rw (← c.job-job.ensures) c.in_ok-entry.ensures.entry) in
     (may_append _ _ _ _ _ _ _ done c.self.invariant c.in_ok-entry.ensures.shown).0
 
 pub append-requires-clause-closed : goal.append-requires-clause-closed
 append-requires-clause-closed g c =
-    let asked = subst (λ (l : Ledger). IsBooksLease l.run l.history c.args.lease.now.job c.args.lease.now.number → MayAllRefer l.history.entries c.args.lease.now.job c.args.checked.now)
+    let asked = subst (λ (l : Ledger). IsBooksLease l.run l.history c.args.lease.now.job
+    c.args.lease.now.number → MayAllRefer l.history.entries c.args.lease.now.job
+    c.args.checked.now)
     (sym c.self.view_is) c.requires in
-    let lease : IsBooksLease c.self.inside.progress.run c.self.inside.progress.history c.args.lease.now.job c.args.lease.now.number =
+    let lease : IsBooksLease c.self.inside.progress.run c.self.inside.progress.history
+    c.args.lease.now.job c.args.lease.now.number =
     rw (← c.job-job.ensures, ← c.number.ensures) (c.has_given.ensures.0 c.if-not-has_given.false) in
-    let done : IsDone c.self.inside.progress.run c.self.inside.progress.history.entries c.args.lease.now.job.derivation c.args.checked.now c.in_ok-entry.field-0.entry =
-    done_under_lease _ _ _ _ _ _ lease (asked lease) (rw (← c.job-job.ensures) c.in_ok-entry.ensures.entry) in
+    let done : IsDone c.self.inside.progress.run c.self.inside.progress.history.entries
+    c.args.lease.now.job.derivation c.args.checked.now c.in_ok-entry.field-0.entry =
+    done_under_lease _ _ _ _ _ _ lease (asked lease)
+    (rw (← c.job-job.ensures) c.in_ok-entry.ensures.entry) in
     (may_append _ _ _ _ _ _ _ done c.self.invariant c.in_ok-entry.ensures.shown).1
 
 pub finish-requires-clause-done : goal.finish-requires-clause-done
 finish-requires-clause-done g c =
-    let asked = subst (λ (l : Ledger). IsBooksLease l.run l.history c.args.lease.now.job c.args.lease.now.number → MayAllRefer l.history.entries c.args.lease.now.job c.args.checked.now)
+    let asked = subst (λ (l : Ledger). IsBooksLease l.run l.history c.args.lease.now.job
+    c.args.lease.now.number → MayAllRefer l.history.entries c.args.lease.now.job
+    c.args.checked.now)
     (sym c.self.view_is) c.requires in
-    let lease : IsBooksLease c.self.inside.progress.run c.self.inside.progress.history c.args.lease.now.job c.args.lease.now.number =
+    let lease : IsBooksLease c.self.inside.progress.run c.self.inside.progress.history
+    c.args.lease.now.job c.args.lease.now.number =
     rw (← c.job-job.ensures, ← c.number.ensures) (c.has_given.ensures.0 c.if-not-has_given.false) in
-    let done : IsDone c.self.inside.progress.run c.self.inside.progress.history.entries c.args.lease.now.job.derivation c.args.checked.now c.in_ok-entry.field-0.entry =
-    done_under_lease _ _ _ _ _ _ lease (asked lease) (rw (← c.job-job.ensures) c.in_ok-entry.ensures.entry) in
-    (c.args.checked.now, rw (c.in_ok-entry.ensures.run, c.in_ok-entry.ensures.history, c.job-job.ensures) done)
+    let done : IsDone c.self.inside.progress.run c.self.inside.progress.history.entries
+    c.args.lease.now.job.derivation c.args.checked.now c.in_ok-entry.field-0.entry =
+    done_under_lease _ _ _ _ _ _ lease (asked lease)
+    (rw (← c.job-job.ensures) c.in_ok-entry.ensures.entry) in (
+      c.args.checked.now,
+      rw (c.in_ok-entry.ensures.run, c.in_ok-entry.ensures.history, c.job-job.ensures) done,
+    )
 
 pub returns-clause-ok : goal.returns-clause-ok
 returns-clause-ok g c =
-    let asked = subst (λ (l : Ledger). IsBooksLease l.run l.history c.args.lease.now.job c.args.lease.now.number → MayAllRefer l.history.entries c.args.lease.now.job c.args.checked.now)
+    let asked = subst (λ (l : Ledger). IsBooksLease l.run l.history c.args.lease.now.job
+    c.args.lease.now.number → MayAllRefer l.history.entries c.args.lease.now.job
+    c.args.checked.now)
     (sym c.self.view_is) c.requires in
-    let lease : IsBooksLease c.self.inside.progress.run c.self.inside.progress.history c.args.lease.now.job c.args.lease.now.number =
+    let lease : IsBooksLease c.self.inside.progress.run c.self.inside.progress.history
+    c.args.lease.now.job c.args.lease.now.number =
     rw (← c.job-job.ensures, ← c.number.ensures) (c.has_given.ensures.0 c.if-not-has_given.false) in
-    let done : IsDone c.self.inside.progress.run c.self.inside.progress.history.entries c.args.lease.now.job.derivation c.args.checked.now c.in_ok-entry.field-0.entry =
-    done_under_lease _ _ _ _ _ _ lease (asked lease) (rw (← c.job-job.ensures) c.in_ok-entry.ensures.entry) in
-    finishing c.args.self.now _ _ _ _ _ _ _ _ _ c.args.lease.now.job c.args.lease.now.number _ _ c.args.checked.now c.in_ok-entry.field-0.entry c.in_ok-entry.field-0.shown
-    c.self.view_is lease done (c.finish.ensures.run ∙ c.in_ok-entry.ensures.run) c.in_ok-entry.ensures.history (ap (λ (j : Job). j.derivation) c.job-job.ensures) c.number-2.ensures
-    c.finish.ensures.history c.in_ok-append.ensures.same c.in_ok-append.ensures.ok c.in_ok-entry.ensures.shown
+    let done : IsDone c.self.inside.progress.run c.self.inside.progress.history.entries
+    c.args.lease.now.job.derivation c.args.checked.now c.in_ok-entry.field-0.entry =
+    done_under_lease _ _ _ _ _ _ lease (asked lease)
+    (rw (← c.job-job.ensures) c.in_ok-entry.ensures.entry) in
+    finishing c.args.self.now _ _ _ _ _ _ _ _ _ c.args.lease.now.job c.args.lease.now.number _ _
+    c.args.checked.now c.in_ok-entry.field-0.entry c.in_ok-entry.field-0.shown
+    c.self.view_is lease done (c.finish.ensures.run ∙ c.in_ok-entry.ensures.run)
+    c.in_ok-entry.ensures.history (ap (λ (j : Job). j.derivation) c.job-job.ensures)
+    c.number-2.ensures
+    c.finish.ensures.history c.in_ok-append.ensures.same c.in_ok-append.ensures.ok
+    c.in_ok-entry.ensures.shown

@@ -4,4 +4,5 @@ use Rattle.sched_core.specs.declared.reason.State.TheVariants.{Ready}
 use Rattle.sched_core.proofs.course.Course.next.Given as goal
 
 abbrev pub invariant-loop-d : goal.invariant-loop-d
-invariant-loop-d l = (e : ℕ) → e < l.d → (get_or l.self-inside.wanted.items e false ≡ true) × (kept l.self-inside.states.items e ≡ Ready) → ⊥
+invariant-loop-d l = (e : ℕ) → e < l.d → (get_or l.self-inside.wanted.items e false ≡ true)
+    × (kept l.self-inside.states.items e ≡ Ready) → ⊥

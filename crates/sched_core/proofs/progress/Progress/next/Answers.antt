@@ -5,4 +5,5 @@ pub returns : goal.returns
 returns c =
     let kept = c.self.invariant.0 in
     rw (← c.self.view_is)
-    (match_weaker c.next.result c.next.ensures (λ none d can. none d (is_next _ _ _ _ _ kept d can)) (λ d next. can_begin _ _ _ _ _ kept d next))
+    (match_weaker c.next.result c.next.ensures (λ none d can. none d (is_next _ _ _ _ _ kept d can))
+    (λ d next. can_begin _ _ _ _ _ kept d next))

@@ -13,5 +13,10 @@ pub returns-then-not-is_rising : goal.returns-then-not-is_rising
 returns-then-not-is_rising c =
     λ outputs.
     let Less : Registration → Registration → _ = λ a b. is_lt (slice_cmp nat_cmp a.path b.path) in
-    let sorted = c.sort_unstable_by.ensures.sorted Less (ranks_by nat_list_cmp_total (λ (r : Registration). r.path)) (always_returns_same _ _ _ (λ a r f k. (search rules, search rules))) in
-    false≢true (sym c.if-not-is_rising.true ∙ c.is_rising.ensures.1 (rw c.as_slice.ensures.value (sorted_rises c.args.registrations.items _ c.sort_unstable_by.ensures.permutation sorted outputs.1)))
+    let sorted = c.sort_unstable_by.ensures.sorted Less
+    (ranks_by nat_list_cmp_total (λ (r : Registration). r.path))
+    (always_returns_same _ _ _ (λ a r f k. (search rules, search rules))) in
+    false≢true (sym c.if-not-is_rising.true ∙ c.is_rising.ensures.1
+    (rw c.as_slice.ensures.value
+    (sorted_rises c.args.registrations.items _ c.sort_unstable_by.ensures.permutation sorted
+    outputs.1)))

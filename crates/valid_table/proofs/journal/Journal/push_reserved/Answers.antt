@@ -10,27 +10,34 @@ use Rattle.valid_table.proofs.journal.Journal.push_reserved.Goals as goal
 
 pub register_reserved-requires-clause-new : goal.register_reserved-requires-clause-new
 register_reserved-requires-clause-new c =
-    rw (c.self.invariant.1, ap (λ (j : JournalValue). j.entries) c.self.view_is, c.requires.same) c.requires.new
+    rw (c.self.invariant.1, ap (λ (j : JournalValue). j.entries) c.self.view_is, c.requires.same)
+    c.requires.new
 
 pub register_reserved-requires-clause-closed : goal.register_reserved-requires-clause-closed
 register_reserved-requires-clause-closed c =
-    rw (c.self.invariant.1, ap (λ (j : JournalValue). j.entries) c.self.view_is, c.requires.same) c.requires.closed
+    rw (c.self.invariant.1, ap (λ (j : JournalValue). j.entries) c.self.view_is, c.requires.same)
+    c.requires.closed
 
 pub invariant_of-self : goal.invariant_of-self
 invariant_of-self c =
     let entries = c.self.inside.entries.items in
     let entry = c.args.entry in
-    let same : entries ≡ c.args.self.now.entries = ap (λ (j : JournalValue). j.entries) c.self.view_is in
+    let same : entries ≡ c.args.self.now.entries =
+    ap (λ (j : JournalValue). j.entries) c.self.view_is in
     let own = c.registrations.ensures.value in
-    let some = some_elements (registered_by entry) (λ none. c.registrations.ensures.some (own ∙ none)) in
+    let some = some_elements (registered_by entry)
+    (λ none. c.registrations.ensures.some (own ∙ none)) in
     let room = ap (λ (j : JournalValue). j.room) c.self.view_is in
     let pushed : c.push.new.self.items ≡ entries ++ entry ∷ [] =
-    c.push.ensures.items ∙ ap (λ b. if b then entries ++ entry ∷ [] else entries) (c.push.ensures.succeeds (omega (arith, c.requires.room, some, room))) in
+    c.push.ensures.items ∙ ap (λ b. if b then entries ++ entry ∷ [] else entries)
+    (c.push.ensures.succeeds (omega (arith, c.requires.room, some, room))) in
     let new : AreNew (registered entries) (registered_by entry) = rw same c.requires.new in
     let closed : AreClosed (registered entries) (registered_by entry) = rw same c.requires.closed in
     let rising = subst (λ rs. IsRising (paths_of rs)) own c.registrations.ensures.rising in
-    let once = once_more (registered entries) (registered_by entry) c.self.invariant.0.once rising new in
+    let once = once_more (registered entries) (registered_by entry) c.self.invariant.0.once rising
+    new in
     rw pushed (
       journal_push entries entry c.self.invariant.0 c.requires.derived closed once,
-      rw (c.register_reserved.ensures.registrations, c.self.invariant.1, c.requires.same) (sym (registered_push entries entry)),
+      rw (c.register_reserved.ensures.registrations, c.self.invariant.1, c.requires.same)
+          (sym (registered_push entries entry)),
     )

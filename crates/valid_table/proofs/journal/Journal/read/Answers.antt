@@ -8,7 +8,8 @@ checked-requires-clause-few c = few_lines _ _ _ (omega arith) c.in-Ok.ensures.ok
 
 pub line_number-requires : goal.line_number-requires
 line_number-requires c =
-    let fits = left_within _ _ c.in-Err-Left.left (rw c.in-Err-Left.field-0-is at c.in-Err-Left.ensures.left) in
+    let fits = left_within _ _ c.in-Err-Left.left
+    (rw c.in-Err-Left.field-0-is at c.in-Err-Left.ensures.left) in
     omega (arith, c.in-Err-Left.left-is)
 
 pub returns-in-Err-Left : goal.returns-in-Err-Left
@@ -16,6 +17,7 @@ returns-in-Err-Left c =
     let unlike : c.is_other_version.result ≡ false = c.if-is_other_version.false in (
       omega arith,
       λ other. false≢true (sym unlike ∙ c.is_other_version.ensures.1 other),
-      bad_line_number _ _ c.in-Err-Left.left c.line_number.result c.in-Err-Left.ensures.is_dir (rw c.in-Err-Left.field-0-is at c.in-Err-Left.ensures.left)
+      bad_line_number _ _ c.in-Err-Left.left c.line_number.result c.in-Err-Left.ensures.is_dir
+          (rw c.in-Err-Left.field-0-is at c.in-Err-Left.ensures.left)
           (rw c.in-Err-Left.left-is at c.line_number.ensures),
     )

@@ -9,5 +9,7 @@ returns c =
     let some = registered_by c.args.entry.now in
     let r = c.index-registrations-blame.result in
     let blamed : IsBlamedFor known some r c.in_ok-blame.blame.reference =
-    blamed_index known some c.in_ok-blame.blame r c.in_ok-blame.ensures (rw (← c.registrations-registrations.ensures.value) c.index-registrations-blame.is) in
-    obstacle_stands known some r c.in_ok-blame.blame.reference c.obstacle_of.result blamed c.obstacle_of.ensures
+    blamed_index known some c.in_ok-blame.blame r c.in_ok-blame.ensures
+    (rw (← c.registrations-registrations.ensures.value) c.index-registrations-blame.is) in
+    obstacle_stands known some r c.in_ok-blame.blame.reference c.obstacle_of.result blamed
+    c.obstacle_of.ensures

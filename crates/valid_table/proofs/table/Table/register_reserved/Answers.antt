@@ -9,15 +9,23 @@ use Rattle.valid_table.proofs.table.Table.register_reserved.Goals as goal
 pub push_entry-requires-clause-once : goal.push_entry-requires-clause-once
 push_entry-requires-clause-once c =
     let known = registrations_of c.self.inside.rows.entries in
-    let same : known ≡ c.args.self.now.registrations = ap (λ (t : TableValue). t.registrations) c.self.view_is in
+    let same : known ≡ c.args.self.now.registrations =
+    ap (λ (t : TableValue). t.registrations) c.self.view_is in
     let new : AreNew known (registered_by c.args.entry) = rw same c.requires.new in
-    once_more known (registered_by c.args.entry) c.self.invariant.0 (subst (λ rs. IsRising (paths_of rs)) c.registrations.ensures.value c.registrations.ensures.rising) new
+    once_more known (registered_by c.args.entry) c.self.invariant.0
+    (subst (λ rs. IsRising (paths_of rs)) c.registrations.ensures.value
+    c.registrations.ensures.rising) new
 
 pub invariant_of-self : goal.invariant_of-self
 invariant_of-self c =
     let known = registrations_of c.self.inside.rows.entries in
-    let same : known ≡ c.args.self.now.registrations = ap (λ (t : TableValue). t.registrations) c.self.view_is in
+    let same : known ≡ c.args.self.now.registrations =
+    ap (λ (t : TableValue). t.registrations) c.self.view_is in
     let new : AreNew known (registered_by c.args.entry) = rw same c.requires.new in
     let closed : AreClosed known (registered_by c.args.entry) = rw same c.requires.closed in
-    let rising = subst (λ rs. IsRising (paths_of rs)) c.registrations.ensures.value c.registrations.ensures.rising in
-    rw c.push_entry.ensures.rows (once_more known (registered_by c.args.entry) c.self.invariant.0 rising new, valid_with_more known (registered_by c.args.entry) c.self.invariant.1 closed)
+    let rising = subst (λ rs. IsRising (paths_of rs)) c.registrations.ensures.value
+    c.registrations.ensures.rising in
+    rw c.push_entry.ensures.rows (
+      once_more known (registered_by c.args.entry) c.self.invariant.0 rising new,
+      valid_with_more known (registered_by c.args.entry) c.self.invariant.1 closed,
+    )
