@@ -1,0 +1,49 @@
+-- *Builder*: what a job may come to, and what a run makes of it (Nix manual, "Building"; Dolstra's
+-- thesis, section 5.5.1; the relation is this product's own).
+use Rattle.std.specs.Prelude.{◌≡◌, ◌⊎◌, ℕ, Some, List, Result, Ok, Err, slice_get}
+use Rattle.drv_graph.specs.Nodes.{Node}
+use Rattle.valid_table.specs.PathInfos.{PathInfo}
+use Rattle.valid_table.specs.declared.entry.Entry.{Entry}
+use Rattle.sched_core.specs.Books.{ArePermittedPaths, opened}
+use Rattle.sched_core.specs.Jobs.{IsJob}
+use Rattle.sched_core.specs.Legal.{IsEntryOf, begun, ended, failed}
+use Rattle.sched_core.specs.Runs.{History, Run}
+use Rattle.sched_core.specs.Verdicts.{IsVerdict}
+use Rattle.sched_core.specs.declared.job.Answer.{Answer}
+use Rattle.sched_core.specs.declared.job.Job.{Job}
+use Rattle.sched_core.specs.declared.reason.Reason.{Reason}
+use Rattle.sched_core.specs.declared.reason.Reason.TheVariants.{OutOfMemory}
+
+-- *Verdict* on an outcome: the verdict on the answer, or the reason why there is none
+abbrev pub IsOutcomeVerdict : Job → (permitted : List (List ℕ)) → Result Answer Reason
+    → Result (List PathInfo) Reason → Type 0
+IsOutcomeVerdict job permitted (Ok answer) verdict = IsVerdict job permitted answer verdict
+IsOutcomeVerdict job permitted (Err reason) verdict = verdict ≡ Err reason
+
+-- What building a derivation may come to behind some entries: the verdict on an outcome that may be
+-- given for its job, where its outputs may refer to what is permitted behind these entries.
+pub record IsVerdictBehind (may : Job → Result Answer Reason → Type 0) (run : Run)
+    (entries : List Entry) (d : ℕ) (verdict : Result (List PathInfo) Reason)
+    : Type 0 where
+  pub job : Job
+  pub is_job : IsJob run.graph d job
+  pub permitted : List (List ℕ)
+  pub are_permitted : ArePermittedPaths entries job permitted
+  pub outcome : Result Answer Reason
+  pub given : may job outcome
+  pub is_verdict : IsOutcomeVerdict job permitted outcome verdict
+
+-- *Answered*: each Done has the records, and each Fail the reason, of a verdict on what a builder
+-- may give behind the entries before it; but for a Fail because memory was refused.
+pub data IsAnswered (may : Job → Result Answer Reason → Type 0) (run : Run) : History → Type 0 where
+  answered_opening : (entries : List Entry) → IsAnswered may run (opened entries)
+  answered_begin : (history : History) (d : ℕ) → IsAnswered may run history
+      → IsAnswered may run (begun history d)
+  answered_done : (history : History) (d lease : ℕ) (node : Node) (infos : List PathInfo)
+      (entry : Entry) → IsAnswered may run history
+      → slice_get run.graph.nodes d ≡ Some node
+      → IsVerdictBehind may run history.entries d (Ok infos) → IsEntryOf node infos entry
+      → IsAnswered may run (ended history d lease entry)
+  answered_fail : (history : History) (d lease : ℕ) (reason : Reason) → IsAnswered may run history
+      → (reason ≡ OutOfMemory) ⊎ IsVerdictBehind may run history.entries d (Err reason)
+      → IsAnswered may run (failed history d lease reason)

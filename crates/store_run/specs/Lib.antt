@@ -1,0 +1,5 @@
+pub mod Builders
+pub mod Numbers
+pub mod OneThread
+pub mod Realising
+pub mod Sharing

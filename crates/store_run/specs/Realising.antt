@@ -1,0 +1,62 @@
+-- *Realise*: how a run ends (this product's own).
+use Rattle.std.specs.Prelude.{◌≡◌, ◌≤◌, ◌<◌, ◌⊎◌, ℕ, zero, Option, Some, None, List, Result}
+use Rattle.drv_graph.specs.Plans.{Graph}
+use Rattle.valid_table.specs.declared.entry.Entry.{Entry}
+use Rattle.sched_core.specs.Books.{IsRunSettled, Ledger}
+use Rattle.sched_core.specs.Legal.{IsLegal}
+use Rattle.sched_core.specs.declared.job.Answer.{Answer}
+use Rattle.sched_core.specs.declared.job.Job.{Job}
+use Rattle.sched_core.specs.declared.reason.Reason.{Reason}
+use Rattle.store_run.specs.Builders.{IsAnswered}
+use Rattle.store_run.specs.declared.fault.RunFault.{RunFault}
+use Rattle.store_run.specs.declared.fault.RunFault.TheVariants.{NoWorkers, ThreadFault, NoMemory, ForeignPlan}
+
+-- A book is over a plan, for a system, and opened with these entries.
+pub record IsOver (plan : Graph) (system : List ℕ) (opening : List Entry) (book : Ledger)
+    : Type 0 where
+  pub plan_is : book.run.graph ≡ plan
+  pub system_is : book.run.system ≡ system
+  pub opening_is : book.history.opening ≡ opening
+
+-- from 1 to 64 workers
+abbrev pub AreWorkers : ℕ → Type 0
+AreWorkers count = (1 ≤ count) × (count ≤ 64)
+
+-- What a run leaves behind: a book over what was lent, whose history is legal, and in which what
+-- became of each derivation is a verdict on what a builder may give.
+pub record IsLeft (may : Job → Result Answer Reason → Type 0) (plan : Graph) (system : List ℕ)
+    (opening : List Entry) (book : Ledger)
+    : Type 0 where
+  pub over : IsOver plan system opening book
+  pub legal : IsLegal book.run book.history
+  pub answered : IsAnswered may book.run book.history
+
+-- A run by so many workers that went to its end: nothing wanted is left to do.
+pub record IsRealised (may : Job → Result Answer Reason → Type 0) (plan : Graph) (system : List ℕ)
+    (opening : List Entry) (count : ℕ) (book : Ledger)
+    : Type 0 where
+  pub workers : AreWorkers count
+  pub left : IsLeft may plan system opening book
+  pub settled : IsRunSettled book.run book.history
+
+-- A run by so many workers that ended before that, with its book.
+pub record IsCutOff (may : Job → Result Answer Reason → Type 0) (plan : Graph) (system : List ℕ)
+    (opening : List Entry) (count : ℕ) (book : Ledger)
+    : Type 0 where
+  pub workers : AreWorkers count
+  pub left : IsLeft may plan system opening book
+  pub unsettled : IsRunSettled book.run book.history → ⊥
+
+-- why a run by so many workers gives no settled book, and what it leaves behind
+abbrev pub IsRunFault : (may : Job → Result Answer Reason → Type 0) → Graph → (system : List ℕ)
+    → (opening : List Entry) → (count : ℕ) → RunFault → Option Ledger → Type 0
+IsRunFault may plan system opening count NoWorkers None = AreWorkers count → ⊥
+IsRunFault may plan system opening count NoWorkers (Some book) = ⊥
+IsRunFault may plan system opening count ThreadFault None = ⊥
+IsRunFault may plan system opening count ThreadFault (Some book) =
+    IsCutOff may plan system opening count book
+IsRunFault may plan system opening count NoMemory None = AreWorkers count
+IsRunFault may plan system opening count NoMemory (Some book) =
+    IsCutOff may plan system opening count book
+IsRunFault may plan system opening count ForeignPlan None = AreWorkers count
+IsRunFault may plan system opening count ForeignPlan (Some book) = ⊥

@@ -1,0 +1,36 @@
+//! Why a run ends without a settled book.
+ghost use Rattle.std.specs.Prelude.{◌≡◌};
+ghost use Rattle.store_run.specs.Numbers.{fault_number_of};
+
+use thiserror::Error;
+
+/// Why a run ends without a settled book.
+#[derive(Clone, Copy, Debug, PartialEq, Eq, Error)]
+pub enum RunFault {
+    /// There is no builder, or there are more than 64.
+    #[error("there must be from 1 to 64 workers")]
+    NoWorkers,
+    /// All workers that could be started have ended, and the book isn't settled.
+    #[error("the workers ended before the book was settled")]
+    ThreadFault,
+    /// Memory was refused.
+    #[error("memory was refused")]
+    NoMemory,
+    /// The book behind the lock isn't over what was lent.
+    #[error("the book is not over the plan that was given")]
+    ForeignPlan,
+}
+
+impl RunFault {
+    /// The fault's number in the table of faults.
+    pub fn number(&self) -> u8
+        ensures { result ≡ fault_number_of self.now }
+    {
+        match self {
+            RunFault::NoWorkers => 70,
+            RunFault::ThreadFault => 71,
+            RunFault::NoMemory => 72,
+            RunFault::ForeignPlan => 73,
+        }
+    }
+}

@@ -1,0 +1,26 @@
+//! Runs: workers that build what a book gives out, until it is settled.
+//!
+//! | Module | What is in it |
+//! |---|---|
+//! | `build` | builders, which make what a job asks for |
+//! | `shared` | what the workers of a run share: the book, and why the run stops |
+//! | `locked` | that, behind a lock on which workers wait |
+//! | `worker` | what one worker does |
+//! | `run` | a run, from a plan and a journal to a settled book |
+//! | `lent` | whether a book is over what was lent |
+//! | `fault` | why a run ends without a settled book |
+#![tactic(auto)]
+
+mod build;
+mod fault;
+mod lent;
+mod locked;
+mod run;
+mod shared;
+mod worker;
+
+pub use build::Build;
+pub use fault::RunFault;
+pub use locked::Locked;
+pub use run::realise;
+pub use worker::work;
