@@ -1,9 +1,11 @@
 -- *Realise*: how a run ends (this product's own).
-use Rattle.std.specs.Prelude.{◌≡◌, ◌≤◌, ◌<◌, ◌⊎◌, ℕ, zero, Option, Some, None, List, Result}
+use Rattle.std.specs.Prelude.{◌≡◌, ◌≤◌, ℕ, Option, Some, None, List, Result}
 use Rattle.drv_graph.specs.Plans.{Graph}
 use Rattle.valid_table.specs.declared.entry.Entry.{Entry}
 use Rattle.sched_core.specs.Books.{IsRunSettled, Ledger}
 use Rattle.sched_core.specs.Legal.{IsLegal}
+use Rattle.sched_core.specs.declared.fault.BookFault.{BookFault}
+use Rattle.sched_core.specs.declared.fault.BookFault.TheVariants.{NoMemory as RefusedMemory}
 use Rattle.sched_core.specs.declared.job.Answer.{Answer}
 use Rattle.sched_core.specs.declared.job.Job.{Job}
 use Rattle.sched_core.specs.declared.reason.Reason.{Reason}
@@ -46,6 +48,12 @@ pub record IsCutOff (may : Job → Result Answer Reason → Type 0) (plan : Grap
   pub workers : AreWorkers count
   pub left : IsLeft may plan system opening book
   pub unsettled : IsRunSettled book.run book.history → ⊥
+
+-- why a run ends whose book isn't settled, by what stopped it, if anything did
+abbrev pub fault_by : (stop : Option BookFault) → RunFault
+fault_by (Some RefusedMemory) = NoMemory
+fault_by (Some other) = ThreadFault
+fault_by None = ThreadFault
 
 -- why a run by so many workers gives no settled book, and what it leaves behind
 abbrev pub IsRunFault : (may : Job → Result Answer Reason → Type 0) → Graph → (system : List ℕ)

@@ -9,8 +9,8 @@ use sched_core::{Answer, Job, Reason};
 
 /// Who builds what a job asks for.
 pub trait Build {
-    // What a job may come to, whichever builder of the type builds it: an exit status with what lies
-    // at the outputs' paths, or why there is none.
+    // What a job may come to, whichever builder of the type builds it: an exit status with what
+    // lies at the outputs' paths, or why there is none.
     ghost may: { Job → Result Answer Reason → Type 0 };
 
     /// Builds a job, whose lease has this number. Answers the exit status with what lies at each

@@ -23,12 +23,30 @@ impl<O: Outlet, B: Build> Locked<O, B> {
     pub fn new(book: Book<O>) -> Locked<O, B>
         requires { IsAnswered B.may book.run book.history }
     {
-        unreachable!()
+        Locked {
+            shared: Mutex::new(Shared::new(book)),
+            changed: Condvar::new(),
+        }
     }
 
     // A lease of something that is ready, for which the worker waits; none where the run ends.
+    // Each lease wakes another worker, for which something may be ready, and the end wakes all.
     pub(crate) fn take<R: Wait>(&self, rt: &R) -> Option<Lease<O::Told>> {
-        unreachable!()
+        let mut shared = self.shared.lock(rt);
+        for _ in rt.forever() {
+            match shared.step() {
+                Step::Build(lease) => {
+                    drop(shared);
+                    self.changed.notify_one();
+                    return Some(lease);
+                }
+                Step::Wait => shared = self.changed.wait(rt, shared),
+                Step::End => break,
+            }
+        }
+        drop(shared);
+        self.changed.notify_all();
+        None
     }
 
     // Ends a lease by the verdict on what its job came to.
@@ -41,13 +59,17 @@ impl<O: Outlet, B: Build> Locked<O, B> {
     )
         requires { (outcome ≡ Err OutOfMemory) ⊎ B.may lease.job outcome }
     {
-        unreachable!()
+        self.shared.lock(rt).end(alloc, lease, outcome);
     }
 
     /// The book, and why the run stopped, if it did.
     pub fn into_parts(self) -> (Book<O>, Option<BookFault>)
         ensures { IsAnswered B.may result.0.run result.0.history }
     {
-        unreachable!()
+        let Locked {
+            shared,
+            changed: _changed,
+        } = self;
+        shared.into_inner().into_parts()
     }
 }
