@@ -14,6 +14,7 @@
 //! | `verdict`, `check` | what `check` says of one word; its lines |
 //! | `added_text`, `add_text` | what `add-text` makes of a text; the subcommand |
 //! | `added_drv`, `add_drv` | what `add-drv` makes of a draft; the subcommand |
+//! | `process_build` | a builder that runs a job's program as a process |
 //! | `printing`, `run` | what is printed; one run of the program |
 #![tactic(auto)]
 
@@ -32,6 +33,7 @@ mod graph_words;
 mod journal_file;
 mod options;
 mod printing;
+mod process_build;
 mod run;
 mod stop;
 mod store_dir;

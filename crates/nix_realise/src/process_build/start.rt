@@ -1,0 +1,66 @@
+//! A builder that is started and waited for.
+use super::call::Call;
+use super::environment::{set_environment, settings};
+use super::reasons::no_start;
+use sched_core::Reason;
+use std::alloc::{AllocError, Global};
+use std::os::unix::process::CommandExt;
+use std::process::{Command, Processes, Stdio};
+
+/// Runs a builder in its folder, and gives its exit status, none where a signal ended it. It waits
+/// for the builder alone, and not for what that one has started.
+pub fn run_builder<P: Processes>(
+    alloc: Global,
+    processes: &P,
+    store_dir: &str,
+    folder: &str,
+    call: &Call<'_>,
+) -> Result<Option<i32>, Reason> {
+    let mut command = command(alloc, store_dir, folder, call)?;
+    let status = command.status(processes).map_err(no_start)?;
+    Ok(status.code())
+}
+
+// The command that runs a builder in its folder, in silence.
+fn command(
+    alloc: Global,
+    store_dir: &str,
+    folder: &str,
+    call: &Call<'_>,
+) -> Result<Command, AllocError> {
+    let mut command = Command::new(alloc, program(alloc, call.builder)?)?;
+    command.arg0(call.builder)?.current_dir(folder)?;
+    set_args(&mut command, &call.args)?;
+    set_environment(
+        &mut command,
+        &settings(alloc, store_dir, folder, &call.env)?,
+    )?;
+    be_silent(&mut command);
+    Ok(command)
+}
+
+// The path of a builder's program. One without a slash would be looked for in the folders of its
+// `PATH`.
+fn program(alloc: Global, builder: &str) -> Result<String, AllocError> {
+    if builder.as_bytes().contains(&b'/') {
+        String::from_str(alloc, builder)
+    } else {
+        format!(in alloc; "./{builder}")
+    }
+}
+
+// Gives a command these arguments.
+fn set_args(command: &mut Command, args: &[&str]) -> Result<(), AllocError> {
+    for arg in args {
+        command.arg(*arg)?;
+    }
+    Ok(())
+}
+
+// Gives a command no input, and shows nothing that it prints.
+fn be_silent(command: &mut Command) {
+    command
+        .stdin(Stdio::null())
+        .stdout(Stdio::null())
+        .stderr(Stdio::null());
+}
