@@ -4,6 +4,7 @@ use Rattle.std.specs.Prelude.{IfOk}
 use Rattle.valid_table.specs.PathInfos.{PathInfo}
 use Rattle.valid_table.specs.declared.entry.Entry.{Entry}
 use Rattle.sched_core.specs.Books.{ArePermittedPaths, MayAllRefer}
+use Rattle.sched_core.specs.VerdictLaws.{VerdictsMayRefer}
 use Rattle.sched_core.specs.Verdicts.{IsExamining}
 use Rattle.sched_core.specs.declared.job.Answer.{Answer}
 use Rattle.sched_core.specs.declared.job.Job.{Job}
@@ -21,3 +22,7 @@ examined_may_refer entries job permitted answer (Ok infos) are (inr (taken, reco
     let place = place_of infos info has in
     let is_record = records.each place.0 info place.1 in
     (are.each path).0 ((is_record.2.found.each path).0 refers).0
+
+pub verdicts_may_refer : VerdictsMayRefer
+verdicts_may_refer entries job permitted answer infos are is =
+    examined_may_refer entries job permitted answer (Ok infos) are (inr is)

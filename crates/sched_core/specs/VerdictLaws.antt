@@ -1,5 +1,4 @@
--- What the verdict on a job of a plan's derivation gives: what a Done of it may register, but that
--- the permitted paths be the run's.
+-- What the verdict on a job gives: what a Done of its derivation may register.
 use Rattle.std.specs.Prelude.{◌≡◌, ℕ, Some, Ok, List, length, Contains, slice_get}
 use Rattle.drv_graph.specs.Kinds.{HasKind}
 use Rattle.drv_graph.specs.Nodes.{Node}
@@ -7,6 +6,8 @@ use Rattle.drv_graph.specs.Plans.{Graph}
 use Rattle.drv_graph.specs.declared.kinds.Kind.TheVariants.{Fixed}
 use Rattle.drv_graph.specs.declared.kinds.Method.{Method}
 use Rattle.valid_table.specs.PathInfos.{PathInfo}
+use Rattle.valid_table.specs.declared.entry.Entry.{Entry}
+use Rattle.sched_core.specs.Books.{ArePermittedPaths, MayAllRefer}
 use Rattle.sched_core.specs.Jobs.{IsJob, output_paths}
 use Rattle.sched_core.specs.Verdicts.{IsCyclic, IsVerdict}
 use Rattle.sched_core.specs.declared.job.Answer.{Answer}
@@ -29,3 +30,10 @@ VerdictsAreRegistrable = (graph : Graph) (d : ℕ) (job : Job) (node : Node)
     (permitted : List (List ℕ)) (answer : Answer) (infos : List PathInfo)
     → IsJob graph d job → slice_get graph.nodes d ≡ Some node
     → IsVerdict job permitted answer (Ok infos) → AreRegistrable node permitted infos
+
+-- each reference in the records of a verdict is permitted to the job behind some entries, where the
+-- verdict was found by the paths that are permitted there
+abbrev pub VerdictsMayRefer : Type 0
+VerdictsMayRefer = (entries : List Entry) (job : Job) (permitted : List (List ℕ)) (answer : Answer)
+    (infos : List PathInfo) → ArePermittedPaths entries job permitted
+    → IsVerdict job permitted answer (Ok infos) → MayAllRefer entries job infos

@@ -3,7 +3,7 @@
 ghost use Rattle.sched_core.specs.Headline.{BeginsOnce, DonesAreAllowed, EntriesAreJournal, LeasesApart, LeasesBelow, PermittedStays, SeedsAreValid};
 ghost use Rattle.sched_core.specs.Reports.{ReportIsOne};
 ghost use Rattle.sched_core.specs.States.{StatesAgree, StatesAreOne};
-ghost use Rattle.sched_core.specs.VerdictLaws.{VerdictsAreRegistrable};
+ghost use Rattle.sched_core.specs.VerdictLaws.{VerdictsAreRegistrable, VerdictsMayRefer};
 ghost use Rattle.sched_core.specs.Verdicts.{HasOneVerdict};
 
 /// Where inputs have smaller numbers than their users, each derivation has the state that the table
@@ -22,6 +22,12 @@ pub fn verdict_is_one()
 /// refer to permitted paths alone, have a fixed output's declared digest, and make no cycle.
 pub fn verdict_is_registrable()
     ensures { VerdictsAreRegistrable }
+{}
+
+/// The references in a verdict's records are permitted to the job, where the verdict was found by the
+/// paths that are.
+pub fn verdict_may_refer()
+    ensures { VerdictsMayRefer }
 {}
 
 /// In a legal history a derivation begins at most once, and no two leases have one number.

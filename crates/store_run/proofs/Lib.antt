@@ -1,2 +1,4 @@
+pub mod Answered
+pub mod Examined
 pub mod Openings
 pub mod RunEndings

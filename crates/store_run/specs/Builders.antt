@@ -14,24 +14,24 @@ use Rattle.sched_core.specs.declared.job.Job.{Job}
 use Rattle.sched_core.specs.declared.reason.Reason.{Reason}
 use Rattle.sched_core.specs.declared.reason.Reason.TheVariants.{OutOfMemory}
 
--- *Verdict* on an outcome: the verdict on the answer, or the reason why there is none
-abbrev pub IsOutcomeVerdict : Job → (permitted : List (List ℕ)) → Result Answer Reason
+-- *Verdict* on an outcome behind some entries: the reason why there is no answer, or the verdict on
+-- the answer by the paths that are permitted to the job there
+abbrev pub IsOutcomeVerdict : List Entry → Job → Result Answer Reason
     → Result (List PathInfo) Reason → Type 0
-IsOutcomeVerdict job permitted (Ok answer) verdict = IsVerdict job permitted answer verdict
-IsOutcomeVerdict job permitted (Err reason) verdict = verdict ≡ Err reason
+IsOutcomeVerdict entries job (Ok answer) verdict = (permitted : List (List ℕ))
+    × ArePermittedPaths entries job permitted × IsVerdict job permitted answer verdict
+IsOutcomeVerdict entries job (Err reason) verdict = verdict ≡ Err reason
 
 -- What building a derivation may come to behind some entries: the verdict on an outcome that may be
--- given for its job, where its outputs may refer to what is permitted behind these entries.
+-- given for its job.
 pub record IsVerdictBehind (may : Job → Result Answer Reason → Type 0) (run : Run)
     (entries : List Entry) (d : ℕ) (verdict : Result (List PathInfo) Reason)
     : Type 0 where
   pub job : Job
   pub is_job : IsJob run.graph d job
-  pub permitted : List (List ℕ)
-  pub are_permitted : ArePermittedPaths entries job permitted
   pub outcome : Result Answer Reason
   pub given : may job outcome
-  pub is_verdict : IsOutcomeVerdict job permitted outcome verdict
+  pub is_verdict : IsOutcomeVerdict entries job outcome verdict
 
 -- *Answered*: each Done has the records, and each Fail the reason, of a verdict on what a builder
 -- may give behind the entries before it; but for a Fail because memory was refused.

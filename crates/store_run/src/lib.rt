@@ -4,6 +4,7 @@
 //! |---|---|
 //! | `build` | builders, which make what a job asks for |
 //! | `shared` | what the workers of a run share: the book, and why the run stops |
+//! | `verdict` | the verdict on what the job of a lease came to |
 //! | `locked` | that, behind a lock on which workers wait |
 //! | `worker` | what one worker does |
 //! | `run` | a run, from a plan and a journal to a settled book |
@@ -17,6 +18,7 @@ mod lent;
 mod locked;
 mod run;
 mod shared;
+mod verdict;
 mod worker;
 
 pub use build::Build;
