@@ -14,7 +14,7 @@ use Rattle.store_run.specs.declared.fault.RunFault.{RunFault}
 use Rattle.store_run.specs.declared.fault.RunFault.TheVariants.{NoWorkers, ThreadFault, NoMemory, ForeignPlan}
 
 -- A book is over a plan, for a system, and opened with these entries.
-pub record IsOver (plan : Graph) (system : List ℕ) (opening : List Entry) (book : Ledger)
+pub record IsOverLent (plan : Graph) (system : List ℕ) (opening : List Entry) (book : Ledger)
     : Type 0 where
   pub plan_is : book.run.graph ≡ plan
   pub system_is : book.run.system ≡ system
@@ -29,7 +29,7 @@ AreWorkers count = (1 ≤ count) × (count ≤ 64)
 pub record IsLeft (may : Job → Result Answer Reason → Type 0) (plan : Graph) (system : List ℕ)
     (opening : List Entry) (book : Ledger)
     : Type 0 where
-  pub over : IsOver plan system opening book
+  pub over : IsOverLent plan system opening book
   pub legal : IsLegal book.run book.history
   pub answered : IsAnswered may book.run book.history
 

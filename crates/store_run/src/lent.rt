@@ -1,7 +1,7 @@
 //! Whether a book is over what was lent.
 ghost use Rattle.std.specs.Prelude.{◌↔◌, IsTrue};
 ghost use Rattle.sched_core.specs.Legal.{IsLegal};
-ghost use Rattle.store_run.specs.Realising.{IsOver};
+ghost use Rattle.store_run.specs.Realising.{IsOverLent};
 
 use drv_graph::Plan;
 use drv_graph::laws::equal_plans_are_same;
@@ -12,7 +12,7 @@ use valid_table::{Journal, Outlet};
 /// Whether a book is over this plan, for this system, and opened with the journal's entries. The
 /// history of each book is legal. Compares plan, system and entries whole; takes no memory.
 pub fn is_over<O: Outlet>(book: &Book<O>, plan: &Plan, system: &[u8], journal: &Journal) -> bool
-    ensures over { IsTrue result ↔ IsOver plan.now system.now journal.now.entries book.now }
+    ensures over { IsTrue result ↔ IsOverLent plan.now system.now journal.now.entries book.now }
     ensures legal { IsLegal book.now.run book.now.history }
 {
     equal_plans_are_same();

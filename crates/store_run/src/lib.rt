@@ -17,6 +17,8 @@ mod fault;
 mod lent;
 mod locked;
 mod run;
+#[cfg(test)]
+mod run_tests;
 mod shared;
 mod verdict;
 mod worker;

@@ -1,0 +1,382 @@
+//! Runs of workers, with builders that do as they are told.
+
+use crate::{Build, RunFault, realise};
+use builders::{Deed, Does, Double, Gate};
+use drv_graph::Plan;
+use files::*;
+use nix_drv::{ListSource, ListedFile};
+use nix_names::{StoreDir, parse_path};
+use sched_core::{Book, Reason};
+use std::alloc::{AllocError, Global};
+use std::sync::Wait;
+use std::sync::atomic::AtomicU64;
+use std::test::*;
+use std::thread::Threads;
+use valid_table::{Journal, ListOutlet};
+
+mod builders;
+mod bulk;
+mod files;
+
+// A text, by its pieces.
+type Pieces = &'static [&'static [u8]];
+
+// A run: its roots, the lines of its journal before, what its builders do, how many events there
+// are, and its report.
+struct Row {
+    label: &'static str,
+    roots: &'static [&'static [u8]],
+    before: Pieces,
+    told: &'static [Deed],
+    events: usize,
+    report: Pieces,
+}
+
+const SYSTEM: &[u8] = b"x86_64-linux";
+
+const VERSION: &[u8] = b"realiser-journal 1\n";
+
+// A folder's digest.
+const NONE: &[u8] = b" -\n";
+
+const END: &[u8] = b"\n";
+
+const BUILT: &[u8] = b"built ";
+
+const REUSED: &[u8] = b"reused ";
+
+const FAILED: &[u8] = b"failed ";
+
+const REFUSED: &[u8] = b"refused ";
+
+const OUTPUT: &[u8] = b"output ";
+
+static ROWS: [Row; 4] = [
+    Row {
+        label: "a diamond",
+        roots: &[TOP],
+        before: &[],
+        told: &[],
+        events: 8,
+        report: &[
+            BUILT, RIGHT, END, BUILT, LEFT, END, BUILT, TOP, END, BUILT, BASE, END, OUTPUT,
+            TOP_OUT, END,
+        ],
+    },
+    Row {
+        label: "a diamond of which both sides fail, and another root",
+        roots: &[TOP, APART],
+        before: &[],
+        told: &[
+            Deed {
+                output: LEFT_DEV,
+                does: Does::Exit(3),
+            },
+            Deed {
+                output: RIGHT_OUT,
+                does: Does::Exit(3),
+            },
+        ],
+        events: 8,
+        report: &[
+            FAILED,
+            RIGHT,
+            b": ExitStatus(3)\n",
+            BUILT,
+            APART,
+            END,
+            FAILED,
+            LEFT,
+            b": ExitStatus(3)\n",
+            REFUSED,
+            TOP,
+            b": InputNotRealised(",
+            RIGHT,
+            b")\n",
+            BUILT,
+            BASE,
+            END,
+            OUTPUT,
+            APART_OUT,
+            END,
+        ],
+    },
+    Row {
+        label: "a root whose outputs are valid",
+        roots: &[LEFT],
+        before: &[VERSION, b"A ", LEFT_DEV, NONE, b"A ", LEFT_OUT, NONE],
+        told: &[],
+        events: 0,
+        report: &[
+            REUSED, LEFT, END, OUTPUT, LEFT_DEV, END, OUTPUT, LEFT_OUT, END,
+        ],
+    },
+    Row {
+        label: "a builder that is refused memory",
+        roots: &[APART],
+        before: &[],
+        told: &[Deed {
+            output: APART_OUT,
+            does: Does::Answer(Reason::OutOfMemory),
+        }],
+        events: 2,
+        report: &[FAILED, APART, b": OutOfMemory\n"],
+    },
+];
+
+fn joined(alloc: Global, pieces: &[&[u8]]) -> Result<Vec<u8>, AllocError> {
+    let mut text = Vec::new(alloc);
+    for piece in pieces {
+        text.extend_from_slice(piece)?;
+    }
+    Ok(text)
+}
+
+fn all_files(alloc: Global) -> Result<Vec<ListedFile>, AllocError> {
+    let mut files = Vec::new(alloc);
+    for file in &FILES {
+        let path = Vec::from_slice(alloc, file.path)?;
+        let bytes = Vec::from_slice(alloc, file.text)?;
+        files.push(ListedFile { path, bytes })?;
+    }
+    Ok(files)
+}
+
+// The plan of the roots at these paths, by a source.
+fn plan_from(
+    alloc: Global,
+    source: &mut ListSource,
+    dir: &StoreDir,
+    texts: &[&[u8]],
+) -> Result<Plan, Fail> {
+    let mut roots = Vec::new(alloc);
+    for text in texts {
+        roots.push(parse_path(alloc, dir, text)?)?;
+    }
+    Ok(Plan::load(alloc, source, dir, &roots)?)
+}
+
+// The plan of the roots at these paths among the listed files.
+fn plan(alloc: Global, texts: &[&[u8]]) -> Result<Plan, Fail> {
+    let dir = StoreDir::new(alloc, b"/nix/store")?;
+    let mut source = ListSource::new(alloc, all_files(alloc)?, Vec::new(alloc))?;
+    plan_from(alloc, &mut source, &dir, texts)
+}
+
+fn journal(alloc: Global, before: &[&[u8]]) -> Result<Journal, Fail> {
+    let dir = StoreDir::new(alloc, b"/nix/store")?;
+    let text = joined(alloc, before)?;
+    Ok(Journal::read(alloc, &dir, &text)?)
+}
+
+fn doubles(alloc: Global, told: &'static [Deed], count: usize) -> Result<Vec<Double>, AllocError> {
+    let mut builders = Vec::new(alloc);
+    for _ in 0..count {
+        builders.push(Double { alloc, told })?;
+    }
+    Ok(builders)
+}
+
+// The book of a run that went to its end; any other is closed.
+fn realised<R: Threads + Wait + Sync, B: Build + Send + Drop>(
+    rt: &R,
+    alloc: Global,
+    plan: &Plan,
+    journal: &Journal,
+    builders: Vec<B>,
+) -> Result<Book<ListOutlet>, Fail> {
+    match realise(rt, alloc, plan, journal, SYSTEM, builders) {
+        Ok(book) => Ok(book),
+        Err((fault, Some(book))) => {
+            book.close();
+            Err(fault.into())
+        }
+        Err((fault, None)) => Err(fault.into()),
+    }
+}
+
+// The report of a run.
+fn report(book: &Book<ListOutlet>) -> Result<Vec<u8>, Fail> {
+    if !book.settled() {
+        return Err("it isn't settled".into());
+    }
+    Ok(book.report()?)
+}
+
+// Whether a book ended as its row says.
+fn ended(alloc: Global, book: &Book<ListOutlet>, row: &Row) -> Result<bool, Fail> {
+    let is_report = report(book)? == joined(alloc, row.report)?;
+    Ok(is_report && book.events().len() == row.events)
+}
+
+// Whether a run by so many workers ends as its row says.
+fn holds<R: Threads + Wait + Sync>(
+    rt: &R,
+    alloc: Global,
+    row: &Row,
+    workers: usize,
+) -> Result<bool, Fail> {
+    let plan = plan(alloc, row.roots)?;
+    let journal = journal(alloc, row.before)?;
+    let builders = doubles(alloc, row.told, workers)?;
+    let book = realised(rt, alloc, &plan, &journal, builders)?;
+    let holds = ended(alloc, &book, row);
+    book.close();
+    holds
+}
+
+#[test]
+fn runs(rt: HostRuntime) -> Result<(), Fail> {
+    for row in &ROWS {
+        for workers in [1, 2, 4, 64] {
+            let holds = holds(&rt, rt.alloc(), row, workers)?;
+            assert!(rt; holds, "{} by {workers}", row.label);
+        }
+    }
+    Ok(())
+}
+
+// How a run without a book ended.
+fn fault_without_book(
+    ended: Result<Book<ListOutlet>, (RunFault, Option<Book<ListOutlet>>)>,
+) -> Option<RunFault> {
+    match ended {
+        Ok(book) | Err((_, Some(book))) => {
+            book.close();
+            None
+        }
+        Err((fault, None)) => Some(fault),
+    }
+}
+
+// No workers, and one more than there may be.
+#[test]
+fn wrong_number_of_workers(rt: HostRuntime) -> Result<(), Fail> {
+    let alloc = rt.alloc();
+    let plan = plan(alloc, &[APART])?;
+    let journal = Journal::new(alloc);
+    for workers in [0, 65] {
+        let builders = doubles(alloc, &[], workers)?;
+        let ended = realise(&rt, alloc, &plan, &journal, SYSTEM, builders);
+        assert_eq!(rt; fault_without_book(ended), Some(RunFault::NoWorkers));
+    }
+    Ok(())
+}
+
+fn gates<'a>(
+    alloc: Global,
+    begun: &'a AtomicU64,
+    enough: u64,
+    count: usize,
+) -> Result<Vec<Gate<'a>>, AllocError> {
+    let mut builders = Vec::new(alloc);
+    for _ in 0..count {
+        builders.push(Gate {
+            alloc,
+            begun,
+            enough,
+        })?;
+    }
+    Ok(builders)
+}
+
+// The report of a run in which each build waits until so many have begun.
+fn gated<R: Threads + Wait + Sync>(
+    rt: &R,
+    alloc: Global,
+    plan: &Plan,
+    enough: u64,
+    workers: usize,
+) -> Result<Vec<u8>, Fail> {
+    let begun = AtomicU64::new(0);
+    let builders = gates(alloc, &begun, enough, workers)?;
+    let book = realised(rt, alloc, plan, &Journal::new(alloc), builders)?;
+    let report = report(&book);
+    book.close();
+    report
+}
+
+// Two builds, of which the first ends well only if the other begins meanwhile.
+#[test]
+fn two_at_once(rt: HostRuntime) -> Result<(), Fail> {
+    let plan = plan(rt.alloc(), &[APART, BASE])?;
+    let together = gated(&rt, rt.alloc(), &plan, 2, 2)?;
+    let both = [
+        BUILT, APART, END, BUILT, BASE, END, OUTPUT, APART_OUT, END, OUTPUT, BASE_OUT, END,
+    ];
+    assert_eq!(rt; together, joined(rt.alloc(), &both)?);
+    Ok(())
+}
+
+#[test]
+fn one_after_the_other(rt: HostRuntime) -> Result<(), Fail> {
+    let plan = plan(rt.alloc(), &[APART, BASE])?;
+    let alone = gated(&rt, rt.alloc(), &plan, 2, 1)?;
+    let second = [
+        FAILED,
+        APART,
+        b": ExitStatus(99)\n",
+        BUILT,
+        BASE,
+        END,
+        OUTPUT,
+        BASE_OUT,
+        END,
+    ];
+    assert_eq!(rt; alone, joined(rt.alloc(), &second)?);
+    Ok(())
+}
+
+// What a user's output holds of its input's path is a reference of its record.
+static FRESH: [Deed; 1] = [Deed {
+    output: RIGHT_OUT,
+    does: Does::Leave(BASE_OUT),
+}];
+
+// SHA-256 of no bytes (FIPS 180-4).
+const EMPTY: &[u8] = b" e3b0c44298fc1c149afbf4c8996fb92427ae41e4649b934ca495991b7852b855\n";
+
+// SHA-256 of the bytes of `BASE_OUT`, by Python's hashlib.
+const OF_BASE_OUT: &[u8] = b" d6d229db8bbc722522f89dbdf41b1310222a82997c8eb7519d528b3f4fcd3de4\n";
+
+// The journal's text after a run.
+fn journal_after<R: Threads + Wait + Sync>(
+    rt: &R,
+    alloc: Global,
+    plan: &Plan,
+    workers: usize,
+) -> Result<Vec<u8>, Fail> {
+    let builders = doubles(alloc, &FRESH, workers)?;
+    let book = realised(rt, alloc, plan, &Journal::new(alloc), builders)?;
+    let text = book.journal().write(alloc);
+    book.close();
+    Ok(text?)
+}
+
+#[test]
+fn fresh_input_reference(rt: HostRuntime) -> Result<(), Fail> {
+    let plan = plan(rt.alloc(), &[RIGHT])?;
+    let after = [
+        VERSION,
+        b"D ",
+        BASE,
+        END,
+        b"O ",
+        BASE_OUT,
+        EMPTY,
+        b"D ",
+        RIGHT,
+        END,
+        b"O ",
+        RIGHT_OUT,
+        OF_BASE_OUT,
+        b"R ",
+        BASE_OUT,
+        END,
+    ];
+    let expected = joined(rt.alloc(), &after)?;
+    for workers in [1, 2] {
+        assert_eq!(rt; journal_after(&rt, rt.alloc(), &plan, workers)?, expected);
+    }
+    Ok(())
+}

@@ -1,0 +1,67 @@
+//! Files of the tests of runs; their paths were computed apart, with Python's hashlib.
+
+/// A file: its path and its bytes.
+pub(crate) struct File {
+    pub path: &'static [u8],
+    pub text: &'static [u8],
+}
+
+/// Without inputs, as are `APART` and `TWO`.
+pub(crate) const BASE: &[u8] = b"/nix/store/xwrdsxnlq6n2qnx61xya715sfa49wkxm-base.drv";
+
+pub(crate) const BASE_OUT: &[u8] = b"/nix/store/i73x2qwb221ly8r0xpzlngmrfjzb9dr1-base";
+
+/// A user of `BASE`, with two outputs.
+pub(crate) const LEFT: &[u8] = b"/nix/store/wf7kqrqhkw4448bgfb32jrkflk1lhzla-left.drv";
+
+pub(crate) const LEFT_DEV: &[u8] = b"/nix/store/4rawnpa29lim699rqkfdvnqzmp6p83wy-left-dev";
+
+pub(crate) const LEFT_OUT: &[u8] = b"/nix/store/r3lrfaxdqrmdarcmvswkif248fgwl4jx-left";
+
+/// Another user of `BASE`.
+pub(crate) const RIGHT: &[u8] = b"/nix/store/f4g7fbcn37jxc3dqm6l2k7azd70cig89-right.drv";
+
+pub(crate) const RIGHT_OUT: &[u8] = b"/nix/store/x4bjsz7iwwf7zqxqzpia912j8b34hrjw-right";
+
+/// A user of `RIGHT`, and of both outputs of `LEFT`.
+pub(crate) const TOP: &[u8] = b"/nix/store/xhcg6lfhdqd6x1y02y3znkz41vjp11ra-top.drv";
+
+pub(crate) const TOP_OUT: &[u8] = b"/nix/store/0fxfzm3kk5mfjv90kifrkk4jhp07bi6f-top";
+
+pub(crate) const APART: &[u8] = b"/nix/store/kf5lx0f1fwarx8b54f5lj2bpw4r26cn3-apart.drv";
+
+pub(crate) const APART_OUT: &[u8] = b"/nix/store/kfrmgg9ggrsfl210pmw51ig1w04a05qc-apart";
+
+/// With two outputs.
+pub(crate) const TWO: &[u8] = b"/nix/store/0bsxvq8f423xjbwyf6hdwk4a4mwm4and-two.drv";
+
+pub(crate) const TWO_DEV: &[u8] = b"/nix/store/0qdxrhz2k1y2kf9hd44ck3ccn61gyd61-two-dev";
+
+pub(crate) const TWO_OUT: &[u8] = b"/nix/store/8q7dp30dcjpjjh6wsac0q6sa6nr84c57-two";
+
+pub(crate) static FILES: [File; 6] = [
+    File {
+        path: BASE,
+        text: b"Derive([(\"out\",\"/nix/store/i73x2qwb221ly8r0xpzlngmrfjzb9dr1-base\",\"\",\"\")],[],[],\"x86_64-linux\",\"/bin/sh\",[],[])",
+    },
+    File {
+        path: LEFT,
+        text: b"Derive([(\"dev\",\"/nix/store/4rawnpa29lim699rqkfdvnqzmp6p83wy-left-dev\",\"\",\"\"),(\"out\",\"/nix/store/r3lrfaxdqrmdarcmvswkif248fgwl4jx-left\",\"\",\"\")],[(\"/nix/store/xwrdsxnlq6n2qnx61xya715sfa49wkxm-base.drv\",[\"out\"])],[],\"x86_64-linux\",\"/bin/sh\",[],[])",
+    },
+    File {
+        path: RIGHT,
+        text: b"Derive([(\"out\",\"/nix/store/x4bjsz7iwwf7zqxqzpia912j8b34hrjw-right\",\"\",\"\")],[(\"/nix/store/xwrdsxnlq6n2qnx61xya715sfa49wkxm-base.drv\",[\"out\"])],[],\"x86_64-linux\",\"/bin/sh\",[],[])",
+    },
+    File {
+        path: TOP,
+        text: b"Derive([(\"out\",\"/nix/store/0fxfzm3kk5mfjv90kifrkk4jhp07bi6f-top\",\"\",\"\")],[(\"/nix/store/f4g7fbcn37jxc3dqm6l2k7azd70cig89-right.drv\",[\"out\"]),(\"/nix/store/wf7kqrqhkw4448bgfb32jrkflk1lhzla-left.drv\",[\"dev\",\"out\"])],[],\"x86_64-linux\",\"/bin/sh\",[],[])",
+    },
+    File {
+        path: APART,
+        text: b"Derive([(\"out\",\"/nix/store/kfrmgg9ggrsfl210pmw51ig1w04a05qc-apart\",\"\",\"\")],[],[],\"x86_64-linux\",\"/bin/sh\",[],[])",
+    },
+    File {
+        path: TWO,
+        text: b"Derive([(\"dev\",\"/nix/store/0qdxrhz2k1y2kf9hd44ck3ccn61gyd61-two-dev\",\"\",\"\"),(\"out\",\"/nix/store/8q7dp30dcjpjjh6wsac0q6sa6nr84c57-two\",\"\",\"\")],[],[],\"x86_64-linux\",\"/bin/sh\",[],[])",
+    },
+];
