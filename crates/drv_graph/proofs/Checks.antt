@@ -5,6 +5,8 @@ use Rattle.std.specs.List.{slice_get}
 use Rattle.std.proofs.lemmas.Bool.{cases_lt}
 use Rattle.std.proofs.lemmas.List.Elements.{All-append}
 use Rattle.std.proofs.lemmas.Option.{get_or_from_slice_get, same_Some, slice_get-map, slice_get_within, slice_get-get_or}
+use Rattle.nix_names.specs.Firsts.{IsFirstWhere}
+use Rattle.nix_names.proofs.FirstElements.{first_within}
 use Rattle.nix_drv.specs.Derivation.{Drv, EnvEntry, Input, Output}
 use Rattle.drv_graph.specs.Checking.{AreExpected, EntriesFit, FitBefore, FitsIn, HasMisfit, IsEnvFault, IsEnvMismatch, IsFirstPair, IsKindFault, IsMismatch, IsNameFault, IsPathFault, IsSoundCheck, IsUnknownOutput, IsUseFault, IsValueFault, PathFits}
 use Rattle.drv_graph.specs.Expected.{IsExpected, path_name}
@@ -24,12 +26,13 @@ use Rattle.std.specs.declared.alloc.AllocError.{AllocError}
 use Rattle.std.specs.declared.alloc.Global.{Global}
 use Rattle.std.proofs.lemmas.Map.Keys.{Less-from_sorted}
 use Rattle.drv_graph.specs.Kinds.{HasKind}
-use Rattle.drv_graph.specs.Outputs.{AreSound, HasOtherEntry, IsFirst, IsKnownUse, IsOutputsCheck, IsWellNamed, PathsFit, Use, uses}
+use Rattle.drv_graph.specs.Outputs.{AreSound, HasOtherEntry, IsKnownUse, IsOutputsCheck, IsWellNamed, PathsFit, Use, uses}
 use Rattle.drv_graph.specs.declared.kinds.Kind.{Kind}
 use Rattle.drv_graph.specs.declared.fault.OutputFault.{OutputFault}
 use Rattle.drv_graph.specs.declared.fault.OutputFault.TheVariants.{NoMemory, MixedOutputs, UnknownMethod, BadName, UnknownOutput, OutputMismatch, EnvMismatch}
-use Rattle.drv_graph.proofs.Loops.{Contains-map, Contains-slice_get, beside, zipped_from_map, slice_get-Contains, slice_get-take, split_get}
+use Rattle.drv_graph.proofs.Loops.{beside, zipped_from_map, slice_get-take}
 use Rattle.drv_graph.proofs.OneText.{one_path}
+use Rattle.nix_names.proofs.Lists.{Contains-from_get, Contains-map, get_from_contains, split_get}
 
 -- ---- kind, names and uses
 
@@ -100,7 +103,8 @@ sound_is_checked in_draft dir name drv used hashes (EnvMismatch output) h = absu
 -- ---- uses
 
 pub unknown_use : (all : List Use) (u : Use) (fault : OutputFault)
-    → IsFirst (λ (other : Use). IsKnownUse other → ⊥) all u → IsUnknownOutput u.input u.output fault
+    → IsFirstWhere (λ (other : Use). IsKnownUse other → ⊥) all u
+    → IsUnknownOutput u.input u.output fault
     → IsUseFault all fault
 unknown_use all u (UnknownOutput input output) first h = (u, first, h.0, h.1)
 unknown_use all u NoMemory first h = absurd h
@@ -109,21 +113,6 @@ unknown_use all u (UnknownMethod output) first h = h
 unknown_use all u BadName first h = h
 unknown_use all u (OutputMismatch output expected) first h = h
 unknown_use all u (EnvMismatch output) first h = h
-
-first_within : (before middle after : List Use) (u : Use) → All IsKnownUse before
-    → IsFirst (λ (other : Use). IsKnownUse other → ⊥) middle u
-    → IsFirst (λ (other : Use). IsKnownUse other → ⊥) (before ++ (middle ++ after)) u
-first_within before middle after u known first = record {
-  before = before ++ first.before;
-  after = first.after ++ after;
-  parts =
-      ap (λ (m : List Use). before ++ (m ++ after)) first.parts
-      ∙ ap (λ (m : List Use). before ++ m) (append_assoc first.before (u ∷ first.after) after)
-      ∙ sym (append_assoc before first.before ((u ∷ first.after) ++ after));
-  holds = first.holds;
-  none = All-append (λ (other : Use). (IsKnownUse other → ⊥) → ⊥) before first.before
-      (λ k d below h. h (known k d below)) first.none;
-}
 
 -- ---- values
 
@@ -231,7 +220,7 @@ module _ (in_draft : Bool) (dir name : List ℕ) (kind : Kind) (drv : Drv) (hash
 
   pub first_mismatch : (o : Output) (path : List ℕ)
       → IsFirstPair (PathFits in_draft) (λ p q. PathFits in_draft p q → ⊥) drv.outputs paths o path
-      → IsFirst (λ (p : Output). (q : List ℕ) × Expected p q × (FitsIn in_draft p.path q → ⊥))
+      → IsFirstWhere (λ (p : Output). (q : List ℕ) × Expected p q × (FitsIn in_draft p.path q → ⊥))
       drv.outputs o × Expected o path
   first_mismatch o path pair =
       let found = at_place pair.place o pair.is_output in
@@ -241,8 +230,8 @@ module _ (in_draft : Bool) (dir name : List ℕ) (kind : Kind) (drv : Drv) (hash
           before = take pair.place drv.outputs;
           after = drop (suc pair.place) drv.outputs;
           parts = split_get drv.outputs pair.place o pair.is_output;
-          holds = (path, here, pair.wrong);
-          none = λ k d below (q, is, misfit).
+          is = (path, here, pair.wrong);
+          others = λ k d below (q, is, misfit).
               let at = slice_get-take drv.outputs pair.place k
               (get_or (take pair.place drv.outputs) k d)
               (slice_get-get_or (take pair.place drv.outputs) k d below) in
@@ -261,7 +250,7 @@ module _ (in_draft : Bool) (dir name : List ℕ) (kind : Kind) (drv : Drv) (hash
   pub first_other : (o : Output) (path : List ℕ)
       → IsFirstPair (EntriesFit in_draft drv.env) (λ p q. HasMisfit in_draft drv.env p.name q)
       drv.outputs paths o path
-      → IsFirst (HasOtherEntry (FitsIn in_draft) Expected drv) drv.outputs o
+      → IsFirstWhere (HasOtherEntry (FitsIn in_draft) Expected drv) drv.outputs o
   first_other o path pair =
       let found = at_place pair.place o pair.is_output in
       let one : found.0 ≡ path = same_Some found.0 path (sym found.1 ∙ pair.is_path) in
@@ -270,8 +259,8 @@ module _ (in_draft : Bool) (dir name : List ℕ) (kind : Kind) (drv : Drv) (hash
         before = take pair.place drv.outputs;
         after = drop (suc pair.place) drv.outputs;
         parts = split_get drv.outputs pair.place o pair.is_output;
-        holds = (pair.wrong.0, path, pair.wrong.1, pair.wrong.2, here, pair.wrong.3);
-        none = λ k d below.
+        is = (pair.wrong.0, path, pair.wrong.1, pair.wrong.2, here, pair.wrong.3);
+        others = λ k d below.
             let at = slice_get-take drv.outputs pair.place k
             (get_or (take pair.place drv.outputs) k d)
             (slice_get-get_or (take pair.place drv.outputs) k d below) in
@@ -376,8 +365,14 @@ known_more inputs drvs i x d at_x at_d before here =
 
 use_fault_within : (before middle after : List Use) (fault : OutputFault) → All IsKnownUse before
     → IsUseFault middle fault → IsUseFault (before ++ (middle ++ after)) fault
-use_fault_within before middle after (UnknownOutput input output) known (u, first, a, b) =
-    (u, first_within before middle after u known first, a, b)
+use_fault_within before middle after (UnknownOutput input output) known (u, first, a, b) = (
+  u,
+  first_within (λ (other : Use). (IsKnownUse other → ⊥) → ⊥)
+      (λ (other : Use). IsKnownUse other → ⊥) before middle after u
+      (λ k d below h. h (known k d below)) first,
+  a,
+  b,
+)
 use_fault_within before middle after NoMemory known h = tt
 use_fault_within before middle after MixedOutputs known h = h
 use_fault_within before middle after (UnknownMethod output) known h = h
@@ -435,18 +430,18 @@ pub entry_answer : (in_draft : Bool) (env : List EnvEntry) (name path : List ℕ
     → MatchBool answer (HasMisfit in_draft env name path → ⊥) (HasMisfit in_draft env name path)
 entry_answer in_draft env name path true place entry rises at_key at fits =
     λ (other, has, key, misfit).
-    let found = slice_get-Contains env other has in
+    let found = get_from_contains env other has in
     let here : Some entry.key ≡ Some name = sym
     (slice_get-map (λ (e : EnvEntry). e.key) env place
     ∙ ap (option_map (λ (e : EnvEntry). e.key)) at) ∙ at_key in
-    let same : other ≡ entry = one_entry env found.0 place other entry rises found.2 at
+    let same : other ≡ entry = one_entry env found.0 place other entry rises found.1 at
     (key ∙ sym (same_Some entry.key name here)) in
     misfit (subst (λ (e : EnvEntry). FitsIn in_draft e.value path) (sym same) fits)
 entry_answer in_draft env name path false place entry rises at_key at fits =
     let here : Some entry.key ≡ Some name = sym
     (slice_get-map (λ (e : EnvEntry). e.key) env place
     ∙ ap (option_map (λ (e : EnvEntry). e.key)) at) ∙ at_key in
-    (entry, Contains-slice_get env place entry at, same_Some entry.key name here, fits)
+    (entry, Contains-from_get env place entry at, same_Some entry.key name here, fits)
 
 -- outputs that fit, seen otherwise
 pub fit_moved : (Fits : Output → List ℕ → Type 0) (outputs others : List Output)

@@ -19,7 +19,8 @@ use Rattle.nix_drv.proofs.Rising.{order_means_rising}
 use Rattle.drv_graph.specs.Modulo.{names_of}
 use Rattle.drv_graph.specs.Nodes.{inputs_of}
 use Rattle.drv_graph.specs.Placing.{IsPlaced, IsPlacedEntry, placed, placed_output, placed_outputs}
-use Rattle.drv_graph.proofs.PathLists.{contains_from_get, same_place}
+use Rattle.drv_graph.proofs.PathLists.{same_place}
+use Rattle.nix_names.proofs.Lists.{Contains-from_get}
 
 -- ---- outputs
 
@@ -87,7 +88,7 @@ entry_under names paths draft filled place path rising at at_path same is = reco
       (distinct_from_rising names rising) at at_other in
       is ∙ ap (placed draft.value)
       (same_Some path beside (sym at_path ∙ ap (slice_get paths) one ∙ at_beside));
-  other = λ none. absurd (none (contains_from_get names place draft.key at));
+  other = λ none. absurd (none (Contains-from_get names place draft.key at));
 }
 
 -- another entry stays
@@ -95,7 +96,7 @@ pub entry_other : (names paths : List (List ℕ)) (draft : EnvEntry) → (Contai
     → IsPlacedEntry names paths draft draft
 entry_other names paths draft none = record {
   key = refl;
-  named = λ place path at at_path. absurd (none (contains_from_get names place draft.key at));
+  named = λ place path at at_path. absurd (none (Contains-from_get names place draft.key at));
   other = λ again. refl;
 }
 

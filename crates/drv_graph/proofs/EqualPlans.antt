@@ -1,19 +1,11 @@
 -- Plans that are equal by `==` are the same, if derivations are.
-use Rattle.std.proofs.Common.{◌≡◌, Bool, Decides, ◌&&◌, ap, nat_eq}
+use Rattle.std.proofs.Common.{◌≡◌, Decides, ap, nat_eq}
 use Rattle.std.specs.Cmp.Lexicographic.{bytes_decides, pointwise, pointwise_decides}
-use Rattle.std.proofs.lemmas.Bool.{and_from, and_parts}
+use Rattle.nix_names.proofs.Tests.{both_parts}
 use Rattle.nix_drv.specs.Equality.{EqualDerivationsAreSame, same_drv}
 use Rattle.drv_graph.specs.Equality.{EqualPlansAreSame, same_node}
 use Rattle.drv_graph.specs.Nodes.{Node}
 use Rattle.drv_graph.specs.Plans.{Graph}
-
--- two tests, each of one part
-both_parts : {P Q R : Type 0} (a b : Bool) → Decides a P → Decides b Q → (P → Q → R) → (R → P)
-    → (R → Q) → Decides (a && b) R
-both_parts a b first second join one two = (
-  λ h. let parts = and_parts a b h in join (first.0 parts.0) (second.0 parts.1),
-  λ r. and_from a b (first.1 (one r)) (second.1 (two r)),
-)
 
 module _ (drvs : EqualDerivationsAreSame) where
   nodes_decide : (a b : Node) → Decides (same_node a b) (a ≡ b)

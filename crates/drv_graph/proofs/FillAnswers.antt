@@ -2,13 +2,13 @@
 use Rattle.std.proofs.Common.{◌≡◌, ◌∙◌, ◌++◌, ℕ, List, [], ◌∷◌, length, map, inl, inr, refl, sym, ap, subst, Bool, true}
 use Rattle.std.specs.Prelude.{◌≢◌, All, Contains, IfOk, Ok, Err, Result, filter, not}
 use Rattle.std.specs.List.{AllZip}
-use Rattle.std.proofs.lemmas.List.Elements.{All-contains}
 use Rattle.std.proofs.lemmas.Simd.{map-map}
 use Rattle.std.proofs.lemmas.Slice.Zip.{AllZip-long}
 use Rattle.nix_names.specs.Names.{same_bytes}
 use Rattle.nix_names.specs.Rising.{IsRising}
 use Rattle.nix_names.specs.StorePaths.{IsPathOf}
 use Rattle.nix_names.proofs.RisingLists.{IsBelow, first_below, not_below_itself, rising_later}
+use Rattle.nix_names.proofs.FirstElements.{no_first}
 use Rattle.nix_drv.specs.Derivation.{Drv, Input, IsDrvText}
 use Rattle.nix_drv.specs.OwnPath.{IsOwnPath, paths_of, text_path}
 use Rattle.nix_drv.specs.Parts.{drv_of, input_of, path_of}
@@ -35,8 +35,9 @@ use Rattle.drv_graph.specs.declared.fill.Target.{Target}
 use Rattle.drv_graph.specs.declared.node.PlanNode.{PlanNode}
 use Rattle.drv_graph.specs.declared.outputs.UsedInput.{UsedInput}
 use Rattle.drv_graph.proofs.FilledDrafts.{filled_right}
-use Rattle.drv_graph.proofs.PathLists.{contains_first, contains_later, other_path}
+use Rattle.drv_graph.proofs.PathLists.{other_path}
 use Rattle.drv_graph.proofs.UsedNodes.{used_drvs, used_hashes, used_paths}
+use Rattle.nix_names.proofs.Lists.{Contains-first, Contains-later}
 
 -- ---- the draft's references
 
@@ -51,27 +52,20 @@ stray_draft dir paths (TextPathMismatch path) some stray = absurd stray
 stray_draft dir paths NotADrvName some stray = absurd stray
 stray_draft dir paths NotSorted some stray = absurd stray
 
-contains_middle : {X : Type 0} (before after : List X) (x : X) → Contains (before ++ x ∷ after) x
-contains_middle [] after x = contains_first x after
-contains_middle (y ∷ before) after x = contains_later y x (before ++ x ∷ after)
-    (contains_middle before after x)
-
 -- where all paths are of the folder there is no first that isn't
 none_stray : (dir : List ℕ) (draft : Drv) → All (IsPathOf dir) (paths_of draft)
     → AreInStore dir draft
 none_stray dir draft all text stray =
-    stray.is_stray
-    (All-contains (IsPathOf dir) (paths_of draft) text all
-    (subst (λ (ps : List (List ℕ)). Contains ps text) (sym stray.parts)
-    (contains_middle stray.before stray.after text)))
+    no_first (IsPathOf dir) (λ t. IsPathOf dir t → ⊥) (λ t is not. not is) (paths_of draft) text
+    stray all
 
 -- ---- the draft's inputs
 
 filter_all : {X : Type 0} (p : X → Bool) (xs : List X) → ((x : X) → Contains xs x → p x ≡ true)
     → filter p xs ≡ xs
 filter_all p [] all = refl
-filter_all p (x ∷ xs) all = rw (all x (contains_first x xs))
-    (ap (λ (ys : List _). x ∷ ys) (filter_all p xs (λ y has. all y (contains_later x y xs has))))
+filter_all p (x ∷ xs) all = rw (all x (Contains-first x xs))
+    (ap (λ (ys : List _). x ∷ ys) (filter_all p xs (λ y has. all y (Contains-later x xs y has))))
 
 pub once_rising : (paths : List (List ℕ)) → IsRising paths → each_once paths ≡ paths
 once_rising [] rises = refl

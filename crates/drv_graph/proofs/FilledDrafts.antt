@@ -15,7 +15,8 @@ use Rattle.drv_graph.specs.declared.kinds.Kind.{Kind}
 use Rattle.drv_graph.proofs.EmptyPlaces.{same_names}
 use Rattle.drv_graph.proofs.Loops.{beside}
 use Rattle.drv_graph.proofs.OneText.{one_path}
-use Rattle.drv_graph.proofs.PathLists.{contains_first, contains_from_get, contains_later, get_from_contains, get_mapped, path_cases}
+use Rattle.drv_graph.proofs.PathLists.{path_cases}
+use Rattle.nix_names.proofs.Lists.{Contains-first, Contains-from_get, Contains-later, get_from_contains, get_mapped}
 
 -- a value that fits a path becomes that path
 placed_is : (value path : List ℕ) → IsThePathOrEmpty value path → placed value path ≡ path
@@ -35,8 +36,8 @@ zip_weaker R S [] [] h zip = tt
 zip_weaker R S [] (y ∷ ys) h zip = absurd zip
 zip_weaker R S (x ∷ xs) [] h zip = absurd zip
 zip_weaker R S (x ∷ xs) (y ∷ ys) h zip = (
-  h x y (contains_first x xs) zip.0,
-  zip_weaker R S xs ys (λ a b has. h a b (contains_later x a xs has)) zip.1,
+  h x y (Contains-first x xs) zip.0,
+  zip_weaker R S xs ys (λ a b has. h a b (Contains-later x xs a has)) zip.1,
 )
 
 -- a filled output is one of the draft's with the path beside it
@@ -75,10 +76,10 @@ module _ (dir name : List ℕ) (kind : Kind) (draft : Drv) (hashes paths : List 
   outputs_filled [] (p ∷ ps) zip fit = absurd zip
   outputs_filled (o ∷ os) [] zip fit = absurd zip
   outputs_filled (o ∷ os) (p ∷ ps) zip fit =
-      let found = fit o (contains_first o os) in
+      let found = fit o (Contains-first o os) in
       let one : found.0 ≡ p = one_path dir name kind draft hashes o found.0 p found.1 zip.0 in (
         output_filled o p zip.0 (subst (IsThePathOrEmpty o.path) one found.2),
-        outputs_filled os ps zip.1 (λ a has. fit a (contains_later o a os has)),
+        outputs_filled os ps zip.1 (λ a has. fit a (Contains-later o os a has)),
       )
 
   -- an entry under an output's name
@@ -94,7 +95,7 @@ module _ (dir name : List ℕ) (kind : Kind) (draft : Drv) (hashes paths : List 
       let found = placed_at draft.outputs paths Expected at.0 output expected at.1 in
       let o = found.0 in
       let p = found.1 in
-      let here : Contains draft.outputs o = contains_from_get draft.outputs at.0 o found.2 in
+      let here : Contains draft.outputs o = Contains-from_get draft.outputs at.0 o found.2 in
       let under : o.name ≡ d.key = sym (ap (λ (x : Output). x.name) found.4) ∙ named in
       let stands = beside Expected draft.outputs paths at.0 o expected found.2 in
       let is_p : Expected o p = subst (Expected o) (same_Some stands.0 p (sym stands.1 ∙ found.3))

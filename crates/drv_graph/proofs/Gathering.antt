@@ -12,16 +12,13 @@ use Rattle.std.proofs.lemmas.List.Sorted.{IsPermutation-map}
 use Rattle.std.proofs.lemmas.Simd.{map-map}
 use Rattle.nix_names.specs.Rising.{IsRising}
 use Rattle.nix_names.proofs.RisingLists.{members_of_dedup, rising_dedup}
+use Rattle.nix_names.proofs.Lists.{element}
 use Rattle.nix_drv.specs.Derivation.{Input}
 use Rattle.nix_drv.specs.Parts.{bytes_of, input_of, path_of}
 use Rattle.nix_drv.specs.declared.derivation.Input.{Input as InputStruct}
 use Rattle.drv_graph.specs.Uniting.{IsAdded, IsGathered}
 use Rattle.drv_graph.proofs.Loops.{seen_twice, set_last, split_last}
 use Rattle.drv_graph.proofs.Uniting.{gathered_more}
-
-element : {X : Type 0} (xs : List X) (i : ℕ) → i < length xs → X
-element [] i below = absurd (omega arith)
-element (x ∷ xs) i below = x
 
 -- elements that are sorted by their keys have sorted keys
 pub sorted_map : {A : Type 0} (key_of : A → List ℕ) (xs : List A)

@@ -12,8 +12,9 @@ use Rattle.drv_graph.specs.PlanNodes.{AreKept, IsKept, drvs_of, node_of, nodes_o
 use Rattle.drv_graph.specs.SoundGraphs.{IsSound}
 use Rattle.drv_graph.specs.declared.node.PlanNode.{PlanNode}
 use Rattle.drv_graph.proofs.Numbers.{number_grows}
-use Rattle.drv_graph.proofs.PathLists.{all_from_contains, contains_cases, contains_from_get, contains_mapped, contains_none, get_from_contains, get_mapped, same_place}
+use Rattle.drv_graph.proofs.PathLists.{same_place}
 use Rattle.drv_graph.proofs.Roots.{number_source}
+use Rattle.nix_names.proofs.Lists.{All-from_contains, Contains-cons_cases, Contains-from_get, Contains-map, Contains-nothing, get_from_contains, get_mapped}
 
 -- the derivation that is kept with a number
 kept_at : (kept : List PlanNode) (n : ℕ) (node : PlanNode) → n < length (nodes_of kept) → node
@@ -36,15 +37,15 @@ kept_path kept n node lt is = get_mapped (λ (m : Node). m.path) (nodes_of kept)
     (kept_node kept n node lt is)
 
 -- what is used stands among the nodes
-drvs_paths : (nodes : List Node) (paths : List (List ℕ)) (drvs : List Drv)
+pub drvs_paths : (nodes : List Node) (paths : List (List ℕ)) (drvs : List Drv)
     → AreDrvsOf nodes paths drvs → (path : List ℕ) → Contains paths path
     → Contains (paths_of nodes) path
-drvs_paths nodes [] drvs are path has = absurd (contains_none path has)
+drvs_paths nodes [] drvs are path has = absurd (Contains-nothing path has)
 drvs_paths nodes (p ∷ ps) [] are path has = absurd are
 drvs_paths nodes (p ∷ ps) (d ∷ ds) are path has =
     ⊎_elim (λ same. subst (Contains (paths_of nodes)) same
-    (contains_mapped (λ (m : Node). m.path) nodes (record { path = p; drv = d }) are.0))
-    (λ later. drvs_paths nodes ps ds are.1 path later) (contains_cases p path ps has)
+    (Contains-map (λ (m : Node). m.path) nodes (record { path = p; drv = d }) are.0))
+    (λ later. drvs_paths nodes ps ds are.1 path later) (Contains-cons_cases p ps path has)
 
 -- a node's inputs have smaller numbers
 smaller : (graph : Graph) (d : ℕ) (node : Node) (ns : List ℕ) → IsSound graph
@@ -85,7 +86,7 @@ pub inputs_smaller : (kept : List PlanNode) (roots : List ℕ) (d : ℕ) (node :
     × IsSound (record { nodes = nodes_of kept; roots = roots }) → All (λ n. n < d) node.inputs.items
 inputs_smaller kept roots d node lt is right =
     let own : IsKept (nodes_of kept) node = All-contains (IsKept (nodes_of kept)) kept node right.0
-    (contains_from_get kept d node (kept_at kept d node lt is)) in
-    all_from_contains (λ n. n < d) node.inputs.items
+    (Contains-from_get kept d node (kept_at kept d node lt is)) in
+    All-from_contains (λ n. n < d) node.inputs.items
     (smaller (record { nodes = nodes_of kept; roots = roots }) d (node_of node)
     node.inputs.items right.1 (kept_node kept d node lt is) own.numbers)

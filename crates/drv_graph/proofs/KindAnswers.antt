@@ -1,70 +1,18 @@
 -- The kind of a derivation's outputs, from its outputs.
-use Rattle.std.proofs.Common.{◌≡◌, ◌≢◌, ◌<◌, ℕ, Bool, true, false, List, [], ◌∷◌, length, nat_eq, Ok, Err, inl, inr, refl, sym, ap, subst, ◌∙◌, arith}
+use Rattle.std.proofs.Common.{◌≡◌, ◌≢◌, ℕ, List, [], ◌∷◌, length, Ok, Err, inl, inr, refl, sym, ap, subst, ◌∙◌}
 use Rattle.std.specs.Prelude.{All, Contains, IfOk, IfErr, Result, codes}
-use Rattle.std.specs.Cmp.Lexicographic.{pointwise}
-use Rattle.std.proofs.lemmas.Bool.{cases_lt, false≢true}
-use Rattle.std.proofs.lemmas.Bool.Decides.{Decides-eqb}
-use Rattle.std.proofs.lemmas.List.{get_or_past}
-use Rattle.std.proofs.lemmas.List.Elements.{All-contains, All-from_get_or}
-use Rattle.std.proofs.lemmas.Slice.Eq.{slice_eq-Decides}
-use Rattle.hex.specs.Hex.{IsBytes, decode_sized, encode_lower}
-use Rattle.hex.specs.declared.error.FromHexError.{FromHexError}
-use Rattle.hex.proofs.HexLemmas.{decode_of-ok, decode_sized-encode_lower, decode_sized-ok, decode_sized-twice}
-use Rattle.nix_names.proofs.RisingLists.{Contains-cons_cases, Contains-first, Contains-nothing}
+use Rattle.std.proofs.lemmas.List.Elements.{All-contains}
+use Rattle.nix_names.proofs.HexDigits.{one_digest}
 use Rattle.nix_drv.specs.Derivation.{Drv, Output}
 use Rattle.drv_graph.specs.Checking.{IsFixedKind, IsKindFault, IsNotFixed, NamesUnknown, SaysSome}
 use Rattle.drv_graph.specs.declared.fault.OutputFault.{OutputFault}
 use Rattle.drv_graph.specs.declared.fault.OutputFault.TheVariants.{NoMemory, MixedOutputs, UnknownMethod, BadName, UnknownOutput, OutputMismatch, EnvMismatch}
-use Rattle.drv_graph.specs.Kinds.{AreMixed, HasKind, IsAddressed, IsDigest, IsFixed, IsUnknown, algo_of}
+use Rattle.drv_graph.specs.Kinds.{AreMixed, HasKind, IsAddressed, IsFixed, IsUnknown, algo_of}
 use Rattle.drv_graph.specs.declared.kinds.Kind.{Kind}
 use Rattle.drv_graph.specs.declared.kinds.Kind.TheVariants.{Addressed, Fixed}
 use Rattle.drv_graph.specs.declared.kinds.Method.{Method}
 use Rattle.drv_graph.specs.declared.kinds.Method.TheVariants.{Flat, Recursive}
-
--- ---- digests
-
-bytes_everywhere : (xs : List ℕ) → All (λ b. b < 256) xs → IsBytes xs
-bytes_everywhere xs each i =
-    elim (cases_lt i (length xs)) [
-      | inl within ↦ each i 0 within
-      | inr past ↦ let e = get_or_past xs i 0 past in omega arith
-    ]
-
--- the digits of a digest decode to it
-pub digits_decode : (digest : List ℕ) → IsDigest digest → decode_sized (encode_lower digest) 32
-    ≡ Ok digest
-digits_decode digest is = decode_sized-encode_lower digest 32 is.0 (bytes_everywhere digest is.1)
-
--- what bytes decode to is a digest
-pub decoded : (text digest : List ℕ) → decode_sized text 32 ≡ Ok digest → IsDigest digest
-decoded text digest ok =
-    let long = decode_sized-ok text 32 digest ok in
-    let parts = decode_of-ok text digest (sym (decode_sized-twice text 32 long) ∙ ok) in
-    (omega (arith, parts.2), All-from_get_or (λ b. b < 256) digest 0 (λ i within. parts.3 i))
-
--- bytes that don't decode are no digest's digits
-pub no_digits : (text : List ℕ) (e : FromHexError) → decode_sized text 32 ≡ Err e
-    → (digest : List ℕ) → IsDigest digest → text ≡ encode_lower digest → ⊥
-no_digits text e err digest is same = let ok = rw (← same) at (digits_decode digest is) in cc
-
--- nor are bytes that decode to another's
-pub other_digits : (text found : List ℕ) → decode_sized text 32 ≡ Ok found
-    → text ≢ encode_lower found → (digest : List ℕ) → IsDigest digest → text ≡ encode_lower digest
-    → ⊥
-other_digits text found ok other digest is same =
-    let again = rw (← same) at (digits_decode digest is) in
-    let one : found ≡ digest = cc in
-    other (same ∙ ap encode_lower (sym one))
-
--- what a comparison of two texts said
-pub told_other : (xs ys zs : List ℕ) (r : Bool) → r ≡ pointwise nat_eq xs ys → ys ≡ zs → r ≡ false
-    → xs ≢ zs
-told_other xs ys zs r is other unlike same =
-    false≢true (sym unlike ∙ (slice_eq-Decides Decides-eqb xs ys r is).1 (same ∙ sym other))
-
-pub told_same : (xs ys zs : List ℕ) (r : Bool) → r ≡ pointwise nat_eq xs ys → ys ≡ zs → r ≡ true
-    → xs ≡ zs
-told_same xs ys zs r is other alike = (slice_eq-Decides Decides-eqb xs ys r is).0 alike ∙ other
+use Rattle.nix_names.proofs.Lists.{Contains-cons_cases, Contains-first, Contains-nothing}
 
 -- ---- kinds
 
@@ -169,15 +117,9 @@ one_method Flat Recursive e = absurd (methods_differ e)
 one_method Recursive Flat e = absurd (methods_differ (sym e))
 one_method Recursive Recursive e = refl
 
-some_method : (m : Method) → algo_of m ≡ [] → ⊥
+pub some_method : (m : Method) → algo_of m ≡ [] → ⊥
 some_method Flat e = cc
 some_method Recursive e = cc
-
-one_digest : (a b : List ℕ) → IsDigest a → IsDigest b → encode_lower a ≡ encode_lower b → a ≡ b
-one_digest a b is_a is_b same =
-    let first = digits_decode a is_a in
-    let second = rw (← same) at (digits_decode b is_b) in
-    cc
 
 not_both : (drv : Drv) (method : Method) (digest : List ℕ) → All IsAddressed drv.outputs
     → HasKind drv (Fixed method digest) → ⊥

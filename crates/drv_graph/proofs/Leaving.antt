@@ -24,7 +24,8 @@ use Rattle.drv_graph.specs.declared.kinds.Kind.{Kind}
 use Rattle.drv_graph.specs.declared.node.PlanNode.{PlanNode}
 use Rattle.drv_graph.proofs.Numbers.{hashes_grow, numbers_grow}
 use Rattle.drv_graph.proofs.Owners.{owners_left}
-use Rattle.drv_graph.proofs.PathLists.{contains_from_get, contains_mapped, contains_source, distinct_push, get_from_contains, get_mapped}
+use Rattle.drv_graph.proofs.PathLists.{distinct_push}
+use Rattle.nix_names.proofs.Lists.{Contains-from_get, Contains-from_map, Contains-map, get_from_contains, get_mapped}
 
 -- the paths of inputs and outputs, from what lends them
 pub inputs_are : (lent : List InputStruct) (drv : Drv) (paths : List (List ℕ)) → map input_of lent
@@ -57,15 +58,15 @@ leaving_shared dir kept given visit outputs owners (At path (SharedOutput earlie
     let shared : IsShared kept (output_paths_of visit.drv) earlier =
     subst (λ l. IsShared kept l earlier) are
     (subst (λ k. IsShared k outputs earlier) same owning.1) in
-    let mine = contains_source (λ (o : Output). o.path) visit.drv.outputs shared.output
+    let mine = Contains-from_map (λ (o : Output). o.path) visit.drv.outputs shared.output
     shared.is_own in
-    let other = contains_source (λ (o : Output). o.path) shared.node.drv.outputs shared.output
+    let other = Contains-from_map (λ (o : Output). o.path) shared.node.drv.outputs shared.output
     shared.is_output in (
       owning.0,
       (
         node_of shared.node,
-        contains_mapped node_of kept shared.node
-            (contains_from_get kept shared.number shared.node shared.is_node),
+        Contains-map node_of kept shared.node
+            (Contains-from_get kept shared.number shared.node shared.is_node),
         shared.is_path,
         (other.0, mine.0, other.1, mine.1, other.2 ∙ sym mine.2),
       ),
@@ -123,16 +124,16 @@ alone_drv : (kept : List PlanNode) (drv : Drv) (outputs : List (List ℕ)) → o
     ≡ output_paths_of drv → AreAlone (outputs_of kept) outputs → (earlier : Node)
     → Contains (nodes_of kept) earlier → ShareOutput earlier.drv drv → ⊥
 alone_drv kept drv outputs are alone earlier has (x, y, has_x, has_y, same) =
-    let source = contains_source node_of kept earlier has in
+    let source = Contains-from_map node_of kept earlier has in
     let place = get_from_contains kept source.0 source.1 in
     let its = get_mapped (λ (k : PlanNode). output_paths_of k.drv) kept place.0 source.0 place.1 in
     let drvs : source.0.drv ≡ earlier.drv = ap (λ (n : Node). n.drv) source.2 in
     let theirs : Contains (output_paths_of source.0.drv) x.path =
     subst (λ d. Contains (output_paths_of d) x.path) (sym drvs)
-    (contains_mapped (λ (o : Output). o.path) earlier.drv.outputs x has_x) in
+    (Contains-map (λ (o : Output). o.path) earlier.drv.outputs x has_x) in
     let mine : Contains outputs x.path = subst (λ l. Contains l x.path) (sym are)
     (subst (Contains (output_paths_of drv)) (sym same)
-    (contains_mapped (λ (o : Output). o.path) drv.outputs y has_y)) in
+    (Contains-map (λ (o : Output). o.path) drv.outputs y has_y)) in
     alone x.path mine place.0 (output_paths_of source.0.drv) its theirs
 
 -- what is kept is right with one derivation more

@@ -8,6 +8,7 @@ use Rattle.std.proofs.lemmas.List.{length-map, take_all}
 use Rattle.std.proofs.lemmas.List.Elements.{All-contains_itself, All-nil}
 use Rattle.indexmap.specs.IndexMap.{IndexMap, get, keys}
 use Rattle.indexmap.specs.IndexSet.{insert_key}
+use Rattle.nix_names.proofs.Lists.{All-left}
 use Rattle.nix_drv.specs.Sources.{Answer, GivesSame}
 use Rattle.drv_graph.specs.Loading.{max_nodes}
 use Rattle.drv_graph.specs.Nodes.{Node, paths_of}
@@ -24,7 +25,6 @@ use Rattle.drv_graph.proofs.Owners.{owners_none}
 use Rattle.drv_graph.proofs.PlanOrder.{left_append, plan_reached, plan_whole}
 use Rattle.drv_graph.proofs.Roots.{roots_more}
 use Rattle.drv_graph.proofs.SameSources.{walked_by}
-use Rattle.drv_graph.proofs.WalkEnds.{all_front}
 
 -- What the first roots reach was left, in plan order, and these are their numbers.
 pub record IsReachedSome (dir : List ℕ) (gives : List ℕ → Answer → Type 0)
@@ -106,7 +106,7 @@ loading_more dir G H roots done found after numbers next root number same some v
       in_order = λ nodes has.
           left_append (root ∷ []) (paths_of (nodes_of after.nodes.items))
           (some.in_order nodes
-          (all_front (Contains nodes) (nodes_of found.nodes.items) visited.in_order.more
+          (All-left (Contains nodes) (nodes_of found.nodes.items) visited.in_order.more
           (subst (All (Contains nodes)) visited.in_order.grown has)))
           (visited.in_order.in_order nodes has);
       are_numbers =

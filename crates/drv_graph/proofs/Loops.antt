@@ -1,6 +1,6 @@
 -- Lists as loops build and change them.
-use Rattle.std.proofs.Common.{◌≡◌, ℕ, zero, suc, ◌+◌, ◌-◌, ◌<◌, ◌≤◌, List, [], ◌∷◌, ◌++◌, length, take, drop, map, get_or, set, Some, inl, inr, refl, sym, ap, subst, ◌∙◌, ⊎_elim, add-one, append-nil, arith}
-use Rattle.std.specs.Prelude.{All, Contains}
+use Rattle.std.proofs.Common.{◌≡◌, ℕ, zero, suc, ◌+◌, ◌-◌, ◌<◌, ◌≤◌, List, [], ◌∷◌, ◌++◌, length, take, drop, map, get_or, set, Some, refl, sym, ap, subst, ◌∙◌, add-one, append-nil, arith}
+use Rattle.std.specs.Prelude.{All}
 use Rattle.std.specs.Option.{option_map}
 use Rattle.std.specs.List.{AllZip, slice_get}
 use Rattle.std.proofs.Math.Seq.{split_at}
@@ -8,8 +8,8 @@ use Rattle.std.proofs.lemmas.List.{drop-set-lt, drop_all, drop_more, get_or-map,
 use Rattle.std.proofs.lemmas.List.Elements.{All-more}
 use Rattle.std.proofs.lemmas.Slice.Zip.{all_zipped_more}
 use Rattle.std.proofs.lemmas.Option.{get_or_from_slice_get, slice_get-map, slice_get_read, slice_get_within}
-use Rattle.drv_graph.specs.Outputs.{IsFirst}
-use Rattle.nix_names.proofs.RisingLists.{Contains-cons_cases, Contains-first, Contains-later}
+use Rattle.nix_names.specs.Firsts.{IsFirstWhere}
+use Rattle.nix_names.proofs.FirstElements.{first_at}
 
 -- ---- a list that is built beside another
 
@@ -71,40 +71,6 @@ written_all {A} {C} view f old now i past is =
     ∙ append-nil (map f (map view old))
 
 -- ---- elements and their places
-
-pub Contains-map : {A B : Type 0} (f : A → B) (xs : List A) (x : A) → Contains xs x
-    → Contains (map f xs) (f x)
-Contains-map f [] x (k, below, is) = absurd (omega arith)
-Contains-map {A} {B} f (y ∷ ys) x has =
-    ⊎_elim
-    (λ is. subst (λ (z : B). Contains (map f (y ∷ ys)) z) (ap f is)
-    (Contains-first (f y) (map f ys)))
-    (λ later. Contains-later (f y) (map f ys) (f x) (Contains-map f ys x later))
-    (Contains-cons_cases y ys x has)
-
--- what the elements at a list's places show is shown of all
-pub Contains-slice_get : {A : Type 0} (xs : List A) (k : ℕ) (x : A) → slice_get xs k ≡ Some x
-    → Contains xs x
-Contains-slice_get [] k x e = absurd cc
-Contains-slice_get {A} (y ∷ ys) zero x e = let is : y ≡ x = cc
-    in subst (λ (z : A). Contains (y ∷ ys) z) is (Contains-first y ys)
-Contains-slice_get (y ∷ ys) (suc k) x e = Contains-later y ys x (Contains-slice_get ys k x e)
-
-pub slice_get-Contains : {A : Type 0} (xs : List A) (x : A) → Contains xs x → (k : ℕ)
-    × (k < length xs) × (slice_get xs k ≡ Some x)
-slice_get-Contains [] x (k, below, is) = absurd (omega arith)
-slice_get-Contains {A} (y ∷ ys) x has =
-    elim (Contains-cons_cases y ys x has) [
-      | inl is ↦ (zero, omega arith, ap (λ (z : A). Some z) is)
-      | inr later ↦ let at = slice_get-Contains ys x later in (suc at.0, omega (arith, at.1), at.2)
-    ]
-
--- the elements round a place
-pub split_get : {A : Type 0} (xs : List A) (k : ℕ) (x : A) → slice_get xs k ≡ Some x → xs
-    ≡ take k xs ++ x ∷ drop (suc k) xs
-split_get [] k x e = absurd cc
-split_get {A} (y ∷ ys) zero x e = let is : y ≡ x = cc in ap (λ (z : A). z ∷ ys) is
-split_get {A} (y ∷ ys) (suc k) x e = ap (λ (zs : List A). y ∷ zs) (split_get ys k x e)
 
 pub slice_get-take : {A : Type 0} (xs : List A) (n k : ℕ) (x : A) → slice_get (take n xs) k ≡ Some x
     → (k < n) × (slice_get xs k ≡ Some x)
@@ -175,14 +141,10 @@ all_took_all {B} P xs i past all = subst (λ (ys : List B). All P ys) (take_all 
 
 -- the first element of which something doesn't hold
 pub first_without : {B : Type 0} (Good : B → Type 0) (xs : List B) (i : ℕ) (x : B) → slice_get xs i
-    ≡ Some x → All Good (take i xs) → (Good x → ⊥) → IsFirst (λ (b : B). Good b → ⊥) xs x
-first_without Good xs i x at good bad = record {
-  before = take i xs;
-  after = drop (suc i) xs;
-  parts = split_get xs i x at;
-  holds = bad;
-  none = λ k d below h. h (good k d below);
-}
+    ≡ Some x → All Good (take i xs) → (Good x → ⊥) → IsFirstWhere (λ (b : B). Good b → ⊥) xs x
+first_without Good xs i x at good bad =
+    first_at (λ b. (Good b → ⊥) → ⊥) (λ b. Good b → ⊥) xs i x at (λ k d below h. h (good k d below))
+    bad
 
 -- a list of one element
 pub one_element : {A B : Type 0} (view : A → B) (xs : List A) (x : A) → length xs ≡ 1 → x

@@ -5,7 +5,8 @@ use Rattle.std.specs.Cmp.Lexicographic.{pointwise}
 use Rattle.std.proofs.lemmas.Option.{same_Some, none-some}
 use Rattle.indexmap.specs.IndexMap.{IndexMap, Updates, get}
 use Rattle.drv_graph.specs.Walks.{AreMarks, SetsEntry}
-use Rattle.drv_graph.proofs.PathLists.{contains_cases, contains_first, contains_from_get, contains_later, contains_none, get_from_contains, get_grows, get_push_cases, get_pushed, other_path, path_cases}
+use Rattle.drv_graph.proofs.PathLists.{other_path, path_cases}
+use Rattle.nix_names.proofs.Lists.{Contains-cons_cases, Contains-first, Contains-from_get, Contains-later, Contains-nothing, get_from_contains, get_grows, get_push_cases, get_pushed}
 
 -- what an insert sets
 pub sets_entry : {X S : Type 0} (before after : IndexMap (List ℕ) X S) (path : List ℕ) (entry : X)
@@ -26,7 +27,7 @@ marks_none marks none = record {
   );
   is_pending = λ path. (
     λ e. absurd (none-some None (sym (none path) ∙ e)),
-    λ has. absurd (contains_none path has),
+    λ has. absurd (Contains-nothing path has),
   );
 }
 
@@ -62,18 +63,18 @@ marks_opened marks after left pending path right none sets = record {
         (path_cases other path),
     λ e. ⊎_elim (λ same.
         absurd (new_not_left marks left pending path right none
-        (subst (Contains left) same (contains_from_get left number other e))))
+        (subst (Contains left) same (Contains-from_get left number other e))))
         (λ differs. sets.others other differs ∙ (right.numbered other number).1 e)
         (path_cases other path),
   );
   is_pending = λ other. (
-    λ e. ⊎_elim (λ same. subst (Contains (path ∷ pending)) (sym same) (contains_first path pending))
-        (λ differs. contains_later path other pending
+    λ e. ⊎_elim (λ same. subst (Contains (path ∷ pending)) (sym same) (Contains-first path pending))
+        (λ differs. Contains-later path pending other
         ((right.is_pending other).0 (sym (sets.others other differs) ∙ e))) (path_cases other path),
     λ has. ⊎_elim (λ same. ap after (sym same) ∙ sets.here)
         (λ later. ⊎_elim (λ same. ap after same ∙ sets.here)
         (λ differs. sets.others other differs ∙ (right.is_pending other).1 later)
-        (path_cases other path)) (contains_cases path other pending has),
+        (path_cases other path)) (Contains-cons_cases path pending other has),
   );
 }
   where
@@ -99,11 +100,11 @@ marks_left marks after left pending path right apart sets = record {
   is_pending = λ other. (
     λ e. ⊎_elim (λ same. absurd (numbered other same e))
         (λ differs. ⊎_elim (λ same. absurd (differs (sym same))) (λ later. later)
-        (contains_cases path other pending
+        (Contains-cons_cases path pending other
         ((right.is_pending other).0 (sym (sets.others other differs) ∙ e))))
         (path_cases other path),
     λ has. sets.others other (λ same. apart (subst (Contains pending) same has))
-        ∙ (right.is_pending other).1 (contains_later path other pending has),
+        ∙ (right.is_pending other).1 (Contains-later path pending other has),
   );
 }
   where
@@ -122,8 +123,8 @@ marks_left marks after left pending path right apart sets = record {
     before other number old =
         sets.others other
         (λ same. pending_not_left marks left (path ∷ pending) path right
-        (contains_first path pending)
-        (subst (Contains left) same (contains_from_get left number other old)))
+        (Contains-first path pending)
+        (subst (Contains left) same (Contains-from_get left number other old)))
         ∙ (right.numbered other number).1 old
 
     numbered : (other : List ℕ) → other ≡ path → after other ≡ Some None → ⊥

@@ -7,7 +7,6 @@ use Rattle.std.specs.Prelude.{is_some, ◌||◌}
 use Rattle.std.proofs.lemmas.Bool.{cases_Bool, false≢true}
 use Rattle.hex.specs.Hex.{encode_lower}
 use Rattle.nix_names.specs.Names.{same_bytes}
-use Rattle.nix_names.proofs.RisingLists.{Contains-first, Contains-later}
 use Rattle.std.specs.Prelude.{Vec}
 use Rattle.std.specs.declared.alloc.AllocError.{AllocError}
 use Rattle.std.specs.declared.alloc.Global.{Global}
@@ -23,6 +22,7 @@ use Rattle.std.specs.Vec.{with_items}
 use Rattle.std.proofs.lemmas.List.{with_items_is}
 use Rattle.nix_drv.specs.Places.{IsPlaceOf}
 use Rattle.drv_graph.specs.Modulo.{IsModuloText, IsUnited, masked, masked_entry, names_of, replaced, with_inputs}
+use Rattle.nix_names.proofs.Lists.{Contains-first, Contains-later}
 
 -- ---- entries under names
 

@@ -7,7 +7,7 @@ use Rattle.std.proofs.lemmas.Option.{slice_get_within}
 use Rattle.drv_graph.specs.Nodes.{Node, AreHashes, paths_of}
 use Rattle.drv_graph.specs.Nodes.AreHashes.{no_hashes, one_more_hash}
 use Rattle.drv_graph.specs.Plans.{AreNumbers}
-use Rattle.drv_graph.proofs.PathLists.{get_grows}
+use Rattle.nix_names.proofs.Lists.{get_grows}
 
 -- paths of more nodes
 pub paths_append : (nodes more : List Node) → paths_of (nodes ++ more) ≡ paths_of nodes

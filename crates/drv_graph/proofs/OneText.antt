@@ -5,7 +5,7 @@ use Rattle.std.proofs.lemmas.List.Elements.{All-head, All-tail}
 use Rattle.sha2.specs.Sha256.{sha256}
 use Rattle.nix_names.specs.Rising.{IsRising}
 use Rattle.nix_names.specs.StorePaths.{store_path}
-use Rattle.nix_names.proofs.RisingLists.{Contains-cons_cases, Contains-first, Contains-later, first_below, not_below_itself, rising_later, rising_same}
+use Rattle.nix_names.proofs.RisingLists.{first_below, not_below_itself, rising_later, rising_same}
 use Rattle.nix_drv.specs.Derivation.{Drv, Input, Output, derivation_form, drv_value}
 use Rattle.nix_drv.specs.Grammar.{text}
 use Rattle.drv_graph.specs.Expected.{IsExpected, path_name}
@@ -14,7 +14,7 @@ use Rattle.drv_graph.specs.Uniting.{input_paths}
 use Rattle.drv_graph.specs.declared.kinds.Kind.{Kind}
 use Rattle.drv_graph.specs.declared.kinds.Kind.TheVariants.{Addressed, Fixed}
 use Rattle.drv_graph.specs.declared.kinds.Method.TheVariants.{Flat, Recursive}
-use Rattle.drv_graph.proofs.Loops.{Contains-map}
+use Rattle.nix_names.proofs.Lists.{Contains-cons_cases, Contains-first, Contains-later, Contains-map}
 
 -- ---- names that inputs have at a path
 

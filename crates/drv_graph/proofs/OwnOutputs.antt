@@ -15,7 +15,7 @@ use Rattle.nix_names.specs.Rising.{IsRising}
 use Rattle.nix_names.specs.StorePaths.{IsDrvPath, name_of, store_path}
 use Rattle.nix_names.proofs.PathDigests.{hash_part_of_fold}
 use Rattle.nix_names.proofs.PathTexts.{name_of_path}
-use Rattle.nix_names.proofs.RisingLists.{first_below, not_below_itself, rising_later}
+use Rattle.nix_names.proofs.RisingLists.{equal_from_eq, first_below, not_below_itself, rising_later}
 use Rattle.nix_drv.specs.Derivation.{Drv, Output}
 use Rattle.nix_drv.specs.Places.{output_names}
 use Rattle.nix_drv.specs.Sources.{Answer}
@@ -29,7 +29,8 @@ use Rattle.drv_graph.specs.PlanNodes.{output_paths_of}
 use Rattle.drv_graph.specs.Plans.{AreLawful, IsLawful, MayStand}
 use Rattle.drv_graph.specs.declared.kinds.Kind.{Kind}
 use Rattle.drv_graph.specs.declared.kinds.Kind.TheVariants.{Addressed, Fixed}
-use Rattle.drv_graph.proofs.PathLists.{all_from_contains, contains_cases, contains_first, contains_later, contains_mapped, contains_none, get_from_contains, other_path, same_path}
+use Rattle.drv_graph.proofs.PathLists.{other_path}
+use Rattle.nix_names.proofs.Lists.{All-from_contains, Contains-cons_cases, Contains-first, Contains-later, Contains-map, Contains-nothing, get_from_contains}
 
 -- a text isn't itself with more behind it
 no_more : (a b : List ℕ) → a ≡ a ++ codes "-" ++ b → ⊥
@@ -47,7 +48,7 @@ one_output name a b same = by (pointwise nat_eq a (codes "out")) (pointwise nat_
 
     by : (x y : Bool) → pointwise nat_eq a (codes "out") ≡ x → pointwise nat_eq b (codes "out") ≡ y
         → a ≡ b
-    by true true e f = same_path a (codes "out") e ∙ sym (same_path b (codes "out") f)
+    by true true e f = equal_from_eq a (codes "out") e ∙ sym (equal_from_eq b (codes "out") f)
     by true false e f =
         absurd (no_more name b (sym (ap (λ t. chosen t a) e) ∙ same ∙ ap (λ t. chosen t b) f))
     by false true e f =
@@ -88,8 +89,9 @@ one_name dir name Addressed drv hashes has_kind named fit o p has has' same =
     one_output name o.name p.name (sym of ∙ ap name_of same ∙ of')
 one_name dir name (Fixed method digest) drv hashes has_kind named fit o p has has' same =
     let only : (x : Output) → Contains drv.outputs x → has_kind.0 ≡ x = λ x is.
-    ⊎_elim (λ e. e) (λ none. absurd (contains_none x none))
-    (contains_cases has_kind.0 x [] (subst (λ (os : List Output). Contains os x) has_kind.1.0 is))
+    ⊎_elim (λ e. e) (λ none. absurd (Contains-nothing x none))
+    (Contains-cons_cases has_kind.0 [] x
+    (subst (λ (os : List Output). Contains os x) has_kind.1.0 is))
     in
     ap (λ (x : Output). x.name) (sym (only o has) ∙ only p has')
 
@@ -103,21 +105,21 @@ paths_differ (x ∷ xs) rising same =
     IsDistinct-cons (pointwise nat_eq) x.path (map (λ (o : Output). o.path) xs)
     (others xs (λ p has. apart p has))
     (paths_differ xs (rising_later x.name (map (λ (o : Output). o.name) xs) rising)
-    (λ o p has has'. same o p (contains_later x o xs has) (contains_later x p xs has')))
+    (λ o p has has'. same o p (Contains-later x xs o has) (Contains-later x xs p has')))
   where
     apart : (p : Output) → Contains xs p → x.path ≡ p.path → ⊥
     apart p has e =
-        let name = same x p (contains_first x xs) (contains_later x p xs has) e in
+        let name = same x p (Contains-first x xs) (Contains-later x xs p has) e in
         let below = first_below x.name (map (λ (o : Output). o.name) xs) p.name rising
-        (contains_mapped (λ (o : Output). o.name) xs p has) in
+        (Contains-map (λ (o : Output). o.name) xs p has) in
         not_below_itself p.name (rw name at below)
 
     others : (ys : List Output) → ((p : Output) → Contains ys p → x.path ≡ p.path → ⊥)
         → AllByRecursion (λ y. pointwise nat_eq x.path y ≡ false) (map (λ (o : Output). o.path) ys)
     others [] none = tt
     others (y ∷ ys) none = (
-      other_path x.path y.path (none y (contains_first y ys)),
-      others ys (λ p has. none p (contains_later y p ys has)),
+      other_path x.path y.path (none y (Contains-first y ys)),
+      others ys (λ p has. none p (Contains-later y ys p has)),
     )
 
 -- so those of a lawful derivation have
@@ -148,7 +150,7 @@ pub all_own_outputs : (dir : List ℕ) (gives : List ℕ → Answer → Type 0) 
     → All (λ (n : Node). MayStand dir gives n.path n.drv) nodes
     → All (λ (n : Node). AreDistinct (output_paths_of n.drv)) nodes
 all_own_outputs dir gives nodes lawful given =
-    all_from_contains (λ (n : Node). AreDistinct (output_paths_of n.drv)) nodes (λ n has.
+    All-from_contains (λ (n : Node). AreDistinct (output_paths_of n.drv)) nodes (λ n has.
     let its = lawful_among dir nodes lawful n has in
     let stands = All-contains (λ (m : Node). MayStand dir gives m.path m.drv) nodes n given has in
     own_outputs dir its.0 n its.1 (outputs_rise n.drv stands.found.read.is_text.in_order))
@@ -158,6 +160,6 @@ pub all_named : (dir : List ℕ) (gives : List ℕ → Answer → Type 0) (nodes
     → All (λ (n : Node). MayStand dir gives n.path n.drv) nodes
     → All (λ (n : Node). IsDrvPath n.path) nodes
 all_named dir gives nodes given =
-    all_from_contains (λ (n : Node). IsDrvPath n.path) nodes
+    All-from_contains (λ (n : Node). IsDrvPath n.path) nodes
     (λ n has. (All-contains (λ (m : Node). MayStand dir gives m.path m.drv) nodes n given
     has).found.read.named)

@@ -10,7 +10,8 @@ use Rattle.drv_graph.specs.declared.fault.GraphFault.{GraphFault}
 use Rattle.drv_graph.specs.declared.fault.GraphFault.TheVariants.{NoMemory, At, Draft, Name}
 use Rattle.drv_graph.specs.declared.fault.NodeFault.TheVariants.{Unreadable, TooMany, Text, Cycle, Outputs, SharedOutput}
 use Rattle.drv_graph.specs.declared.node.PlanNode.{PlanNode}
-use Rattle.drv_graph.proofs.PathLists.{contains_none, contains_push_cases, get_grows, get_push_cases, get_pushed, get_source, path_cases}
+use Rattle.drv_graph.proofs.PathLists.{path_cases}
+use Rattle.nix_names.proofs.Lists.{Contains-nothing, Contains-push_cases, get_grows, get_push_cases, get_pushed, get_source}
 
 abbrev Lists : Type 0
 Lists = List (List (List ℕ))
@@ -19,7 +20,7 @@ Lists = List (List (List ℕ))
 pub owners_none : (owners : List ℕ → Option ℕ) → ((path : List ℕ) → owners path ≡ None)
     → AreOwners owners [] []
 owners_none owners none = record {
-  none = λ path e. (contains_none path, λ n outputs is. absurd (none-some outputs is));
+  none = λ path e. (Contains-nothing path, λ n outputs is. absurd (none-some outputs is));
   some = λ path n e. absurd (none-some n (sym (none path) ∙ e));
 }
 
@@ -53,7 +54,7 @@ owners_more owners after left own path right sets = record { none = none; some =
         none-some (length left) (sym e ∙ ap after same ∙ sets.here) in
         let old = right.none other (sym (sets.others other differs) ∙ e) in (
           λ has. ⊎_elim (λ mine. old.0 mine) (λ same. differs (sym same))
-              (contains_push_cases own path other has),
+              (Contains-push_cases own path other has),
           old.1,
         )
 
@@ -77,14 +78,14 @@ pub alone_more : (owners : List ℕ → Option ℕ) (left : Lists) (own : List (
 alone_more owners left own path right alone high other has n outputs is among =
     ⊎_elim (λ mine. alone other mine n outputs is among)
     (λ same. alone_here owners left own path right alone (owners path) refl high n outputs is
-    (subst (Contains outputs) (sym same) among)) (contains_push_cases own path other has)
+    (subst (Contains outputs) (sym same) among)) (Contains-push_cases own path other has)
 
 -- the derivation was left
 pub owners_left : (owners : List ℕ → Option ℕ) (left : Lists) (own : List (List ℕ))
     → AreOwners owners left own → AreOwners owners (left ++ own ∷ []) []
 owners_left owners left own right = record {
   none = λ path e. (
-    contains_none path,
+    Contains-nothing path,
     λ n outputs is has. ⊎_elim (λ old. (right.none path e).1 n outputs old has)
         (λ last. (right.none path e).0 (subst (λ l. Contains l path) (sym last.1) has))
         (get_push_cases left own n outputs is),

@@ -7,7 +7,8 @@ use Rattle.drv_graph.specs.Loading.{AreDistinct}
 use Rattle.drv_graph.specs.Nodes.{Node, inputs_of, paths_of}
 use Rattle.drv_graph.specs.Plans.{AreLeft, IsReached, Leads, Uses}
 use Rattle.drv_graph.specs.Plans.AreLeft.{none_left, passed_over, left_behind_inputs}
-use Rattle.drv_graph.proofs.PathLists.{contains_cases, contains_first, contains_later, contains_none, contains_push_cases, get_from_contains, get_mapped, same_place}
+use Rattle.drv_graph.proofs.PathLists.{same_place}
+use Rattle.nix_names.proofs.Lists.{Contains-cons_cases, Contains-first, Contains-later, Contains-nothing, Contains-push_cases, get_from_contains, get_mapped}
 
 -- paths left in two runs are left in one
 pub left_append : {nodes : List Node} {before paths middle : List (List ℕ)}
@@ -42,15 +43,15 @@ left_keeps (left_behind_inputs node b inputs ps a is_node new under apart rest) 
 -- what was asked for is left
 pub left_has : {nodes : List Node} {before paths after : List (List ℕ)}
     → AreLeft nodes before paths after → (path : List ℕ) → Contains paths path → Contains after path
-left_has (none_left b) path has = absurd (contains_none path has)
+left_has (none_left b) path has = absurd (Contains-nothing path has)
 left_has (passed_over p b ps a there rest) path has =
     ⊎_elim (λ same. left_keeps rest path (subst (Contains b) same there))
-    (λ later. left_has rest path later) (contains_cases p path ps has)
+    (λ later. left_has rest path later) (Contains-cons_cases p ps path has)
 left_has (left_behind_inputs node b inputs ps a is_node new under apart rest) path has =
     ⊎_elim (λ same.
     left_keeps rest path
     (subst (Contains (inputs ++ node.path ∷ [])) same (Contains-push inputs node.path)))
-    (λ later. left_has rest path later) (contains_cases node.path path ps has)
+    (λ later. left_has rest path later) (Contains-cons_cases node.path ps path has)
 
 -- a node of some paths, all of whose inputs are among them
 abbrev pub HasNodeIn : List Node → List (List ℕ) → List ℕ → Type 0
@@ -66,7 +67,7 @@ closed_push : (nodes : List Node) (node : Node) (inputs : List (List ℕ)) → C
     → AreClosed nodes inputs → AreClosed nodes (inputs ++ node.path ∷ [])
 closed_push nodes node inputs is_node under closed path has =
     ⊎_elim (λ old. wider path (closed path old)) (λ same. wider path (node, is_node, same, under))
-    (contains_push_cases inputs node.path path has)
+    (Contains-push_cases inputs node.path path has)
   where
     wider : (path : List ℕ) → HasNodeIn nodes inputs path
         → HasNodeIn nodes (inputs ++ node.path ∷ []) path
@@ -101,16 +102,16 @@ pub left_all :
     P path
 left_all P on (none_left b) old asked path has = old path has
 left_all P on (passed_over p b ps a there rest) old asked path has =
-    left_all P on rest old (λ q is. asked q (contains_later p q ps is)) path has
+    left_all P on rest old (λ q is. asked q (Contains-later p ps q is)) path has
 left_all P on (left_behind_inputs node b inputs ps a is_node new under apart rest) old asked path
     has =
-    let own : P node.path = asked node.path (contains_first node.path ps) in
+    let own : P node.path = asked node.path (Contains-first node.path ps) in
     let earlier : (q : List ℕ) → Contains inputs q
     → P q = left_all P on under old (λ input among. on node input is_node own among) in
     left_all P on rest
     (λ q is. ⊎_elim (λ mine. earlier q mine) (λ same. subst P same own)
-    (contains_push_cases inputs node.path q is))
-    (λ q is. asked q (contains_later node.path q ps is)) path has
+    (Contains-push_cases inputs node.path q is))
+    (λ q is. asked q (Contains-later node.path ps q is)) path has
 
 -- two nodes at one path are one
 pub same_node : (nodes : List Node) (a b : Node) → AreDistinct (paths_of nodes) → Contains nodes a
@@ -159,7 +160,7 @@ plan_reached nodes roots order =
     (λ node input is_node reached is_input. reached_more (Uses nodes) roots node.path input reached
     (record { node = node; is_node = is_node; is_from = refl; is_input = is_input }))
     order
-    (λ path has. absurd (contains_none path has))
+    (λ path has. absurd (Contains-nothing path has))
     (λ path has. reached_root (Uses nodes) roots path has)
 
 -- a closed list has all that is reached from its paths
@@ -182,5 +183,5 @@ pub plan_whole : (nodes : List Node) (roots : List (List ℕ)) → AreDistinct (
     → Contains (paths_of nodes) path
 plan_whole nodes roots once order path reached =
     closed_leads nodes (paths_of nodes) once
-    (left_closed order (λ p none. absurd (contains_none p none))) reached.root path
+    (left_closed order (λ p none. absurd (Contains-nothing p none))) reached.root path
     reached.steps (left_has order reached.root reached.is_root) reached.leads

@@ -15,15 +15,16 @@ use Rattle.drv_graph.specs.Loading.{AreDistinct}
 use Rattle.drv_graph.specs.Nodes.{Node, paths_of}
 use Rattle.drv_graph.specs.Plans.{AreNumbers, each_once}
 use Rattle.drv_graph.proofs.Numbers.{first_number, later_numbers, numbers_push}
-use Rattle.drv_graph.proofs.PathLists.{contains_cases, contains_first, contains_later, contains_none, other_path, path_cases, same_place}
+use Rattle.drv_graph.proofs.PathLists.{other_path, path_cases, same_place}
+use Rattle.nix_names.proofs.Lists.{Contains-cons_cases, Contains-first, Contains-later, Contains-nothing}
 
 module _ {X : Type 0} (test : X → Bool) where
   source_step : (b : Bool) (y x : X) (ys : List X) → (Contains (filter test ys) x → Contains ys x)
       → Contains (cond b (y ∷ filter test ys) (filter test ys)) x → Contains (y ∷ ys) x
   source_step true y x ys later has =
-      ⊎_elim (λ same. subst (Contains (y ∷ ys)) same (contains_first y ys))
-      (λ rest. contains_later y x ys (later rest)) (contains_cases y x (filter test ys) has)
-  source_step false y x ys later has = contains_later y x ys (later has)
+      ⊎_elim (λ same. subst (Contains (y ∷ ys)) same (Contains-first y ys))
+      (λ rest. Contains-later y ys x (later rest)) (Contains-cons_cases y (filter test ys) x has)
+  source_step false y x ys later has = Contains-later y ys x (later has)
 
   filter_source : (xs : List X) (x : X) → Contains (filter test xs) x → Contains xs x
   filter_source [] x has = has
@@ -34,10 +35,10 @@ module _ {X : Type 0} (test : X → Bool) where
       → Contains (cond b (y ∷ filter test ys) (filter test ys)) x
   has_step true y x ys passes later has =
       ⊎_elim (λ same. subst (Contains (y ∷ filter test ys)) same
-      (contains_first y (filter test ys)))
-      (λ rest. contains_later y x (filter test ys) (later rest)) (contains_cases y x ys has)
+      (Contains-first y (filter test ys)))
+      (λ rest. Contains-later y (filter test ys) x (later rest)) (Contains-cons_cases y ys x has)
   has_step false y x ys passes later has = ⊎_elim (λ same. absurd (false≢true (passes same)))
-      (λ rest. later rest) (contains_cases y x ys has)
+      (λ rest. later rest) (Contains-cons_cases y ys x has)
 
   filter_has : (xs : List X) (x : X) → Contains xs x → test x ≡ true → Contains (filter test xs) x
   filter_has [] x has passes = has
@@ -48,29 +49,29 @@ module _ {X : Type 0} (test : X → Bool) where
 once_source : (xs : List (List ℕ)) (x : List ℕ) → Contains (each_once xs) x → Contains xs x
 once_source [] x has = has
 once_source (y ∷ ys) x has =
-    ⊎_elim (λ same. subst (Contains (y ∷ ys)) same (contains_first y ys))
+    ⊎_elim (λ same. subst (Contains (y ∷ ys)) same (Contains-first y ys))
     (λ later.
-    contains_later y x ys
+    Contains-later y ys x
     (once_source ys x (filter_source (λ z. not (same_bytes y z)) (each_once ys) x later)))
-    (contains_cases y x (filter (λ z. not (same_bytes y z)) (each_once ys)) has)
+    (Contains-cons_cases y (filter (λ z. not (same_bytes y z)) (each_once ys)) x has)
 
 once_has : (xs : List (List ℕ)) (x : List ℕ) → Contains xs x → Contains (each_once xs) x
 once_has [] x has = has
 once_has (y ∷ ys) x has =
     ⊎_elim (λ same. subst (Contains (each_once (y ∷ ys))) same
-    (contains_first y (filter (λ z. not (same_bytes y z)) (each_once ys))))
+    (Contains-first y (filter (λ z. not (same_bytes y z)) (each_once ys))))
     (λ differs.
     ⊎_elim (λ same. absurd (differs same))
-    (λ later. contains_later y x (filter (λ z. not (same_bytes y z)) (each_once ys))
+    (λ later. Contains-later y (filter (λ z. not (same_bytes y z)) (each_once ys)) x
     (filter_has (λ z. not (same_bytes y z)) (each_once ys) x (once_has ys x later)
-    (ap not (other_path y x differs)))) (contains_cases y x ys has))
+    (ap not (other_path y x differs)))) (Contains-cons_cases y ys x has))
     (path_cases y x)
 
 -- one element more changes nothing where it was there, and else stands last
 once_push : (xs : List (List ℕ)) (x : List ℕ)
     → (Contains xs x × (each_once (xs ++ x ∷ []) ≡ each_once xs))
     ⊎ ((Contains xs x → ⊥) × (each_once (xs ++ x ∷ []) ≡ each_once xs ++ x ∷ []))
-once_push [] x = inr (contains_none x, refl)
+once_push [] x = inr (Contains-nothing x, refl)
 once_push (y ∷ ys) x = by (path_cases y x) (once_push ys x)
   where
     by : (y ≡ x) ⊎ (y ≡ x → ⊥) → (Contains ys x × (each_once (ys ++ x ∷ []) ≡ each_once ys))
@@ -79,7 +80,7 @@ once_push (y ∷ ys) x = by (path_cases y x) (once_push ys x)
         ⊎ ((Contains (y ∷ ys) x → ⊥)
         × (each_once (y ∷ (ys ++ x ∷ [])) ≡ each_once (y ∷ ys) ++ x ∷ []))
     by (inl same) (inl old) = inl (
-      subst (Contains (y ∷ ys)) same (contains_first y ys),
+      subst (Contains (y ∷ ys)) same (Contains-first y ys),
       ap (λ l. y ∷ filter (λ z. not (same_bytes y z)) l) old.1,
     )
     by (inl same) (inr new) =
@@ -87,21 +88,22 @@ once_push (y ∷ ys) x = by (path_cases y x) (once_push ys x)
         ≡ [] = ap (λ b. cond (not b) (x ∷ []) [])
         (subst (λ z. same_bytes y z ≡ true) same (nat_list_eq_equiv.refl y)) in
         inl (
-          subst (Contains (y ∷ ys)) same (contains_first y ys),
+          subst (Contains (y ∷ ys)) same (Contains-first y ys),
           ap (λ l. y ∷ filter (λ z. not (same_bytes y z)) l) new.1
               ∙ ap (λ l. y ∷ l) (filter-append (λ z. not (same_bytes y z)) (each_once ys) (x ∷ [])
               ∙ ap (λ l. filter (λ z. not (same_bytes y z)) (each_once ys) ++ l) gone
               ∙ append-nil (filter (λ z. not (same_bytes y z)) (each_once ys))),
         )
     by (inr differs) (inl old) = inl (
-      contains_later y x ys old.0,
+      Contains-later y ys x old.0,
       ap (λ l. y ∷ filter (λ z. not (same_bytes y z)) l) old.1,
     )
     by (inr differs) (inr new) =
         let stays : filter (λ z. not (same_bytes y z)) (x ∷ []) ≡ x
         ∷ [] = ap (λ b. cond (not b) (x ∷ []) []) (other_path y x differs) in
         inr (
-          λ has. ⊎_elim (λ same. differs same) (λ later. new.0 later) (contains_cases y x ys has),
+          λ has. ⊎_elim (λ same. differs same) (λ later. new.0 later)
+              (Contains-cons_cases y ys x has),
           ap (λ l. y ∷ filter (λ z. not (same_bytes y z)) l) new.1
               ∙ ap (λ l. y ∷ l) (filter-append (λ z. not (same_bytes y z)) (each_once ys) (x ∷ [])
               ∙ ap (λ l. filter (λ z. not (same_bytes y z)) (each_once ys) ++ l) stays),
@@ -111,33 +113,33 @@ once_push (y ∷ ys) x = by (path_cases y x) (once_push ys x)
 pub number_source : (nodes : List Node) (ns : List ℕ) (ps : List (List ℕ)) (n : ℕ)
     → AreNumbers nodes ns ps → Contains ns n → (p : List ℕ) × Contains ps p
     × (slice_get (paths_of nodes) n ≡ Some p)
-number_source nodes [] ps n e has = absurd (contains_none n has)
+number_source nodes [] ps n e has = absurd (Contains-nothing n has)
 number_source nodes (m ∷ ms) [] n e has = absurd cc
 number_source nodes (m ∷ ms) (p ∷ ps) n e has =
     ⊎_elim (λ same. (
       p,
-      contains_first p ps,
+      Contains-first p ps,
       subst (λ k. slice_get (paths_of nodes) k ≡ Some p) same
           (first_number nodes m ms p ps e),
     ))
     (λ later. let rest = number_source nodes ms ps n (later_numbers nodes m ms p ps e) later
-    in (rest.0, contains_later p rest.0 ps rest.1, rest.2)) (contains_cases m n ms has)
+    in (rest.0, Contains-later p ps rest.0 rest.1, rest.2)) (Contains-cons_cases m ms n has)
 
 number_of_path : (nodes : List Node) (ns : List ℕ) (ps : List (List ℕ)) (p : List ℕ)
     → AreNumbers nodes ns ps → Contains ps p → (n : ℕ) × Contains ns n
     × (slice_get (paths_of nodes) n ≡ Some p)
-number_of_path nodes [] [] p e has = absurd (contains_none p has)
+number_of_path nodes [] [] p e has = absurd (Contains-nothing p has)
 number_of_path nodes [] (q ∷ qs) p e has = absurd cc
-number_of_path nodes (m ∷ ms) [] p e has = absurd (contains_none p has)
+number_of_path nodes (m ∷ ms) [] p e has = absurd (Contains-nothing p has)
 number_of_path nodes (m ∷ ms) (q ∷ qs) p e has =
     ⊎_elim (λ same. (
       m,
-      contains_first m ms,
+      Contains-first m ms,
       subst (λ k. slice_get (paths_of nodes) m ≡ Some k) same
           (first_number nodes m ms q qs e),
     ))
     (λ later. let rest = number_of_path nodes ms qs p (later_numbers nodes m ms q qs e) later
-    in (rest.0, contains_later m rest.0 ms rest.1, rest.2)) (contains_cases q p qs has)
+    in (rest.0, Contains-later m ms rest.0 rest.1, rest.2)) (Contains-cons_cases q qs p has)
 
 -- one root more
 pub roots_more : (nodes : List Node) (ns : List ℕ) (roots : List (List ℕ)) (root : List ℕ) (n : ℕ)

@@ -12,12 +12,13 @@ use Rattle.std.proofs.lemmas.List.Elements.{All-cons, All-nil, Contains-append_c
 use Rattle.std.proofs.lemmas.List.Sorted.{Contains-permutation, IsPermutation-map, IsPermutation-sym, ranks_by, sorted_far}
 use Rattle.std.proofs.lemmas.Option.{get_or_from_slice_get, slice_get_within}
 use Rattle.nix_names.specs.Rising.{IsRising}
-use Rattle.nix_names.proofs.RisingLists.{IsBelow, Contains-nothing, below_from_order, below_trans, earlier_below, rising_push}
+use Rattle.nix_names.proofs.RisingLists.{IsBelow, below_from_order, below_trans, earlier_below, rising_push}
 use Rattle.nix_drv.specs.Derivation.{Input}
 use Rattle.drv_graph.specs.Modulo.{IsNamed, IsUnited}
 use Rattle.drv_graph.specs.Uniting.{IsAdded, IsGathered, IsNameSorted, input_paths}
-use Rattle.drv_graph.proofs.Loops.{slice_get-Contains, slice_get-take}
+use Rattle.drv_graph.proofs.Loops.{slice_get-take}
 use Rattle.drv_graph.proofs.OneText.{named_cases, named_first, named_later}
+use Rattle.nix_names.proofs.Lists.{Contains-nothing, get_from_contains}
 
 -- ---- sorted names
 
@@ -308,8 +309,8 @@ not_less : (paths : List (List ℕ)) (i : ℕ) (path earlier : List ℕ)
     → Contains (take i paths) earlier
     → is_lt (slice_cmp nat_cmp path earlier) ≡ false
 not_less paths i path earlier sorted at has =
-    let found = slice_get-Contains (take i paths) earlier has in
-    let inside = slice_get-take paths i found.0 earlier found.2 in
+    let found = get_from_contains (take i paths) earlier has in
+    let inside = slice_get-take paths i found.0 earlier found.1 in
     let far = sorted_far (λ x y. is_lt (slice_cmp nat_cmp x y))
     (ranks_by nat_list_cmp_total (λ x. x)) paths sorted found.0 i [] (omega (arith, inside.0))
     (slice_get_within paths i path at) in

@@ -21,7 +21,7 @@ use Rattle.drv_graph.specs.declared.kinds.Kind.{Kind}
 use Rattle.drv_graph.specs.declared.node.PlanNode.{PlanNode}
 use Rattle.drv_graph.specs.declared.outputs.UsedInput.{UsedInput}
 use Rattle.drv_graph.proofs.Numbers.{first_number, later_numbers, numbers_within}
-use Rattle.drv_graph.proofs.PathLists.{contains_from_get, contains_mapped, get_mapped}
+use Rattle.nix_names.proofs.Lists.{Contains-from_get, Contains-map, get_mapped}
 
 -- the path of the node that is used is the one with its number
 used_path : (kept : List PlanNode) (n : ℕ) (u : UsedInput) (p : List ℕ) → IsUsed kept n u
@@ -37,8 +37,8 @@ used_path kept n u p used is =
 used_has : (kept : List PlanNode) (n : ℕ) (u : UsedInput) → IsUsed kept n u
     → Contains (nodes_of kept) (record { path = u.path.now; drv = u.drv.now })
 used_has kept n u used =
-    let there = contains_mapped node_of kept used.node
-    (contains_from_get kept n used.node used.is_node) in
+    let there = Contains-map node_of kept used.node
+    (Contains-from_get kept n used.node used.is_node) in
     let same : ◌≡◌ {A = Node} (node_of used.node) (record { path = u.path.now; drv = u.drv.now }) =
     cc (used.path, used.drv) in
     subst (Contains (nodes_of kept)) same there
@@ -73,12 +73,12 @@ used_hashes kept (n ∷ ns) [] right zip = absurd zip
 used_hashes kept (n ∷ ns) (u ∷ us) right zip =
     let used = zip.0 in
     let node = used.node in
-    let here = contains_from_get kept n node used.is_node in
+    let here = Contains-from_get kept n node used.is_node in
     let own : IsKept (nodes_of kept) node = All-contains (IsKept (nodes_of kept)) kept node right
     here in
     let rest = used_hashes kept ns us right zip.1 in
     let one = one_more_hash (node_of node) node.kind own.has_hash.of_inputs node.hash
-    (used_paths_of us) (hashes_of us) (contains_mapped node_of kept node here) own.has_kind
+    (used_paths_of us) (hashes_of us) (Contains-map node_of kept node here) own.has_kind
     own.has_hash.are_hashes own.has_hash.is_hash rest in
     subst (λ path. AreHashes (nodes_of kept) (path ∷ used_paths_of us) (u.hash ∷ hashes_of us))
     (sym used.path)

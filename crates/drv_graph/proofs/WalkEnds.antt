@@ -4,9 +4,10 @@ use Rattle.std.specs.Prelude.{All, Contains}
 use Rattle.std.specs.Cmp.Lexicographic.{nat_list_eq_equiv}
 use Rattle.std.proofs.lemmas.Bool.{false≢true}
 use Rattle.std.proofs.lemmas.List.{append_assoc, drop_all, length_push, length-map, map_push}
-use Rattle.std.proofs.lemmas.List.Elements.{All-cons, All-contains, All-push, Contains-append_left, Contains-push}
+use Rattle.std.proofs.lemmas.List.Elements.{All-cons, All-contains, All-push, Contains-push}
 use Rattle.std.proofs.lemmas.Map.Views.{hash_map_contains_key_iff}
 use Rattle.indexmap.specs.IndexMap.{keys}
+use Rattle.nix_names.proofs.RisingLists.{equal_from_eq}
 use Rattle.nix_drv.specs.Sources.{Answer}
 use Rattle.drv_graph.specs.Loading.{AreDistinct, IsLoading, IsOnCycle, ReachTooMany, max_nodes}
 use Rattle.drv_graph.specs.Nodes.{Node, inputs_of, paths_of}
@@ -21,9 +22,10 @@ use Rattle.drv_graph.specs.declared.found.Found.{Found}
 use Rattle.drv_graph.specs.declared.found.Visit.{Visit}
 use Rattle.drv_graph.proofs.Marks.{marks_left, pending_not_left}
 use Rattle.drv_graph.proofs.Numbers.{numbers_grow}
-use Rattle.drv_graph.proofs.PathLists.{all_from_contains, contains_cases, contains_first, contains_from_get, contains_mapped, contains_none, distinct_push, same_path}
+use Rattle.drv_graph.proofs.PathLists.{distinct_push}
 use Rattle.drv_graph.proofs.PlanOrder.{leads_more}
 use Rattle.drv_graph.proofs.Walking.{AreOpen, IsOpen, IsWalk, IsWanted, Remains, uses_input, visits_of, wanted_reached}
+use Rattle.nix_names.proofs.Lists.{All-from_contains, All-left, Contains-cons_cases, Contains-first, Contains-from_get, Contains-map, Contains-nothing}
 
 -- what is open stays right as nodes are added
 open_grows : (dir : List ℕ) (gives : List ℕ → Answer → Type 0) (roots : List (List ℕ))
@@ -45,10 +47,6 @@ open_grows dir gives roots root nodes more (v ∷ vs) are = (
   are.2,
   open_grows dir gives roots root nodes more vs are.3,
 )
-
-pub all_front : {X : Type 0} (P : X → Type 0) (xs ys : List X) → All P (xs ++ ys) → All P xs
-all_front P xs ys all = all_from_contains P xs
-    (λ x has. All-contains P (xs ++ ys) x all (Contains-append_left xs ys x has))
 
 -- the innermost open derivation is left
 pub walk_leaves :
@@ -89,7 +87,7 @@ walk_leaves dir gives roots root start found after visit visits walk all leaves 
       All-contains (Contains nodes) (nodes_of found.nodes.items ++ visited visit ∷ [])
       (visited visit) has_all (Contains-push (nodes_of found.nodes.items) (visited visit)) in
       walk.order nodes last
-      (all_front (Contains nodes) (nodes_of found.nodes.items) (visited visit ∷ []) has_all)
+      (All-left (Contains nodes) (nodes_of found.nodes.items) (visited visit ∷ []) has_all)
       (All-cons (Contains nodes) (visited visit) (visits_of visits) has_visit open_has) (
         paths_of (nodes_of found.nodes.items),
         ended nodes,
@@ -125,7 +123,7 @@ walk_leaves dir gives roots root start found after visit visits walk all leaves 
     not_left : Contains (paths_of (nodes_of found.nodes.items)) visit.path → ⊥
     not_left = pending_not_left (marked found.marks) (paths_of (nodes_of found.nodes.items))
         (pending_of (visit ∷ visits)) visit.path walk.walked.marks
-        (contains_first visit.path (pending_of visits))
+        (Contains-first visit.path (pending_of visits))
 
     ended : (nodes : List Node) → AreLeft nodes (paths_of (nodes_of found.nodes.items))
         (drop (length visit.numbers.items) (inputs_of visit.drv))
@@ -144,8 +142,8 @@ leads_up : (dir : List ℕ) (gives : List ℕ → Answer → Type 0) (roots : Li
     → AreOpen dir gives roots root nodes (v ∷ vs) → Contains (pending_of (v ∷ vs)) path
     → (steps : List (List ℕ)) × Leads (MayUse dir gives) path v.path steps
 leads_up dir gives roots root nodes v [] path are has =
-    ⊎_elim (λ same. ([], sym same)) (λ none. absurd (contains_none path none))
-    (contains_cases v.path path [] has)
+    ⊎_elim (λ same. ([], sym same)) (λ none. absurd (Contains-nothing path none))
+    (Contains-cons_cases v.path [] path has)
 leads_up dir gives roots root nodes v (w ∷ ws) path are has =
     ⊎_elim (λ same. ([], sym same))
     (λ below.
@@ -154,25 +152,25 @@ leads_up dir gives roots root nodes v (w ∷ ws) path are has =
       leads_more (MayUse dir gives) path w.path v.path lower.0 lower.1
           (uses_input dir gives roots nodes w v.path (length w.numbers.items) are.3.0 are.2),
     ))
-    (contains_cases v.path path (pending_of (w ∷ ws)) has)
+    (Contains-cons_cases v.path (pending_of (w ∷ ws)) path has)
 
 -- an open path is reached
 pending_reached : (dir : List ℕ) (gives : List ℕ → Answer → Type 0) (roots : List (List ℕ))
     (root : List ℕ) (nodes : List Node) (visits : List Visit) (path : List ℕ)
     → AreOpen dir gives roots root nodes visits → Contains (pending_of visits) path
     → IsReached (MayUse dir gives) roots path
-pending_reached dir gives roots root nodes [] path are has = absurd (contains_none path has)
+pending_reached dir gives roots root nodes [] path are has = absurd (Contains-nothing path has)
 pending_reached dir gives roots root nodes (v ∷ vs) path are has =
     ⊎_elim (λ same. subst (IsReached (MayUse dir gives) roots) same are.0.reached)
     (λ below. pending_reached dir gives roots root nodes vs path are.3 below)
-    (contains_cases v.path path (pending_of vs) has)
+    (Contains-cons_cases v.path (pending_of vs) path has)
 
 -- what is open and wanted again is on a cycle
 on_cycle : (dir : List ℕ) (gives : List ℕ → Answer → Type 0) (roots : List (List ℕ)) (root : List ℕ)
     (nodes : List Node) (visits : List Visit) (path : List ℕ)
     → AreOpen dir gives roots root nodes visits → IsWanted root visits path
     → Contains (pending_of visits) path → IsOnCycle (MayUse dir gives) path
-on_cycle dir gives roots root nodes [] path are wanted has = absurd (contains_none path has)
+on_cycle dir gives roots root nodes [] path are wanted has = absurd (Contains-nothing path has)
 on_cycle dir gives roots root nodes (v ∷ vs) path are wanted has =
     let up = leads_up dir gives roots root nodes v vs path are has in
     record {
@@ -195,13 +193,13 @@ met_reached dir gives roots root start found visits walk path has =
     by None is = absurd
         (false≢true
         (sym (ap is_some is)
-        ∙ (hash_map_contains_key_iff nat_list_eq_equiv same_path found.marks path).1 has))
+        ∙ (hash_map_contains_key_iff nat_list_eq_equiv equal_from_eq found.marks path).1 has))
     by (Some None) is = pending_reached dir gives roots root (nodes_of found.nodes.items) visits
         path walk.pending ((walk.walked.marks.is_pending path).0 is)
     by (Some (Some n)) is =
         All-contains (IsReached (MayUse dir gives) roots) (paths_of (nodes_of found.nodes.items))
         path walk.walked.reached
-        (contains_from_get (paths_of (nodes_of found.nodes.items)) n path
+        (Contains-from_get (paths_of (nodes_of found.nodes.items)) n path
         ((walk.walked.marks.numbered path n).0 is))
 
 too_many : (dir : List ℕ) (gives : List ℕ → Answer → Type 0) (roots : List (List ℕ)) (root : List ℕ)
@@ -215,10 +213,10 @@ too_many dir gives roots root start found visits path walk reached none distinct
       paths = keys found.marks ++ path ∷ [];
       distinct = distinct_push (keys found.marks) path distinct
           (λ has. false≢true (sym (ap is_some none)
-          ∙ (hash_map_contains_key_iff nat_list_eq_equiv same_path found.marks path).1 has));
+          ∙ (hash_map_contains_key_iff nat_list_eq_equiv equal_from_eq found.marks path).1 has));
       many = omega (arith, many, length_push (keys found.marks) path);
       reached = All-push (IsReached (MayUse dir gives) roots) (keys found.marks) path
-          (all_from_contains (IsReached (MayUse dir gives) roots) (keys found.marks)
+          (All-from_contains (IsReached (MayUse dir gives) roots) (keys found.marks)
           (met_reached dir gives roots root start found visits walk)) reached;
     }
 
@@ -303,7 +301,7 @@ leaving_fault dir gives roots root start found visit visits (At p (Outputs outpu
 leaving_fault dir gives roots root start found visit visits (At p (SharedOutput earlier)) walk at =
     let other = at.1 in
     let left = paths_of (nodes_of found.nodes.items) in
-    let there : Contains left other.0.path = contains_mapped (λ (n : Node). n.path)
+    let there : Contains left other.0.path = Contains-map (λ (n : Node). n.path)
     (nodes_of found.nodes.items) other.0 other.1 in
     let reached : IsReached (MayUse dir gives) roots earlier =
     subst (IsReached (MayUse dir gives) roots) (sym other.2)
@@ -315,7 +313,7 @@ leaving_fault dir gives roots root start found visit visits (At p (SharedOutput 
     other.0 walk.walked.given other.1) in
     let differs : earlier ≡ visit.path → ⊥ =
     λ same. pending_not_left (marked found.marks) left (pending_of (visit ∷ visits)) visit.path
-    walk.walked.marks (contains_first visit.path (pending_of visits))
+    walk.walked.marks (Contains-first visit.path (pending_of visits))
     (subst (Contains left) (sym other.2 ∙ same) there) in
     subst (λ q. IsLoading dir gives roots (Err (At q (SharedOutput earlier)))) (sym at.0) (
       walk.pending.0.reached,

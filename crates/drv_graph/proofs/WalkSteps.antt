@@ -20,9 +20,9 @@ use Rattle.drv_graph.specs.declared.found.Visit.{Visit}
 use Rattle.drv_graph.specs.Plans.AreLeft.{none_left, passed_over}
 use Rattle.std.proofs.lemmas.List.Elements.{All-nil}
 use Rattle.drv_graph.proofs.Marks.{pending_not_left}
-use Rattle.drv_graph.proofs.PathLists.{contains_first, contains_from_get}
 use Rattle.drv_graph.proofs.Walking.{IsWalk, IsWanted, walk_advances, walk_opens}
 use Rattle.drv_graph.proofs.WalkEnds.{leaving_fault, meeting_fault, walk_leaves}
+use Rattle.nix_names.proofs.Lists.{Contains-first, Contains-from_get}
 
 -- sources that give the same
 pub gives_trans : (G H K : List ℕ → Answer → Type 0) → GivesSame G H → GivesSame H K → GivesSame G K
@@ -107,10 +107,10 @@ module _ (dir : List ℕ) (G H : List ℕ → Answer → Type 0) (roots : List (
       let top = popped found before below visit walk parts in (
         top.pending.0.is_visit,
         (top.walked.marks.is_pending visit.path).1
-            (contains_first visit.path (pending_of (reverse below))),
+            (Contains-first visit.path (pending_of (reverse below))),
         pending_not_left (marked found.marks) (paths_of (nodes_of found.nodes.items))
             (pending_of (visit ∷ reverse below)) visit.path top.walked.marks
-            (contains_first visit.path (pending_of (reverse below))),
+            (Contains-first visit.path (pending_of (reverse below))),
       )
 
   wanted_input : (found : Found) (visit : Visit) (below : List Visit) (input : List ℕ)
@@ -209,7 +209,7 @@ walk_ends dir G roots root before found [] number walk none is =
             walk.order nodes (paths_of (nodes_of found.nodes.items)) has (All-nil (Contains nodes))
             (passed_over root (paths_of (nodes_of found.nodes.items)) []
             (paths_of (nodes_of found.nodes.items))
-            (contains_from_get (paths_of (nodes_of found.nodes.items)) number root at)
+            (Contains-from_get (paths_of (nodes_of found.nodes.items)) number root at)
             (none_left (paths_of (nodes_of found.nodes.items))));
       };
       is_number = at;

@@ -15,8 +15,8 @@ use Rattle.drv_graph.specs.declared.found.Found.{Found}
 use Rattle.drv_graph.specs.declared.found.Visit.{Visit}
 use Rattle.drv_graph.proofs.Marks.{marks_opened, new_not_left, new_not_pending}
 use Rattle.drv_graph.proofs.Numbers.{numbers_push}
-use Rattle.drv_graph.proofs.PathLists.{contains_from_get, drop_at, take_at}
 use Rattle.drv_graph.proofs.PlanOrder.{left_later, reached_more}
+use Rattle.nix_names.proofs.Lists.{Contains-from_get, drop_at, take_at}
 
 -- What is open of a derivation is right: it may stand at its path, and is reached.
 pub record IsOpen (dir : List ℕ) (gives : List ℕ → Answer → Type 0) (roots : List (List ℕ))
@@ -112,7 +112,7 @@ uses_input dir gives roots nodes v path n is wanted =
     record {
       drv = v.drv;
       stands = is.stands;
-      is_input = contains_from_get (inputs_of v.drv) n path wanted;
+      is_input = Contains-from_get (inputs_of v.drv) n path wanted;
     }
 
 -- what is wanted is reached
@@ -305,7 +305,7 @@ walk_advances dir gives roots root start found after visit next visits walk none
           walk.order nodes last (subst (All (Contains nodes)) nodes_same has)
           (subst (λ v. All (Contains nodes) (v ∷ visits_of visits)) same open_has)
           (goes_on nodes last wanted long
-          (contains_from_get (paths_of (nodes_of found.nodes.items)) step.number step.input at)
+          (Contains-from_get (paths_of (nodes_of found.nodes.items)) step.number step.input at)
           (subst (λ l. Remains nodes root (paths_of l) (next ∷ visits) last) nodes_same rest));
     }
   where

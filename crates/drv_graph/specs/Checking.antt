@@ -2,10 +2,11 @@
 use Rattle.std.specs.Prelude.{◌≡◌, ◌<◌, Bool, true, false, ⊤, ℕ, List, length, All, Contains, slice_get, Some, Result, Ok, Err, Vec}
 use Rattle.std.specs.List.{AllZip}
 use Rattle.std.specs.declared.alloc.Global.{Global}
+use Rattle.nix_names.specs.Firsts.{IsFirstWhere}
 use Rattle.nix_drv.specs.Derivation.{Drv, Output, EnvEntry}
 use Rattle.drv_graph.specs.Expected.{IsExpected}
 use Rattle.drv_graph.specs.Kinds.{HasKind, AreMixed, IsAddressed, IsFixed, IsUnknown}
-use Rattle.drv_graph.specs.Outputs.{AreSound, IsFirst, IsKnownUse, IsOutputsCheck, IsThePath, IsThePathOrEmpty, IsWellNamed, Use, uses}
+use Rattle.drv_graph.specs.Outputs.{AreSound, IsKnownUse, IsOutputsCheck, IsThePath, IsThePathOrEmpty, IsWellNamed, Use, uses}
 use Rattle.drv_graph.specs.declared.kinds.Kind.{Kind}
 use Rattle.drv_graph.specs.declared.kinds.Kind.TheVariants.{Addressed, Fixed}
 use Rattle.drv_graph.specs.declared.kinds.Method.{Method}
@@ -66,7 +67,7 @@ IsNameFault name outputs (EnvMismatch output) = ⊥
 -- what is wrong with some uses of outputs
 abbrev pub IsUseFault : List Use → OutputFault → Type 0
 IsUseFault used (UnknownOutput input output) =
-    (u : Use) × IsFirst (λ other. IsKnownUse other → ⊥) used u × (input ≡ u.input)
+    (u : Use) × IsFirstWhere (λ other. IsKnownUse other → ⊥) used u × (input ≡ u.input)
     × (output.items ≡ u.output)
 IsUseFault used NoMemory = ⊤
 IsUseFault used MixedOutputs = ⊥

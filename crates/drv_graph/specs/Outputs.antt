@@ -2,6 +2,7 @@
 -- Derivation"; the order of faults is this product's own).
 use Rattle.std.specs.Prelude.{◌≡◌, ◌⊎◌, ◌++◌, ⊤, ℕ, List, [], ◌∷◌, map, All, Contains, IsTrue, Result, Ok, Err}
 use Rattle.nix_names.specs.Names.{is_name}
+use Rattle.nix_names.specs.Firsts.{IsFirstWhere}
 use Rattle.nix_drv.specs.Derivation.{Drv, Output, Input, EnvEntry}
 use Rattle.drv_graph.specs.Kinds.{HasKind, AreMixed, IsUnknown}
 use Rattle.drv_graph.specs.declared.kinds.Kind.{Kind}
@@ -9,14 +10,6 @@ use Rattle.drv_graph.specs.Expected.{IsExpected, path_name}
 use Rattle.drv_graph.specs.Modulo.{names_of}
 use Rattle.drv_graph.specs.declared.fault.OutputFault.{OutputFault}
 use Rattle.drv_graph.specs.declared.fault.OutputFault.TheVariants.{NoMemory, MixedOutputs, UnknownMethod, BadName, UnknownOutput, OutputMismatch, EnvMismatch}
-
--- An element is the first of a list for which something holds.
-pub record IsFirst {A : Type 0} (Holds : A → Type 0) (xs : List A) (x : A) : Type 0 where
-  pub before : List A
-  pub after : List A
-  pub parts : xs ≡ before ++ x ∷ after
-  pub holds : Holds x
-  pub none : All (λ y. Holds y → ⊥) before
 
 -- One output that a derivation uses: the path of the input derivation, the output's name, and that
 -- derivation.
@@ -87,17 +80,17 @@ IsOutputsCheck Fits dir name drv used hashes (Err BadName) =
     × ((o : Output) × Contains drv.outputs o × (IsWellNamed name o → ⊥))
 IsOutputsCheck Fits dir name drv used hashes (Err (UnknownOutput input output)) =
     (kind : Kind) × HasKind drv kind × All (IsWellNamed name) drv.outputs
-    × ((u : Use) × IsFirst (λ other. IsKnownUse other → ⊥) (uses drv.inputs used) u
+    × ((u : Use) × IsFirstWhere (λ other. IsKnownUse other → ⊥) (uses drv.inputs used) u
     × (input ≡ u.input) × (output.items ≡ u.output))
 IsOutputsCheck Fits dir name drv used hashes (Err (OutputMismatch output expected)) =
     (kind : Kind) × AreSound name drv used kind
     × ((o : Output)
-    × IsFirst (λ (p : Output). (path : List ℕ) × IsExpected dir name kind drv hashes p path
+    × IsFirstWhere (λ (p : Output). (path : List ℕ) × IsExpected dir name kind drv hashes p path
     × (Fits p.path path → ⊥)) drv.outputs o
     × IsExpected dir name kind drv hashes o expected × (output.items ≡ o.name))
 IsOutputsCheck Fits dir name drv used hashes (Err (EnvMismatch output)) =
     (kind : Kind) × AreSound name drv used kind
     × PathsFit Fits (IsExpected dir name kind drv hashes) drv
-    × ((o : Output) × IsFirst (HasOtherEntry Fits (IsExpected dir name kind drv hashes) drv)
+    × ((o : Output) × IsFirstWhere (HasOtherEntry Fits (IsExpected dir name kind drv hashes) drv)
     drv.outputs o × (output.items ≡ o.name))
 IsOutputsCheck Fits dir name drv used hashes (Err NoMemory) = ⊤

@@ -9,6 +9,7 @@ use Rattle.nix_names.specs.StorePaths.{IsPathOf, path_fault}
 use Rattle.nix_names.specs.declared.fault.NameFault.{NameFault}
 use Rattle.nix_names.specs.declared.fault.NameFault.TheVariants.{NoMemory}
 use Rattle.nix_names.proofs.PathFaults.{no_fault_of_path}
+use Rattle.nix_names.proofs.FirstElements.{first_within}
 use Rattle.nix_drv.specs.Checked.{IsFirstStray}
 use Rattle.nix_drv.specs.Derivation.{Drv, Input as DrvInput}
 use Rattle.nix_drv.specs.OwnPath.{paths_of}
@@ -32,32 +33,17 @@ stray_alone dir text spelled same stray = record {
   before = [];
   after = [];
   parts = ap (λ (t : List ℕ). t ∷ []) (sym same);
-  good = λ k d below. absurd (omega arith);
-  is_stray = subst (λ (t : List ℕ). IsPathOf dir t → ⊥) (sym same) stray;
+  others = λ k d below. absurd (omega arith);
+  is = subst (λ (t : List ℕ). IsPathOf dir t → ⊥) (sym same) stray;
 }
-
-no_more : {A : Type 0} (before after : List A) (x : A) → [] ≡ before ++ x ∷ after → ⊥
-no_more [] after x e = cc
-no_more (y ∷ before) after x e = cc
-
-alone : {A : Type 0} (before after : List A) (x y : A) → x ∷ [] ≡ before ++ y ∷ after → y ≡ x
-alone [] after x y e = cc
-alone (z ∷ before) after x y e = let rest : [] ≡ before ++ y ∷ after = cc
-    in absurd (no_more before after y rest)
 
 -- the first stray text behind good ones
 pub stray_behind : (dir text : List ℕ) (before after : List (List ℕ)) (spelled : List ℕ)
     → All (IsPathOf dir) before → IsFirstStray dir (text ∷ []) spelled
     → IsFirstStray dir (before ++ text ∷ after) spelled
 stray_behind dir text before after spelled good stray =
-    let same : spelled ≡ text = alone stray.before stray.after text spelled stray.parts in
-    record {
-      before = before;
-      after = after;
-      parts = ap (λ (t : List ℕ). before ++ t ∷ after) (sym same);
-      good = good;
-      is_stray = stray.is_stray;
-    }
+    first_within (IsPathOf dir) (λ t. IsPathOf dir t → ⊥) before (text ∷ []) after spelled good
+    stray
 
 -- what is wrong with one text is what is wrong with all, where those before it are good
 pub fault_behind : (dir text : List ℕ) (before after : List (List ℕ)) (found : DrvFault)
@@ -77,16 +63,10 @@ fault_behind dir text before after fault.NotSorted good stray = stray
 stray_within : (dir : List ℕ) (before texts after : List (List ℕ)) (spelled : List ℕ)
     → All (IsPathOf dir) before → IsFirstStray dir texts spelled
     → IsFirstStray dir (before ++ texts ++ after) spelled
-stray_within dir before texts after spelled good stray = record {
-  before = before ++ stray.before;
-  after = stray.after ++ after;
-  parts = ap (λ (t : List (List ℕ)). before ++ t ++ after) stray.parts
-      ∙ ap (λ (t : List (List ℕ)). t ++ after)
-      (sym (append_assoc before stray.before (spelled ∷ stray.after)))
-      ∙ append_assoc (before ++ stray.before) (spelled ∷ stray.after) after;
-  good = All-append (IsPathOf dir) before stray.before good stray.good;
-  is_stray = stray.is_stray;
-}
+stray_within dir before texts after spelled good stray =
+    subst (λ (paths : List (List ℕ)). IsFirstStray dir paths spelled)
+    (sym (append_assoc before texts after))
+    (first_within (IsPathOf dir) (λ t. IsPathOf dir t → ⊥) before texts after spelled good stray)
 
 -- what is wrong with some texts is what is wrong with all, where those before them are good
 pub fault_within : (dir : List ℕ) (before texts after : List (List ℕ)) (found : DrvFault)

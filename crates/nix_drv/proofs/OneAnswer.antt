@@ -1,7 +1,8 @@
 -- Two answers to one input are the same, want of memory apart.
-use Rattle.std.proofs.Common.{◌≡◌, ◌≢◌, ◌⊎◌, inl, inr, ℕ, List, [], ◌∷◌, ◌++◌, Result, Ok, Err, refl, sym, ap, subst, ◌∙◌, arith, All, suc}
+use Rattle.std.proofs.Common.{◌≡◌, ◌≢◌, ◌⊎◌, inl, inr, ℕ, List, Result, Ok, Err, refl, sym, ap, subst, ◌∙◌, arith, All}
 use Rattle.std.specs.Global.{Vec}
 use Rattle.nix_names.specs.StorePaths.{IsDrvPath, IsPathOf, name_of}
+use Rattle.nix_names.proofs.FirstElements.{no_first, one_first}
 use Rattle.nix_drv.specs.declared.fault.DrvFault.{DrvFault}
 use Rattle.nix_drv.specs.declared.fault.DrvFault.TheVariants.{NoMemory, Syntax, Order, TooLong, TextPathMismatch, NotADrvName, NotSorted, BadReference}
 use Rattle.nix_drv.specs.Grammar.{Grammar, IsLongestFront}
@@ -80,38 +81,14 @@ one_reading input (Err (Order p)) (Err (Order q)) is also a b =
 
 -- ---- the first stray path
 
-good_at : (P : List ℕ → Type 0) (before after : List (List ℕ)) (x : List ℕ)
-    → All P (before ++ x ∷ after) → P x
-good_at P [] after x all = all 0 x (omega arith)
-good_at P (y ∷ before) after x all = good_at P before after x
-    (λ k d lt. all (suc k) d (omega arith))
-
-one_stray : (P : List ℕ → Type 0) (before others after behind : List (List ℕ)) (x y : List ℕ)
-    → before ++ x ∷ after ≡ others ++ y ∷ behind → All P before → All P others → (P x → ⊥)
-    → (P y → ⊥) → x ≡ y
-one_stray P [] [] after behind x y e good fine bad wrong = cc
-one_stray P [] (z ∷ others) after behind x y e good fine bad wrong =
-    let same : z ≡ x = cc in
-    absurd (bad (subst P same (fine 0 z (omega arith))))
-one_stray P (w ∷ before) [] after behind x y e good fine bad wrong =
-    let same : w ≡ y = cc in
-    absurd (wrong (subst P same (good 0 w (omega arith))))
-one_stray P (w ∷ before) (z ∷ others) after behind x y e good fine bad wrong =
-    let tail : before ++ x ∷ after ≡ others ++ y ∷ behind = cc in
-    one_stray P before others after behind x y tail (λ k d lt. good (suc k) d (omega arith))
-    (λ k d lt. fine (suc k) d (omega arith)) bad wrong
-
 first_stray_is : (dir : List ℕ) (paths : List (List ℕ)) (x y : List ℕ) → IsFirstStray dir paths x
     → IsFirstStray dir paths y → x ≡ y
 first_stray_is dir paths x y one other =
-    one_stray (IsPathOf dir) one.before other.before one.after other.after x y
-    (sym one.parts ∙ other.parts) one.good other.good one.is_stray other.is_stray
+    one_first (IsPathOf dir) (λ t. IsPathOf dir t → ⊥) (λ t is not. not is) paths x y one other
 
 no_stray : (dir : List ℕ) (paths : List (List ℕ)) (x : List ℕ) → IsFirstStray dir paths x
     → All (IsPathOf dir) paths → ⊥
-no_stray dir paths x one all =
-    one.is_stray (good_at (IsPathOf dir) one.before one.after x
-    (subst (λ (ps : List (List ℕ)). All (IsPathOf dir) ps) one.parts all))
+no_stray dir = no_first (IsPathOf dir) (λ t. IsPathOf dir t → ⊥) (λ t is not. not is)
 
 -- ---- the check
 

@@ -17,6 +17,7 @@ use Rattle.std.proofs.lemmas.Option.{get_or_from_slice_get, slice_get-get_or, sl
 use Rattle.std.proofs.lemmas.Simd.{map-map}
 use denote.Param.Members.{Mut}
 use Rattle.nix_names.specs.Rising.{IsRising}
+use Rattle.nix_names.proofs.Lists.{element}
 use Rattle.nix_names.proofs.RisingLists.{sorted_from_rising}
 use Rattle.nix_drv.specs.Derivation.{Drv, EnvEntry, Input, Output, derivation_form, drv_value, entry_form, entry_value, input_form, input_value, output_form, output_value}
 use Rattle.nix_drv.specs.Grammar.{Str}
@@ -43,10 +44,6 @@ always_answers {F} {X} {R} g P f answers = record { at = each }
 
 tied : (x y : List ℕ) → slice_cmp nat_cmp x y ≡ Equal → x ≡ y
 tied x y e = (bytes_decides x y).0 (texts_ties x y ∙ ap is_eq e)
-
-element : {X : Type 0} (xs : List X) (i : ℕ) → i < length xs → X
-element [] i below = absurd (omega arith)
-element (x ∷ xs) i below = x
 
 -- an element that ties has the key
 pub place_found : {X : Type 0} (key_of : X → List ℕ) (xs : List X) (wanted : List ℕ) (i : ℕ) → i

@@ -1,6 +1,7 @@
 -- What it means that bytes are a derivation that stands at its own path, and the first thing that
 -- is wrong where they aren't.
-use Rattle.std.specs.Prelude.{◌≡◌, ◌≢◌, ◌≤◌, ℕ, List, ◌∷◌, ◌++◌, length, All, Result, Ok, Err}
+use Rattle.std.specs.Prelude.{◌≢◌, ◌≤◌, ℕ, List, length, All, Result, Ok, Err}
+use Rattle.nix_names.specs.Firsts.{IsFirst}
 use Rattle.nix_names.specs.StorePaths.{IsDrvPath, IsPathOf, name_of}
 use Rattle.nix_drv.specs.Derivation.{Drv, IsDrvText}
 use Rattle.nix_drv.specs.Outcome.{IsReading, max_len}
@@ -15,12 +16,8 @@ pub record IsReadAt (path bytes : List ℕ) (drv : Drv) : Type 0 where
   pub is_text : IsDrvText drv bytes
 
 -- the text is the first of some paths that is no path of the folder
-pub record IsFirstStray (dir : List ℕ) (paths : List (List ℕ)) (text : List ℕ) : Type 0 where
-  pub before : List (List ℕ)
-  pub after : List (List ℕ)
-  pub parts : paths ≡ before ++ text ∷ after
-  pub good : All (IsPathOf dir) before
-  pub is_stray : IsPathOf dir text → ⊥
+abbrev pub IsFirstStray : (dir : List ℕ) (paths : List (List ℕ)) (text : List ℕ) → Type 0
+IsFirstStray dir = IsFirst (IsPathOf dir) (λ text. IsPathOf dir text → ⊥)
 
 -- The bytes at the path are the derivation's text, all of its paths are in the folder, and the
 -- text's own path is this one.

@@ -5,9 +5,13 @@ pub mod Base32Laws
 pub mod Base32Reading
 pub mod Base32Runs
 pub mod Base32Texts
+pub mod FirstElements
+pub mod HexDigits
+pub mod Lists
 pub mod PathBytes
 pub mod PathDigests
 pub mod PathFaults
 pub mod PathFolders
 pub mod PathTexts
 pub mod RisingLists
+pub mod Tests

@@ -1,6 +1,6 @@
 -- Lists of texts that rise strictly: their parts, what a sort makes, and that their members tell
 -- them.
-use Rattle.std.proofs.Common.{◌≡◌, ◌≢◌, ◌↔◌, ◌⊎◌, inl, inr, ℕ, zero, suc, ◌+◌, Bool, true, false, List, [], ◌∷◌, ◌++◌, take, drop, get_or, nat_eq, refl, sym, ap, subst, ◌∙◌, ⊎_elim, IsTrue, arith}
+use Rattle.std.proofs.Common.{◌≡◌, ◌≢◌, ◌↔◌, ◌⊎◌, inl, inr, ℕ, ◌+◌, Bool, true, false, List, [], ◌∷◌, ◌++◌, take, drop, get_or, nat_eq, refl, sym, ap, subst, ◌∙◌, ⊎_elim, IsTrue, arith}
 use Rattle.std.specs.Prelude.{Contains}
 use Rattle.std.specs.BTreeSet.{BTreeSet}
 use Rattle.std.specs.Cmp.Lexicographic.{bytes_decides, nat_list_eq_equiv, pointwise, slice_cmp, texts_ties}
@@ -19,6 +19,7 @@ use Rattle.std.proofs.lemmas.Map.Keys.{IsDistinct-from_apart, Less-from_sorted, 
 use Rattle.std.proofs.lemmas.Map.Lookups.{btree_set_from_contains, exact_bytes}
 use Rattle.std.proofs.lemmas.Map.Views.{btree_set_contains_iff}
 use Rattle.nix_names.specs.Rising.{IsRising}
+use Rattle.nix_names.proofs.Lists.{Contains-cons_cases, Contains-first, Contains-later, Contains-nothing}
 
 -- ---- the order of texts by bytes
 
@@ -64,24 +65,6 @@ pub below_from_order : (x y : List ℕ) → is_lt (slice_cmp nat_cmp y x) ≡ fa
 below_from_order x y ordered differ =
     ⊎_elim (λ below. below) (λ above. absurd (false≢true (sym ordered ∙ ap is_lt above)))
     (apart_by_order x y differ)
-
--- ---- members
-
-pub Contains-nothing : {X : Type 0} (x : X) → Contains [] x → ⊥
-Contains-nothing x (k, lt, is) = omega arith
-
-pub Contains-first : {X : Type 0} (x : X) (xs : List X) → Contains (x ∷ xs) x
-Contains-first x xs = (0, omega arith, refl)
-
-pub Contains-later : {X : Type 0} (x : X) (xs : List X) (y : X) → Contains xs y
-    → Contains (x ∷ xs) y
-Contains-later x xs y (k, lt, is) = (suc k, omega arith, is)
-
--- a member is the first or a later one
-pub Contains-cons_cases : {X : Type 0} (x : X) (xs : List X) (y : X) → Contains (x ∷ xs) y → (x ≡ y)
-    ⊎ Contains xs y
-Contains-cons_cases x xs y (zero, lt, is) = inl is
-Contains-cons_cases x xs y (suc k, lt, is) = inr (k, omega arith, is)
 
 -- ---- parts of a rising list
 

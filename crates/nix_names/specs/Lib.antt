@@ -1,6 +1,7 @@
 pub mod Answers
 pub mod Base32
 pub mod Faults
+pub mod Firsts
 pub mod Names
 pub mod Rising
 pub mod StorePaths

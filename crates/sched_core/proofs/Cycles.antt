@@ -14,7 +14,7 @@ use Rattle.sched_core.specs.Linking.{HaveLinks, MayLink}
 use Rattle.sched_core.specs.Verdicts.{IsCyclic, RefersTo}
 use Rattle.sched_core.specs.Walking.{Goes, HaveRound, IsGrounded, IsLinked, TellsRound, goes_nowhere, goes_on, grounded}
 use Rattle.sched_core.proofs.Linkages.{same_key}
-use Rattle.sched_core.proofs.Places.{contains_at, place_of, same_element}
+use Rattle.nix_names.proofs.Lists.{Contains-from_get, get_from_contains, same_element}
 
 module _ (paths : List (List ℕ)) (infos : List PathInfo) (links : List (Vec ℕ))
     (have : HaveLinks paths infos links) where
@@ -29,7 +29,8 @@ module _ (paths : List (List ℕ)) (infos : List PathInfo) (links : List (Vec �
       let later = goes_leads next to rest h.1 b h.3 at' in
       let may : MayLink paths infos (length infos) a h.1 =
       subst (λ (p : List ℕ). MayLink paths infos (length infos) p h.1) same h.4 in
-      let among : Contains paths h.1 = (have.once.same h.1).0 (contains_at have.keys next h.1 h.3)
+      let among : Contains paths h.1 =
+      (have.once.same h.1).0 (Contains-from_get have.keys next h.1 h.3)
       in
       (h.1 ∷ later.0, ((may.0, may.1, may.3, may.4, may.5, among), later.1))
 
@@ -63,7 +64,7 @@ module _ (paths : List (List ℕ)) (infos : List PathInfo) (links : List (Vec �
       → RefersTo paths infos a next → (m : ℕ) × (slice_get have.keys m ≡ Some next)
       × IsLinked links n m
   linked_by n a next at (k, info, here, has, refers, among) =
-      let place = place_of have.keys next ((have.once.same next).1 among) in (
+      let place = get_from_contains have.keys next ((have.once.same next).1 among) in (
         place.0,
         place.1,
         have.are.whole n place.0 a next at place.1
@@ -106,8 +107,8 @@ module _ (paths : List (List ℕ)) (infos : List PathInfo) (links : List (Vec �
       → ⊥
   grounded_is_acyclic all (a, b, there, back, apart, leads, leads') =
       let step = first_away a b there apart leads in
-      let place = place_of have.keys a
-      ((have.once.same a).1 (contains_at paths step.3.0 a step.3.2)) in
+      let place = get_from_contains have.keys a
+      ((have.once.same a).1 (Contains-from_get paths step.3.0 a step.3.2)) in
       no_round place.0
       (all place.0
       (omega (arith, slice_get_within have.keys place.0 a place.1, have.are.places))) a b there

@@ -17,7 +17,6 @@ use Rattle.drv_graph.specs.Plans.{Graph}
 use Rattle.drv_graph.specs.SoundGraphs.{IsSound}
 use Rattle.drv_graph.specs.declared.kinds.Kind.{Kind}
 use Rattle.drv_graph.specs.declared.kinds.Kind.TheVariants.{Addressed, Fixed}
-use Rattle.drv_graph.proofs.PathLists.{all_from_contains, contains_from_get, get_source}
 use Rattle.valid_table.specs.Entries.{IsSortedOf, paths_of, registered}
 use Rattle.valid_table.specs.PathInfos.{PathInfo}
 use Rattle.valid_table.specs.Valid.{IsNotValid, IsOnce, IsValid}
@@ -29,9 +28,8 @@ use Rattle.sched_core.specs.Jobs.{output_paths}
 use Rattle.sched_core.specs.Legal.{ArePermittedTo, IsAllowed, IsEntryOf}
 use Rattle.sched_core.specs.Runs.{Run}
 use Rattle.sched_core.specs.Verdicts.{IsCyclic}
-use Rattle.sched_core.proofs.Linkages.{taken_more}
-use Rattle.sched_core.proofs.Places.{contains_at, element_at, place_of, same_element}
 use Rattle.sched_core.proofs.Registrable.{fixed_kind}
+use Rattle.nix_names.proofs.Lists.{All-from_contains, Contains-from_get, element_at, get_from_contains, get_source, same_element, taken_more}
 
 -- ---- paths that are new
 
@@ -104,14 +102,14 @@ allowed_lawful : (run : Run) (entries : List Entry) (node : Node) (kind : Kind)
     infos
 allowed_lawful run entries node kind infos has_kind allowed = record {
   count = allowed.count ∙ sym (length-map node.drv.outputs (λ (o : Output). o.path));
-  new = all_from_contains (IsNotValid (registered entries)) (output_paths node.drv) allowed.new;
+  new = All-from_contains (IsNotValid (registered entries)) (output_paths node.drv) allowed.new;
   fixed = digests kind has_kind;
   acyclic = allowed.acyclic;
 }
   where
     digests : (k : Kind) → HasKind node.drv k → HaveDigest k infos
     digests Addressed has = tt
-    digests (Fixed method digest) has = all_from_contains (λ (i : PathInfo). i.digest ≡ Some digest)
+    digests (Fixed method digest) has = All-from_contains (λ (i : PathInfo). i.digest ≡ Some digest)
         infos (allowed.fixed method digest has)
 
 -- ---- the entry
@@ -132,7 +130,7 @@ beside all path info = (there, back)
         → (n : ℕ) × (slice_get (paths_of all) n ≡ Some path)
         × (slice_get (infos_of all) n ≡ Some info)
     there has =
-        let at = place_of all (record { path = path; info = info }) has in (
+        let at = get_from_contains all (record { path = path; info = info }) has in (
           at.0,
           slice_get-map path_in all at.0 ∙ ap (option_map path_in) at.1,
           slice_get-map info_in all at.0 ∙ ap (option_map info_in) at.1,
@@ -148,7 +146,7 @@ beside all path info = (there, back)
         let path_is : one.0.path ≡ path = one.2 in
         let same : ◌≡◌ {A = Registration} one.0 (record { path = path; info = info }) =
         λ i. record { path = path_is i; info = info_is i } in
-        subst (Contains all) same (contains_at all n one.0 one.1)
+        subst (Contains all) same (Contains-from_get all n one.0 one.1)
 
 sorted_entry : (node : Node) (infos : List PathInfo) (all outputs : List Registration)
     → paths_of all ≡ output_paths node.drv
@@ -239,7 +237,7 @@ can_be_sorted graph d kind paths all within sound told are =
     let has_kind = node_at graph.nodes d node (λ n. HasKind n.drv kind) told.has_kind found.1 in
     let distinct : AreDistinct (output_paths node.drv) =
     All-contains (λ (n : Node). AreDistinct (output_paths_of n.drv)) graph.nodes node
-    sound.own_outputs (contains_from_get graph.nodes d node found.1) in (
+    sound.own_outputs (Contains-from_get graph.nodes d node found.1) in (
       λ none. some_outputs node.drv kind has_kind
           (no_outputs node.drv.outputs (sym own ∙ sym are ∙ ap paths_of none)),
       subst AreDistinct (sym own ∙ sym are) distinct,
@@ -262,4 +260,4 @@ is_drv_path graph d path sound at =
     let one = get_source (λ (n : Node). n.path) graph.nodes d path at in
     subst IsDrvPath one.2
     (All-contains (λ (n : Node). IsDrvPath n.path) graph.nodes one.0 sound.named
-    (contains_from_get graph.nodes d one.0 one.1))
+    (Contains-from_get graph.nodes d one.0 one.1))

@@ -8,14 +8,13 @@ use Rattle.std.proofs.lemmas.List.Elements.{All-contains, Contains-append_cases}
 use Rattle.std.proofs.lemmas.Map.Made.{is_member-Decides, length-le_from_is_member}
 use Rattle.std.proofs.lemmas.Option.{slice_get_within}
 use Rattle.nix_names.specs.StorePaths.{IsDrvPath}
-use Rattle.nix_names.proofs.RisingLists.{Contains-first, Contains-later, Contains-nothing, distinct_from_rising}
+use Rattle.nix_names.proofs.RisingLists.{distinct_from_rising}
 use Rattle.nix_drv.specs.Derivation.{Output}
 use Rattle.drv_graph.specs.Loading.{AreDistinct}
 use Rattle.drv_graph.specs.Nodes.{Node}
 use Rattle.drv_graph.specs.PlanNodes.{output_paths_of}
 use Rattle.drv_graph.specs.Plans.{Graph}
 use Rattle.drv_graph.specs.SoundGraphs.{IsSound}
-use Rattle.drv_graph.proofs.PathLists.{all_from_contains, contains_from_get, contains_source}
 use Rattle.valid_table.specs.Adding.{AreClosed, AreNew}
 use Rattle.valid_table.specs.Closure.{Leads}
 use Rattle.valid_table.specs.Entries.{paths_of, registered, registered_by}
@@ -25,13 +24,12 @@ use Rattle.valid_table.specs.declared.entry.Entry.{Entry}
 use Rattle.valid_table.specs.declared.entry.Entry.TheVariants.{Done}
 use Rattle.valid_table.specs.declared.entry.Registration.{Registration}
 use Rattle.valid_table.proofs.AddedEntries.{journal_push}
-use Rattle.valid_table.proofs.AddedRows.{Contains-map}
 use Rattle.valid_table.proofs.JournalLists.{still_valid}
 use Rattle.valid_table.proofs.TakenIn.{once_more, valid_by_some}
 use Rattle.sched_core.specs.Jobs.{output_paths}
 use Rattle.sched_core.specs.Legal.{IsAllowed, IsEntryOf}
 use Rattle.sched_core.specs.Runs.{Run}
-use Rattle.sched_core.proofs.Places.{contains_at, element_at, place_of}
+use Rattle.nix_names.proofs.Lists.{All-from_contains, Contains-first, Contains-from_get, Contains-from_map, Contains-later, Contains-map, Contains-nothing, element_at, get_from_contains}
 
 -- ---- lists
 
@@ -69,7 +67,7 @@ pub output_registered : (node : Node) (infos : List PathInfo) (outputs : List Re
     → length infos ≡ length (output_paths node.drv) → (path : List ℕ)
     → Contains (output_paths node.drv) path → IsValid is.outputs path
 output_registered node infos outputs entry is count path has =
-    let at = place_of (output_paths node.drv) path has in
+    let at = get_from_contains (output_paths node.drv) path has in
     let info = element_at infos at.0
     (omega (arith, count, slice_get_within (output_paths node.drv) at.0 path at.1)) in
     Contains-map (λ (r : Registration). r.path) is.outputs (record { path = path; info = info.0 })
@@ -80,8 +78,10 @@ pub registered_output : (node : Node) (infos : List PathInfo) (entry : Entry)
     (is : IsEntryOf node infos entry) (r : Registration)
     → Contains is.outputs r → Contains (output_paths node.drv) r.path × Contains infos r.info
 registered_output node infos entry is r has =
-    let at = (is.each r.path r.info).0 has in
-    (contains_at (output_paths node.drv) at.0 r.path at.1, contains_at infos at.0 r.info at.2)
+    let at = (is.each r.path r.info).0 has in (
+      Contains-from_get (output_paths node.drv) at.0 r.path at.1,
+      Contains-from_get infos at.0 r.info at.2,
+    )
 
 -- as many records as outputs
 pub records_for_paths : (run : Run) (entries : List Entry) (node : Node) (infos : List PathInfo)
@@ -95,14 +95,14 @@ records_for_paths run entries node infos allowed = allowed.count
 module _ (run : Run) (entries : List Entry) (node : Node) (infos : List PathInfo) (entry : Entry)
     (allowed : IsAllowed run entries node infos) (is : IsEntryOf node infos entry) where
   new_outputs : AreNew (registered entries) is.outputs
-  new_outputs = all_from_contains (IsNotValid (registered entries)) (paths_of is.outputs)
+  new_outputs = All-from_contains (IsNotValid (registered entries)) (paths_of is.outputs)
       (λ path there valid.
-      let r = contains_source (λ (x : Registration). x.path) is.outputs path there in
+      let r = Contains-from_map (λ (x : Registration). x.path) is.outputs path there in
       let own = registered_output node infos entry is r.0 r.1 in
       allowed.new path (subst (Contains (output_paths node.drv)) r.2 own.0) valid)
 
   closed_outputs : AreClosed (registered entries) is.outputs
-  closed_outputs = all_from_contains (IsValid (registered entries ++ is.outputs))
+  closed_outputs = All-from_contains (IsValid (registered entries ++ is.outputs))
       (references_of is.outputs) (λ path there.
       let part = part_with (λ (r : Registration). r.info.references) is.outputs path there in
       let own = registered_output node infos entry is part.0 part.1 in
@@ -143,7 +143,7 @@ module _ (run : Run) (entries : List Entry) (node : Node) (infos : List PathInfo
       let few = no_more_than (paths_of is.outputs) (output_paths node.drv)
       (distinct_from_rising (paths_of is.outputs) is.rising)
       (λ path there.
-      let r = contains_source path_in is.outputs path there in
+      let r = Contains-from_map path_in is.outputs path there in
       subst (Contains (output_paths node.drv)) r.2
       (registered_output node infos entry is r.0 r.1).0) in
       let many = no_more_than (output_paths node.drv) (paths_of is.outputs) distinct
@@ -165,11 +165,11 @@ pub outputs_differ : (graph : Graph) (d : ℕ) (node : Node) → IsSound graph �
 outputs_differ graph d node sound at =
     All-contains (λ (n : Node). AreDistinct (output_paths_of n.drv)) graph.nodes node
     sound.own_outputs
-    (contains_from_get graph.nodes d node at)
+    (Contains-from_get graph.nodes d node at)
 
 -- and it stands at a derivation's file
 pub node_is_named : (graph : Graph) (d : ℕ) (node : Node) → IsSound graph → slice_get graph.nodes d
     ≡ Some node → IsDrvPath node.path
 node_is_named graph d node sound at =
     All-contains (λ (n : Node). IsDrvPath n.path) graph.nodes node sound.named
-    (contains_from_get graph.nodes d node at)
+    (Contains-from_get graph.nodes d node at)

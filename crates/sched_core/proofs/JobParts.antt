@@ -16,8 +16,8 @@ use Rattle.sched_core.specs.Seeding.{named_texts, output_texts, paths_of_outputs
 use Rattle.sched_core.specs.declared.job.Job.{Job}
 use Rattle.sched_core.specs.declared.job.JobOutput.{JobOutput}
 use Rattle.sched_core.proofs.OwnStandings.{drv_is}
-use Rattle.sched_core.proofs.Places.{element_at}
 use Rattle.sched_core.proofs.SeedParts.{read_at, take_next}
+use Rattle.nix_names.proofs.Lists.{element_at}
 
 -- The first outputs, so many, with their paths.
 pub record AreMade (outputs : List OutputStruct) (paths : List (List ℕ)) (made : List JobOutput)

@@ -7,7 +7,7 @@ use Rattle.std.specs.List.{IsDistinct, list_any, slice_get}
 use Rattle.std.proofs.Math.ListN.{set, length-set}
 use Rattle.std.proofs.Math.Nat.{eq-or-lt_of_le}
 use Rattle.std.proofs.lemmas.Bool.{false≢true}
-use Rattle.std.proofs.lemmas.List.{take_all, take_more}
+use Rattle.std.proofs.lemmas.List.{take_all}
 use Rattle.std.proofs.lemmas.List.Elements.{Contains-append_left, Contains-push, Contains-push_cases}
 use Rattle.std.proofs.lemmas.List.Quantifiers.{position-Some}
 use Rattle.std.proofs.lemmas.Map.Keys.{apart_from_distinct}
@@ -19,7 +19,8 @@ use Rattle.nix_names.proofs.RisingLists.{equal_from_eq, unequal_from_eq}
 use Rattle.valid_table.specs.PathInfos.{PathInfo}
 use Rattle.sched_core.specs.Linking.{AddsLinks, AreEachOnce, AreLinks, HaveLinks, HaveNoLinks, MayLink}
 use Rattle.sched_core.specs.Walking.{AreInner, IsLinked}
-use Rattle.sched_core.proofs.Places.{contains_at, either_side, get_push_cases, same_element, set_cases, set_other, set_same}
+use Rattle.sched_core.proofs.Places.{set_cases, set_other, set_same}
+use Rattle.nix_names.proofs.Lists.{Contains-from_get, either_side, get_push_cases, same_element, taken_more}
 
 -- ---- places of distinct paths
 
@@ -70,11 +71,6 @@ insert_keeps keys key path has = by (list_any (pointwise nat_eq key) keys)
     by : (b : Bool) → Contains (cond b keys (keys ++ key ∷ [])) path
     by true = has
     by false = Contains-append_left keys (key ∷ []) path has
-
-pub taken_more : (paths : List (List ℕ)) (i : ℕ) (path : List ℕ) → i < length paths → path
-    ≡ get_or paths i path → take (i + 1) paths ≡ take i paths ++ path ∷ []
-taken_more paths i path below at = take_more paths i path below
-    ∙ ap (λ (p : List ℕ). take i paths ++ p ∷ []) (sym at)
 
 pub once_none : (keys : List (List ℕ)) → keys ≡ [] → IsDistinct (pointwise nat_eq) keys
     → AreEachOnce [] keys
@@ -163,7 +159,7 @@ adds_no_place keys references path old before prior none n = (
       (λ f. ⊎_elim
       (λ earlier. (prior n).1 (inr (f.0, f.1, earlier)))
       (λ e. absurd (none
-      (contains_at keys n path
+      (Contains-from_get keys n path
       (subst (λ (p : List ℕ). slice_get keys n ≡ Some p) (sym e) f.1))))
       (Contains-push_cases references path f.0 f.2))
       h,
@@ -312,8 +308,8 @@ no_links_more links after own none empty is from to (other, at, has) =
     by_case links own none empty from to other at has = ⊎_elim
         (λ front. none from to (other, front, has))
         (λ h. let gone : Contains [] to = subst (λ (l : List ℕ). Contains l to)
-        (ap (λ (v : Vec ℕ). v.items) h.1 ∙ empty) has in omega (arith, gone.1))
-        (get_push_cases links own other from at)
+        (ap (λ (v : Vec ℕ). v.items) (sym h.1) ∙ empty) has in omega (arith, gone.1))
+        (get_push_cases links own from other at)
 
 pub links_inner : (paths : List (List ℕ)) (infos : List PathInfo) (links : List (Vec ℕ))
     → HaveLinks paths infos links → AreInner links

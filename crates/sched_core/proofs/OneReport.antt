@@ -2,11 +2,11 @@
 use Rattle.std.proofs.Common.{◌≡◌, ◌∙◌, ⊎_elim, ℕ, List, [], ◌∷◌, ◌++◌, map, refl, sym, ap, subst}
 use Rattle.std.specs.Prelude.{◌↔◌, Contains, flat_map}
 use Rattle.nix_names.specs.Rising.{IsRising}
-use Rattle.nix_names.proofs.RisingLists.{Contains-cons_cases, Contains-first, Contains-later, Contains-nothing, IsBelow, below_trans, first_below, not_below_itself, rising_later}
+use Rattle.nix_names.proofs.RisingLists.{IsBelow, below_trans, first_below, not_below_itself, rising_later}
 use Rattle.drv_graph.specs.Plans.{Graph}
-use Rattle.drv_graph.proofs.PathLists.{contains_mapped}
 use Rattle.sched_core.specs.Reports.{IsReport, line_at, outputs_at, path_at}
 use Rattle.sched_core.specs.declared.reason.State.{State}
+use Rattle.nix_names.proofs.Lists.{Contains-cons_cases, Contains-first, Contains-later, Contains-map, Contains-nothing}
 
 -- two lists have the same members
 abbrev pub HaveSame : List ℕ → List ℕ → Type 0
@@ -16,7 +16,7 @@ HaveSame xs ys = (d : ℕ) → Contains xs d ↔ Contains ys d
 below_later : (key : ℕ → List ℕ) (x : ℕ) (xs : List ℕ) (d : ℕ) → IsRising (map key (x ∷ xs))
     → Contains xs d → IsBelow (key x) (key d)
 below_later key x xs d rises has = first_below (key x) (map key xs) (key d) rises
-    (contains_mapped key xs d has)
+    (Contains-map key xs d has)
 
 -- the first numbers of two lists are the same
 same_first : (key : ℕ → List ℕ) (x y : ℕ) (xs ys : List ℕ) → IsRising (map key (x ∷ xs))

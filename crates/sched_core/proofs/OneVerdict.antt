@@ -1,7 +1,8 @@
 -- There is one verdict on an answer.
-use Rattle.std.proofs.Common.{◌≡◌, ◌≢◌, ◌∙◌, ⊎_elim, ℕ, suc, List, [], ◌∷◌, length, Option, Some, None, refl, sym, ap, subst, arith}
+use Rattle.std.proofs.Common.{◌≡◌, ◌≢◌, ◌<◌, ◌∙◌, ℕ, suc, List, [], ◌∷◌, length, Option, Some, None, refl, sym, ap, subst, arith}
 use Rattle.std.specs.Prelude.{ℤ, pos, Result, Ok, Err}
-use Rattle.std.specs.List.{slice_get}
+use Rattle.std.specs.List.{range_with_len, slice_get}
+use Rattle.nix_names.proofs.FirstElements.{number_within, one_first}
 use Rattle.drv_graph.specs.declared.kinds.Kind.{Kind}
 use Rattle.nix_names.proofs.RisingLists.{rising_same}
 use Rattle.ref_scan.specs.declared.tree.Tree.{Tree}
@@ -11,7 +12,6 @@ use Rattle.sched_core.specs.declared.job.Job.{Job}
 use Rattle.sched_core.specs.declared.reason.Reason.{Reason}
 use Rattle.sched_core.specs.declared.reason.Reason.TheVariants.{ExitStatus, NoStart, MissingOutput, NotFlatFile, HashMismatch, OutputCycle, TooLarge, ReadFault, OutOfMemory, Killed}
 use Rattle.sched_core.specs.Verdicts.{AreRecords, HasOneVerdict, IsCyclic, IsFaulty, IsFirstFault, IsFirstNumber, IsRecordOf, IsTaken, IsThere, IsTreeFault, IsVerdict, digest_of, outputs_of, tree_at}
-use Rattle.sched_core.proofs.Places.{either_side}
 use Rattle.sched_core.proofs.Verdicts.{TreeFault, mismatched, not_flat, one_tree, too_large, tree_fault_cases}
 
 some_is_one : {X : Type 0} (o : Option X) (x y : X) → o ≡ Some x → o ≡ Some y → x ≡ y
@@ -21,13 +21,10 @@ none_or_some : {X : Type 0} (o : Option X) (x : X) → o ≡ None → o ≡ Some
 none_or_some o x none some = let clash : None ≡ Some x = sym none ∙ some in absurd cc
 
 -- there is one first number
-one_first : (Holds : ℕ → Type 0) (count n m : ℕ) → IsFirstNumber Holds count n
+one_number : (Holds : ℕ → Type 0) (count n m : ℕ) → IsFirstNumber Holds count n
     → IsFirstNumber Holds count m → n ≡ m
-one_first Holds count n m first first' =
-    ⊎_elim (λ e. e)
-    (λ apart. ⊎_elim (λ below. absurd (first'.none n below first.holds))
-    (λ below. absurd (first.none m below first'.holds)) apart)
-    (either_side n m)
+one_number Holds count =
+    one_first (λ k. Holds k → ⊥) Holds (λ k none. none) (range_with_len 0 count)
 
 -- lists are one where they are as long and have the same at each place
 same_list : {X : Type 0} (xs ys : List X) → length xs ≡ length ys
@@ -96,6 +93,18 @@ module _ (job : Job) (permitted : List (List ℕ)) (answer : Answer) where
   outcome_of (Err ReadFault) none = absurd none
   outcome_of (Err OutOfMemory) none = absurd none
 
+  -- the first output without a tree, and the first faulty one, are among the outputs
+  missing_within : (n : ℕ) → IsFirstNumber (λ m. tree_at answer m ≡ None)
+      (length job.outputs.items) n → n < length job.outputs.items
+  missing_within n first = number_within (λ m. tree_at answer m ≡ None → ⊥)
+      (λ m. tree_at answer m ≡ None) (length job.outputs.items) n first
+
+  faulty_within : (why : Reason) (fault : IsFirstFault job answer why)
+      → fault.0 < length job.outputs.items
+  faulty_within why (n, first, fault) = number_within
+      (λ m. ((reason : Reason) × IsFaulty job answer reason m) → ⊥)
+      (λ m. (reason : Reason) × IsFaulty job answer reason m) (length job.outputs.items) n first
+
   one_list : (a b : List PathInfo) → AreRecords job permitted answer a
       → AreRecords job permitted answer b → a ≡ b
   one_list a b records records' =
@@ -108,7 +117,7 @@ module _ (job : Job) (permitted : List (List ℕ)) (answer : Answer) where
 
   one_fault : (a b : Reason) → IsFirstFault job answer a → IsFirstFault job answer b → a ≡ b
   one_fault a b (n, first, (tree, at, fault)) (m, first', (tree', at', fault')) =
-      let place : n ≡ m = one_first (λ k. (why : Reason) × IsFaulty job answer why k)
+      let place : n ≡ m = one_number (λ k. (why : Reason) × IsFaulty job answer why k)
       (length job.outputs.items) n m first first' in
       let same : tree ≡ tree' = one_tree answer m tree tree'
       (subst (λ k. tree_at answer k ≡ Some tree) place at) at' in
@@ -142,32 +151,32 @@ module _ (job : Job) (permitted : List (List ℕ)) (answer : Answer) where
       absurd (apart2 (some_is_one answer.status n2 (pos 0) e2 e))
   one _ _ (missing n e first) (missing n2 e2 first2) =
       ap (λ k. Err (MissingOutput k))
-      (one_first (λ m. tree_at answer m ≡ None) (length job.outputs.items) n n2 first first2)
+      (one_number (λ m. tree_at answer m ≡ None) (length job.outputs.items) n n2 first first2)
   one _ _ (missing n e first) (faulty why2 there2 fault2) =
-      absurd (there2.1 n first.within first.holds)
+      absurd (there2.1 n (missing_within n first) first.is)
   one _ _ (missing n e first) (cyclic infos2 taken2 records2 round2) =
-      absurd (taken2.0.1 n first.within first.holds)
+      absurd (taken2.0.1 n (missing_within n first) first.is)
   one _ _ (missing n e first) (well infos2 taken2 records2 acyclic2) =
-      absurd (taken2.0.1 n first.within first.holds)
+      absurd (taken2.0.1 n (missing_within n first) first.is)
   one _ _ (faulty why there fault) (killed e2) = absurd (none_or_some answer.status _ e2 there.0)
   one _ _ (faulty why there fault) (exited n2 e2 apart2) =
       absurd (apart2 (some_is_one answer.status n2 (pos 0) e2 there.0))
   one _ _ (faulty why there fault) (missing n2 e2 first2) =
-      absurd (there.1 n2 first2.within first2.holds)
+      absurd (there.1 n2 (missing_within n2 first2) first2.is)
   one _ _ (faulty why there fault) (faulty why2 there2 fault2) =
       ap Err (one_fault why why2 fault fault2)
   one _ _ (faulty why there fault) (cyclic infos2 taken2 records2 round2) =
-      absurd (taken2.1 fault.0 why fault.1.within fault.2)
+      absurd (taken2.1 fault.0 why (faulty_within why fault) fault.2)
   one _ _ (faulty why there fault) (well infos2 taken2 records2 acyclic2) =
-      absurd (taken2.1 fault.0 why fault.1.within fault.2)
+      absurd (taken2.1 fault.0 why (faulty_within why fault) fault.2)
   one _ _ (cyclic infos taken records round) (killed e2) =
       absurd (none_or_some answer.status _ e2 taken.0.0)
   one _ _ (cyclic infos taken records round) (exited n2 e2 apart2) =
       absurd (apart2 (some_is_one answer.status n2 (pos 0) e2 taken.0.0))
   one _ _ (cyclic infos taken records round) (missing n2 e2 first2) =
-      absurd (taken.0.1 n2 first2.within first2.holds)
+      absurd (taken.0.1 n2 (missing_within n2 first2) first2.is)
   one _ _ (cyclic infos taken records round) (faulty why2 there2 fault2) =
-      absurd (taken.1 fault2.0 why2 fault2.1.within fault2.2)
+      absurd (taken.1 fault2.0 why2 (faulty_within why2 fault2) fault2.2)
   one _ _ (cyclic infos taken records round) (cyclic infos2 taken2 records2 round2) = refl
   one _ _ (cyclic infos taken records round) (well infos2 taken2 records2 acyclic2) =
       absurd (acyclic2
@@ -177,9 +186,9 @@ module _ (job : Job) (permitted : List (List ℕ)) (answer : Answer) where
   one _ _ (well infos taken records acyclic) (exited n2 e2 apart2) =
       absurd (apart2 (some_is_one answer.status n2 (pos 0) e2 taken.0.0))
   one _ _ (well infos taken records acyclic) (missing n2 e2 first2) =
-      absurd (taken.0.1 n2 first2.within first2.holds)
+      absurd (taken.0.1 n2 (missing_within n2 first2) first2.is)
   one _ _ (well infos taken records acyclic) (faulty why2 there2 fault2) =
-      absurd (taken.1 fault2.0 why2 fault2.1.within fault2.2)
+      absurd (taken.1 fault2.0 why2 (faulty_within why2 fault2) fault2.2)
   one _ _ (well infos taken records acyclic) (cyclic infos2 taken2 records2 round2) =
       absurd (acyclic
       (subst (IsCyclic (outputs_of job)) (one_list infos2 infos records2 records) round2))

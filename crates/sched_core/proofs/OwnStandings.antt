@@ -15,7 +15,6 @@ use Rattle.nix_drv.specs.declared.derivation.EnvEntry.{EnvEntry as EnvEntryStruc
 use Rattle.nix_drv.specs.declared.derivation.Output.{Output as OutputStruct}
 use Rattle.drv_graph.specs.Nodes.{Node}
 use Rattle.drv_graph.specs.PlanNodes.{drvs_of, output_paths_of}
-use Rattle.drv_graph.proofs.PathLists.{get_mapped}
 use Rattle.valid_table.specs.Entries.{paths_of, registered}
 use Rattle.valid_table.specs.Valid.{IsValid}
 use Rattle.valid_table.specs.declared.entry.Entry.{Entry}
@@ -25,6 +24,7 @@ use Rattle.sched_core.specs.Runs.{cause_at, is_unsupported, is_valid, left_out, 
 use Rattle.sched_core.specs.declared.reason.Refusal.TheVariants.{MissingSource}
 use Rattle.sched_core.specs.declared.standing.Standing.{Standing}
 use Rattle.sched_core.specs.declared.standing.Standing.TheVariants.{Free}
+use Rattle.nix_names.proofs.Lists.{get_mapped}
 
 -- what a look-up tells of a path
 pub told_valid : (told : Bool) (entries : List Entry) (path : List ℕ) → IsTrue told

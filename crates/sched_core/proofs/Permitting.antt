@@ -10,7 +10,7 @@ use Rattle.std.proofs.Math.Facts.{eqb_yes}
 use Rattle.std.proofs.lemmas.Map.Keys.{IsDistinct-IsPermutation}
 use Rattle.std.proofs.lemmas.List.Elements.{All-contains, Contains-append_right}
 use Rattle.nix_names.specs.Rising.{IsRising}
-use Rattle.nix_names.proofs.RisingLists.{Contains-first, Contains-later, rising_sorted}
+use Rattle.nix_names.proofs.RisingLists.{rising_sorted}
 use Rattle.drv_graph.specs.Nodes.{Node}
 use Rattle.drv_graph.specs.PlanNodes.{output_paths_of}
 use Rattle.drv_graph.specs.Plans.{Graph}
@@ -18,7 +18,6 @@ use Rattle.drv_graph.specs.SoundGraphs.{IsSound}
 use Rattle.valid_table.specs.Closing.{HaveSame}
 use Rattle.valid_table.specs.Closure.{IsClosure}
 use Rattle.valid_table.specs.Entries.{registered}
-use Rattle.valid_table.specs.Firsts.{IsFirst}
 use Rattle.valid_table.specs.Unions.{IsUnion}
 use Rattle.valid_table.specs.Valid.{IsNotValid, IsValid}
 use Rattle.valid_table.specs.declared.entry.Registration.{Registration}
@@ -31,6 +30,8 @@ use Rattle.sched_core.specs.declared.reason.Event.{Event}
 use Rattle.sched_core.specs.declared.reason.Event.TheVariants.{Begin, Done as Finish, Fail}
 use Rattle.sched_core.proofs.Dones.{outputs_differ}
 use Rattle.sched_core.proofs.Seeds.{seeds_are_valid}
+use Rattle.nix_names.proofs.Lists.{Contains-first, Contains-later}
+use Rattle.nix_names.specs.Firsts.{IsFirst}
 
 -- ---- outputs in rising order
 

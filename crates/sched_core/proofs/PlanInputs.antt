@@ -1,5 +1,5 @@
 -- The inputs of a plan's derivations, by their numbers.
-use Rattle.std.proofs.Common.{◌≡◌, ◌∙◌, ℕ, suc, ◌<◌, false, List, [], ◌∷◌, ◌++◌, length, map, take, drop, get_or, Option, Some, None, refl, sym, ap, subst, ⊎_elim, arith, nat_eq}
+use Rattle.std.proofs.Common.{◌≡◌, ◌∙◌, ℕ, suc, ◌<◌, false, List, [], ◌∷◌, ◌++◌, length, map, take, drop, get_or, Option, Some, None, refl, sym, ap, subst, arith, nat_eq}
 use Rattle.std.specs.Prelude.{Contains, IfSome, slice_get}
 use Rattle.std.specs.Cmp.Lexicographic.{pointwise, nat_list_eq_equiv}
 use Rattle.std.specs.List.{position_or_len}
@@ -8,15 +8,15 @@ use Rattle.std.proofs.lemmas.List.{length-map, length-take-le}
 use Rattle.std.proofs.lemmas.List.Sums.{position_or_len_is}
 use Rattle.std.proofs.lemmas.Option.{get_or_from_slice_get, slice_get-get_or, slice_get_within}
 use Rattle.nix_names.specs.Names.{same_bytes}
-use Rattle.nix_drv.specs.Derivation.{Drv}
+use Rattle.drv_graph.proofs.Kept.{drvs_paths}
 use Rattle.drv_graph.specs.Loading.{AreDistinct}
 use Rattle.drv_graph.specs.Nodes.{Node, inputs_of, paths_of}
-use Rattle.drv_graph.specs.Plans.{AreDrvsOf, AreNumbers, Graph}
+use Rattle.drv_graph.specs.Plans.{AreNumbers, Graph}
 use Rattle.drv_graph.specs.SoundGraphs.{IsSound}
 use Rattle.drv_graph.proofs.Numbers.{first_number, later_numbers, number_grows}
-use Rattle.drv_graph.proofs.PathLists.{contains_cases, contains_mapped, contains_none, contains_source, get_from_contains, other_path, same_place}
+use Rattle.drv_graph.proofs.PathLists.{other_path, same_place}
 use Rattle.sched_core.specs.Runs.{inputs_at}
-use Rattle.sched_core.proofs.Places.{element_at}
+use Rattle.nix_names.proofs.Lists.{Contains-from_map, Contains-nothing, element_at, get_from_contains}
 
 -- a path is found at its place
 place_is : (paths : List (List ℕ)) (n : ℕ) (path : List ℕ) → AreDistinct paths → slice_get paths n
@@ -46,17 +46,6 @@ numbers_are nodes (n ∷ ns) (p ∷ ps) once are =
     ap (λ m. m ∷ ns) (sym first) ∙ ap (λ l. position_or_len (same_bytes p) (paths_of nodes) ∷ l)
     rest
 
--- what is used stands among the nodes
-used_stand : (nodes : List Node) (paths : List (List ℕ)) (drvs : List Drv)
-    → AreDrvsOf nodes paths drvs → (path : List ℕ) → Contains paths path
-    → Contains (paths_of nodes) path
-used_stand nodes [] drvs are path has = absurd (contains_none path has)
-used_stand nodes (p ∷ ps) [] are path has = absurd are
-used_stand nodes (p ∷ ps) (d ∷ ds) are path has =
-    ⊎_elim (λ same. subst (Contains (paths_of nodes)) same
-    (contains_mapped (λ (m : Node). m.path) nodes (record { path = p; drv = d }) are.0))
-    (λ later. used_stand nodes ps ds are.1 path later) (contains_cases p path ps has)
-
 -- an input is found before its user
 path_before : (graph : Graph) (d : ℕ) (node : Node) (path : List ℕ) → IsSound graph
     → slice_get graph.nodes d ≡ Some node → Contains (inputs_of node.drv) path
@@ -70,7 +59,7 @@ path_before graph d node path sound at has =
     ∙ ap (λ (m : Node). take d graph.nodes ++ m ∷ drop (suc d) graph.nodes) read in
     let lawful = sound.lawful (take d graph.nodes) (drop (suc d) graph.nodes) node parts in
     let before : Contains (paths_of (take d graph.nodes)) path =
-    used_stand (take d graph.nodes) (inputs_of node.drv) lawful.right.used lawful.right.are_used
+    drvs_paths (take d graph.nodes) (inputs_of node.drv) lawful.right.used lawful.right.are_used
     path has in
     let place = get_from_contains (paths_of (take d graph.nodes)) path before in
     let there : slice_get (paths_of graph.nodes) place.0 ≡ Some path =
@@ -95,9 +84,9 @@ inputs_first graph sound d i has = by (slice_get graph.nodes d) refl has
   where
     by : (node : Option Node) → slice_get graph.nodes d ≡ node
         → Contains (inputs_at graph.nodes node) i → i < d
-    by None at has = absurd (contains_none i has)
+    by None at has = absurd (Contains-nothing i has)
     by (Some node) at has =
-        let found = contains_source
+        let found = Contains-from_map
         (λ path. position_or_len (same_bytes path) (paths_of graph.nodes)) (inputs_of node.drv)
         i has in
         subst (λ n. n < d) found.2 (path_before graph d node found.0 sound at found.1)

@@ -3,14 +3,13 @@
 use Rattle.std.proofs.Common.{◌≡◌, ℕ, List, [], ◌∷◌, ◌++◌, refl, sym, ap, ◌∙◌, subst, ⊎_elim, append_assoc}
 use Rattle.std.proofs.lemmas.List.{append-nil}
 use Rattle.std.proofs.lemmas.List.Elements.{Contains-append_cases}
-use Rattle.nix_names.proofs.RisingLists.{Contains-cons_cases, Contains-nothing}
 use Rattle.valid_table.specs.declared.entry.Entry.{Entry}
 use Rattle.sched_core.specs.Headline.{DonesAreAllowed, EntriesAreJournal, WasDone}
 use Rattle.sched_core.specs.Legal.{legal_opening, legal_begin, legal_done, legal_fail, begins, ended}
 use Rattle.sched_core.specs.Runs.{History, Run}
 use Rattle.sched_core.specs.declared.reason.Event.TheVariants.{Begin, Done as Finish, Fail}
 use Rattle.sched_core.proofs.Dones.{done_is_journal}
-use Rattle.sched_core.proofs.Places.{contains_at}
+use Rattle.nix_names.proofs.Lists.{Contains-cons_cases, Contains-from_get, Contains-nothing}
 
 -- ---- a journal with an allowed entry is one
 
@@ -24,7 +23,7 @@ entries_are_journal run _ named
     (legal_done history d lease node infos entry legal phase is_node allowed is_entry) =
     done_is_journal run history.entries node infos entry allowed is_entry
     (entries_are_journal run history named legal)
-    (named node (contains_at run.graph.nodes d node is_node))
+    (named node (Contains-from_get run.graph.nodes d node is_node))
 
 -- ---- each Done was allowed
 

@@ -1,63 +1,33 @@
 -- What a verdict on a derivation's job gives.
-use Rattle.std.proofs.Common.{◌≡◌, ◌∙◌, inl, inr, ℕ, ◌<◌, Bool, true, false, List, [], ◌∷◌, length, nat_eq, Option, Some, None, refl, sym, ap, subst, arith}
-use Rattle.std.specs.Prelude.{All, Ok, Result}
+use Rattle.std.proofs.Common.{◌≡◌, ◌∙◌, ℕ, Bool, true, false, List, [], ◌∷◌, length, nat_eq, Option, Some, None, refl, sym, ap, subst, arith}
+use Rattle.std.specs.Prelude.{All}
 use Rattle.std.specs.Cmp.Lexicographic.{pointwise}
-use Rattle.std.proofs.lemmas.Bool.{cases_lt}
-use Rattle.std.proofs.lemmas.List.{get_or_past, length-map}
+use Rattle.std.proofs.lemmas.List.{length-map}
 use Rattle.std.proofs.lemmas.Option.{slice_get_within}
-use Rattle.hex.specs.Hex.{IsBytes, decode_of, encode_lower}
-use Rattle.hex.specs.declared.error.FromHexError.{FromHexError}
-use Rattle.hex.proofs.HexLemmas.{decode_of-encode_lower}
+use Rattle.hex.specs.Hex.{encode_lower}
+use Rattle.nix_names.proofs.HexDigits.{one_digest}
+use Rattle.drv_graph.proofs.KindAnswers.{some_method}
 use Rattle.nix_drv.specs.Derivation.{Drv, Output}
 use Rattle.nix_names.proofs.RisingLists.{equal_from_eq, unequal_from_eq}
-use Rattle.drv_graph.specs.Kinds.{HasKind, IsAddressed, IsDigest, algo_of}
+use Rattle.drv_graph.specs.Kinds.{HasKind, IsAddressed}
 use Rattle.drv_graph.specs.Nodes.{Node}
 use Rattle.drv_graph.specs.declared.kinds.Kind.{Kind}
 use Rattle.drv_graph.specs.declared.kinds.Kind.TheVariants.{Addressed, Fixed}
 use Rattle.drv_graph.specs.declared.kinds.Method.{Method}
-use Rattle.drv_graph.specs.declared.kinds.Method.TheVariants.{Flat, Recursive}
 use Rattle.ref_scan.specs.declared.tree.Tree.{Tree}
 use Rattle.sched_core.specs.VerdictLaws.{AreRegistrable, VerdictsAreRegistrable}
 use Rattle.sched_core.specs.Verdicts.{IsCyclic, IsTreeFault, digest_of}
 use Rattle.sched_core.specs.declared.job.JobOutput.{JobOutput}
 use Rattle.sched_core.specs.declared.reason.Reason.{Reason}
 use Rattle.sched_core.specs.declared.reason.Reason.TheVariants.{HashMismatch, NotFlatFile, TooLarge}
-use Rattle.sched_core.proofs.Places.{place_of, same_element}
-
--- bytes are bytes at each place
-are_bytes : (bytes : List ℕ) → All (λ b. b < 256) bytes → IsBytes bytes
-are_bytes bytes each k =
-    elim (cases_lt k (length bytes)) [
-      | inl within ↦ each k 0 within
-      | inr past ↦ let e =
-          get_or_past bytes k 0 past in omega arith
-    ]
-
--- the bytes of an answer
-abbrev decoded : List ℕ → Result (List ℕ) FromHexError
-decoded bytes = Ok bytes
-
--- two answers with the same bytes
-ok_same : (a b : List ℕ) → decoded a ≡ decoded b → a ≡ b
-ok_same a b e = cc
-
--- digests are told by their texts
-one_digest : (a b : List ℕ) → IsDigest a → IsDigest b → encode_lower a ≡ encode_lower b → a ≡ b
-one_digest a b one two e =
-    ok_same a b (sym (decode_of-encode_lower a (are_bytes a one.1)) ∙ ap decode_of e
-    ∙ decode_of-encode_lower b (are_bytes b two.1))
-
--- two texts of methods that say something
-algo_says : (method : Method) → algo_of method ≡ [] → ⊥
-algo_says Flat is = absurd cc
-algo_says Recursive is = absurd cc
+use Rattle.nix_names.proofs.Lists.{get_from_contains, same_element}
 
 -- a fixed derivation's kind is fixed, with its digest
 pub fixed_kind : (drv : Drv) (kind : Kind) (method : Method) (digest : List ℕ) → HasKind drv kind
     → HasKind drv (Fixed method digest) → (other : Method) × (kind ≡ Fixed other digest)
 fixed_kind drv Addressed method digest (some, addressed) (output, only, fixed) =
     let own = all_first drv.outputs output addressed only.0 in
-    absurd (algo_says method (sym fixed.0 ∙ own.0))
+    absurd (some_method method (sym fixed.0 ∙ own.0))
   where
     all_first : (outputs : List Output) (output : Output) → All IsAddressed outputs → outputs
         ≡ output ∷ [] → IsAddressed output
@@ -95,11 +65,11 @@ verdicts_are_registrable graph d job node permitted answer infos of at (taken, r
           ∙ ap length of.paths
           ∙ length-map of.node.drv.outputs (λ (o : Output). o.path);
       among = λ info path has refers.
-          let place = place_of infos info has in
+          let place = get_from_contains infos info has in
           let is_record = records.each place.0 info place.1 in
           ((is_record.2.found.each path).0 refers).0;
       fixed = λ method digest kind info has.
-          let place = place_of infos info has in
+          let place = get_from_contains infos info has in
           let is_record = records.each place.0 info place.1 in
           let below = slice_get_within infos place.0 info place.1 in
           let other = fixed_kind of.node.drv job.kind method digest of.kind kind in

@@ -17,11 +17,12 @@ use Rattle.nix_names.proofs.RisingLists.{rising_sorted}
 use Rattle.drv_graph.specs.Loading.{AreDistinct}
 use Rattle.drv_graph.specs.Nodes.{Node, paths_of}
 use Rattle.drv_graph.proofs.Gathering.{sorted_map}
-use Rattle.drv_graph.proofs.PathLists.{all_from_contains, contains_mapped, contains_none, contains_push_cases, contains_source, distinct_push, same_place}
+use Rattle.drv_graph.proofs.PathLists.{distinct_push, same_place}
 use Rattle.sched_core.specs.Courses.{Course, course_state}
 use Rattle.sched_core.specs.Reporting.{AreListed, AreWithin, IsListed, listed_paths, numbers_of}
 use Rattle.sched_core.specs.Reports.{AreByPath, IsReportOf, IsWantedIn, line_at, outputs_at, path_at}
 use Rattle.sched_core.specs.declared.report.Wanted.{Wanted}
+use Rattle.nix_names.proofs.Lists.{All-from_contains, Contains-from_map, Contains-map, Contains-nothing, Contains-push_cases}
 
 -- the wanted ones of the derivations before a number
 abbrev pub IsWantedBefore : Course → ℕ → ℕ → Type 0
@@ -38,7 +39,7 @@ pub listed_none : (course : Course) → AreListed course.graph.nodes (IsWantedBe
 unfolding IsDistinct
 listed_none course = record {
   each = All-nil (IsListed course.graph.nodes);
-  just = λ d. (λ has. absurd (contains_none d has), λ wanted. absurd (omega (arith, wanted.0)));
+  just = λ d. (λ has. absurd (Contains-nothing d has), λ wanted. absurd (omega (arith, wanted.0)));
   once = tt;
 }
 
@@ -68,13 +69,13 @@ path_before : (course : Course) (n : ℕ) (wanted : List Wanted) (path : List �
     → slice_get (paths_of course.graph.nodes) n ≡ Some path
     → Contains (listed_paths wanted) path → ⊥
 path_before course n wanted path distinct listed at has =
-    let found = contains_source (λ (w : Wanted). w.path.now) wanted path has in
+    let found = Contains-from_map (λ (w : Wanted). w.path.now) wanted path has in
     let one = found.0 in
     let there : slice_get (paths_of course.graph.nodes) one.number
     ≡ Some path = All-contains (IsListed course.graph.nodes) wanted one listed.each found.1
     ∙ ap Some found.2 in
     let before = (listed.just one.number).0
-    (contains_mapped (λ (w : Wanted). w.number) wanted one found.1) in
+    (Contains-map (λ (w : Wanted). w.number) wanted one found.1) in
     let same = same_place (paths_of course.graph.nodes) one.number n path distinct there at in
     omega (arith, before.0, same)
 
@@ -97,7 +98,7 @@ listed_push course n wanted one distinct is at chosen listed = record {
           subst (λ k. slice_index_or course.wanted k false ≡ true) d_is
               chosen,
         ))
-        (contains_push_cases (numbers_of wanted) one.number d
+        (Contains-push_cases (numbers_of wanted) one.number d
         (subst (λ numbers. Contains numbers d) numbers has)),
     λ was. subst (λ numbers. Contains numbers d) (sym numbers)
         (⊎_elim
@@ -177,9 +178,9 @@ pub by_path_within : (course : Course) (wanted : List Wanted)
     → AreByPath course.graph.nodes (IsWantedIn course) (numbers_of wanted)
     → AreWithin (length course.graph.nodes) wanted
 by_path_within course wanted by_path =
-    all_from_contains (λ (w : Wanted). w.number < length course.graph.nodes) wanted
+    All-from_contains (λ (w : Wanted). w.number < length course.graph.nodes) wanted
     (λ w has. ((by_path.just w.number).0
-    (contains_mapped (λ (v : Wanted). v.number) wanted w has)).0)
+    (Contains-map (λ (v : Wanted). v.number) wanted w has)).0)
 
 -- the lines that are written are the report
 pub report_made : (course : Course) (wanted : List Wanted) (start lines text : List ℕ)

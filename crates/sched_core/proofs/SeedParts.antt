@@ -21,10 +21,10 @@ use Rattle.drv_graph.specs.Plans.{AreNumbers}
 use Rattle.drv_graph.specs.PlanNodes.{drvs_of, output_paths_of}
 use Rattle.drv_graph.proofs.Numbers.{numbers_length}
 use Rattle.sched_core.specs.Jobs.{named_outputs, paths_named, paths_of_found, seeds_of}
-use Rattle.sched_core.proofs.Places.{contains_at, element_at}
 use Rattle.sched_core.proofs.PlanInputs.{numbers_are}
 use Rattle.sched_core.proofs.OwnStandings.{drv_is}
 use Rattle.sched_core.proofs.Seeds.{found_by_number}
+use Rattle.nix_names.proofs.Lists.{Contains-from_get, element_at}
 
 -- ---- elements by their places
 
@@ -268,7 +268,7 @@ pub number_within : (nodes : List Node) (d : ℕ) (numbers : List ℕ) (place nu
     → number < length nodes
 number_within nodes d numbers place number low smaller at =
     let less : number < d = All-contains (λ input. input < d) numbers number smaller
-    (contains_at numbers place number at) in
+    (Contains-from_get numbers place number at) in
     omega (arith, low, less)
 
 -- the paths of a node's outputs are those of its derivation

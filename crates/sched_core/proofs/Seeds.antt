@@ -16,14 +16,12 @@ use Rattle.valid_table.specs.Entries.{paths_of, registered, registered_by}
 use Rattle.valid_table.specs.Valid.{IsValid}
 use Rattle.valid_table.specs.declared.entry.Entry.{Entry}
 use Rattle.valid_table.specs.declared.entry.Registration.{Registration}
-use Rattle.drv_graph.proofs.PathLists.{contains_source}
 use Rattle.valid_table.proofs.AddedEntries.{registered_push}
-use Rattle.valid_table.proofs.AddedRows.{Contains-map}
 use Rattle.valid_table.proofs.JournalLists.{still_valid}
 use Rattle.valid_table.proofs.TakenIn.{valid_by_some}
 use Rattle.valid_table.proofs.ClosureLaws.{leads_before, leads_behind}
 use Rattle.std.proofs.lemmas.Map.Views.{Contains-from_any}
-use Rattle.nix_names.proofs.RisingLists.{Contains-cons_cases, Contains-first, Contains-later, Contains-nothing, equal_from_eq}
+use Rattle.nix_names.proofs.RisingLists.{equal_from_eq}
 use Rattle.sched_core.specs.Headline.{PermittedStays, SeedsAreValid}
 use Rattle.sched_core.specs.Jobs.{named_outputs, output_paths, paths_of_found, seeds_of}
 use Rattle.sched_core.specs.Legal.{IsLegal, legal_opening, legal_begin, legal_done, legal_fail, begins}
@@ -39,6 +37,7 @@ use Rattle.sched_core.proofs.Dones.{output_registered, part_with, records_for_pa
 use Rattle.sched_core.proofs.StateLaws.{length_states, state_at}
 use Rattle.sched_core.specs.declared.standing.Standing.{Standing}
 use Rattle.sched_core.specs.declared.standing.Standing.TheVariants.{AllValid, Hindered, Free}
+use Rattle.nix_names.proofs.Lists.{Contains-cons_cases, Contains-first, Contains-from_map, Contains-later, Contains-map, Contains-nothing}
 
 -- ---- where a derivation stands behind one event more
 
@@ -305,7 +304,7 @@ named_at nodes input path has =
         in
         let kept = filter (λ (o : Output). list_any (same_bytes o.name) input.names)
         node.drv.outputs in
-        let output = contains_source (λ (o : Output). o.path) kept path there in
+        let output = Contains-from_map (λ (o : Output). o.path) kept path there in
         let among = filtered (λ (o : Output). list_any (same_bytes o.name) input.names)
         node.drv.outputs output.0 output.1 in (
           node,

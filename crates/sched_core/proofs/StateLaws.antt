@@ -5,10 +5,10 @@ use Rattle.std.specs.List.{list_all, slice_index_or}
 use Rattle.std.proofs.Math.ListN.{get_or-append, length-append}
 use Rattle.std.proofs.Math.Nat.{eq-or-lt_of_le}
 use Rattle.std.proofs.Math.Seq.{get_or-append_seam}
-use Rattle.nix_names.proofs.RisingLists.{Contains-first, Contains-later}
 use Rattle.sched_core.specs.declared.reason.State.{State}
 use Rattle.sched_core.specs.declared.reason.State.TheVariants.{Blocked}
 use Rattle.sched_core.specs.States.{InputsFirst, Rows, StatesAgree, StatesAreOne, by_phase, by_standing, is_bad, is_good, state, states, table}
+use Rattle.nix_names.proofs.Lists.{Contains-first, Contains-later}
 
 -- two ways to give states that agree at each input give the same
 find_same : (f g : ℕ → State) (inputs : List ℕ) → ((i : ℕ) → Contains inputs i → f i ≡ g i)

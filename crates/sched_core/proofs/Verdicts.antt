@@ -3,6 +3,8 @@ use Rattle.std.proofs.Common.{◌≡◌, ◌∙◌, ◌⊎◌, inl, inr, ⊎_eli
 use Rattle.std.specs.Prelude.{pos, Ok, Err}
 use Rattle.std.specs.List.{slice_get}
 use Rattle.std.proofs.Math.Nat.{eq-or-lt_of_le}
+use Rattle.nix_names.proofs.Lists.{get_push_cases}
+use Rattle.nix_names.proofs.FirstElements.{first_number}
 use Rattle.drv_graph.specs.declared.kinds.Kind.{Kind}
 use Rattle.drv_graph.specs.declared.kinds.Kind.TheVariants.{Addressed, Fixed}
 use Rattle.ref_scan.specs.Trees.{Fits}
@@ -13,7 +15,6 @@ use Rattle.sched_core.specs.declared.job.Job.{Job}
 use Rattle.sched_core.specs.declared.reason.Reason.{Reason}
 use Rattle.sched_core.specs.declared.reason.Reason.TheVariants.{ExitStatus, NoStart, MissingOutput, NotFlatFile, HashMismatch, OutputCycle, TooLarge, ReadFault, OutOfMemory, Killed}
 use Rattle.sched_core.specs.Verdicts.{AreRecords, IsCyclic, IsExamining, IsFaulty, IsFirstFault, IsRecordAt, IsRecordOf, IsTaken, IsThere, IsTreeFault, IsVerdict, digest_of, outputs_of, tree_at}
-use Rattle.sched_core.proofs.Places.{get_push_cases}
 
 -- What is known where the first outputs, so many, were looked at: nothing is missing there.
 abbrev pub ThereSoFar : Answer → ℕ → Type 0
@@ -63,8 +64,8 @@ taken_more job permitted answer infos more count tree info before at is_record t
           (λ h.
           let place : n ≡ count = h.0 ∙ before.as_many in
           subst (λ k. IsRecordAt permitted answer k other) (sym place)
-          (tree, at, subst (IsRecordOf permitted tree) (sym h.1) is_record))
-          (get_push_cases infos info other n here);
+          (tree, at, subst (IsRecordOf permitted tree) h.1 is_record))
+          (get_push_cases infos info n other here);
       none = λ n why below faulty. ⊎_elim
           (λ e.
           let there = subst (λ k. IsFaulty job answer why k) e faulty in
@@ -128,11 +129,9 @@ pub first_fault : (job : Job) (permitted : List (List ℕ)) (answer : Answer) (i
 first_fault job permitted answer infos count tree why below there taken at fault =
     by why (tree_fault_cases job.kind tree why fault) (
       count,
-      record {
-        within = below;
-        holds = (why, (tree, at, fault));
-        none = λ m less h. taken.none m h.0 less h.1;
-      },
+      first_number (λ m. (reason : Reason) × IsFaulty job answer reason m)
+          (length job.outputs.items) count below (why, (tree, at, fault))
+          (λ m less h. taken.none m h.0 less h.1),
       (tree, at, fault),
     )
   where
@@ -159,8 +158,11 @@ pub first_missing : (job : Job) (permitted : List (List ℕ)) (answer : Answer) 
     < length job.outputs.items → answer.status ≡ Some (pos 0) → ThereSoFar answer count
     → tree_at answer count ≡ None
     → IsVerdict job permitted answer (Err (MissingOutput count))
-first_missing job permitted answer count below ended there none =
-    (ended, record { within = below; holds = none; none = there })
+first_missing job permitted answer count below ended there none = (
+  ended,
+  first_number (λ m. tree_at answer m ≡ None) (length job.outputs.items) count below none
+      there,
+)
 
 -- the verdict where no fault was found, by whether there is a cycle
 pub cycle_found : (job : Job) (permitted : List (List ℕ)) (answer : Answer) (infos : List PathInfo)

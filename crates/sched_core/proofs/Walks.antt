@@ -10,26 +10,26 @@ use Rattle.std.proofs.lemmas.List.{length-map, take_all, take_more}
 use Rattle.std.proofs.lemmas.List.Elements.{Contains-append_left, Contains-push, Contains-push_cases}
 use Rattle.std.proofs.lemmas.List.Sums.{sum_by-set}
 use Rattle.std.proofs.lemmas.Option.{get_or_from_slice_get, slice_get-get_or, slice_get-map, slice_get_within}
-use Rattle.nix_names.proofs.RisingLists.{Contains-first}
 use Rattle.sched_core.specs.declared.walk.Mark.{Mark}
 use Rattle.sched_core.specs.declared.walk.Mark.TheVariants.{New, Open, Closed}
 use Rattle.sched_core.specs.declared.walk.Node.{Node}
 use Rattle.sched_core.specs.declared.walk.Step.TheVariants.{Enter, Leave, Pass, Return}
 use Rattle.sched_core.specs.Walking.{AreInner, Goes, HaveRound, IsAfter, IsGrounded, IsLinked, IsMet, IsNext, IsStep, IsWalk, KeepsMet, fresh, goes_nowhere, goes_on, grounded, mark_weight, weight}
-use Rattle.sched_core.proofs.Places.{contains_at, element_at, get_front, get_last, get_push_cases, place_of, same_element, set_cases}
+use Rattle.sched_core.proofs.Places.{set_cases}
+use Rattle.nix_names.proofs.Lists.{Contains-first, Contains-from_get, element_at, get_from_contains, get_grows, get_push_cases, get_pushed, same_element}
 
 -- the last link that is left is a link
 next_linked : (links : List (Vec ℕ)) (nodes : List Node) (top to : ℕ) (node other : Node)
     → IsNext links nodes top node to other → IsLinked links top to
 next_linked links nodes top to node other next =
-    (next.own, next.has, contains_at next.own.items next.k to next.leads)
+    (next.own, next.has, Contains-from_get next.own.items next.k to next.leads)
 
 -- a number whose links are all passed is grounded
 left_grounded : (links : List (Vec ℕ)) (nodes : List Node) (top : ℕ) (node : Node)
     → IsAfter links nodes → slice_get nodes top ≡ Some node → node.left ≡ 0 → IsGrounded links top
 left_grounded links nodes top node after at none =
     grounded top (λ to linked apart.
-    let place = place_of linked.0.items to linked.2 in
+    let place = get_from_contains linked.0.items to linked.2 in
     after.passed top node linked.0 place.0 to at linked.1 (omega arith) place.1 apart)
 
 after_leave : (links : List (Vec ℕ)) (before after : List Node) (top : ℕ) → IsAfter links before
@@ -114,10 +114,11 @@ walk_leave links before after rest top was step = record {
       (Contains-push_cases rest top from (was.opened from later h.1 mark)))
       (set_cases before top from _ later
       (subst (λ (nodes : List Node). slice_get nodes from ≡ Some later) step.3 here));
-  within = λ k n at. let old = was.within k n (get_front rest top n k at) in let same : length after
+  within = λ k n at. let old = was.within k n (get_grows rest (top ∷ []) k n at) in
+      let same : length after
       ≡ length before = ap length step.3 ∙ length-set before top _ in omega arith;
-  chain = λ k from to at at'. was.chain k from to (get_front rest top from k at)
-      (get_front rest top to (suc k) at');
+  chain = λ k from to at at'. was.chain k from to (get_grows rest (top ∷ []) k from at)
+      (get_grows rest (top ∷ []) (suc k) to at');
 }
 
 pub walk_pass : (links : List (Vec ℕ)) (before after : List Node) (trail : List ℕ) (top : ℕ)
@@ -151,20 +152,21 @@ walk_enter links before after rest top to was (node, other, next, mark_new, is) 
           (subst (λ (nodes : List Node). slice_get nodes from ≡ Some later) is here));
       within = λ k n at. ⊎_elim
           (λ front. let old = was.within k n front in omega arith)
-          (λ h. let below = slice_get_within before to other next.other_at in rw h.1 (omega arith))
-          (get_push_cases trail to n k at);
+          (λ h. let below = slice_get_within before to other next.other_at in
+          rw (← h.1) (omega arith))
+          (get_push_cases trail to k n at);
       chain = λ k from goal at at'. ⊎_elim
           (λ front. ⊎_elim
           (λ front'. was.chain k from goal front front')
           (λ h.
-          let here : slice_get trail (length rest) ≡ Some top = get_last rest top in
+          let here : slice_get trail (length rest) ≡ Some top = get_pushed rest top in
           let place : k ≡ length rest = omega (arith, h.0, pushed rest top) in
           let from_is : from ≡ top = same_element trail k from top front (rw place here) in
-          rw (from_is, h.1) (next_linked links before top to node other next))
-          (get_push_cases trail to goal (suc k) at'))
+          rw (from_is, ← h.1) (next_linked links before top to node other next))
+          (get_push_cases trail to (suc k) goal at'))
           (λ h. let below = slice_get_within (trail ++ to ∷ []) (suc k) goal at'
           in absurd (omega (arith, h.0, pushed trail to)))
-          (get_push_cases trail to from k at);
+          (get_push_cases trail to k from at);
     }
   where
     pushed : (xs : List ℕ) (x : ℕ) → length (xs ++ x ∷ []) ≡ suc (length xs)
@@ -188,8 +190,8 @@ walk_start links before after start node was at is =
       within = λ k n here. ⊎_elim
           (λ none. let past : 0 < 0 = omega (arith, slice_get_within [] k n none)
           in absurd (omega arith))
-          (λ h. rw h.1 (omega arith))
-          (get_push_cases [] start n k here);
+          (λ h. rw (← h.1) (omega arith))
+          (get_push_cases [] start k n here);
       chain = λ k from to here here'. let past = slice_get_within (start ∷ []) (suc k) to here'
           in absurd (omega arith);
     }
@@ -314,7 +316,7 @@ next_of links nodes top to own d inner after below own_is some to_is =
     let k = node.left - 1 in
     let leads : slice_get own.items k ≡ Some to = slice_get-get_or own.items k to (omega arith)
     ∙ ap Some (sym to_is) in
-    let within = inner top to (own, has, contains_at own.items k to leads) in
+    let within = inner top to (own, has, Contains-from_get own.items k to leads) in
     record {
       own = own;
       k = k;

@@ -8,7 +8,6 @@ use Rattle.std.proofs.lemmas.Bool.{cases_lt, false≢true}
 use Rattle.std.proofs.lemmas.List.{get_or-replicate, get_or-set_other, get_or-set_same, get_or_past, length-replicate}
 use Rattle.std.proofs.lemmas.List.Elements.{Contains-append_left, Contains-push, Contains-push_cases}
 use Rattle.std.proofs.lemmas.Option.{get_or_from_slice_get, slice_get_read}
-use Rattle.nix_names.proofs.RisingLists.{Contains-nothing}
 use Rattle.drv_graph.specs.Nodes.{inputs_of}
 use Rattle.drv_graph.specs.Plans.{AreNumbers, Graph}
 use Rattle.drv_graph.specs.SoundGraphs.{IsSound}
@@ -17,8 +16,8 @@ use Rattle.sched_core.specs.Courses.{AreStandings, AreWanted}
 use Rattle.sched_core.specs.Runs.{IsWanted, Run, inputs_at, standing_at, wanted_input, wanted_root}
 use Rattle.sched_core.specs.declared.standing.Standing.{Standing}
 use Rattle.sched_core.specs.declared.standing.Standing.TheVariants.{Free}
-use Rattle.sched_core.proofs.Places.{either_side}
 use Rattle.sched_core.proofs.PlanInputs.{inputs_first, numbers_at}
+use Rattle.nix_names.proofs.Lists.{Contains-nothing, either_side}
 
 -- a derivation is marked
 abbrev pub IsMarked : List Bool → ℕ → Type 0

@@ -1,7 +1,9 @@
 -- *Verdict*: what becomes of a job by what its builder left behind (Nix manual, "Building";
 -- Dolstra's thesis, section 5.5.1; the order of the reasons is this product's own).
 use Rattle.std.specs.Prelude.{◌≡◌, ◌≢◌, ◌⊎◌, ◌<◌, ℕ, pos, Option, Some, None, List, length, map, Contains, Result, Ok, Err, slice_get}
+use Rattle.std.specs.List.{range_with_len}
 use Rattle.sha2.specs.Sha256.{sha256}
+use Rattle.nix_names.specs.Firsts.{IsFirstWhere}
 use Rattle.drv_graph.specs.Plans.{Leads}
 use Rattle.drv_graph.specs.declared.kinds.Kind.{Kind}
 use Rattle.drv_graph.specs.declared.kinds.Kind.TheVariants.{Fixed}
@@ -48,11 +50,9 @@ tree_at answer n = joined (slice_get answer.trees.items n)
     joined (Some tree) = tree
     joined None = None
 
--- The number is the first below a count for which something holds.
-pub record IsFirstNumber (Holds : ℕ → Type 0) (count n : ℕ) : Type 0 where
-  pub within : n < count
-  pub holds : Holds n
-  pub none : (m : ℕ) → m < n → Holds m → ⊥
+-- the number is the first below a count for which something holds
+abbrev pub IsFirstNumber : (Holds : ℕ → Type 0) → (count n : ℕ) → Type 0
+IsFirstNumber Holds count n = IsFirstWhere Holds (range_with_len 0 count) n
 
 -- the builder ended well, and left something at each output's path
 abbrev pub IsThere : Job → Answer → Type 0

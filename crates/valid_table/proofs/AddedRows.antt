@@ -1,23 +1,15 @@
 -- Rows to which the rows of more paths are added.
-use Rattle.std.proofs.Common.{◌≡◌, ℕ, ◌+◌, ◌<◌, Bool, true, false, cond, List, [], ◌∷◌, ◌++◌, length, take, map, get_or, nat_eq, refl, sym, ap, subst, ◌∙◌, append_assoc, append-nil, arith, All, Contains}
+use Rattle.std.proofs.Common.{◌≡◌, ℕ, ◌<◌, Bool, true, false, cond, List, [], ◌∷◌, ◌++◌, length, map, nat_eq, refl, sym, ap, subst, ◌∙◌, append_assoc, append-nil, All, Contains}
 use Rattle.std.specs.List.{IsDistinct, list_any}
 use Rattle.std.proofs.lemmas.Bool.Decides.{Decides-eqb}
-use Rattle.std.proofs.lemmas.List.{get_or-map, length-map, map-append, take_more}
+use Rattle.std.proofs.lemmas.List.{map-append}
 use Rattle.std.proofs.lemmas.List.Elements.{All-append, All-cons, All-map, All-nil, All-push, All-weaker, Contains-append_left, Contains-push}
 use Rattle.indexmap.specs.IndexSet.{insert_key}
 use Rattle.indexmap.proofs.CallerLemmas.{Contains-insert_key}
+use Rattle.nix_names.proofs.Lists.{Contains-map}
 use Rattle.valid_table.specs.Closing.{AddsRows, AreRows, IsRowOf, path_at, paths_at}
 use Rattle.valid_table.specs.Valid.{IsValid}
 use Rattle.valid_table.specs.declared.entry.Registration.{Registration}
-
--- an element's image is among the images
-pub Contains-map : {A B : Type 0} (f : A → B) (xs : List A) (x : A) → Contains xs x
-    → Contains (map f xs) (f x)
-Contains-map f xs x has = (
-  has.0,
-  omega (arith, has.1, length-map xs f),
-  get_or-map f xs has.0 x (f x) has.1 ∙ ap f has.2,
-)
 
 -- What is there when a row was added to some: nothing but that row was added, and it is there.
 pub record Inserted (row : ℕ) (old new : List ℕ) : Type 0 where
@@ -129,9 +121,3 @@ adds_a_row registrations old paths path before new row adds of is distinct =
           paths adds.there)
           (λ valid. here);
     }
-
--- one more path of a list
-pub taken_more : (paths : List (List ℕ)) (i : ℕ) (path : List ℕ) → i < length paths → path
-    ≡ get_or paths i path → take (i + 1) paths ≡ take i paths ++ path ∷ []
-taken_more paths i path below at = take_more paths i path below
-    ∙ ap (λ (p : List ℕ). take i paths ++ p ∷ []) (sym at)

@@ -18,8 +18,8 @@ use Rattle.valid_table.specs.declared.fault.TableFault.TheVariants.{NoMemory, No
 use Rattle.valid_table.proofs.CheckedLines.{line_count}
 use Rattle.valid_table.proofs.EnteredPaths.{all_new, path_at}
 use Rattle.valid_table.proofs.JournalLists.{paths_of-append}
-use Rattle.valid_table.proofs.PathLists.{parts_at}
 use Rattle.valid_table.proofs.RowNumbers.{path_count}
+use Rattle.nix_names.proofs.Lists.{All-left, parts_at}
 
 -- which line begins a registration of an entry
 abbrev pub starts : Entry → List ℕ → Option (List ℕ) → Line
@@ -44,11 +44,6 @@ line_count_by start (r ∷ rs) =
     ap suc (length-append (map Reference r.info.references) (flat_map (lines_by start) rs)
     ∙ ap (λ n. length (map Reference r.info.references) + n) (line_count_by start rs)
     ∙ sym (length-append (map Reference r.info.references) (flat_map (λ x. lines_by Output x) rs)))
-
--- the front of a list whose elements have a property
-pub All-left : {X : Type 0} (P : X → Type 0) (xs ys : List X) → All P (xs ++ ys) → All P xs
-All-left P xs ys all = subst (All P) (take_at xs ys (length xs) refl)
-    (All-take P (length xs) (xs ++ ys) all)
 
 -- and its end
 pub All-right : {X : Type 0} (P : X → Type 0) (xs ys : List X) → All P (xs ++ ys) → All P ys

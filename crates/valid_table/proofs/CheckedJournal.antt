@@ -15,8 +15,8 @@ use Rattle.valid_table.specs.declared.entry.Registration.{Registration}
 use Rattle.valid_table.specs.declared.fault.TableFault.{TableFault}
 use Rattle.valid_table.specs.declared.fault.TableFault.TheVariants.{NoMemory, NotClosed, Twice}
 use Rattle.valid_table.proofs.AddedEntries.{registered_push}
-use Rattle.valid_table.proofs.CheckedEntries.{All-left, All-right, entry_lines_are, lines_by, starts}
-use Rattle.valid_table.proofs.PathLists.{parts_at}
+use Rattle.valid_table.proofs.CheckedEntries.{All-right, entry_lines_are, lines_by, starts}
+use Rattle.nix_names.proofs.Lists.{All-left, parts_at}
 
 -- a line of an entry behind earlier registrations is right
 abbrev pub IsRightBehind : List Registration → Entry → Line → Type 0

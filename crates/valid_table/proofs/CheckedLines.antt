@@ -10,7 +10,7 @@ use Rattle.valid_table.specs.Valid.{references_of}
 use Rattle.valid_table.specs.declared.entry.Registration.{Registration}
 use Rattle.valid_table.specs.declared.fault.TableFault.TheVariants.{NotClosed, Twice}
 use Rattle.valid_table.proofs.EnteredPaths.{closed_all}
-use Rattle.valid_table.proofs.PathLists.{parts_at}
+use Rattle.nix_names.proofs.Lists.{parts_at}
 
 -- how many lines registrations have
 abbrev pub line_count : List Registration → ℕ

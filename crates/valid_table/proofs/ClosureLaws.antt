@@ -4,7 +4,7 @@ use Rattle.std.specs.Prelude.{flat_map}
 use Rattle.std.proofs.lemmas.Grind.{flat_map-append}
 use Rattle.std.proofs.lemmas.List.{get_or-map, get_or_default}
 use Rattle.std.proofs.lemmas.List.Elements.{All-contains, Contains-append_left, Contains-append_right}
-use Rattle.nix_names.proofs.RisingLists.{Contains-cons_cases, rising_same}
+use Rattle.nix_names.proofs.RisingLists.{rising_same}
 use Rattle.valid_table.specs.Closure.{ClosureIsOne, ClosureStays, IsClosure, Leads}
 use Rattle.valid_table.specs.Entries.{registered, registered_by}
 use Rattle.valid_table.specs.PathInfos.{PathInfo}
@@ -13,6 +13,7 @@ use Rattle.valid_table.specs.declared.entry.Registration.{Registration}
 use Rattle.valid_table.proofs.Following.{one_info}
 use Rattle.valid_table.proofs.JournalLists.{closed_references_valid, still_valid}
 use Rattle.valid_table.proofs.RowNumbers.{path_count}
+use Rattle.nix_names.proofs.Lists.{Contains-cons_cases}
 
 -- what an element's list has is among all
 Contains-flat_map : {A B : Type 0} (f : A → List B) (xs : List A) (x : A) (y : B) → Contains xs x

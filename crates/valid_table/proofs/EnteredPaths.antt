@@ -1,17 +1,18 @@
 -- Registrations whose paths and references are looked up among known ones.
 use Rattle.std.proofs.Common.{◌≡◌, ◌∙◌, ℕ, ◌+◌, ◌<◌, ◌≤◌, List, ◌∷◌, ◌++◌, inl, inr, length, take, drop, get_or, sym, ap, subst, arith}
 use Rattle.std.specs.Prelude.{All, Contains, IfSome, Some, slice_get}
-use Rattle.std.proofs.lemmas.List.{append_assoc, get_or-map, get_or_at, length-append, length-take-le, take_all}
+use Rattle.std.proofs.lemmas.List.{get_or-map, get_or_at, length-append, length-take-le, take_all}
 use Rattle.std.proofs.lemmas.List.Elements.{All-append, All-more}
 use Rattle.std.proofs.lemmas.Option.{MatchOption-at_some, get_or_from_slice_get, slice_get-get_or, slice_get_cases, slice_get_past}
+use Rattle.nix_names.proofs.FirstElements.{first_at, first_within}
 use Rattle.valid_table.specs.Entering.{AreUnknown, IsFirstUnknownAt, IsNewFront, IsUnknown}
 use Rattle.valid_table.specs.Entries.{paths_of}
-use Rattle.valid_table.specs.Firsts.{IsFirst}
 use Rattle.valid_table.specs.Valid.{references_of}
 use Rattle.valid_table.specs.declared.entry.Registration.{Registration}
 use Rattle.valid_table.proofs.JournalLists.{references_of_at, references_of_more}
-use Rattle.valid_table.proofs.PathLists.{parts_at}
 use Rattle.valid_table.proofs.RowNumbers.{path_count}
+use Rattle.nix_names.specs.Firsts.{IsFirst}
+use Rattle.nix_names.proofs.Lists.{parts_at}
 
 -- the path of the registration at a place
 pub path_at : (rs : List Registration) (i : ℕ) (r : Registration) (d : List ℕ) → i < length rs → r
@@ -119,20 +120,12 @@ unclosed_here known rs i r references place all lt is same (path, first, at) =
     let earlier = references_of (take i rs) in
     let rest = references_of (drop (i + 1) rs) in
     let own : r.info.references ≡ first.before ++ path ∷ first.after = sym same ∙ first.parts in
-    let parts : references_of rs ≡ (earlier ++ first.before) ++ path ∷ (first.after ++ rest) =
-    references_of_at rs i r lt is
-    ∙ ap (λ l. earlier ++ (l ++ rest)) own
-    ∙ ap (λ l. earlier ++ l) (append_assoc first.before (path ∷ first.after) rest)
-    ∙ sym (append_assoc earlier first.before (path ∷ (first.after ++ rest))) in (
+    let within = first_within (Contains known) (IsUnknown known) earlier references rest path all
+    first in (
       path,
       middle r.info.references first.before path first.after place own at,
-      record {
-        before = earlier ++ first.before;
-        after = first.after ++ rest;
-        parts = parts;
-        others = All-append (Contains known) earlier first.before all first.others;
-        is = first.is;
-      },
+      subst (λ paths. IsFirst (Contains known) (IsUnknown known) paths path)
+          (ap (λ l. earlier ++ (l ++ rest)) same ∙ sym (references_of_at rs i r lt is)) within,
     )
 
 -- the references of one more registration are known
@@ -171,13 +164,8 @@ first_known known rs count r front lt read =
     let within : count < length paths = omega (arith, path_count rs) in
     let some : slice_get paths count ≡ Some path = slice_get-get_or paths count path within
     ∙ ap Some at in
-    record {
-      before = take count paths;
-      after = drop (count + 1) paths;
-      parts = parts_at paths count path within (sym at);
-      others = front.new;
-      is = MatchOption-at_some (Unit {0}) (Contains known) path some front.next;
-    }
+    first_at (IsUnknown known) (Contains known) paths count path some front.new
+    (MatchOption-at_some (Unit {0}) (Contains known) path some front.next)
 
 -- the path behind the new ones is known
 pub known_behind :

@@ -1,22 +1,14 @@
 -- Entries and their parts that are equal by `==` are the same.
-use Rattle.std.proofs.Common.{◌≡◌, Bool, Decides, ◌&&◌, List, ℕ, refl, sym, ap, nat_eq, true≢false}
+use Rattle.std.proofs.Common.{◌≡◌, Decides, List, ℕ, refl, sym, ap, nat_eq, true≢false}
 use Rattle.std.specs.Prelude.{None, Option, Some}
 use Rattle.std.specs.Cmp.Lexicographic.{bytes_decides, pointwise, pointwise_decides}
 use Rattle.std.specs.Option.{option_eq}
-use Rattle.std.proofs.lemmas.Bool.{and_from, and_parts}
+use Rattle.nix_names.proofs.Tests.{both_parts}
 use Rattle.valid_table.specs.Equality.{EqualEntriesAreSame, same_entry, same_record, same_registration}
 use Rattle.valid_table.specs.PathInfos.{PathInfo}
 use Rattle.valid_table.specs.declared.entry.Entry.{Entry}
 use Rattle.valid_table.specs.declared.entry.Entry.TheVariants.{Add, Done}
 use Rattle.valid_table.specs.declared.entry.Registration.{Registration}
-
--- two tests, each of one part
-both_parts : {P Q R : Type 0} (a b : Bool) → Decides a P → Decides b Q → (P → Q → R) → (R → P)
-    → (R → Q) → Decides (a && b) R
-both_parts a b first second join one two = (
-  λ h. let parts = and_parts a b h in join (first.0 parts.0) (second.0 parts.1),
-  λ r. and_from a b (first.1 (one r)) (second.1 (two r)),
-)
 
 -- digests
 digests_decide : (a b : Option (List ℕ)) → Decides (option_eq (pointwise nat_eq) a b) (a ≡ b)

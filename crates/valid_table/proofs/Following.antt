@@ -15,9 +15,10 @@ use Rattle.valid_table.specs.PathInfos.{PathInfo}
 use Rattle.valid_table.specs.Tables.{registrations_of}
 use Rattle.valid_table.specs.Valid.{IsOnce, IsValid, Registers}
 use Rattle.valid_table.specs.declared.entry.Registration.{Registration}
-use Rattle.valid_table.proofs.AddedRows.{Contains-map, paths_kept}
+use Rattle.valid_table.proofs.AddedRows.{paths_kept}
 use Rattle.valid_table.proofs.Reaching.{reached_itself, reached_more, same_place}
 use Rattle.valid_table.proofs.RowNumbers.{path_count, row_count, valid_from_row}
+use Rattle.nix_names.proofs.Lists.{Contains-map}
 
 -- there are at most as many rows, none twice, as are registered
 pub few_rows : (registrations : List Registration) (rows : List ℕ) → AreRows registrations rows

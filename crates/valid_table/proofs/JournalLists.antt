@@ -8,7 +8,8 @@ use Rattle.valid_table.specs.Entries.{paths_of, registered, registered_by}
 use Rattle.valid_table.specs.Valid.{AreReferencesValid, IsClosed, IsClosedBehind, IsOnce, IsValid, references_of}
 use Rattle.valid_table.specs.declared.entry.Entry.{Entry}
 use Rattle.valid_table.specs.declared.entry.Registration.{Registration}
-use Rattle.valid_table.proofs.PathLists.{once_front, parts_at}
+use Rattle.valid_table.proofs.PathLists.{once_front}
+use Rattle.nix_names.proofs.Lists.{parts_at}
 
 -- the paths of two lists of registrations, one behind the other
 pub paths_of-append : (a b : List Registration) → paths_of (a ++ b) ≡ paths_of a ++ paths_of b

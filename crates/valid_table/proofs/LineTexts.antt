@@ -1,18 +1,18 @@
 -- The bytes of a journal's lines: each ends in its only newline, and two lines are told apart by
 -- their bytes.
-use Rattle.std.proofs.Common.{◌≡◌, ◌≢◌, ◌==◌, ℕ, not, List, [], ◌∷◌, ◌++◌, length, get_or, drop, refl, ap, sym, ◌∙◌, arith, All, Option, Some, None, Result, Ok}
+use Rattle.std.proofs.Common.{◌≡◌, ◌≢◌, ◌==◌, ℕ, not, List, [], ◌∷◌, ◌++◌, length, get_or, drop, refl, ap, sym, ◌∙◌, arith, All, Option, Some, None}
 use Rattle.std.specs.Prelude.{codes, flat_map}
 use Rattle.std.proofs.lemmas.List.{append_assoc, append_cancel_left}
 use Rattle.std.proofs.lemmas.List.Elements.{All-append, All-cons, All-head, All-tail}
-use Rattle.hex.specs.Hex.{lower_digits, decode_of}
-use Rattle.hex.specs.declared.error.FromHexError.{FromHexError}
-use Rattle.hex.proofs.HexLemmas.{length-encode_with, decode_of-encode_lower}
+use Rattle.hex.specs.Hex.{lower_digits}
+use Rattle.hex.proofs.HexLemmas.{length-encode_with}
 use Rattle.nix_names.specs.StorePaths.{IsDrvPath, IsPathOf}
 use Rattle.valid_table.specs.BadLines.{AreLines}
 use Rattle.valid_table.specs.LineTexts.{fields_text}
 use Rattle.valid_table.specs.Readers.{IsFieldsLine, IsPathLine}
 use Rattle.valid_table.specs.Texts.{IsDigest, Line, Version, Added, Deriver, Output, Reference, digest_text, line_text}
-use Rattle.valid_table.proofs.Separators.{Lacks, bytes_everywhere, digest_lacks, newline, passing, path_lacks, same_cut, same_path, space}
+use Rattle.valid_table.proofs.Separators.{Lacks, digest_lacks, newline, passing, path_lacks, same_cut, same_path, space}
+use Rattle.nix_names.proofs.HexDigits.{one_digest}
 
 -- ---- fields
 
@@ -31,12 +31,7 @@ same_digest None (Some b) one two e =
     absurd (omega (arith, ap length e, length-encode_with lower_digits b, two.0))
 same_digest (Some a) None one two e =
     absurd (omega (arith, ap length e, length-encode_with lower_digits a, one.0))
-same_digest (Some a) (Some b) one two e =
-    let told : Result (List ℕ) FromHexError → Result (List ℕ) FromHexError → Type 0 = λ x y. x ≡ y
-    in
-    let same : told (Ok a) (Ok b) = sym (decode_of-encode_lower a (bytes_everywhere a one.1))
-    ∙ ap decode_of e ∙ decode_of-encode_lower b (bytes_everywhere b two.1) in
-    cc
+same_digest (Some a) (Some b) one two e = ap Some (one_digest a b one two e)
 
 -- bytes have one path with a newline behind it
 pub two_path_lines : (dir bytes path rest other more : List ℕ) → IsPathLine dir bytes path rest

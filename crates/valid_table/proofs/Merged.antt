@@ -8,9 +8,10 @@ use Rattle.std.proofs.lemmas.Cmp.{nat_list_cmp_total}
 use Rattle.std.proofs.lemmas.List.{take_all}
 use Rattle.std.proofs.lemmas.List.Elements.{Contains-append_cases, Contains-append_left, Contains-append_right}
 use Rattle.nix_names.specs.Rising.{IsRising}
-use Rattle.nix_names.proofs.RisingLists.{Contains-later, equal_from_eq, rising_back}
+use Rattle.nix_names.proofs.RisingLists.{equal_from_eq, rising_back}
 use Rattle.valid_table.specs.Merging.{IsLeast}
 use Rattle.valid_table.specs.Unions.{IsInEither, IsUnion}
+use Rattle.nix_names.proofs.Lists.{Contains-later}
 
 -- a path at the head is in the list
 at_head : (x : List ℕ) (xs ys : List (List ℕ)) (p : List ℕ) → Contains (x ∷ []) p

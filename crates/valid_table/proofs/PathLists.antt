@@ -1,10 +1,10 @@
 -- Lists of paths of which no two are the same, and the parts of a list.
-use Rattle.std.proofs.Common.{◌≡◌, ◌∙◌, ℕ, ◌+◌, ◌<◌, false, List, [], ◌∷◌, ◌++◌, length, take, drop, get_or, refl, sym, ap, arith, nat_eq, length-append}
+use Rattle.std.proofs.Common.{◌≡◌, ◌∙◌, ℕ, false, List, [], ◌∷◌, ◌++◌, length, get_or, refl, sym, arith, nat_eq, length-append}
 use Rattle.std.specs.Prelude.{Contains}
 use Rattle.std.specs.Cmp.Lexicographic.{pointwise, nat_list_eq_equiv}
 use Rattle.std.specs.List.{AllByRecursion, IsDistinct}
 use Rattle.std.proofs.lemmas.Bool.{false_from_ne_true, false≢true}
-use Rattle.std.proofs.lemmas.List.{drop_more, get_or_append_left, get_or_at, take-append-drop}
+use Rattle.std.proofs.lemmas.List.{get_or_append_left, get_or_at}
 use Rattle.std.proofs.lemmas.List.Elements.{All-head, All-tail, All-weaker, Contains-append_right}
 use Rattle.std.proofs.lemmas.Map.Keys.{apart_from_distinct, IsDistinct-cons, IsDistinct-from_apart, IsDistinct-head, IsDistinct-tail}
 use Rattle.nix_names.proofs.RisingLists.{equal_from_eq}
@@ -37,13 +37,6 @@ once_front before after once =
     rw (← at_i, ← at_j)
     (apart_from_distinct (pointwise nat_eq) (before ++ after) i j d once lt
     (omega (arith, length-append before after))))
-
--- a list is its first elements, the next one and the rest
-pub parts_at : {X : Type 0} (xs : List X) (i : ℕ) (x : X) → i < length xs → x ≡ get_or xs i x → xs
-    ≡ take i xs ++ x ∷ drop (i + 1) xs
-parts_at xs i x lt is =
-    sym (take-append-drop i xs) ∙ ap (λ l. take i xs ++ l)
-    (drop_more xs i x lt ∙ ap (λ y. y ∷ drop (i + 1) xs) (sym is))
 
 -- a known path differs from each unknown one
 apart_from_unknown : (x : List ℕ) (xs ys : List (List ℕ)) → AreUnknown (x ∷ xs) ys

@@ -10,7 +10,7 @@ use Rattle.valid_table.specs.Closure.{Leads}
 use Rattle.valid_table.specs.PathInfos.{PathInfo}
 use Rattle.valid_table.specs.Valid.{IsValid, RefersTo, Registers}
 use Rattle.valid_table.specs.declared.entry.Registration.{Registration}
-use Rattle.valid_table.proofs.AddedRows.{Contains-map}
+use Rattle.nix_names.proofs.Lists.{Contains-map}
 
 -- a path that is registered with a record is valid
 pub valid_from_registers : (registrations : List Registration) (path : List ℕ) (info : PathInfo)

@@ -1,9 +1,9 @@
 -- The roots of a closure, as they are looked up one after the other.
 use Rattle.std.proofs.Common.{◌≡◌, ℕ, ◌<◌, suc, List, ◌∷◌, ◌++◌, length, take, drop, get_or, sym, ap, ◌∙◌, All}
 use Rattle.std.proofs.Math.Seq.{split_at}
-use Rattle.valid_table.specs.Firsts.{IsFirst}
 use Rattle.valid_table.specs.Valid.{IsNotValid, IsValid}
 use Rattle.valid_table.specs.declared.entry.Registration.{Registration}
+use Rattle.nix_names.specs.Firsts.{IsFirst}
 
 -- a root that is not valid, behind valid ones, is the first such
 pub first_not_valid :

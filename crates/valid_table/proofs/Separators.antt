@@ -1,16 +1,17 @@
 -- Newlines and spaces part a text in one way only, where what stands before them has none; paths
 -- and digests have none.
-use Rattle.std.proofs.Common.{◌≡◌, ◌≢◌, ℕ, Bool, true, false, List, [], ◌∷◌, ◌++◌, ◌<◌, length, inl, inr, Option, Some, None, refl, sym, ap, ◌∙◌, subst, arith, IsTrue}
+use Rattle.std.proofs.Common.{◌≡◌, ◌≢◌, ℕ, Bool, true, false, List, [], ◌∷◌, ◌++◌, Option, Some, None, refl, sym, ap, ◌∙◌, subst, arith, IsTrue}
 use Rattle.std.specs.List.{All, AllPass, flat_map, list_all}
-use Rattle.std.proofs.lemmas.Bool.{and_parts, cases_lt, false≢true}
-use Rattle.std.proofs.lemmas.List.{append_assoc, append_cancel_left, get_or_past}
+use Rattle.std.proofs.lemmas.Bool.{and_parts, false≢true}
+use Rattle.std.proofs.lemmas.List.{append_assoc, append_cancel_left}
 use Rattle.std.proofs.lemmas.List.Elements.{All-append, All-cons, All-head, All-nil, All-tail, All-weaker}
 use Rattle.std.proofs.lemmas.List.Sums.{AllPass-from_list_all}
-use Rattle.hex.specs.Hex.{IsBytes, encode_lower, is_hex_digit}
+use Rattle.hex.specs.Hex.{encode_lower, is_hex_digit}
 use Rattle.hex.proofs.HexLemmas.{decode_of-encode_lower, decode_of-ok}
 use Rattle.nix_names.specs.Base32.{is_digit}
 use Rattle.nix_names.specs.Names.{IsStoreDir, is_component, is_name, is_name_char}
 use Rattle.nix_names.specs.StorePaths.{IsPathOf, is_hash_part}
+use Rattle.nix_names.proofs.HexDigits.{bytes_everywhere}
 use Rattle.valid_table.specs.Texts.{IsDigest, digest_text}
 
 -- a list has no element that equals this one
@@ -128,14 +129,6 @@ same_path b is dir p q x y one two e =
     (a.1 ∙ ap (λ (t : List ℕ). dir ++ t) same.0 ∙ sym c.1, same.1)
 
 -- ---- digests
-
--- the bytes of a digest, at every place
-pub bytes_everywhere : (xs : List ℕ) → All (λ b. b < 256) xs → IsBytes xs
-bytes_everywhere xs each i =
-    elim (cases_lt i (length xs)) [
-      | inl within ↦ each i 0 within
-      | inr past ↦ let e = get_or_past xs i 0 past in omega arith
-    ]
 
 -- a digest's text has no newline
 pub digest_lacks : (digest : Option (List ℕ)) → IsDigest digest → Lacks 10 (digest_text digest)

@@ -17,8 +17,9 @@ use Rattle.valid_table.specs.Tables.{registrations_of}
 use Rattle.valid_table.specs.Valid.{IsNotValid, IsOnce, IsValid, Registers}
 use Rattle.valid_table.specs.declared.entry.Registration.{Registration}
 use Rattle.valid_table.proofs.JournalLists.{paths_of-append}
-use Rattle.valid_table.proofs.PathLists.{once_apart, parts_at}
+use Rattle.valid_table.proofs.PathLists.{once_apart}
 use Rattle.valid_table.proofs.RowNumbers.{paths_are_keys}
+use Rattle.nix_names.proofs.Lists.{parts_at}
 
 -- a row is among the registrations
 registers_row : (rows : List (List ℕ × PathInfo)) (path : List ℕ) (info : PathInfo)

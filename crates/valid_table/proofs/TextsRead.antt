@@ -16,9 +16,10 @@ use Rattle.valid_table.specs.declared.entry.Registration.{Registration}
 use Rattle.valid_table.proofs.CheckedEntries.{entry_lines_are, up_to}
 use Rattle.valid_table.proofs.CheckedJournal.{AreRight, IsRightBehind, IsWrongAt, not_among, right_at, wrong_line}
 use Rattle.valid_table.proofs.JournalLists.{paths_of-append}
-use Rattle.valid_table.proofs.PathLists.{once_apart, once_front, parts_at}
+use Rattle.valid_table.proofs.PathLists.{once_apart, once_front}
 use Rattle.valid_table.proofs.Separators.{Lacks}
 use Rattle.valid_table.proofs.Versions.{by_number}
+use Rattle.nix_names.proofs.Lists.{parts_at}
 
 -- ---- the version
 

@@ -1,7 +1,6 @@
 -- What it means that an entry is taken in: into a table, or at the end of a journal.
 use Rattle.std.specs.Prelude.{◌≡◌, ◌++◌, ⊤, ℕ, List, [], ◌∷◌, All, Result, Ok, Err}
 use Rattle.valid_table.specs.Entries.{paths_of, registered, registered_by}
-use Rattle.valid_table.specs.Firsts.{IsFirst}
 use Rattle.valid_table.specs.Valid.{IsNotValid, IsValid, references_of}
 use Rattle.valid_table.specs.declared.entry.Entry.{Entry}
 use Rattle.valid_table.specs.declared.entry.Registration.{Registration}
@@ -9,6 +8,7 @@ use Rattle.valid_table.specs.declared.fault.TableFault.{TableFault}
 use Rattle.valid_table.specs.declared.fault.TableFault.TheVariants.{NoMemory, Unclosed, AlreadyValid}
 use Rattle.valid_table.specs.declared.obstacle.Obstacle.{Obstacle}
 use Rattle.valid_table.specs.declared.obstacle.Obstacle.TheVariants as obstacle
+use Rattle.nix_names.specs.Firsts.{IsFirst}
 
 -- none of the paths of some registrations is valid by known ones
 abbrev pub AreNew : (known some : List Registration) → Type 0

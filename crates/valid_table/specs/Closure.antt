@@ -4,12 +4,12 @@ use Rattle.std.specs.Prelude.{◌≡◌, ◌↔◌, ◌++◌, ℕ, List, [], ◌
 use Rattle.std.specs.Global.{Vec}
 use Rattle.nix_names.specs.Rising.{IsRising}
 use Rattle.valid_table.specs.Entries.{registered}
-use Rattle.valid_table.specs.Firsts.{IsFirst}
 use Rattle.valid_table.specs.Valid.{IsClosed, IsNotValid, IsOnce, IsValid, RefersTo}
 use Rattle.valid_table.specs.declared.entry.Entry.{Entry}
 use Rattle.valid_table.specs.declared.entry.Registration.{Registration}
 use Rattle.valid_table.specs.declared.fault.TableFault.{TableFault}
 use Rattle.valid_table.specs.declared.fault.TableFault.TheVariants.{NoMemory, NotValid}
+use Rattle.nix_names.specs.Firsts.{IsFirst}
 
 -- valid paths lead from one to another, each next one a reference of the one before
 abbrev pub Leads : List Registration → List ℕ → List ℕ → List (List ℕ) → Type 0

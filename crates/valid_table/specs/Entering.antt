@@ -1,6 +1,6 @@
 -- Paths that are looked up among known ones.
 use Rattle.std.specs.Prelude.{◌≡◌, ◌≤◌, ℕ, List, All, Contains, IfSome, length, slice_get, take}
-use Rattle.valid_table.specs.Firsts.{IsFirst}
+use Rattle.nix_names.specs.Firsts.{IsFirst}
 
 -- a path isn't known
 abbrev pub IsUnknown : (known : List (List ℕ)) → List ℕ → Type 0

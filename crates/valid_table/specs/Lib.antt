@@ -8,7 +8,6 @@ pub mod Entering
 pub mod Entries
 pub mod Equality
 pub mod Faults
-pub mod Firsts
 pub mod LineFaults
 pub mod LineTexts
 pub mod Merging

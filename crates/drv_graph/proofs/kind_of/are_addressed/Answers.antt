@@ -1,8 +1,9 @@
 use Rattle.std.proofs.Common.{sym, map}
 use Rattle.nix_drv.specs.Parts.{output_of}
 use Rattle.drv_graph.specs.Kinds.{IsAddressed}
-use Rattle.drv_graph.proofs.Loops.{Contains-map, all_took_more, seen_at}
+use Rattle.drv_graph.proofs.Loops.{all_took_more, seen_at}
 use Rattle.drv_graph.proofs.kind_of.are_addressed.Goals as goal
+use Rattle.nix_names.proofs.Lists.{Contains-map}
 
 pub returns-then-not-is_addressed : goal.returns-then-not-is_addressed
 returns-then-not-is_addressed c = (

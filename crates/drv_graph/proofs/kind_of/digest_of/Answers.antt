@@ -1,7 +1,8 @@
 use Rattle.std.proofs.Common.{sym, ◌∙◌}
 use Rattle.hex.specs.Hex.{encode_lower}
-use Rattle.drv_graph.proofs.KindAnswers.{decoded, no_digits, other_digits, told_other, told_same}
 use Rattle.drv_graph.proofs.kind_of.digest_of.Goals as goal
+use Rattle.nix_names.proofs.HexDigits.{decoded, no_digits, other_digits}
+use Rattle.nix_names.proofs.Tests.{told_other, told_same}
 
 pub returns-in_default : goal.returns-in_default
 returns-in_default c = no_digits _ c.in_default.field-0 (sym c.from_hex.ensures ∙ c.in_default.is)

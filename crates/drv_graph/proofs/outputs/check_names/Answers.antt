@@ -5,8 +5,9 @@ use Rattle.nix_names.specs.Names.{is_name}
 use Rattle.nix_drv.specs.Parts.{output_of}
 use Rattle.drv_graph.specs.Expected.{path_name}
 use Rattle.drv_graph.specs.Outputs.{IsWellNamed}
-use Rattle.drv_graph.proofs.Loops.{Contains-map, all_took_more, seen_at}
+use Rattle.drv_graph.proofs.Loops.{all_took_more, seen_at}
 use Rattle.drv_graph.proofs.outputs.check_names.Goals as goal
+use Rattle.nix_names.proofs.Lists.{Contains-map}
 
 abbrev Named : List ℕ → List ℕ → Type 0
 Named name output = IsTrue (is_name output) × IsTrue (is_name (path_name name output))

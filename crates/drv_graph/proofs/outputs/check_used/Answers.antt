@@ -1,13 +1,14 @@
 use Rattle.std.proofs.Common.{ℕ, List, map, sym, subst, arith}
 use Rattle.std.specs.Prelude.{Contains}
 use Rattle.std.proofs.lemmas.List.{length-map}
+use Rattle.nix_names.proofs.Lists.{Contains-from_get}
 use Rattle.nix_drv.specs.Parts.{bytes_of}
 use Rattle.nix_drv.specs.Places.{output_names}
 use Rattle.drv_graph.specs.Checking.{IsUnknownOutput}
 use Rattle.drv_graph.specs.Outputs.{IsKnownUse, Use}
 use Rattle.drv_graph.specs.UsedInputs.{uses_of}
 use Rattle.drv_graph.proofs.Checks.{unknown_use}
-use Rattle.drv_graph.proofs.Loops.{Contains-slice_get, all_took_all, all_took_more, first_without, seen_twice}
+use Rattle.drv_graph.proofs.Loops.{all_took_all, all_took_more, first_without, seen_twice}
 use Rattle.drv_graph.proofs.outputs.check_used.Goals as goal
 
 pub loop-name-preserved : goal.loop-name-preserved
@@ -15,7 +16,7 @@ loop-name-preserved c =
     let path = c.args.used.now.path.now in
     let drv = c.args.used.now.drv.now in
     let use_of : List ℕ → Use = λ name. record { input = path; output = name; drv = drv } in
-    let found = Contains-slice_get (output_names drv) c.in-Some.field-0 c.as_slice-name.result.now
+    let found = Contains-from_get (output_names drv) c.in-Some.field-0 c.as_slice-name.result.now
     c.in-Some.ensures.found in
     all_took_more IsKnownUse (uses_of path drv (map bytes_of c.args.names.now))
     c.loop-name.name-index (use_of c.name-item.result.items)

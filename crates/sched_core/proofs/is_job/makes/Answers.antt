@@ -1,4 +1,4 @@
-use Rattle.std.proofs.Common.{◌≡◌, ◌∙◌, ◌<◌, ◌+◌, ℕ, List, ap, get_or, length, map, subst, sym, take, arith}
+use Rattle.std.proofs.Common.{◌∙◌, ◌<◌, length, sym, arith}
 use Rattle.std.proofs.lemmas.Bool.{false≢true}
 use Rattle.nix_drv.specs.declared.derivation.Output.{Output as OutputStruct}
 use Rattle.sched_core.specs.declared.job.JobOutput.{JobOutput}

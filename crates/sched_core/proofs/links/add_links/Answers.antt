@@ -1,7 +1,8 @@
 use Rattle.std.proofs.Common.{subst, take}
 use Rattle.std.proofs.lemmas.List.{take_all}
+use Rattle.nix_names.proofs.Lists.{taken_more}
 use Rattle.sched_core.specs.Linking.{AddsLinks}
-use Rattle.sched_core.proofs.Linkages.{adds_no_place, adds_none, adds_place, taken_more}
+use Rattle.sched_core.proofs.Linkages.{adds_no_place, adds_none, adds_place}
 use Rattle.sched_core.proofs.links.add_links.Goals as goal
 use Rattle.sched_core.proofs.links.add_links.Goals.{in-Some+in_ok-push, in_default}
 

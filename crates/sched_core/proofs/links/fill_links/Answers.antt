@@ -1,9 +1,9 @@
 use Rattle.std.proofs.Common.{◌<◌, arith, length, refl}
 use Rattle.std.proofs.lemmas.Option.{slice_get_read, slice_get_within}
 use Rattle.sched_core.proofs.Linkages.{links_more, links_none}
-use Rattle.sched_core.proofs.Places.{contains_at}
 use Rattle.sched_core.proofs.links.fill_links.Goals as goal
 use Rattle.sched_core.proofs.links.fill_links.Goals.{in-Some+in_ok-add_links, in_default}
+use Rattle.nix_names.proofs.Lists.{Contains-from_get}
 
 pub loop-n-init : goal.loop-n-init
 loop-n-init c = links_none c.args.outputs.now c.args.records.now c.args.paths.now.keys
@@ -45,5 +45,5 @@ loop-n-preserved c =
       | in_default w ↦ absurd
           (w.in_default.ensures
           ((c.requires.once.same c.index-outputs-n.result).1
-          (contains_at c.args.outputs.now c.loop-n.n c.index-outputs-n.result path_at)))
+          (Contains-from_get c.args.outputs.now c.loop-n.n c.index-outputs-n.result path_at)))
     ]

@@ -1,8 +1,9 @@
 use Rattle.std.proofs.Common.{take}
 use Rattle.valid_table.specs.Tables.{registrations_of}
-use Rattle.valid_table.proofs.AddedRows.{adds_a_row, adds_no_row, taken_more}
+use Rattle.valid_table.proofs.AddedRows.{adds_a_row, adds_no_row}
 use Rattle.valid_table.proofs.closing.add_rows.Goals as goal
 use Rattle.valid_table.proofs.closing.add_rows.Goals.{in-Some+in_ok-insert, in_default}
+use Rattle.nix_names.proofs.Lists.{taken_more}
 
 pub loop-path-preserved : goal.loop-path-preserved
 loop-path-preserved c =

@@ -3,10 +3,11 @@ use Rattle.std.proofs.lemmas.List.{take_all}
 use Rattle.std.proofs.lemmas.List.Elements.{All-push}
 use Rattle.valid_table.specs.Tables.{registrations_of}
 use Rattle.valid_table.specs.Valid.{IsValid}
-use Rattle.valid_table.proofs.AddedRows.{adds_a_row, taken_more}
+use Rattle.valid_table.proofs.AddedRows.{adds_a_row}
 use Rattle.valid_table.proofs.Roots.{first_not_valid}
 use Rattle.valid_table.proofs.RowNumbers.{valid_from_row}
 use Rattle.valid_table.proofs.closing.root_rows.Goals as goal
+use Rattle.nix_names.proofs.Lists.{taken_more}
 
 pub returns-in_default-clause-err : goal.returns-in_default-clause-err
 returns-in_default-clause-err c =

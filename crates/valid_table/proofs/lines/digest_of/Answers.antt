@@ -1,7 +1,9 @@
 use Rattle.std.proofs.Common.{codes, sym, ◌∙◌}
 use Rattle.hex.specs.Hex.{encode_lower}
-use Rattle.valid_table.proofs.DigestTexts.{decoded, no_digits, other_digits, told_other, told_same}
+use Rattle.valid_table.proofs.DigestTexts.{no_digits, other_digits}
 use Rattle.valid_table.proofs.lines.digest_of.Goals as goal
+use Rattle.nix_names.proofs.HexDigits.{decoded}
+use Rattle.nix_names.proofs.Tests.{told_other, told_same}
 
 pub returns-in_default : goal.returns-in_default
 returns-in_default c =

@@ -8,3 +8,7 @@ pub record IsFirst {X : Type 0} (Other Kind : X → Type 0) (list : List X) (x :
   pub parts : list ≡ before ++ x ∷ after
   pub others : All Other before
   pub is : Kind x
+
+-- an element is the first of a list for which something holds
+abbrev pub IsFirstWhere : {X : Type 0} (Holds : X → Type 0) → List X → X → Type 0
+IsFirstWhere Holds list x = IsFirst (λ y. Holds y → ⊥) Holds list x
