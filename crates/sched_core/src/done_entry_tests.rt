@@ -57,17 +57,13 @@ fn plan_of(alloc: Global, file: &File) -> Result<Plan, Fail> {
     Ok(Plan::load(alloc, &mut source, &dir, &[root])?)
 }
 
-// References to one path, or to none.
-fn references(alloc: Global, to: &[u8]) -> Result<Vec<StorePath>, Fail> {
-    if to.is_empty() {
-        return Ok(Vec::new(alloc));
-    }
-    Ok(vec![in alloc; path(alloc, to)?]?)
-}
-
 // A record of what refers to one path, or to none.
 fn record(alloc: Global, to: &[u8], digest: Option<[u8; 32]>) -> Result<Record, Fail> {
-    Ok(Record::new(references(alloc, to)?, digest)?)
+    if to.is_empty() {
+        return Ok(Record::new(Vec::new(alloc), digest)?);
+    }
+    let references = vec![in alloc; path(alloc, to)?]?;
+    Ok(Record::new(references, digest)?)
 }
 
 // Records of files with this digest, of which each refers to one of these, or to none.
