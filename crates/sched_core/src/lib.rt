@@ -23,8 +23,6 @@
 #![tactic(auto)]
 
 mod book;
-#[cfg(test)]
-mod book_tests;
 mod checked;
 mod course;
 mod cycle;

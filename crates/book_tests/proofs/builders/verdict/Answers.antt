@@ -3,10 +3,10 @@ use Rattle.sched_core.specs.Books.{ArePermittedPaths}
 use Rattle.sched_core.specs.Verdicts.{IsExamining}
 use Rattle.sched_core.specs.declared.job.Job.{Job}
 use Rattle.sched_core.proofs.ExaminedRecords.{examined_may_refer}
-use Rattle.sched_core.proofs.book_tests.verdict.Goals as goal
+use Rattle.book_tests.proofs.builders.verdict.Goals as goal
 
 pub returns : goal.returns
-returns c =
+returns g c =
     let entries = c.args.book.now.history.entries in
     let job : Job = c.args.lease.now.job in
     let paths = c.deref.result.now in

@@ -6,8 +6,10 @@ pub(crate) struct File {
     pub text: &'static [u8],
 }
 
-/// Without inputs, as are `APART`, `TWO` and those behind it.
+/// Without inputs, as are `APART`, `TWO` and those behind it, but for the links.
 pub(crate) const BASE: &[u8] = b"/nix/store/xwrdsxnlq6n2qnx61xya715sfa49wkxm-base.drv";
+
+pub(crate) const BASE_OUT: &[u8] = b"/nix/store/i73x2qwb221ly8r0xpzlngmrfjzb9dr1-base";
 
 /// A user of `BASE`, with two outputs.
 pub(crate) const LEFT: &[u8] = b"/nix/store/wf7kqrqhkw4448bgfb32jrkflk1lhzla-left.drv";
@@ -43,18 +45,21 @@ pub(crate) const SOURCED: &[u8] = b"/nix/store/p8aybn13ahfa1kqwybh131bvza4i7sai-
 /// For another system.
 pub(crate) const FOREIGN: &[u8] = b"/nix/store/l55pa4jc6x77irz0il0lflaw8fj7wqi1-foreign.drv";
 
-/// With a builder of the kind that is left out.
-pub(crate) const BUILTIN: &[u8] = b"/nix/store/k0x39cs30b55w0ja2ssc40fa54qrnfbn-builtin.drv";
+/// The first of four links, of which each uses the one before it.
+pub(crate) const FIRST: &[u8] = b"/nix/store/gd3xgmqy6x0k7maqmx0djavkvcqasgqy-first.drv";
 
-/// With a key that asks for what is left out.
-pub(crate) const KEYED: &[u8] = b"/nix/store/17nfbj4z9rxzqszhbvrhv77c44dpl2x1-keyed.drv";
+pub(crate) const FIRST_OUT: &[u8] = b"/nix/store/hihlfm78fc761v6zhdakslanymljmxa2-first";
 
-pub(crate) const KEYED_OUT: &[u8] = b"/nix/store/xncggaxjf67yhlhykwhnd30nxl4bk0fa-keyed";
+pub(crate) const SECOND: &[u8] = b"/nix/store/8h8x33iiclvm7q7jccnh16pcimxsmjna-second.drv";
+
+pub(crate) const THIRD: &[u8] = b"/nix/store/ccy4irh12zk80fsbyc1h4c8yxivi7gy1-third.drv";
+
+pub(crate) const FOURTH: &[u8] = b"/nix/store/bfxxqzj4h82wyxhhx6g784hriy9fkddd-fourth.drv";
 
 /// A source, of which there is no file.
 pub(crate) const SRC: &[u8] = b"/nix/store/aaaaaaaaaaaaaaaaaaaaaaaaaaaaaaaa-src";
 
-pub(crate) static FILES: [File; 10] = [
+pub(crate) static FILES: [File; 12] = [
     File {
         path: BASE,
         text: b"Derive([(\"out\",\"/nix/store/i73x2qwb221ly8r0xpzlngmrfjzb9dr1-base\",\"\",\"\")],[],[],\"x86_64-linux\",\"/bin/sh\",[],[])",
@@ -88,11 +93,19 @@ pub(crate) static FILES: [File; 10] = [
         text: b"Derive([(\"out\",\"/nix/store/h3dx8sjvinvh2akkmimrdzs79iinjf3q-foreign\",\"\",\"\")],[],[],\"aarch64-linux\",\"/bin/sh\",[],[])",
     },
     File {
-        path: BUILTIN,
-        text: b"Derive([(\"out\",\"/nix/store/0pgk7hcpwfayn38kajyn25ck5czdbgg2-builtin\",\"\",\"\")],[],[],\"x86_64-linux\",\"builtin:fetchurl\",[],[])",
+        path: FIRST,
+        text: b"Derive([(\"out\",\"/nix/store/hihlfm78fc761v6zhdakslanymljmxa2-first\",\"\",\"\")],[],[],\"x86_64-linux\",\"/bin/sh\",[],[])",
     },
     File {
-        path: KEYED,
-        text: b"Derive([(\"out\",\"/nix/store/xncggaxjf67yhlhykwhnd30nxl4bk0fa-keyed\",\"\",\"\")],[],[],\"x86_64-linux\",\"/bin/sh\",[],[(\"allowedReferences\",\"\")])",
+        path: SECOND,
+        text: b"Derive([(\"out\",\"/nix/store/194gzw829lp8dfibjdsdlsc371inzymi-second\",\"\",\"\")],[(\"/nix/store/gd3xgmqy6x0k7maqmx0djavkvcqasgqy-first.drv\",[\"out\"])],[],\"x86_64-linux\",\"/bin/sh\",[],[])",
+    },
+    File {
+        path: THIRD,
+        text: b"Derive([(\"out\",\"/nix/store/gx3cym0108bbaw3vxrlc84kk4dldhqrq-third\",\"\",\"\")],[(\"/nix/store/8h8x33iiclvm7q7jccnh16pcimxsmjna-second.drv\",[\"out\"])],[],\"x86_64-linux\",\"/bin/sh\",[],[])",
+    },
+    File {
+        path: FOURTH,
+        text: b"Derive([(\"out\",\"/nix/store/1fqzmyv68aqa1ni75qlwg3qjyxlxswzm-fourth\",\"\",\"\")],[(\"/nix/store/ccy4irh12zk80fsbyc1h4c8yxivi7gy1-third.drv\",[\"out\"])],[],\"x86_64-linux\",\"/bin/sh\",[],[])",
     },
 ];

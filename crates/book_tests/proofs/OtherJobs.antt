@@ -1,0 +1,24 @@
+-- Records that were found under one job refer to what is permitted to another one.
+use Rattle.std.proofs.Common.{◌≡◌, List, ℕ, Result, Ok, Err, inl, inr}
+use Rattle.std.specs.Prelude.{IfOk}
+use Rattle.valid_table.specs.PathInfos.{PathInfo}
+use Rattle.valid_table.specs.declared.entry.Entry.{Entry}
+use Rattle.sched_core.specs.Books.{ArePermittedPaths, MayAllRefer}
+use Rattle.sched_core.specs.Verdicts.{IsExamining}
+use Rattle.sched_core.specs.declared.job.Answer.{Answer}
+use Rattle.sched_core.specs.declared.job.Job.{Job}
+use Rattle.sched_core.specs.declared.reason.Reason.{Reason}
+use Rattle.sched_core.proofs.Places.{place_of}
+
+pub may_refer_by_permitted : (entries : List Entry) (job other : Job) (permitted : List (List ℕ))
+    (answer : Answer) (found : Result (List PathInfo) Reason)
+    → ArePermittedPaths entries job permitted → IsExamining other permitted answer found
+    → IfOk found (MayAllRefer entries job)
+may_refer_by_permitted entries job other permitted answer (Err reason) are examined = tt
+may_refer_by_permitted entries job other permitted answer (Ok infos) are (inl refused) = absurd cc
+may_refer_by_permitted entries job other permitted answer (Ok infos) are
+    (inr (taken, records, acyclic)) =
+    λ info path has refers.
+    let place = place_of infos info has in
+    let is_record = records.each place.0 info place.1 in
+    (are.each path).0 ((is_record.2.found.each path).0 refers).0

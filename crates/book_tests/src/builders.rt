@@ -1,0 +1,156 @@
+//! What builders answer, and how leases end with it.
+ghost use Rattle.std.specs.Prelude.{IfOk};
+ghost use Rattle.sched_core.specs.Books.{MayAllRefer};
+
+use ref_scan::Tree;
+use sched_core::{Answer, Book, Checked, Job, Lease, Reason, examine};
+use std::alloc::{AllocError, Global};
+use std::test::Fail;
+use valid_table::{ListOutlet, Outlet};
+
+/// What the builder of the derivation with this first output does: with which status it ends, and
+/// which files it leaves at the outputs. Any other ends well, and leaves empty files.
+pub(crate) struct Script {
+    pub output: &'static [u8],
+    pub status: Option<i32>,
+    pub files: &'static [Option<&'static [u8]>],
+}
+
+// What is left at each of so many outputs.
+fn trees(
+    alloc: Global,
+    count: usize,
+    files: &[Option<&[u8]>],
+) -> Result<Vec<Option<Tree>>, AllocError> {
+    let mut trees = Vec::new(alloc);
+    for n in 0..count {
+        let left = match files.get(n) {
+            Some(Some(bytes)) => Some(Vec::from_slice(alloc, bytes)?),
+            _ => None,
+        };
+        trees.push(left.map(Tree::File))?;
+    }
+    Ok(trees)
+}
+
+/// The answer of a builder that leaves an empty file at each output.
+pub(crate) fn empty_files(alloc: Global, job: &Job) -> Result<Answer, AllocError> {
+    let mut trees = Vec::new(alloc);
+    for _ in 0..job.outputs.len() {
+        trees.push(Some(Tree::File(Vec::new(alloc))))?;
+    }
+    Ok(Answer {
+        status: Some(0),
+        trees,
+    })
+}
+
+// Whether a script is that of a job.
+fn is_for(script: &Script, job: &Job) -> bool {
+    match job.outputs.first() {
+        Some(output) => output.path.text() == script.output,
+        None => false,
+    }
+}
+
+fn answer(alloc: Global, job: &Job, scripts: &[Script]) -> Result<Answer, AllocError> {
+    let Some(script) = scripts.iter().find(|script| is_for(script, job)) else {
+        return empty_files(alloc, job);
+    };
+    Ok(Answer {
+        status: script.status,
+        trees: trees(alloc, job.outputs.len(), script.files)?,
+    })
+}
+
+/// What is found of what a lease's builder left.
+pub(crate) fn verdict<O: Outlet>(
+    alloc: Global,
+    book: &Book<O>,
+    lease: &Lease<O::Told>,
+    scripts: &[Script],
+) -> Result<Result<Checked, Reason>, Fail>
+    ensures { IfOk result
+        (λ verdict.
+        IfOk verdict (λ checked. MayAllRefer book.now.history.entries lease.now.job checked)) }
+{
+    let permitted = book.permitted(lease)?;
+    let answer = answer(alloc, lease.job(), scripts)?;
+    Ok(examine(alloc, lease.job(), &permitted, answer))
+}
+
+fn finish(book: &mut Book<ListOutlet>, lease: Lease<usize>, checked: Checked) -> Result<(), Fail>
+    requires { MayAllRefer book.old.history.entries lease.job checked }
+{
+    match book.finish(lease, checked) {
+        Ok(()) => Ok(()),
+        Err((fault, lease, _)) => {
+            lease.give_up();
+            Err(fault.into())
+        }
+    }
+}
+
+/// Ends a lease by a failure, and says whether the lease is the book's.
+pub(crate) fn fails(book: &mut Book<ListOutlet>, lease: Lease<usize>, reason: Reason) -> bool {
+    match book.fail(lease, reason) {
+        Ok(()) => true,
+        Err(lease) => {
+            lease.give_up();
+            false
+        }
+    }
+}
+
+/// Ends a lease of the book by a failure.
+pub(crate) fn fail(
+    book: &mut Book<ListOutlet>,
+    lease: Lease<usize>,
+    reason: Reason,
+) -> Result<(), Fail> {
+    if fails(book, lease, reason) {
+        Ok(())
+    } else {
+        Err("a foreign lease".into())
+    }
+}
+
+/// Builds under a lease, and ends it.
+pub(crate) fn build(
+    alloc: Global,
+    book: &mut Book<ListOutlet>,
+    lease: Lease<usize>,
+    scripts: &[Script],
+) -> Result<(), Fail> {
+    match verdict(alloc, book, &lease, scripts) {
+        Ok(Ok(checked)) => finish(book, lease, checked),
+        Ok(Err(reason)) => fail(book, lease, reason),
+        Err(fault) => {
+            lease.give_up();
+            Err(fault)
+        }
+    }
+}
+
+/// Builds all that can be built, one after the other.
+pub(crate) fn build_all(
+    alloc: Global,
+    book: &mut Book<ListOutlet>,
+    scripts: &[Script],
+) -> Result<(), Fail> {
+    for _ in 0..64 {
+        let Some(lease) = book.next()? else {
+            return Ok(());
+        };
+        build(alloc, book, lease, scripts)?;
+    }
+    Err("it doesn't end".into())
+}
+
+/// The next lease of a book.
+pub(crate) fn lease<O: Outlet>(book: &mut Book<O>) -> Result<Lease<O::Told>, Fail> {
+    match book.next()? {
+        Some(lease) => Ok(lease),
+        None => Err("nothing is ready".into()),
+    }
+}

@@ -1,0 +1,190 @@
+//! Leases, and what a book tells of itself.
+use crate::books::{has_report, open, state_of};
+use crate::builders::{build, fail, fails, lease};
+use crate::files::*;
+use sched_core::{Book, Event, Lease, Reason, Refusal, State};
+use std::alloc::Global;
+use std::test::*;
+use valid_table::ListOutlet;
+
+// What an outlet told at a lease, at the first call and at the next one.
+fn told_twice(lease: &mut Lease<usize>) -> [Option<usize>; 2] {
+    [lease.told(), lease.told()]
+}
+
+// The number of the next lease, and what was told at it; it is built then.
+fn told(alloc: Global, book: &mut Book<ListOutlet>) -> Result<(u64, [Option<usize>; 2]), Fail> {
+    let mut lease = lease(book)?;
+    let told = told_twice(&mut lease);
+    let number = lease.number();
+    build(alloc, book, lease, &[])?;
+    Ok((number, told))
+}
+
+// The same of two leases.
+fn told_at_two(
+    alloc: Global,
+    book: &mut Book<ListOutlet>,
+) -> Result<[(u64, [Option<usize>; 2]); 2], Fail> {
+    Ok([told(alloc, book)?, told(alloc, book)?])
+}
+
+// An outlet tells how many entries it shows, which are all when a lease is given.
+#[test]
+fn told_once(rt: HostRuntime) -> Result<(), Fail> {
+    let before: [&[u8]; 4] = [b"realiser-journal 1\n", b"A ", SRC, b" -\n"];
+    let mut book = open(rt.alloc(), &[LEFT], &before)?;
+    let told = told_at_two(rt.alloc(), &mut book);
+    book.close();
+    let [first, second] = told?;
+    assert_eq!(rt; first, (0, [Some(1), None]));
+    assert_eq!(rt; second, (1, [Some(2), None]));
+    Ok(())
+}
+
+// Whether no lease can be given.
+fn is_idle(book: &mut Book<ListOutlet>) -> Result<bool, Fail> {
+    match book.next()? {
+        None => Ok(true),
+        Some(lease) => {
+            lease.give_up();
+            Ok(false)
+        }
+    }
+}
+
+// Whether a book keeps as building what was leased and given up.
+fn keeps_given_up(book: &mut Book<ListOutlet>) -> Result<bool, Fail> {
+    lease(book)?.give_up();
+    let is_idle = is_idle(book)?;
+    Ok(is_idle && !book.settled() && state_of(book, 0) == Some(State::Building(0)))
+}
+
+#[test]
+fn given_up(rt: HostRuntime) -> Result<(), Fail> {
+    let mut book = open(rt.alloc(), &[BASE], &[])?;
+    let keeps = keeps_given_up(&mut book);
+    book.close();
+    assert!(rt; keeps?);
+    Ok(())
+}
+
+// Ends the next lease by giving up its derivation for want of memory.
+fn abandon(book: &mut Book<ListOutlet>) -> Result<(), Fail> {
+    let lease = lease(book)?;
+    match book.abandon(lease) {
+        Ok(()) => Ok(()),
+        Err(lease) => {
+            lease.give_up();
+            Err("a foreign lease".into())
+        }
+    }
+}
+
+// Whether a book reports a derivation that is abandoned.
+fn reports_abandoned(alloc: Global, book: &mut Book<ListOutlet>) -> Result<bool, Fail> {
+    abandon(book)?;
+    let is_failed = state_of(book, 0) == Some(State::Failed(Reason::OutOfMemory));
+    Ok(is_failed && has_report(alloc, book, &[b"failed ", BASE, b": OutOfMemory\n"])?)
+}
+
+#[test]
+fn abandoned(rt: HostRuntime) -> Result<(), Fail> {
+    let mut book = open(rt.alloc(), &[BASE], &[])?;
+    let reports = reports_abandoned(rt.alloc(), &mut book);
+    book.close();
+    assert!(rt; reports?);
+    Ok(())
+}
+
+// What a book tells of itself behind a run in which a link fails.
+fn tells(book: &Book<ListOutlet>) -> bool {
+    let events = [
+        Event::Begin(0, 0),
+        Event::Done(0, 0),
+        Event::Begin(1, 1),
+        Event::Fail(1, 1, Reason::Killed),
+    ];
+    book.system() == b"x86_64-linux".as_slice()
+        && book.opening() == 2
+        && book.journal().entries().len() == 3
+        && book.plan().len() == 3
+        && book.events() == events.as_slice()
+}
+
+// Builds one derivation, and lets the next one fail.
+fn build_and_fail(alloc: Global, book: &mut Book<ListOutlet>) -> Result<(), Fail> {
+    let first = lease(book)?;
+    build(alloc, book, first, &[])?;
+    let second = lease(book)?;
+    fail(book, second, Reason::Killed)
+}
+
+#[test]
+fn tells_of_itself(rt: HostRuntime) -> Result<(), Fail> {
+    let before: [&[u8]; 7] = [
+        b"realiser-journal 1\n",
+        b"A ",
+        SRC,
+        b" -\n",
+        b"A ",
+        APART_OUT,
+        b" -\n",
+    ];
+    let mut book = open(rt.alloc(), &[THIRD], &before)?;
+    let built = build_and_fail(rt.alloc(), &mut book);
+    let tells = tells(&book);
+    book.close();
+    built?;
+    assert!(rt; tells);
+    Ok(())
+}
+
+// Builds the first derivation of a diamond, and leases the two behind it.
+fn two_leases(
+    alloc: Global,
+    book: &mut Book<ListOutlet>,
+) -> Result<(Lease<usize>, Lease<usize>), Fail> {
+    let base = lease(book)?;
+    build(alloc, book, base, &[])?;
+    let one = lease(book)?;
+    match lease(book) {
+        Ok(other) => Ok((one, other)),
+        Err(fault) => {
+            one.give_up();
+            Err(fault)
+        }
+    }
+}
+
+// The state of the last derivation of a diamond behind the failure of its second input, and behind
+// that of its first one too.
+fn blamed(alloc: Global, book: &mut Book<ListOutlet>) -> Result<[Option<State>; 2], Fail> {
+    let (one, other) = two_leases(alloc, book)?;
+    let (first, second) = if one.job().derivation == 1 {
+        (one, other)
+    } else {
+        (other, one)
+    };
+    let is_failed = fails(book, second, Reason::Killed);
+    let by_second = state_of(book, 3);
+    if !(fails(book, first, Reason::NoStart) && is_failed) {
+        return Err("a foreign lease".into());
+    }
+    Ok([by_second, state_of(book, 3)])
+}
+
+// The first input that failed is named: the second one of the two as long as it failed alone.
+#[test]
+fn first_failed_input(rt: HostRuntime) -> Result<(), Fail> {
+    let mut book = open(rt.alloc(), &[TOP], &[])?;
+    let blamed = blamed(rt.alloc(), &mut book);
+    book.close();
+    let [by_second, by_both] = blamed?;
+    assert_eq!(rt;
+        by_second,
+        Some(State::Refused(Refusal::InputNotRealised(2)))
+    );
+    assert_eq!(rt; by_both, Some(State::Refused(Refusal::InputNotRealised(1))));
+    Ok(())
+}

@@ -1,0 +1,69 @@
+//! Derivations that ask for what is left out are refused, or reused where their output is valid.
+use crate::books::{has_report, open};
+use crate::builders::build_all;
+use crate::hindered::{HINDERED, Hindered};
+use sched_core::{Book, BookFault, Refusal};
+use std::alloc::Global;
+use std::test::*;
+use valid_table::ListOutlet;
+
+// Whether a book that began with nothing left to do has this report, and no events.
+fn ends_at_once(
+    alloc: Global,
+    book: &mut Book<ListOutlet>,
+    report: &[&[u8]],
+) -> Result<bool, Fail> {
+    let is_settled = book.settled();
+    build_all(alloc, book, &[])?;
+    Ok(is_settled && book.events().is_empty() && has_report(alloc, book, report)?)
+}
+
+// Whether the run of one root is settled at once behind this journal, with this report.
+fn is_settled_at_once(
+    alloc: Global,
+    root: &[u8],
+    before: &[&[u8]],
+    report: &[&[u8]],
+) -> Result<bool, Fail> {
+    let mut book = open(alloc, &[root], before)?;
+    let holds = ends_at_once(alloc, &mut book, report);
+    book.close();
+    holds
+}
+
+fn is_refused(alloc: Global, hindered: &Hindered) -> Result<bool, Fail> {
+    let path = hindered.file.path;
+    is_settled_at_once(alloc, path, &[], &[b"refused ", path, b": Unsupported\n"])
+}
+
+fn is_reused(alloc: Global, hindered: &Hindered) -> Result<bool, Fail> {
+    let path = hindered.file.path;
+    let output = hindered.output;
+    let before: [&[u8]; 4] = [b"realiser-journal 1\n", b"A ", output, b" -\n"];
+    let report: [&[u8]; 6] = [b"reused ", path, b"\n", b"output ", output, b"\n"];
+    is_settled_at_once(alloc, path, &before, &report)
+}
+
+#[test]
+fn what_is_left_out(rt: HostRuntime) -> Result<(), Fail> {
+    for hindered in &HINDERED {
+        assert!(rt; is_refused(rt.alloc(), hindered)?, "{}", hindered.label);
+        assert!(rt;
+            is_reused(rt.alloc(), hindered)?,
+            "{}, valid",
+            hindered.label
+        );
+    }
+    Ok(())
+}
+
+#[test]
+fn numbers(rt: HostRuntime) {
+    assert_eq!(rt; Refusal::Unsupported.number(), 61);
+    assert_eq!(rt; Refusal::MissingSource(0).number(), 62);
+    assert_eq!(rt; Refusal::InputNotRealised(0).number(), 63);
+    assert_eq!(rt; BookFault::NoMemory.number(), 9);
+    assert_eq!(rt; BookFault::NoView.number(), 40);
+    assert_eq!(rt; BookFault::ForeignLease.number(), 65);
+    assert_eq!(rt; BookFault::NotLawful.number(), 66);
+}

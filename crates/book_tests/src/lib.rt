@@ -1,0 +1,39 @@
+//! Tests of books, of what no clause says: that calls succeed, the texts of reports and journals,
+//! and whole runs, whose builders do as they are told.
+//!
+//! | Module | What is tried |
+//! |---|---|
+//! | `runs` | runs to their end: their reports, journals and counts of events |
+//! | `causes` | derivations that ask for what is left out |
+//! | `calls` | leases, and what a book tells of itself |
+//! | `refusals` | leases of another book, records of another job |
+//! | `growths` | memory that is refused while a lease ends |
+//! | `random_runs` | random plans and answers, beside states that the test works out |
+//! | `random_plans` | derivations that are made up |
+//! | `builders` | what builders answer, and how leases end with it |
+//! | `books` | plans, journals and books that the tests are made of |
+//! | `files`, `hindered` | files of derivations |
+#![tactic(auto)]
+
+#[cfg(test)]
+mod books;
+#[cfg(test)]
+mod builders;
+#[cfg(test)]
+mod calls;
+#[cfg(test)]
+mod causes;
+#[cfg(test)]
+mod files;
+#[cfg(test)]
+mod growths;
+#[cfg(test)]
+mod hindered;
+#[cfg(test)]
+mod random_plans;
+#[cfg(test)]
+mod random_runs;
+#[cfg(test)]
+mod refusals;
+#[cfg(test)]
+mod runs;

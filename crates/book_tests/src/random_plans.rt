@@ -1,0 +1,291 @@
+//! Random plans, of derivations that are made up. The first letter of a derivation's name says how
+//! it stands by itself.
+ghost use Rattle.std.specs.Prelude.{◌<◌};
+
+use crate::books::store_dir;
+use drv_graph::{Plan, fill_outputs};
+use nix_drv::{Derivation, EnvEntry, Input, ListSource, ListedFile, Output, Parts, write};
+use nix_names::{StorePath, parse_path};
+use std::alloc::{AllocError, Global};
+use std::test::Fail;
+use valid_table::{Journal, Record};
+
+/// For another system, with an output that is valid.
+pub(crate) const REUSED: u8 = b'r';
+
+/// For another system.
+pub(crate) const FOREIGN: u8 = b's';
+
+/// With a key that asks for what is left out.
+pub(crate) const KEYED: u8 = b'k';
+
+/// With a source that isn't valid.
+pub(crate) const SOURCED: u8 = b'm';
+
+/// With two outputs, of which the first is valid.
+pub(crate) const PARTLY: u8 = b'p';
+
+// As often as they come; `f` stands for one that can be built, but for its inputs.
+const LETTERS: [u8; 64] = *b"ffffffffffffffffffffffffffffffffffffffffffffffffffffrrrrrrrrskmp";
+
+/// A generator of numbers, by shifts (Marsaglia, "Xorshift RNGs", 2003).
+#[derive(Drop)]
+pub(crate) struct Random {
+    pub state: u64,
+}
+
+impl Random {
+    /// The next number, below a bound.
+    pub(crate) fn below(&mut self, bound: usize) -> usize
+        requires { 0 < bound }
+        ensures { result < bound }
+    {
+        let mut x = self.state;
+        x ^= x << 13;
+        x ^= x >> 7;
+        x ^= x << 17;
+        self.state = x;
+        (x >> 20) as usize % bound
+    }
+}
+
+/// Derivations that were made up, each behind those that it uses: their files, their paths, and
+/// which outputs are valid at the opening.
+#[derive(Drop)]
+pub(crate) struct MadeUp {
+    pub files: Vec<ListedFile>,
+    pub paths: Vec<StorePath>,
+    pub journal: Journal,
+}
+
+fn texts(alloc: Global, all: &[&[u8]]) -> Result<Vec<Vec<u8>>, AllocError> {
+    let mut texts = Vec::new(alloc);
+    for text in all {
+        texts.push(Vec::from_slice(alloc, text)?)?;
+    }
+    Ok(texts)
+}
+
+// Outputs with these names, whose paths are to be filled.
+fn empty_outputs(alloc: Global, names: &[&[u8]]) -> Result<Vec<Output>, AllocError> {
+    let mut outputs = Vec::new(alloc);
+    for name in names {
+        outputs.push(Output {
+            name: Vec::from_slice(alloc, name)?,
+            path: Vec::new(alloc),
+            algo: Vec::new(alloc),
+            hash: Vec::new(alloc),
+        })?;
+    }
+    Ok(outputs)
+}
+
+// Up to three of the last 60 paths, in order; some of them may be the same.
+fn used(
+    alloc: Global,
+    paths: &[StorePath],
+    random: &mut Random,
+) -> Result<Vec<Vec<u8>>, AllocError> {
+    let recent = &paths[paths.len().saturating_sub(60)..];
+    let mut used = Vec::new(alloc);
+    for _ in 0..random.below(4) {
+        if let Some(path) = recent.get(random.below(60)) {
+            used.push(Vec::from_slice(alloc, path.text())?)?;
+        }
+    }
+    used.sort_unstable();
+    Ok(used)
+}
+
+// Inputs at these paths, which are in order, each once.
+fn inputs(alloc: Global, paths: Vec<Vec<u8>>) -> Result<Vec<Input>, AllocError> {
+    let mut inputs: Vec<Input> = Vec::new(alloc);
+    for path in paths {
+        let is_new = match inputs.last() {
+            Some(last) => last.path != path,
+            None => true,
+        };
+        if is_new {
+            let names = texts(alloc, &[b"out"])?;
+            inputs.push(Input { path, names })?;
+        }
+    }
+    Ok(inputs)
+}
+
+// The environment of a derivation with this letter.
+fn env(alloc: Global, letter: u8) -> Result<Vec<EnvEntry>, AllocError> {
+    let mut env = Vec::new(alloc);
+    if letter == KEYED {
+        let key = Vec::from_slice(alloc, b"__json")?;
+        let value = Vec::new(alloc);
+        env.push(EnvEntry { key, value })?;
+    }
+    Ok(env)
+}
+
+// The names of the outputs of a derivation with this letter.
+fn output_names(letter: u8) -> &'static [&'static [u8]] {
+    if letter == PARTLY {
+        &[b"dev", b"out"]
+    } else {
+        &[b"out"]
+    }
+}
+
+// The sources of a derivation with this letter.
+fn sources(letter: u8) -> &'static [&'static [u8]] {
+    if letter == SOURCED {
+        &[b"/nix/store/aaaaaaaaaaaaaaaaaaaaaaaaaaaaaaaa-src"]
+    } else {
+        &[]
+    }
+}
+
+// The system of a derivation with this letter.
+fn system(letter: u8) -> &'static [u8] {
+    if letter == FOREIGN || letter == REUSED {
+        b"aarch64-linux"
+    } else {
+        b"x86_64-linux"
+    }
+}
+
+// A draft of a derivation with this letter.
+fn draft(alloc: Global, letter: u8, inputs: Vec<Input>) -> Result<Derivation, Fail> {
+    let outputs = empty_outputs(alloc, output_names(letter))?;
+    let sources = texts(alloc, sources(letter))?;
+    let parts = Parts {
+        outputs,
+        inputs,
+        sources,
+        system: Vec::from_slice(alloc, system(letter))?,
+        builder: Vec::new(alloc),
+        args: Vec::new(alloc),
+        env: env(alloc, letter)?,
+    };
+    match Derivation::new(parts) {
+        Ok(draft) => Ok(draft),
+        Err(_) => Err("not in order".into()),
+    }
+}
+
+// The same files again, as a source.
+fn source(alloc: Global, files: &[ListedFile]) -> Result<ListSource, Fail> {
+    let mut copies = Vec::new(alloc);
+    for file in files {
+        let path = Vec::from_slice(alloc, &file.path)?;
+        let bytes = Vec::from_slice(alloc, &file.bytes)?;
+        copies.push(ListedFile { path, bytes })?;
+    }
+    Ok(ListSource::new(alloc, copies, Vec::new(alloc))?)
+}
+
+// Registers the first output of a derivation that is reused, or partly valid.
+fn register(
+    alloc: Global,
+    journal: &mut Journal,
+    letter: u8,
+    drv: &Derivation,
+) -> Result<(), Fail> {
+    if letter != REUSED && letter != PARTLY {
+        return Ok(());
+    }
+    if let Some(output) = drv.outputs().first() {
+        let path = parse_path(alloc, &store_dir(alloc)?, &output.path)?;
+        journal.add(path, Record::new(Vec::new(alloc), None)?)?;
+    }
+    Ok(())
+}
+
+// The draft filled, behind these files.
+fn filled(
+    alloc: Global,
+    files: &[ListedFile],
+    name: &[u8],
+    draft: &Derivation,
+) -> Result<(Derivation, StorePath), Fail> {
+    let dir = store_dir(alloc)?;
+    let mut source = source(alloc, files)?;
+    Ok(fill_outputs(alloc, &mut source, &dir, name, draft)?)
+}
+
+impl MadeUp {
+    // A derivation with this letter and this number that uses some of those before it.
+    fn next(
+        &self,
+        alloc: Global,
+        random: &mut Random,
+        letter: u8,
+        number: usize,
+    ) -> Result<(Derivation, StorePath), Fail> {
+        let inputs = inputs(alloc, used(alloc, &self.paths, random)?)?;
+        let draft = draft(alloc, letter, inputs)?;
+        let digit = |n: usize| b'0' + (n % 10) as u8;
+        let name = [
+            letter,
+            digit(number / 100),
+            digit(number / 10),
+            digit(number),
+        ];
+        filled(alloc, &self.files, &name, &draft)
+    }
+
+    // Adds a derivation.
+    fn add(&mut self, alloc: Global, drv: &Derivation, path: StorePath) -> Result<(), Fail> {
+        self.files.push(ListedFile {
+            path: Vec::from_slice(alloc, path.text())?,
+            bytes: write(alloc, drv)?,
+        })?;
+        self.paths.push(path)?;
+        Ok(())
+    }
+
+    // Makes up one more derivation.
+    fn make_up(&mut self, alloc: Global, random: &mut Random, number: usize) -> Result<(), Fail> {
+        let letter = LETTERS[random.below(64)];
+        let (drv, path) = self.next(alloc, random, letter, number)?;
+        register(alloc, &mut self.journal, letter, &drv)?;
+        self.add(alloc, &drv, path)
+    }
+}
+
+/// So many derivations.
+pub(crate) fn made_up(alloc: Global, random: &mut Random, count: usize) -> Result<MadeUp, Fail> {
+    let mut made_up = MadeUp {
+        files: Vec::new(alloc),
+        paths: Vec::new(alloc),
+        journal: Journal::new(alloc),
+    };
+    for number in 0..count {
+        made_up.make_up(alloc, random, number)?;
+    }
+    Ok(made_up)
+}
+
+// Some of the paths.
+fn some_of(
+    alloc: Global,
+    paths: &[StorePath],
+    random: &mut Random,
+) -> Result<Vec<StorePath>, Fail> {
+    let mut some = Vec::new(alloc);
+    for path in paths {
+        if random.below(4) == 0 {
+            some.push(path.copy(alloc)?)?;
+        }
+    }
+    Ok(some)
+}
+
+/// The plan of some of the derivations that were made up, as roots.
+pub(crate) fn random_plan(
+    alloc: Global,
+    made_up: &MadeUp,
+    random: &mut Random,
+) -> Result<Plan, Fail> {
+    let dir = store_dir(alloc)?;
+    let mut source = source(alloc, &made_up.files)?;
+    let roots = some_of(alloc, &made_up.paths, random)?;
+    Ok(Plan::load(alloc, &mut source, &dir, &roots)?)
+}
