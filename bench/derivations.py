@@ -1,4 +1,4 @@
-"""Derivations as files of a store folder, made apart from the program: what the measurements of plans and books read.
+"""Derivations as files of a store folder, made apart from the program: what the measurements of plans, books and runs read.
 
 The text is that of the Nix manual, "Store Derivation"; the output path is that of its masked modulo text.
 """
@@ -10,15 +10,22 @@ import time
 from store_paths import make_path, text_path
 
 
-def derivation(name, output, inputs):
-    """The text of a derivation with one output and these inputs; nothing in it takes an escape."""
-    entries = {"builder": "/bin/sh", "name": name, "out": output, "system": "x86_64-linux"}
-    entries |= {f"key{number:02}": f"the value of key {number}, which says little" for number in range(8)}
+SCRIPT = "echo hello > $out"
+
+
+def entries(name, output):
+    """The entries of the environment of a derivation with this output."""
+    environment = {"builder": "/bin/sh", "name": name, "out": output, "system": "x86_64-linux"}
+    return environment | {f"key{number:02}": f"the value of key {number}, which says little" for number in range(8)}
+
+
+def derivation(name, output, inputs, script=SCRIPT):
+    """The text of a derivation with one output and these inputs, which runs a script; nothing in it takes an escape."""
     return (
         f'Derive([("out","{output}","","")],['
         + ",".join(f'("{name}",["out"])' for name in inputs)
-        + '],[],"x86_64-linux","/bin/sh",["-c","echo hello > $out"],['
-        + ",".join(f'("{key}","{value}")' for key, value in sorted(entries.items()))
+        + f'],[],"x86_64-linux","/bin/sh",["-c","{script}"],['
+        + ",".join(f'("{key}","{value}")' for key, value in sorted(entries(name, output).items()))
         + "])"
     )
 
@@ -28,17 +35,37 @@ def digest(text):
     return hashlib.sha256(text.encode()).hexdigest()
 
 
-def write(folder, number, inputs):
-    """Writes the derivation with this number, whose inputs are paths with their modulo hashes, and gives its own."""
-    name = f"bench-{number}"
+def name_of(number):
+    """The name of the derivation with this number."""
+    return f"bench-{number}"
+
+
+def output_of(folder, number, inputs, script=SCRIPT):
+    """The path of the output of the derivation with this number, whose inputs are paths with their modulo hashes."""
+    name = name_of(number)
     hashes = sorted(modulo for _, modulo in inputs)
-    output = make_path("output:out", digest(derivation(name, "", hashes)), folder, name)
+    return make_path("output:out", digest(derivation(name, "", hashes, script)), folder, name)
+
+
+def write(folder, number, inputs, script=SCRIPT):
+    """Writes the derivation with this number, whose inputs are paths with their modulo hashes, and gives its own."""
+    name = name_of(number)
+    output = output_of(folder, number, inputs, script)
     paths = sorted(path for path, _ in inputs)
-    text = derivation(name, output, paths)
+    hashes = sorted(modulo for _, modulo in inputs)
+    text = derivation(name, output, paths, script)
     path = text_path(folder, name + ".drv", text.encode(), paths)
     with open(path, "w", encoding="ascii") as file:
         file.write(text)
-    return path, digest(derivation(name, output, hashes))
+    return path, digest(derivation(name, output, hashes, script))
+
+
+def chain(folder, count):
+    """Writes a chain of so many derivations, and gives the path of the last alone."""
+    last = []
+    for number in range(count):
+        last = [write(folder, number, last)]
+    return [last[0][0]]
 
 
 def digest_all(paths):

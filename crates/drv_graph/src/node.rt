@@ -35,11 +35,26 @@ impl PlanNode {
         ensures ok { IfOk result (IsSameNode self.now) }
         ensures err { IfErr result (λ fault. fault ≡ GraphFault.NoMemory) }
     {
+        let outputs = copy_paths(alloc, &self.outputs)?;
+        let sources = copy_paths(alloc, &self.sources)?;
+        self.copy_beside(alloc, outputs, sources)
+    }
+
+    // The same derivation again, beside copies of its lists of paths.
+    fn copy_beside(
+        &self,
+        alloc: Global,
+        outputs: Vec<StorePath>,
+        sources: Vec<StorePath>,
+    ) -> Result<PlanNode, GraphFault>
+        requires outputs { outputs.items ≡ self.now.outputs.items }
+        requires sources { sources.items ≡ self.now.sources.items }
+        ensures ok { IfOk result (IsSameNode self.now) }
+        ensures err { IfErr result (λ fault. fault ≡ GraphFault.NoMemory) }
+    {
         let path = copy_path(alloc, &self.path)?;
         let drv = copy_drv(alloc, &self.drv)?;
         let inputs = Vec::from_slice(alloc, &self.inputs)?;
-        let outputs = copy_paths(alloc, &self.outputs)?;
-        let sources = copy_paths(alloc, &self.sources)?;
         Ok(PlanNode {
             path,
             drv,

@@ -163,20 +163,15 @@ fn same_as_a_plain_search(rt: HostRuntime) -> Result<(), Fail> {
     let mut random = Random { state: 1 };
     let paths = rising_paths(alloc, PATHS)?;
     assert_eq!(rt; paths.len(), PATHS);
-    let bytes = random_bytes(alloc, &mut random, &paths)?;
-    let lists = random_lists(alloc, &mut random, &bytes)?;
-    assert!(rt; agrees(alloc, &mut random, &paths, &lists)?);
+    assert!(rt; agrees(alloc, &mut random, &paths)?);
     Ok(())
 }
 
-fn agrees(
-    alloc: Global,
-    random: &mut Random,
-    paths: &[StorePath],
-    lists: &[Vec<u8>],
-) -> Result<bool, Fail>
+fn agrees(alloc: Global, random: &mut Random, paths: &[StorePath]) -> Result<bool, Fail>
     requires { IsRising paths.now }
 {
-    let found = found(alloc, random, paths, lists)?;
-    Ok(found.len() > 60 && are_found(&found, paths, lists))
+    let bytes = random_bytes(alloc, random, paths)?;
+    let lists = random_lists(alloc, random, &bytes)?;
+    let found = found(alloc, random, paths, &lists)?;
+    Ok(found.len() > 60 && are_found(&found, paths, &lists))
 }

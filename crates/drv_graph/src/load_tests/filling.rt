@@ -87,10 +87,13 @@ fn number_under(alloc: Global, length: usize) -> Result<u8, Fail> {
     if plan.len() == 0 {
         return Ok(0);
     }
-    let draft = draft_of(alloc, plan.drv(0))?;
     let name = vec![in alloc; b'n'; length]?;
+    number_of(alloc, &name, &draft_of(alloc, plan.drv(0))?)
+}
+
+fn number_of(alloc: Global, name: &[u8], draft: &Derivation) -> Result<u8, Fail> {
     let dir = StoreDir::new(alloc, b"/nix/store")?;
-    match fill_outputs(alloc, &mut all_but(alloc, &[])?, &dir, &name, &draft) {
+    match fill_outputs(alloc, &mut all_but(alloc, &[])?, &dir, name, draft) {
         Ok(_) => Ok(0),
         Err(fault) => Ok(fault.number()),
     }
