@@ -24,8 +24,8 @@ pub fn verdict_is_registrable()
     ensures { VerdictsAreRegistrable }
 {}
 
-/// The references in a verdict's records are permitted to the job, where the verdict was found by the
-/// paths that are.
+/// The references in a verdict's records are permitted to the job, where the verdict was found by
+/// the paths that are.
 pub fn verdict_may_refer()
     ensures { VerdictsMayRefer }
 {}

@@ -10,8 +10,8 @@ use Rattle.sched_core.specs.declared.job.Job.{Job}
 use Rattle.sched_core.specs.declared.reason.Reason.{Reason}
 use Rattle.sched_core.specs.declared.reason.Reason.TheVariants.{OutOfMemory}
 use Rattle.sched_core.proofs.ExaminedRecords.{verdicts_may_refer}
-use Rattle.store_run.specs.Builders.{IsAnswered, IsOutcomeVerdict, IsVerdictBehind, answered_begin, answered_done, answered_fail}
-use Rattle.store_run.specs.Sharing.{CameTo, IsWhyFailed}
+use Rattle.store_run.specs.Builders.{IsAnswered, IsOutcomeVerdict, IsVerdictBehind, MayComeTo, answered_begin, answered_done, answered_fail}
+use Rattle.store_run.specs.Sharing.{IsWhyFailed}
 
 pub after_beginning : (may : Job → Result Answer Reason → Type 0) (before after : Ledger)
     (job : Job) (number : ℕ) → IsAnswered may before.run before.history
@@ -21,20 +21,18 @@ after_beginning may before after job number answered begins =
 
 verdict_behind : (may : Job → Result Answer Reason → Type 0) (run : Run) (entries : List Entry)
     (job : Job) (verdict : Result (List PathInfo) Reason)
-    → IsJob run.graph job.derivation job → CameTo may entries job verdict
+    → IsJob run.graph job.derivation job → MayComeTo may entries job verdict
     → IsVerdictBehind may run entries job.derivation verdict
 verdict_behind may run entries job verdict is_job came = record {
   job = job;
   is_job = is_job;
-  outcome = came.0;
-  given = came.1;
-  is_verdict = came.2;
+  comes_to = came;
 }
 
 pub after_finishing : (may : Job → Result Answer Reason → Type 0) (before after : Ledger)
     (job : Job) (number : ℕ) (infos : List PathInfo)
     → IsAnswered may before.run before.history
-    → CameTo may before.history.entries job (Ok infos)
+    → MayComeTo may before.history.entries job (Ok infos)
     → IsFinishing before after job number infos → IsAnswered may after.run after.history
 after_finishing may before after job number infos answered came finishes =
     rw (finishes.run, finishes.history)
@@ -45,7 +43,7 @@ after_finishing may before after job number infos answered came finishes =
 
 why_behind : (may : Job → Result Answer Reason → Type 0) (run : Run) (entries : List Entry)
     (job : Job) (reason : Reason) → IsJob run.graph job.derivation job
-    → (reason ≡ OutOfMemory) ⊎ CameTo may entries job (Err reason)
+    → (reason ≡ OutOfMemory) ⊎ MayComeTo may entries job (Err reason)
     → (reason ≡ OutOfMemory) ⊎ IsVerdictBehind may run entries job.derivation (Err reason)
 why_behind may run entries job reason is_job (inl refused) = inl refused
 why_behind may run entries job reason is_job (inr came) =
@@ -53,7 +51,7 @@ why_behind may run entries job reason is_job (inr came) =
 
 pub after_failing : (may : Job → Result Answer Reason → Type 0) (before after : Ledger)
     (job : Job) (number : ℕ) (reason : Reason) → IsAnswered may before.run before.history
-    → (reason ≡ OutOfMemory) ⊎ CameTo may before.history.entries job (Err reason)
+    → (reason ≡ OutOfMemory) ⊎ MayComeTo may before.history.entries job (Err reason)
     → IsFailing before after job number reason → IsAnswered may after.run after.history
 after_failing may before after job number reason answered why fails =
     rw (fails.run, fails.history)
@@ -69,25 +67,15 @@ outcome_may_refer entries job (Ok answer) infos is =
 outcome_may_refer entries job (Err reason) infos is = absurd cc
 
 pub came_may_refer : (may : Job → Result Answer Reason → Type 0) (entries : List Entry)
-    (job : Job) (infos : List PathInfo) → CameTo may entries job (Ok infos)
+    (job : Job) (infos : List PathInfo) → MayComeTo may entries job (Ok infos)
     → MayAllRefer entries job infos
 came_may_refer may entries job infos came =
     outcome_may_refer entries job came.0 infos came.2
 
-pub came_with_records : (may : Job → Result Answer Reason → Type 0) (entries : List Entry)
-    (job : Job) (outcome : Result Answer Reason) (infos : List PathInfo)
-    → (outcome ≡ Err OutOfMemory) ⊎ may job outcome
-    → IsOutcomeVerdict entries job outcome (Ok infos) → CameTo may entries job (Ok infos)
-came_with_records may entries job outcome infos (inr given) is = (outcome, given, is)
-came_with_records may entries job outcome infos (inl refused) is =
-    let never = subst (λ (o : Result Answer Reason). IsOutcomeVerdict entries job o (Ok infos))
-    refused is in
-    absurd cc
-
 why_given : (may : Job → Result Answer Reason → Type 0) (entries : List Entry) (job : Job)
     (outcome : Result Answer Reason) (reason : Reason) → may job outcome
     → IsWhyFailed entries job outcome reason
-    → (reason ≡ OutOfMemory) ⊎ CameTo may entries job (Err reason)
+    → (reason ≡ OutOfMemory) ⊎ MayComeTo may entries job (Err reason)
 why_given may entries job (Ok answer) reason given (inl refused) = inl refused
 why_given may entries job (Ok answer) reason given (inr is) = inr (Ok answer, given, is)
 why_given may entries job (Err why) reason given is =
@@ -97,7 +85,7 @@ pub came_with_reason : (may : Job → Result Answer Reason → Type 0) (entries 
     (job : Job) (outcome : Result Answer Reason) (reason : Reason)
     → (outcome ≡ Err OutOfMemory) ⊎ may job outcome
     → IsWhyFailed entries job outcome reason
-    → (reason ≡ OutOfMemory) ⊎ CameTo may entries job (Err reason)
+    → (reason ≡ OutOfMemory) ⊎ MayComeTo may entries job (Err reason)
 came_with_reason may entries job outcome reason (inr given) is =
     why_given may entries job outcome reason given is
 came_with_reason may entries job outcome reason (inl refused) is =

@@ -22,16 +22,19 @@ IsOutcomeVerdict entries job (Ok answer) verdict = (permitted : List (List ℕ))
     × ArePermittedPaths entries job permitted × IsVerdict job permitted answer verdict
 IsOutcomeVerdict entries job (Err reason) verdict = verdict ≡ Err reason
 
--- What building a derivation may come to behind some entries: the verdict on an outcome that may be
--- given for its job.
+-- what a job may come to behind some entries: the verdict on an outcome that may be given for it
+abbrev pub MayComeTo : (may : Job → Result Answer Reason → Type 0) → List Entry → Job
+    → Result (List PathInfo) Reason → Type 0
+MayComeTo may entries job verdict = (outcome : Result Answer Reason) × may job outcome
+    × IsOutcomeVerdict entries job outcome verdict
+
+-- What building a derivation may come to behind some entries: what its job may come to there.
 pub record IsVerdictBehind (may : Job → Result Answer Reason → Type 0) (run : Run)
     (entries : List Entry) (d : ℕ) (verdict : Result (List PathInfo) Reason)
     : Type 0 where
   pub job : Job
   pub is_job : IsJob run.graph d job
-  pub outcome : Result Answer Reason
-  pub given : may job outcome
-  pub is_verdict : IsOutcomeVerdict entries job outcome verdict
+  pub comes_to : MayComeTo may entries job verdict
 
 -- *Answered*: each Done has the records, and each Fail the reason, of a verdict on what a builder
 -- may give behind the entries before it; but for a Fail because memory was refused.

@@ -77,12 +77,6 @@ IsWhyFailed entries job (Ok answer) reason = (reason ≡ OutOfMemory)
     ⊎ IsOutcomeVerdict entries job (Ok answer) (Err reason)
 IsWhyFailed entries job (Err given) reason = reason ≡ given
 
--- what a job may come to behind some entries
-abbrev pub CameTo : (may : Job → Result Answer Reason → Type 0) → List Entry → Job
-    → Result (List PathInfo) Reason → Type 0
-CameTo may entries job verdict = (outcome : Result Answer Reason) × may job outcome
-    × IsOutcomeVerdict entries job outcome verdict
-
 -- A lease was given up, since it isn't the book's.
 pub record IsForeign (before after : Share) (job : Job) (number : ℕ) : Type 0 where
   pub foreign : HasGiven before job number → ⊥

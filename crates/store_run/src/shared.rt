@@ -1,8 +1,8 @@
 //! What the workers of a run share.
 ghost use Rattle.std.specs.Prelude.{◌≡◌, ◌⊎◌, Err, None, Ok};
 ghost use Rattle.sched_core.specs.declared.reason.Reason.TheVariants.{OutOfMemory};
-ghost use Rattle.store_run.specs.Builders.{IsAnswered};
-ghost use Rattle.store_run.specs.Sharing.{CameTo, IsEnding, IsNoting, IsRegistering, IsStep, IsStopping};
+ghost use Rattle.store_run.specs.Builders.{IsAnswered, MayComeTo};
+ghost use Rattle.store_run.specs.Sharing.{IsEnding, IsNoting, IsRegistering, IsStep, IsStopping};
 
 use crate::build::Build;
 use crate::verdict::verdict;
@@ -54,8 +54,8 @@ impl<O: Outlet, B: Build> Shared<O, B> {
         }
     }
 
-    /// The next step of a worker: the end where the run stops or the book is settled, else a lease if
-    /// something is ready. A refusal of the book's stops the run.
+    /// The next step of a worker: the end where the run stops or the book is settled, else a lease
+    /// if something is ready. A refusal of the book's stops the run.
     pub fn step(&mut self) -> Step<O::Told>
         ensures { IsStep self.old self.new result }
     {
@@ -73,8 +73,8 @@ impl<O: Outlet, B: Build> Shared<O, B> {
     }
 
     /// Ends a lease by the verdict on what its job came to, found by the journal as it is now.
-    /// Where memory is refused the derivation failed for that reason. A lease that isn't the book's,
-    /// or whose derivation may not be registered so, is given up, which stops the run.
+    /// Where memory is refused the derivation failed for that reason. A lease that isn't the
+    /// book's, or whose derivation may not be registered so, is given up, which stops the run.
     pub fn end(&mut self, alloc: Global, lease: Lease<O::Told>, outcome: Result<Answer, Reason>)
         requires { (outcome ≡ Err OutOfMemory) ⊎ B.may lease.job outcome }
         ensures { IsEnding self.old self.new lease.job lease.number outcome }
@@ -97,7 +97,7 @@ impl<O: Outlet, B: Build> Shared<O, B> {
 
     // Ends a lease by registering what was built.
     fn register(&mut self, lease: Lease<O::Told>, checked: Checked)
-        requires { CameTo B.may self.old.book.history.entries lease.job (Ok checked) }
+        requires { MayComeTo B.may self.old.book.history.entries lease.job (Ok checked) }
         ensures { IsRegistering self.old self.new lease.job lease.number checked }
     {
         match self.book.finish(lease, checked) {
@@ -110,7 +110,7 @@ impl<O: Outlet, B: Build> Shared<O, B> {
     // Ends a lease by noting why building its derivation failed.
     fn fail(&mut self, lease: Lease<O::Told>, reason: Reason)
         requires { (reason ≡ OutOfMemory)
-            ⊎ CameTo B.may self.old.book.history.entries lease.job (Err reason) }
+            ⊎ MayComeTo B.may self.old.book.history.entries lease.job (Err reason) }
         ensures { IsNoting self.old self.new lease.job lease.number reason }
     {
         if let Err(lease) = self.book.fail(lease, reason) {

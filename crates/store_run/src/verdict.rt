@@ -16,8 +16,8 @@ pub fn verdict<O: Outlet>(
     lease: &Lease<O::Told>,
     outcome: Result<Answer, Reason>,
 ) -> Result<Checked, Reason>
-    ensures ok { IfOk result (λ infos. IsOutcomeVerdict book.now.history.entries lease.now.job outcome
-        (Ok infos)) }
+    ensures ok { IfOk result (λ infos.
+        IsOutcomeVerdict book.now.history.entries lease.now.job outcome (Ok infos)) }
     ensures err { IfErr result (IsWhyFailed book.now.history.entries lease.now.job outcome) }
 {
     let answer = outcome?;

@@ -1,13 +1,14 @@
 use Rattle.std.proofs.Common.{◌≡◌, ◌⊎◌, Err, subst, sym}
 use Rattle.sched_core.specs.declared.reason.Reason.TheVariants.{OutOfMemory}
-use Rattle.store_run.specs.Sharing.{CameTo, Share}
+use Rattle.store_run.specs.Builders.{MayComeTo}
+use Rattle.store_run.specs.Sharing.{Share}
 use Rattle.store_run.proofs.Answered.{after_failing}
 use Rattle.store_run.proofs.shared.Shared.fail.Goals as goal
 
 pub invariant_of-self-in_default : goal.invariant_of-self-in_default
 invariant_of-self-in_default g c =
     let why = subst (λ (s : Share). (c.args.reason ≡ OutOfMemory)
-    ⊎ CameTo g.B.Build.may s.book.history.entries c.args.lease.job (Err c.args.reason))
+    ⊎ MayComeTo g.B.Build.may s.book.history.entries c.args.lease.job (Err c.args.reason))
     (sym c.self.view_is) c.requires in
     after_failing g.B.Build.may c.self.inside.book c.fail.new.self c.args.lease.job
     c.args.lease.number c.args.reason c.self.invariant why c.in_default.ensures.ok
