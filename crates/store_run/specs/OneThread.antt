@@ -13,24 +13,24 @@ use Rattle.sched_core.specs.declared.job.Job.{Job}
 use Rattle.sched_core.specs.declared.reason.Reason.{Reason}
 use Rattle.store_run.specs.Builders.{IsVerdictBehind}
 
--- The derivations below a number have had their turn: each one that could begin began, and ended at
--- once by the verdict on what a builder may give for it.
-pub data IsTurn (may : Job → Result Answer Reason → Type 0) (run : Run) (opening : List Entry)
+-- The derivations below a number had their turns, in plan order: each one that could begin when its
+-- turn came began, and ended at once by the verdict on what a builder may give for it.
+pub data HadTurns (may : Job → Result Answer Reason → Type 0) (run : Run) (opening : List Entry)
     : ℕ → History → Type 0 where
-  turn_opening : IsJournal opening → IsTurn may run opening zero (opened opening)
-  turn_skipped : (d : ℕ) (history : History) → IsTurn may run opening d history
-      → (CanBegin run history d → ⊥) → IsTurn may run opening (suc d) history
+  turn_opening : IsJournal opening → HadTurns may run opening zero (opened opening)
+  turn_skipped : (d : ℕ) (history : History) → HadTurns may run opening d history
+      → (CanBegin run history d → ⊥) → HadTurns may run opening (suc d) history
   turn_done : (d : ℕ) (history : History) (node : Node) (infos : List PathInfo) (entry : Entry)
-      → IsTurn may run opening d history → CanBegin run history d
+      → HadTurns may run opening d history → CanBegin run history d
       → slice_get run.graph.nodes d ≡ Some node
       → IsVerdictBehind may run history.entries d (Ok infos) → IsEntryOf node infos entry
-      → IsTurn may run opening (suc d) (ended (begun history d) d (begins history.events) entry)
+      → HadTurns may run opening (suc d) (ended (begun history d) d (begins history.events) entry)
   turn_failed : (d : ℕ) (history : History) (reason : Reason)
-      → IsTurn may run opening d history → CanBegin run history d
+      → HadTurns may run opening d history → CanBegin run history d
       → IsVerdictBehind may run history.entries d (Err reason)
-      → IsTurn may run opening (suc d) (failed (begun history d) d (begins history.events) reason)
+      → HadTurns may run opening (suc d) (failed (begun history d) d (begins history.events) reason)
 
--- *One thread*: a history in which all derivations of the plan had their turn
+-- *One thread*: a history in which all derivations of the plan had their turns
 abbrev pub IsOneThread : (may : Job → Result Answer Reason → Type 0) → Run → List Entry → History
     → Type 0
-IsOneThread may run opening history = IsTurn may run opening (length run.graph.nodes) history
+IsOneThread may run opening history = HadTurns may run opening (length run.graph.nodes) history

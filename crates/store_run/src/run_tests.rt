@@ -6,7 +6,7 @@ use drv_graph::Plan;
 use files::*;
 use nix_drv::{ListSource, ListedFile};
 use nix_names::{StoreDir, parse_path};
-use sched_core::{Book, Reason};
+use sched_core::{Book, Event, Reason};
 use std::alloc::{AllocError, Global};
 use std::sync::Wait;
 use std::sync::atomic::AtomicU64;
@@ -232,6 +232,35 @@ fn runs(rt: HostRuntime) -> Result<(), Fail> {
             let holds = holds(&rt, rt.alloc(), row, workers)?;
             assert!(rt; holds, "{} by {workers}", row.label);
         }
+    }
+    Ok(())
+}
+
+// The first event of a run over a plan, and the last one.
+fn ends<R: Threads + Wait + Sync>(
+    rt: &R,
+    alloc: Global,
+    plan: &Plan,
+    workers: usize,
+) -> Result<(Option<Event>, Option<Event>), Fail> {
+    let builders = doubles(alloc, &[], workers)?;
+    let book = realised(rt, alloc, plan, &Journal::new(alloc), builders)?;
+    let ends = (
+        book.events().first().copied(),
+        book.events().last().copied(),
+    );
+    book.close();
+    Ok(ends)
+}
+
+// Of a diamond the first derivation begins first, and the last one ends last.
+#[test]
+fn order_of_a_diamond(rt: HostRuntime) -> Result<(), Fail> {
+    let plan = plan(rt.alloc(), &[TOP])?;
+    for workers in [1, 4] {
+        let (first, last) = ends(&rt, rt.alloc(), &plan, workers)?;
+        assert_eq!(rt; first, Some(Event::Begin(0, 0)));
+        assert_eq!(rt; last, Some(Event::Done(3, 3)));
     }
     Ok(())
 }
