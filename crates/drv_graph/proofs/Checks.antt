@@ -88,18 +88,6 @@ all_sound name drv used kind outputs inputs is same named here known = record {
   known = subst (λ (is : List Input). All IsKnownUse (uses is used)) here known;
 }
 
--- what isn't sound is what the check answers
-pub sound_is_checked : (in_draft : Bool) (dir name : List ℕ) (drv : Drv) (used : List Drv)
-    (hashes : List (List ℕ)) (fault : OutputFault) → IsSoundCheck name drv used (Err fault)
-    → IsOutputsCheck (FitsIn in_draft) dir name drv used hashes (Err fault)
-sound_is_checked in_draft dir name drv used hashes NoMemory h = tt
-sound_is_checked in_draft dir name drv used hashes MixedOutputs h = h
-sound_is_checked in_draft dir name drv used hashes (UnknownMethod output) h = h
-sound_is_checked in_draft dir name drv used hashes BadName h = h
-sound_is_checked in_draft dir name drv used hashes (UnknownOutput input output) h = h
-sound_is_checked in_draft dir name drv used hashes (OutputMismatch output expected) h = absurd h
-sound_is_checked in_draft dir name drv used hashes (EnvMismatch output) h = absurd h
-
 -- ---- uses
 
 pub unknown_use : (all : List Use) (u : Use) (fault : OutputFault)

@@ -7,7 +7,7 @@ use Rattle.std.specs.Cmp.Lexicographic.{pointwise, slice_cmp}
 use Rattle.std.specs.List.{dedup, dedup_from}
 use Rattle.std.specs.List.Sorted.{IsPermutation, IsSorted, IsSortedBy}
 use Rattle.std.specs.Ordering.{is_lt, nat_cmp}
-use Rattle.std.proofs.lemmas.List.{get_or-map, length-map, map-append, map-id, nil_from_length, same_from_push, take-map}
+use Rattle.std.proofs.lemmas.List.{get_or-map, length-map, map-append, map-id, same_from_push, take-map}
 use Rattle.std.proofs.lemmas.List.Sorted.{IsPermutation-map}
 use Rattle.std.proofs.lemmas.Simd.{map-map}
 use Rattle.nix_names.specs.Rising.{IsRising}
@@ -98,20 +98,6 @@ joins items n last input names (Ok done) long some at same all = inl (record {
       ∙ ap (λ (ns : List (List ℕ)). map input_of (take (n - 1) items)
       ++ record { path = last.path.items; names = ns } ∷ [])
       (ap (map bytes_of) all ∙ map-append bytes_of last.names.items input.names.items);
-})
-
-none_ends : (xs front : List Input) (last : Input) → xs ≡ [] → xs ≡ front ++ last ∷ [] → ⊥
-none_ends xs [] last none e = let clash : [] ≡ last ∷ [] = sym none ∙ e in cc
-none_ends xs (x ∷ front) last none e = let clash : [] ≡ x ∷ (front ++ last ∷ []) = sym none ∙ e
-    in cc
-
-pub appends_first : (items after : List InputStruct) (input : InputStruct) → length items ≡ 0
-    → after ≡ items ++ input ∷ [] → IsAdded (map input_of items) (input_of input)
-    (map input_of after)
-appends_first items after input none is = inr (record {
-  other = λ front last e same. none_ends (map input_of items) front last
-      (ap (map input_of) (nil_from_length items none)) e;
-  is = ap (map input_of) is ∙ map-append input_of items (input ∷ []);
 })
 
 pub appends_other : (items after : List InputStruct) (n : ℕ) (last input : InputStruct) → n

@@ -4,7 +4,7 @@ use Rattle.std.specs.Prelude.{All, Contains, IfOk, IfErr, Result, codes}
 use Rattle.std.proofs.lemmas.List.Elements.{All-contains}
 use Rattle.nix_names.proofs.HexDigits.{one_digest}
 use Rattle.nix_drv.specs.Derivation.{Drv, Output}
-use Rattle.drv_graph.specs.Checking.{IsFixedKind, IsKindFault, IsNotFixed, NamesUnknown, SaysSome}
+use Rattle.drv_graph.specs.Checking.{IsFixedKind, IsKindFault, SaysSome}
 use Rattle.drv_graph.specs.declared.fault.OutputFault.{OutputFault}
 use Rattle.drv_graph.specs.declared.fault.OutputFault.TheVariants.{NoMemory, MixedOutputs, UnknownMethod, BadName, UnknownOutput, OutputMismatch, EnvMismatch}
 use Rattle.drv_graph.specs.Kinds.{AreMixed, HasKind, IsAddressed, IsFixed, IsUnknown, algo_of}
@@ -94,17 +94,6 @@ kind_from drv outputs only (Ok kind) here is named says h =
     (fixed_has_kind drv only kind (sym here ∙ is) named h, tt)
 kind_from drv outputs only (Err fault) here is named says h =
     (tt, fixed_fault drv outputs only fault here is named says h)
-
--- an answer that names an output with no known method
-pub names_unknown : (o : Output) (fault : OutputFault) → IsNotFixed o → NamesUnknown o fault
-    → IsFixedKind o (Err fault)
-names_unknown o (UnknownMethod output) none h = (none, h)
-names_unknown o NoMemory none h = absurd h
-names_unknown o MixedOutputs none h = h
-names_unknown o BadName none h = h
-names_unknown o (UnknownOutput input output) none h = h
-names_unknown o (OutputMismatch output expected) none h = h
-names_unknown o (EnvMismatch output) none h = h
 
 -- ---- one kind
 

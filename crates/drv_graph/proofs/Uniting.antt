@@ -39,9 +39,6 @@ sorted_rise (x ∷ xs) [] zipped = absurd zipped
 sorted_rise (x ∷ xs) (y ∷ ys) zipped = All-cons (λ (i : Input). IsRising i.names) y ys
     zipped.0.rising (sorted_rise xs ys zipped.1)
 
-none_named : (path name : List ℕ) → IsNamed [] path name → ⊥
-none_named path name h = Contains-nothing h.input h.is_input
-
 sorted_named : (given sorted : List Input) → AllZip IsNameSorted given sorted → (path name : List ℕ)
     → IsNamed sorted path name → IsNamed given path name
 sorted_named [] [] zipped path name h = h
@@ -121,15 +118,6 @@ named_left : (xs ys : List Input) (path name : List ℕ) → IsNamed xs path nam
 named_left xs ys path name h = record {
   input = h.input;
   is_input = Contains-append_left xs ys h.input h.is_input;
-  is_path = h.is_path;
-  is_name = h.is_name;
-}
-
-named_right : (xs ys : List Input) (path name : List ℕ) → IsNamed ys path name
-    → IsNamed (xs ++ ys) path name
-named_right xs ys path name h = record {
-  input = h.input;
-  is_input = Contains-append_right xs ys h.input h.is_input;
   is_path = h.is_path;
   is_name = h.is_name;
 }

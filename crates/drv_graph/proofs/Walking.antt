@@ -1,7 +1,7 @@
 -- A walk over derivations, by what was left and what is open: how each of its steps keeps it right.
 use Rattle.std.proofs.Common.{◌≡◌, ◌∙◌, ℕ, suc, List, [], ◌∷◌, ◌++◌, length, map, take, drop, refl, sym, ap, subst, arith, Some}
 use Rattle.std.specs.Prelude.{⊤, All, Contains, slice_get}
-use Rattle.std.proofs.lemmas.List.{append-nil, length_push}
+use Rattle.std.proofs.lemmas.List.{length_push}
 use Rattle.std.proofs.lemmas.List.Elements.{All-head, All-tail, Contains-push}
 use Rattle.indexmap.specs.IndexMap.{keys}
 use Rattle.nix_drv.specs.Sources.{Answer}
@@ -64,18 +64,6 @@ pub record IsWalk (dir : List ℕ) (gives : List ℕ → Answer → Type 0) (roo
       → All (Contains nodes) (nodes_of found.nodes.items) → All (Contains nodes) (visits_of visits)
       → Remains nodes root (paths_of (nodes_of found.nodes.items)) visits after
       → AreLeft nodes (paths_of start) (root ∷ []) after
-
--- a walk begins
-pub walk_begins : (dir : List ℕ) (gives : List ℕ → Answer → Type 0) (roots : List (List ℕ))
-    (root : List ℕ) (found : Found) → IsWalked dir gives roots found []
-    → IsWalk dir gives roots root (nodes_of found.nodes.items) found []
-walk_begins dir gives roots root found walked = record {
-  walked = walked;
-  pending = tt;
-  more = [];
-  grown = sym (append-nil (nodes_of found.nodes.items));
-  order = λ nodes after has open_has rest. rest;
-}
 
 -- what is wanted next is to be left before the rest
 remains_wanted : (nodes : List Node) (root : List ℕ) (visits : List Visit) (child : Visit)

@@ -1,5 +1,5 @@
 -- A list's text, element by element.
-use Rattle.std.proofs.Common.{◌≡◌, ℕ, ◌+◌, ◌-◌, ◌<◌, ◌≤◌, List, [], ◌∷◌, ◌++◌, length, get_or, take, drop, map, sym, ap, ◌∙◌, append_assoc, add-one, drop-cons, arith}
+use Rattle.std.proofs.Common.{◌≡◌, ℕ, ◌-◌, ◌≤◌, List, [], ◌∷◌, ◌++◌, length, get_or, take, drop, map, sym, ap, ◌∙◌, append_assoc, arith}
 use Rattle.std.proofs.lemmas.List.{append-nil, take_all, drop_all}
 use Rattle.nix_drv.specs.Grammar.{Grammar, Value, text, separated}
 use Rattle.nix_drv.specs.Listings.{list_text, others_text}
@@ -9,13 +9,6 @@ pub separated-others : {A : Type 0} (text_of : A → List ℕ) (v : A) (vs : Lis
 separated-others text_of v [] = sym (append-nil (text_of v))
 separated-others text_of v (w ∷ vs) = ap (λ (t : List ℕ). text_of v ++ 44 ∷ t)
     (separated-others text_of w vs)
-
-pub others_step : {A B : Type 0} (text_of : B → List ℕ) (value : A → B) (out : List ℕ) (xs : List A)
-    (i : ℕ) (d : A) → i < length xs
-    → ((out ++ 44 ∷ []) ++ text_of (value (get_or xs i d)))
-    ++ others_text text_of (map value (drop (i + 1) xs)) ≡ out
-    ++ others_text text_of (map value (drop i xs))
-others_step text_of value out xs i d h = rw (drop-cons xs i d, add-one) (simp append_assoc)
 
 rest_from_head : {A : Type 0} (xs : List A) (x : A) → 1 ≤ length xs → x ≡ get_or xs 0 x → x
     ∷ take (length xs - 1) (drop 1 xs) ≡ xs

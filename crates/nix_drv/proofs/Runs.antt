@@ -1,8 +1,7 @@
 -- Reading fixed bytes one by one, and a string by runs of plain bytes.
-use Rattle.std.proofs.Common.{◌≡◌, ℕ, zero, suc, ◌<◌, ◌≤◌, Bool, true, false, eqb, List, [], ◌∷◌, ◌++◌, length, get_or, take, drop, Option, Some, None, Result, Ok, Err, refl, sym, ap, ◌∙◌, arith, drop-cons}
+use Rattle.std.proofs.Common.{◌≡◌, ℕ, zero, suc, ◌<◌, ◌≤◌, Bool, true, false, List, [], ◌∷◌, ◌++◌, length, get_or, take, drop, Option, Some, None, Result, Ok, Err, refl, sym, ap, ◌∙◌, arith, drop-cons}
 use Rattle.std.specs.Prelude.{unwrap_or}
 use Rattle.std.specs.List.{position, position_or_len}
-use Rattle.std.proofs.lemmas.Bool.{ne_eqb}
 use Rattle.std.proofs.lemmas.Grind.{common_steps}
 use Rattle.std.proofs.lemmas.List.{append-nil, nil_from_length}
 use Rattle.std.proofs.lemmas.List.Quantifiers.{position-Some}
@@ -22,14 +21,6 @@ pub fixed_ends : (wanted rest : List ℕ) (i : ℕ) → i < length wanted → le
 fixed_ends wanted rest i lt short =
     let none : rest ≡ [] = nil_from_length rest (omega arith) in
     rw (none, drop-cons wanted i 0) refl
-
-pub fixed_differs : (wanted rest : List ℕ) (i : ℕ) → i < length wanted → 1 ≤ length rest
-    → (get_or rest 0 0 ≡ get_or wanted i 0 → ⊥) → fixed_at (drop i wanted) rest ≡ Err (length rest)
-fixed_differs wanted [] i lt long apart = absurd (omega arith)
-fixed_differs wanted (x ∷ rest) i lt long apart =
-    let other : eqb (get_or wanted i 0) x ≡ false =
-    ne_eqb (get_or wanted i 0) x (λ e. apart (sym e)) in
-    rw (drop-cons wanted i 0, other) refl
 
 -- ---- runs of plain bytes
 

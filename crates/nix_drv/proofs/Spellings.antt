@@ -8,17 +8,8 @@ use Rattle.std.proofs.lemmas.List.{append-nil, length-append, nil_from_length, t
 use Rattle.std.proofs.lemmas.List.Sums.{sum_by-cons}
 use Rattle.nix_drv.specs.Strings.{spelled, spelling, is_plain, letter, string_text}
 use Rattle.nix_drv.specs.Passing.{behind}
-use Rattle.nix_drv.proofs.Strings.{IsPlain, spelling-plain}
+use Rattle.nix_drv.proofs.Strings.{spelling-plain}
 use Rattle.nix_drv.proofs.Runs.{is_plain-true}
-
-letter-plain : (b : ℕ) → IsPlain b → letter b ≡ None
-letter-plain b plain = rw (
-  plain.no_quote,
-  plain.no_backslash,
-  plain.no_newline,
-  plain.no_return,
-  plain.no_tab,
-) refl
 
 pub by_letter_of : (b : ℕ) (l : Option ℕ) → l ≡ letter b → spelled b l ≡ spelling b
 unfolding spelling

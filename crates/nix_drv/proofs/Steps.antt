@@ -22,10 +22,6 @@ abbrev pub Longest : {A : Type 0} → (List ℕ → Type 0) → (List ℕ → Re
 Longest Front reading = (front rest : List ℕ) → Front front → left_of (reading (front ++ rest))
     ≤ length rest
 
--- a reading that never leaves more than it was given
-abbrev pub Shrinks : {A : Type 0} → (List ℕ → Result (A × List ℕ) ℕ) → Type 0
-Shrinks reading = (s : List ℕ) → left_of (reading s) ≤ length s
-
 pub le_by_front : (s front rest : List ℕ) → s ≡ front ++ rest → length rest ≤ length s
 le_by_front s front rest e = omega (arith, ap length e, length-append front rest)
 

@@ -1,13 +1,10 @@
 -- The texts of a clear grammar can be told apart.
-use Rattle.std.proofs.Common.{◌≡◌, ℕ, List, [], ◌++◌, Ok, refl, sym, ap, ◌∙◌}
+use Rattle.std.proofs.Common.{◌≡◌, ℕ, List, [], ◌++◌, Ok, sym, ap, ◌∙◌}
 use Rattle.std.proofs.lemmas.List.{append-nil}
-use Rattle.nix_drv.specs.Grammar.{Grammar, text, IsClear}
-use Rattle.nix_drv.specs.Laws.{HasOneTextEach, HasOneValueEach, HasNoTextWithin}
+use Rattle.nix_drv.specs.Grammar.{Grammar, IsClear}
+use Rattle.nix_drv.specs.Laws.{HasOneValueEach, HasNoTextWithin}
 use Rattle.nix_drv.specs.Reading.{read}
 use Rattle.nix_drv.proofs.Exact.{read-again, read-text, value_is, rest_is}
-
-pub one_text_each : (g : Grammar) → HasOneTextEach g
-one_text_each g v = (text g v, refl, λ other is. is)
 
 pub one_value_each : (g : Grammar) → IsClear g → HasOneValueEach g
 one_value_each g clear v w bytes is also = value_is (v, []) (w, [])

@@ -1,10 +1,9 @@
 -- The laws of base-32: one text for the bytes, one list of so many bytes for a text.
 use Rattle.std.proofs.Common.{◌≡◌, ◌<◌, ℕ, true, List, None, length, sym, ap, subst, ◌∙◌, arith}
 use Rattle.std.specs.Prelude.{◌↔◌, map, reverse}
-use Rattle.std.specs.List.{All, list_all}
+use Rattle.std.specs.List.{All}
 use Rattle.std.proofs.lemmas.List.{length-map, length-reverse, reverse-reverse}
 use Rattle.std.proofs.lemmas.List.Elements.{All-map, All-weaker}
-use Rattle.std.proofs.lemmas.List.Sums.{list_all-from_AllPass}
 use Rattle.nix_names.specs.Base32.{number, digits_of, digit_char, is_digit, text_len, text_number, base32, base32_fault, StandsFor}
 use Rattle.nix_names.proofs.Base32Digits.{length_digits_of, digits_of_below, digits_of_number, number_below}
 use Rattle.nix_names.proofs.Base32Chars.{is_digit_digit_char, map_digit_of}
@@ -74,15 +73,3 @@ fault_exact text n = (
   )),
   (λ some. no_fault_in_text text n (text_of_stood text some.0 n some.1 some.2 some.3)),
 )
-
--- each character of a base-32 text is one of the alphabet
-pub base32_digits : (bytes : List ℕ) → list_all is_digit (base32 bytes) ≡ true
-unfolding base32
-base32_digits bytes =
-    let digits = digits_of 32 (text_len (length bytes)) (number 256 bytes) in
-    let all = All-reverse (λ d. d < 32) digits
-    (digits_of_below 32 (text_len (length bytes)) (number 256 bytes) (omega arith)) in
-    list_all-from_AllPass is_digit (map digit_char (reverse digits))
-    (All-map (λ c. is_digit c ≡ true) digit_char (reverse digits)
-    (All-weaker (λ d. d < 32) (λ d. is_digit (digit_char d) ≡ true) is_digit_digit_char
-    (reverse digits) all))

@@ -105,15 +105,6 @@ no_fault_in_text text n is =
       lt-ltb (text_number text) (256 ^ n) is.small,
     )
 
-pub overflow_in_text : (text : List ℕ) (n : ℕ) → length text ≡ text_len n → AllPass is_digit text
-    → 256 ^ n ≤ text_number text → base32_fault text n ≡ Some Overflow
-overflow_in_text text n long are large =
-    rw (
-      eq-eqb (length text) (text_len n) long,
-      none_fails_where_all_pass is_digit text are,
-      le-ltb (text_number text) (256 ^ n) large,
-    )
-
 below_where_none : (n k : ℕ) → 0 < k → n / k ≡ 0 → n < k
 below_where_none n k some none =
     let e : n % k + k * 0 ≡ n = rw none at (mod-add-div n k) in

@@ -81,14 +81,3 @@ pub parts_of_dir : (parts : List ℕ) → IsStoreDir (47 ∷ parts)
 parts_of_dir parts dir =
     let each = list_all-from_AllPass is_component dir.components dir.each in
     rw (components_cut parts dir.components dir.some dir.parts each) each
-
--- a store folder begins with a slash
-joined_begins : (parts : List (List ℕ)) → parts ≢ [] → (rest : List ℕ)
-    × (flat_map (λ p. 47 ∷ p) parts ≡ 47 ∷ rest)
-joined_begins [] some = absurd (some refl)
-joined_begins (part ∷ parts) some = (part ++ flat_map (λ p. 47 ∷ p) parts, refl)
-
-pub dir_begins : (dir : List ℕ) → IsStoreDir dir → (rest : List ℕ) × (dir ≡ 47 ∷ rest)
-dir_begins dir is_dir =
-    let begins = joined_begins is_dir.components is_dir.some in
-    (begins.0, is_dir.parts ∙ begins.1)

@@ -95,12 +95,6 @@ earlier_below (z ∷ zs) after y x rises has =
     (λ later. earlier_below zs after y x (rising_later z (zs ++ y ∷ after) rises) later)
     (Contains-cons_cases z zs x has)
 
--- and is none of them
-pub rising_apart : (before after : List (List ℕ)) (y : List ℕ) → IsRising (before ++ y ∷ after)
-    → Contains before y → ⊥
-rising_apart before after y rises has = not_below_itself y
-    (earlier_below before after y y rises has)
-
 pub rising_front : (xs ys : List (List ℕ)) → IsRising (xs ++ ys) → IsRising xs
 rising_front [] ys rises = tt
 rising_front (x ∷ []) ys rises = tt
@@ -112,10 +106,6 @@ rising_back (x ∷ xs) ys rises = rising_back xs ys (rising_later x (xs ++ ys) r
 
 pub rising_take : (xs : List (List ℕ)) (i : ℕ) → IsRising xs → IsRising (take i xs)
 rising_take xs i rises = rising_front (take i xs) (drop i xs)
-    (subst IsRising (sym (take-append-drop i xs)) rises)
-
-pub rising_drop : (xs : List (List ℕ)) (i : ℕ) → IsRising xs → IsRising (drop i xs)
-rising_drop xs i rises = rising_back (take i xs) (drop i xs)
     (subst IsRising (sym (take-append-drop i xs)) rises)
 
 -- one text more, above all

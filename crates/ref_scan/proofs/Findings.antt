@@ -1,19 +1,12 @@
 -- What is found among the permitted paths that were looked at.
-use Rattle.std.proofs.Common.{◌≡◌, ◌∙◌, ℕ, ◌+◌, ◌<◌, List, [], ◌∷◌, ◌++◌, length, take, get_or, ap, sym, subst, ⊎_elim, arith}
-use Rattle.std.specs.Prelude.{Contains, Result, Ok, Err, IfOk, IsErrAnd, MatchResult}
+use Rattle.std.proofs.Common.{◌≡◌, ◌∙◌, ℕ, ◌+◌, ◌<◌, List, [], ◌∷◌, ◌++◌, length, take, get_or, ap, sym, subst, ⊎_elim}
+use Rattle.std.specs.Prelude.{Contains}
 use Rattle.std.proofs.lemmas.List.{take_more}
 use Rattle.std.proofs.lemmas.List.Elements.{Contains-push, Contains-append_left, Contains-push_cases}
 use Rattle.nix_names.specs.Rising.{IsRising}
 use Rattle.nix_names.specs.StorePaths.{hash_part_of}
 use Rattle.nix_names.proofs.RisingLists.{earlier_below, rising_push}
 use Rattle.ref_scan.specs.Scan.{IsFoundIn, OccursIn}
-
-pub found_none : (lists : List (List ℕ)) → IsFoundIn lists [] []
-found_none lists =
-    record {
-      rising = tt;
-      each = λ path. (λ has. absurd (omega (arith, has.1)), λ h. absurd (omega (arith, h.0.1)));
-    }
 
 pub found_one :
     (lists : List (List ℕ)) (seen found : List (List ℕ)) (path : List ℕ) →
@@ -61,14 +54,3 @@ found_no_more lists seen found path before none = record {
 pub taken_with : {X : Type 0} (xs : List X) (i : ℕ) (x : X) → i < length xs → x ≡ get_or xs i x
     → take (i + 1) xs ≡ take i xs ++ x ∷ []
 taken_with xs i x lt is = take_more xs i x lt ∙ ap (λ y. take i xs ++ y ∷ []) (sym is)
-
--- what a call promised of its value holds of the value behind a `map_err` and a `?`
-pub passed_on :
-    {T E F : Type 0} (r : Result T E) (s : Result T F) (value : T) (Q : E → F → Type 0)
-    (P : T → Type 0) →
-    MatchResult r (λ x. s ≡ Ok x) (λ e. IsErrAnd s (Q e)) →
-    s ≡ Ok value →
-    IfOk r P →
-    P value
-passed_on (Ok x) s value Q P same is holds = let e : x ≡ value = cc in subst P e holds
-passed_on (Err e) s value Q P none is holds = absurd (subst (λ t. IsErrAnd t (Q e)) is none)

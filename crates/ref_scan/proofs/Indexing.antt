@@ -1,5 +1,5 @@
 -- The index of hash parts with one path more, and a mark set by it.
-use Rattle.std.proofs.Common.{◌≡◌, ◌∙◌, ℕ, ◌+◌, ◌-◌, ◌*◌, ◌<◌, Bool, true, false, cond, List, [], ◌∷◌, ◌++◌, inl, inr, ⊎_elim, length, get_or, set, refl, sym, ap, subst, arith, length-append, Some, None, nat_eq, get_or-set_same, get_or-set_other}
+use Rattle.std.proofs.Common.{◌≡◌, ◌∙◌, ℕ, ◌+◌, ◌-◌, ◌*◌, ◌<◌, Bool, true, false, cond, List, [], ◌∷◌, ◌++◌, inl, inr, ⊎_elim, length, get_or, set, refl, sym, ap, subst, arith, length-append, Some, nat_eq, get_or-set_same, get_or-set_other}
 use Rattle.std.specs.Prelude.{IsTrue, IsSome, Result, Ok, Err, IsOk, OnOk, slice_index}
 use Rattle.std.specs.Cmp.Lexicographic.{pointwise, bytes_decides}
 use Rattle.std.proofs.lemmas.Bool.{false≢true, cases_Bool, cases_eq}
@@ -142,24 +142,3 @@ marked_one places sieve met window place index found =
             h,
       );
     }
-
-pub marked_none :
-    (places : Places) (met : List Bool) (window : List ℕ) → place_at places window ≡ None
-    → Marked places met met window
-marked_none places met window none =
-    record {
-      count = refl;
-      each = λ part k is_part at. (
-        inl,
-        λ h. ⊎_elim (λ m. m) (λ (e : window ≡ part). let clash : None ≡ Some k = sym none
-            ∙ ap (place_at places) e ∙ at in absurd (cc)) h,
-      );
-    }
-
-pub index_at : (places : Places) (sieve : List Bool) (n m : ℕ) → n ≡ m → IsIndex places sieve n
-    → IsIndex places sieve m
-index_at places sieve n m e index = record {
-  paths = index.paths;
-  counted = index.counted ∙ e;
-  indexes = index.indexes;
-}

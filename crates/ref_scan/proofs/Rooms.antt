@@ -1,6 +1,6 @@
 -- The room that is left while a folder's entries are taken up one after the other.
-use Rattle.std.proofs.Common.{◌≡◌, ◌∙◌, ℕ, ◌+◌, ◌<◌, max, List, [], ◌∷◌, length, ap, arith}
-use Rattle.ref_scan.specs.Room.{FitsIn, Fills}
+use Rattle.std.proofs.Common.{◌≡◌, ◌∙◌, ℕ, ◌+◌, ◌<◌, max, List, ◌∷◌, length, ap, arith}
+use Rattle.ref_scan.specs.Room.{FitsIn}
 use Rattle.ref_scan.specs.Trees.{depth_of, entry_count, file_bytes}
 use Rattle.ref_scan.specs.declared.tree.Room.{Room}
 use Rattle.ref_scan.specs.declared.tree.Tree.{Tree, Dir}
@@ -25,30 +25,6 @@ counting_start below room left tree entries is members same =
     let count = ap entry_count is ∙ count_dir entries in
     let files = ap file_bytes is ∙ bytes_dir entries in
     record { depth = omega arith; entries = omega arith; bytes = omega arith }
-
-pub counting_step :
-    (below b : ℕ) (room left next : Room) (tree : Tree) (e : Member) (rest : List Member) →
-    below ≡ b + 1 →
-    Counting below room left tree (e ∷ rest) →
-    Fills b left e.tree next →
-    Counting below room next tree rest
-counting_step below b room left next tree e rest is before fills =
-    record {
-      depth = omega (arith, before.depth, fills.depth);
-      entries = omega (arith, before.entries, fills.entries);
-      bytes = omega (arith, before.bytes, fills.bytes);
-    }
-
-pub counting_end :
-    (below : ℕ) (room left : Room) (tree : Tree) →
-    Counting below room left tree [] →
-    Fills below room tree left
-counting_end below room left tree before =
-    record {
-      depth = omega (arith, before.depth);
-      entries = omega (arith, before.entries);
-      bytes = omega (arith, before.bytes);
-    }
 
 -- an entry that doesn't fit in what is left
 pub counting_full :

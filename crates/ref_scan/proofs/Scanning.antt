@@ -8,7 +8,7 @@ use Rattle.nix_names.specs.StorePaths.{hash_part_of}
 use Rattle.ref_scan.specs.Feed.{Feed, lists_of}
 use Rattle.ref_scan.specs.Kept.{last_bytes}
 use Rattle.ref_scan.specs.Marks.{IsMet, Searched}
-use Rattle.ref_scan.specs.Places.{Indexes, IsIndex, Places, place_at}
+use Rattle.ref_scan.specs.Places.{Indexes, Places, place_at}
 use Rattle.ref_scan.specs.Scan.{OccursIn, Within}
 use Rattle.ref_scan.specs.Scanned.{Scanned}
 use Rattle.ref_scan.proofs.Pieces.{Any-none, Any-left, Any-last, Any-last_cases, not_in_none, occurs_before_none}
@@ -16,12 +16,6 @@ use Rattle.ref_scan.proofs.Seams.{within_joined, joined_within}
 
 abbrev pub feed_of : List (List ℕ) → List (List ℕ) → List ℕ → Feed
 feed_of permitted ended present = record { permitted = permitted; ended = ended; present = present }
-
-pub feed_same : (a b : Feed) → a.permitted ≡ b.permitted → a.ended ≡ b.ended → a.present ≡ b.present
-    → a ≡ b
-feed_same a b p e q =
-    ap (λ x. feed_of x a.ended a.present) p ∙ ap (λ x. feed_of b.permitted x a.present) e
-    ∙ ap (λ x. feed_of b.permitted b.ended x) q
 
 -- no mark is set at first
 unmarked : (n k : ℕ) → get_or (replicate n false) k false ≡ false
@@ -116,13 +110,6 @@ scanned_cut paths ended present places sieve met tail before = record {
   );
   kept = refl;
 }
-
--- the index of a scanner's marks
-pub index_of :
-    (feed : Feed) (places : Places) (sieve met : List Bool) (tail : List ℕ)
-    → Scanned feed places sieve met tail → IsIndex places sieve (length met)
-index_of feed places sieve met tail scanned =
-    record { paths = feed.permitted; counted = sym scanned.count; indexes = scanned.indexes }
 
 some_value : {T : Type 0} (o : Option T) → IsSome o → (x : T) × (o ≡ Some x)
 some_value (Some x) is = (x, refl)

@@ -36,9 +36,6 @@ kept_long now =
     (λ (more : 31 ≤ length now). inr (omega (arith, length-drop (length now - 31) now)))
     (cases_lt (length now) 31)
 
-pub kept_few : (now : List ℕ) → length (last_bytes now) ≤ 31
-kept_few now = omega (arith, length-drop (length now - 31) now)
-
 -- what is kept of bytes with many more, and with few more
 pub kept_of_long : (now piece : List ℕ) → 31 ≤ length piece → last_bytes (now ++ piece)
     ≡ last_bytes piece

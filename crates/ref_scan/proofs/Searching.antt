@@ -1,5 +1,5 @@
 -- A search over windows, up to one of them.
-use Rattle.std.proofs.Common.{◌≡◌, ◌∙◌, ℕ, ◌+◌, ◌-◌, ◌<◌, Bool, false, List, ◌⊎◌, inl, inr, ⊎_elim, length, take, drop, get_or, refl, sym, ap, subst, Some}
+use Rattle.std.proofs.Common.{◌≡◌, ◌∙◌, ℕ, ◌+◌, ◌-◌, ◌<◌, Bool, false, List, ◌⊎◌, inl, inr, ⊎_elim, length, take, drop, get_or, sym, ap, subst, Some}
 use Rattle.std.specs.Prelude.{IsTrue}
 use Rattle.std.proofs.lemmas.List.{drop-drop, take_rest, get_or-take}
 use Rattle.nix_names.specs.Base32.{is_digit}
@@ -20,16 +20,6 @@ pub record Searching (places : Places) (old met : List Bool) (bytes : List ℕ) 
       → IsMet met k → IsMet old k ⊎ Within part bytes
   pub rest : (part : List ℕ) (k : ℕ) → IsTrue (is_hash_part part) → place_at places part ≡ Some k
       → Within part bytes → IsMet met k ⊎ Within part (drop start bytes)
-
-pub searching_start : (places : Places) (met : List Bool) (bytes : List ℕ)
-    → Searching places met met bytes 0
-searching_start places met bytes =
-    record {
-      count = refl;
-      stays = λ part k is at h. h;
-      sound = λ part k is at h. inl h;
-      rest = λ part k is at h. inr h;
-    }
 
 pub searching_past :
     (places : Places) (old met : List Bool) (bytes : List ℕ) (start place : ℕ) →

@@ -14,10 +14,6 @@ Within part bytes = (before : List ℕ) × (after : List ℕ) × (bytes ≡ befo
 abbrev pub OccursIn : List ℕ → List (List ℕ) → Type 0
 OccursIn part lists = Any (Within part) lists
 
--- a part stands within one piece of a tree
-abbrev pub Occurs : List ℕ → Tree → Type 0
-Occurs part tree = OccursIn part (pieces tree)
-
 -- The found paths rise strictly, and are just those of the permitted whose hash part stands within
 -- one of the lists.
 pub record IsFoundIn (lists : List (List ℕ)) (permitted found : List (List ℕ)) : Type 0 where

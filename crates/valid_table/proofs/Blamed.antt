@@ -1,6 +1,6 @@
 -- The registration that is to blame, and how that is told.
 use Rattle.std.proofs.Common.{◌≡◌, ℕ, ◌<◌, List, ◌++◌, length, take, get_or, refl, sym, subst, ap, ◌∙◌}
-use Rattle.std.specs.Prelude.{All, Contains, Err, IfSome, MatchOption, Option, Result, Some, None, ⊤, slice_get}
+use Rattle.std.specs.Prelude.{All, Contains, Err, MatchOption, Option, Result, Some, None, ⊤, slice_get}
 use Rattle.std.proofs.lemmas.Option.{slice_get-get_or, slice_get_within}
 use Rattle.valid_table.specs.Adding.{AreClosed, AreNew, IsObstacle, IsTaking}
 use Rattle.valid_table.specs.Blames.{IsBlamed, IsBlamedFor, IsFaultOf, IsObstacleOf, IsUnclosedAt}
@@ -75,14 +75,6 @@ blamed_index known some blame r blamed is =
     blamed_read known some blame r blamed
     (slice_get-get_or some blame.registration r (blamed_within known some blame blamed)
     ∙ ap Some (sym is))
-
--- the reference that is blamed is one of the registration's
-pub place_within : (known some : List Registration) (r : Registration) (reference : Option ℕ)
-    → IsBlamedFor known some r reference → IfSome reference
-    (λ place. place < length r.info.references)
-place_within known some r None blamed = tt
-place_within known some r (Some place) (path, read, new, first) =
-    slice_get_within r.info.references place path read
 
 -- the obstacle of who is to blame stands against all
 pub obstacle_stands : (known some : List Registration) (r : Registration) (reference : Option ℕ)

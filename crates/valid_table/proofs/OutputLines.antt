@@ -1,14 +1,13 @@
 -- The lines of outputs: where they lead, where they stop, and what they are.
-use Rattle.std.proofs.Common.{◌≡◌, ◌⊎◌, ℕ, List, [], ◌∷◌, ◌++◌, drop, Option, Some, None, inl, inr, sym, ap, ◌∙◌, subst, arith}
+use Rattle.std.proofs.Common.{◌≡◌, ℕ, List, [], ◌∷◌, ◌++◌, drop, Option, Some, None, inl, inr, sym, ap, ◌∙◌, subst, arith}
 use Rattle.std.specs.List.{flat_map, last_or}
 use Rattle.std.proofs.lemmas.List.{append-nil, map-append}
 use Rattle.std.proofs.lemmas.List.Concat.{flat_map-append}
 use Rattle.std.proofs.lemmas.List.Elements.{All-push}
 use Rattle.nix_names.specs.Rising.{IsRising}
-use Rattle.valid_table.specs.BadLines.{BeginsOutput}
 use Rattle.valid_table.specs.Entries.{paths_of}
 use Rattle.valid_table.specs.LineTexts.{lines_text, registration_text}
-use Rattle.valid_table.specs.Readers.{HasOutputs, HasRegistration, IsBadFields, IsNoLine, SoFarOutputs, StopsInRegistration}
+use Rattle.valid_table.specs.Readers.{HasRegistration, IsBadFields, SoFarOutputs, StopsInRegistration}
 use Rattle.valid_table.specs.Steps.{Ahead, IsAbove, Opened, Goes, MayFollow, MayStand, Stops}
 use Rattle.valid_table.specs.Texts.{IsOf, Line, Output, output_lines}
 use Rattle.valid_table.specs.declared.entry.Registration.{Registration}
@@ -99,20 +98,3 @@ outputs_more dir bytes outputs more rest behind before o so_far is h pushed =
           (subst (λ b. IsAbove b o.path) is h.above));
       ended = inr h.ends;
     })
-
--- where an output begins at first, and none at last, there is one
-pub outputs_end : (dir bytes : List ℕ) (outputs : List Registration) (rest : List ℕ)
-    → BeginsOutput bytes → SoFarOutputs dir bytes outputs rest → IsNoLine 79 rest
-    → HasOutputs dir bytes outputs rest
-outputs_end dir bytes [] rest begins so_far none =
-    absurd (none begins.0 (sym so_far.parts ∙ begins.1))
-outputs_end dir bytes (o ∷ outputs) rest begins so_far none = record {
-  so_far = so_far;
-  some = λ empty. cc empty;
-  no_output = none;
-  no_reference = ended so_far.ended;
-}
-  where
-    ended : (o ∷ outputs ≡ []) ⊎ IsNoLine 82 rest → IsNoLine 82 rest
-    ended (inl empty) = cc empty
-    ended (inr no_line) = no_line
