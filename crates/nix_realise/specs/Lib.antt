@@ -1,5 +1,6 @@
 pub mod AddedDrv
 pub mod AddedText
+pub mod BuilderCalls
 pub mod CheckLines
 pub mod DrvEndings
 pub mod Endings

@@ -15,6 +15,8 @@ mod reading;
 mod reasons;
 mod removal;
 mod start;
+#[cfg(test)]
+mod tests;
 
 use crate::files::file_path;
 use call::Call;

@@ -32,7 +32,7 @@ fn run_words<'a, R: Files + AllocGlobal>(rt: &R, words: &'a [&'a str]) -> Outcom
 }
 
 /// A folder of its own for each process and test.
-fn new_folder<R: Env + Files + AllocGlobal>(
+pub fn new_folder<R: Env + Files + AllocGlobal>(
     rt: &R,
     process: u32,
     test: &str,

@@ -1,6 +1,7 @@
 //! What an error of the system means for a build.
 ghost use Rattle.std.specs.Prelude.{◌≡◌, ◌⊎◌};
-ghost use Rattle.sched_core.specs.declared.reason.Reason.TheVariants.{NoStart, OutOfMemory, ReadFault};
+ghost use Rattle.sched_core.specs.declared.reason.Reason.TheVariants.{NoStart, OutOfMemory};
+ghost use Rattle.sched_core.specs.declared.reason.Reason.TheVariants.{ReadFault};
 
 use crate::files::is_no_memory;
 use sched_core::Reason;

@@ -1,4 +1,10 @@
 //! A builder that is started and waited for.
+ghost use Rattle.std.specs.Prelude.{◌≡◌, ◌++◌, IfOk, OnOk, map, string_bytes};
+ghost use Rattle.std.specs.Process.{command_args, command_program};
+ghost use Rattle.std.specs.Process.{SameDir, SameEnv, SameProgramAndArgs};
+ghost use Rattle.nix_realise.specs.BuilderCalls.{entries_in_order, entry_of_setting};
+ghost use Rattle.nix_realise.specs.BuilderCalls.{program_of, Runs};
+
 use super::call::Call;
 use super::environment::{set_environment, settings};
 use super::reasons::no_start;
@@ -27,7 +33,12 @@ fn command(
     store_dir: &str,
     folder: &str,
     call: &Call<'_>,
-) -> Result<Command, AllocError> {
+) -> Result<Command, AllocError>
+    ensures { IfOk result (Runs (program_of call.now.builder.now)
+        (map (λ a. a.now) call.now.args.items)
+        (entries_in_order store_dir.now folder.now (map entry_of_setting call.now.env.items))
+        folder.now) }
+{
     let mut command = Command::new(alloc, program(alloc, call.builder)?)?;
     command.arg0(call.builder)?.current_dir(folder)?;
     set_args(&mut command, &call.args)?;
@@ -41,7 +52,9 @@ fn command(
 
 // The path of a builder's program. One without a slash would be looked for in the folders of its
 // `PATH`.
-fn program(alloc: Global, builder: &str) -> Result<String, AllocError> {
+fn program(alloc: Global, builder: &str) -> Result<String, AllocError>
+    ensures { IfOk result (λ path. string_bytes path ≡ program_of builder.now) }
+{
     if builder.as_bytes().contains(&b'/') {
         String::from_str(alloc, builder)
     } else {
@@ -50,7 +63,13 @@ fn program(alloc: Global, builder: &str) -> Result<String, AllocError> {
 }
 
 // Gives a command these arguments.
-fn set_args(command: &mut Command, args: &[&str]) -> Result<(), AllocError> {
+fn set_args(command: &mut Command, args: &[&str]) -> Result<(), AllocError>
+    ensures args { OnOk result (command_args command.new
+        ≡ command_args command.old ++ map (λ a. a.now) args.now) }
+    ensures program { OnOk result (command_program command.new ≡ command_program command.old) }
+    ensures env { OnOk result (SameEnv command.old command.new) }
+    ensures dir { OnOk result (SameDir command.old command.new) }
+{
     for arg in args {
         command.arg(*arg)?;
     }
@@ -58,7 +77,11 @@ fn set_args(command: &mut Command, args: &[&str]) -> Result<(), AllocError> {
 }
 
 // Gives a command no input, and shows nothing that it prints.
-fn be_silent(command: &mut Command) {
+fn be_silent(command: &mut Command)
+    ensures call { SameProgramAndArgs command.old command.new }
+    ensures env { SameEnv command.old command.new }
+    ensures dir { SameDir command.old command.new }
+{
     command
         .stdin(Stdio::null())
         .stdout(Stdio::null())
