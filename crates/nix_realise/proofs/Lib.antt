@@ -1,6 +1,9 @@
 pub mod AddedTexts
 pub mod AsciiPaths
 pub mod BuilderCalls
+pub mod CommandLines
 pub mod Endings
 pub mod Registrations
 pub mod Reports
+pub mod Rows
+pub mod Tasks

@@ -5,6 +5,8 @@ use Rattle.nix_names.specs.declared.fault.NameFault.TheVariants as name
 use Rattle.nix_drv.specs.Strings.{string_text}
 use Rattle.nix_drv.specs.declared.fault.DrvFault.{DrvFault}
 use Rattle.nix_drv.specs.declared.fault.DrvFault.TheVariants as drv
+use Rattle.store_run.specs.declared.fault.RunFault.{RunFault}
+use Rattle.store_run.specs.declared.fault.RunFault.TheVariants as run
 use Rattle.valid_table.specs.declared.fault.TableFault.{TableFault}
 use Rattle.valid_table.specs.declared.fault.TableFault.TheVariants as table
 
@@ -45,3 +47,10 @@ table_fault_words (table.NotValid path) = with_value (codes "NotValid") path
 table_fault_words table.TooLong = codes "TooLong"
 table_fault_words (table.Unclosed path) = with_value (codes "Unclosed") path
 table_fault_words (table.AlreadyValid path) = with_value (codes "AlreadyValid") path
+
+-- the words of a fault on workers
+abbrev pub run_fault_words : RunFault → List ℕ
+run_fault_words run.NoWorkers = codes "NoWorkers"
+run_fault_words run.ThreadFault = codes "ThreadFault"
+run_fault_words run.NoMemory = codes "NoMemory"
+run_fault_words run.ForeignPlan = codes "ForeignPlan"

@@ -5,17 +5,20 @@ use Rattle.clap.specs.declared.error.kind.ErrorKind.{ErrorKind}
 use Rattle.clap.specs.declared.error.kind.ErrorKind.TheVariants.{DisplayHelp, DisplayVersion}
 use Rattle.clap.specs.declared.error.kind.ErrorKind.TheVariants.{OutOfMemory}
 use Rattle.drv_graph.specs.Faults.{node_number_of}
+use Rattle.nix_names.specs.Faults.{number_of as name_number_of}
 use Rattle.nix_names.specs.Names.{IsStoreDir}
+use Rattle.store_run.specs.Numbers.{fault_number_of as run_number_of}
 use Rattle.valid_table.specs.Faults.{number_of as table_number_of}
 use Rattle.valid_table.specs.declared.fault.TableFault.{TableFault}
 use Rattle.valid_table.specs.declared.fault.TableFault.TheVariants as table
-use Rattle.nix_realise.specs.FaultWords.{table_fault_words}
+use Rattle.nix_realise.specs.FaultWords.{name_fault_words, run_fault_words, table_fault_words}
 use Rattle.nix_realise.specs.GraphWords.{node_fault_words}
 use Rattle.nix_realise.specs.declared.stop.Stop.{Stop}
 use Rattle.nix_realise.specs.declared.stop.Stop.TheVariants.{BadStoreDir, Unreadable, TooLong}
 use Rattle.nix_realise.specs.declared.stop.Stop.TheVariants.{BadDraft, BadDrv}
 use Rattle.nix_realise.specs.declared.stop.Stop.TheVariants.{BadName, JournalUnreadable, BadJournal}
 use Rattle.nix_realise.specs.declared.stop.Stop.TheVariants.{NotWritten, JournalNotWritten}
+use Rattle.nix_realise.specs.declared.stop.Stop.TheVariants.{NoPath, Run}
 use Rattle.nix_realise.specs.declared.stop.Stop.TheVariants.{NoMemory, Unwritable}
 
 -- what ends a run on whose journal this fault is answered
@@ -32,6 +35,8 @@ number_of (TooLong file) = 12
 number_of (Unreadable file) = 20
 number_of JournalUnreadable = 20
 number_of (BadJournal fault) = table_number_of fault
+number_of (NoPath word fault) = name_number_of fault
+number_of (Run fault) = run_number_of fault
 number_of (BadDraft file fault) = node_number_of fault
 number_of (BadDrv path fault) = node_number_of fault
 number_of (NotWritten path) = 74
@@ -45,11 +50,13 @@ blamed_of (Unreadable file) = file.now
 blamed_of (TooLong file) = file.now
 blamed_of (BadDraft file fault) = file.now
 blamed_of (BadName name) = name.now
+blamed_of (NoPath word fault) = word.now
 blamed_of (BadDrv path fault) = path
 blamed_of JournalUnreadable = codes "journal"
 blamed_of (BadJournal fault) = codes "journal"
 blamed_of (NotWritten path) = path
 blamed_of JournalNotWritten = codes "journal"
+blamed_of (Run fault) = codes "run"
 blamed_of NoMemory = codes "run"
 blamed_of Unwritable = codes "run"
 
@@ -60,11 +67,13 @@ stop_fault_words (Unreadable file) = codes "Unreadable"
 stop_fault_words (TooLong file) = codes "TooLong"
 stop_fault_words (BadDraft file fault) = node_fault_words fault
 stop_fault_words (BadName name) = codes "BadName"
+stop_fault_words (NoPath word fault) = name_fault_words fault
 stop_fault_words (BadDrv path fault) = node_fault_words fault
 stop_fault_words JournalUnreadable = codes "Unreadable"
 stop_fault_words (BadJournal fault) = table_fault_words fault
 stop_fault_words (NotWritten path) = codes "Unwritable"
 stop_fault_words JournalNotWritten = codes "Unwritable"
+stop_fault_words (Run fault) = run_fault_words fault
 stop_fault_words NoMemory = codes "NoMemory"
 stop_fault_words Unwritable = codes "Unwritable"
 
@@ -73,17 +82,19 @@ abbrev pub stop_line : Stop → List ℕ
 stop_line stop =
     codes "nix_realise: " ++ blamed_of stop ++ codes ": " ++ stop_fault_words stop ++ 10 ∷ []
 
--- the status: 2 where what was given is refused, 3 for a journal that can't be read, want of memory
--- and a refused write
+-- the status: 2 where what was given is refused, 3 for a journal that can't be read, workers that
+-- end too early, want of memory and a refused write
 abbrev pub status_of : Stop → ℕ
 status_of (BadStoreDir dir) = 2
 status_of (Unreadable file) = 2
 status_of (TooLong file) = 2
 status_of (BadDraft file fault) = 2
 status_of (BadName name) = 2
+status_of (NoPath word fault) = 2
 status_of (BadDrv path fault) = 2
 status_of (BadJournal fault) = 2
 status_of JournalUnreadable = 3
+status_of (Run fault) = 3
 status_of (NotWritten path) = 3
 status_of JournalNotWritten = 3
 status_of NoMemory = 3
@@ -95,9 +106,10 @@ abbrev pub IsTold : (before after : Option (List ℕ)) → Stop → (status : �
 IsTold before after stop status =
     ((status ≡ status_of stop) × Appends before after (stop_line stop)) ⊎ (status ≡ 3)
 
--- the status of a run: all well, something refused, or nothing to be said
+-- the status of a run: all well, a root that was not realised, something refused, or nothing to be
+-- said
 abbrev pub IsStatus : ℕ → Type 0
-IsStatus status = (status ≡ 0) ⊎ (status ≡ 2) ⊎ (status ≡ 3)
+IsStatus status = (status ≡ 0) ⊎ (status ≡ 1) ⊎ (status ≡ 2) ⊎ (status ≡ 3)
 
 -- the status of a run that ends with `clap`'s text: 0 for help and the version, 2 for a mistake in
 -- the words; 3 for want of memory, or where the text is refused

@@ -27,7 +27,7 @@ pub fn add_text<'a, R: Files + AllocGlobal, O: Write>(
     ensures { Ends request.now (O.contents out.old) (O.contents out.new) result }
 {
     let text = read_text(rt, request.file);
-    let journal = read_journal(rt, request);
+    let journal = read_journal(rt, request.store_dir, request.journal);
     let added = added_text(rt.alloc(), request, text, journal)?;
     let Ok(()) = print_path(&added.path, out) else {
         return Err(Stop::Unwritable);
@@ -61,7 +61,7 @@ fn write_files<'a, R: Files + AllocGlobal>(
         return Ok(());
     };
     write_text(rt, path, &text)?;
-    write_journal(rt, request, &journal)
+    write_journal(rt, request.store_dir, request.journal, &journal)
 }
 
 /// Writes a text at its path, in place of what is there, and hands the path back.

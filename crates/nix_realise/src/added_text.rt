@@ -109,8 +109,9 @@ fn renewed_journal<'a>(
     Ok(Some(journal.write(alloc)?))
 }
 
-// The journal whose text the journal file gave.
-fn journal_of<'a>(
+/// The journal whose text the journal file gave. In this order: `JournalUnreadable`, `BadJournal`
+/// with the fault of `Journal::read`; `NoMemory` may come in the place of each.
+pub fn journal_of<'a>(
     alloc: Global,
     dir: &StoreDir,
     journal: Result<Vec<u8>, FileFault>,

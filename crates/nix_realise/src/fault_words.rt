@@ -1,10 +1,10 @@
 //! The words by which a line names a fault: its name, and its value in parentheses.
 //!
 //! Each type of fault has one function here, which adds the words to a list of bytes.
-ghost use Rattle.std.specs.Prelude.{◌≡◌, ◌++◌, IfOk, OnOk, decimal};
+ghost use Rattle.std.specs.Prelude.{◌≡◌, ◌++◌, ◌∷◌, [], IfOk, OnOk, codes, decimal};
 ghost use Rattle.nix_drv.specs.Strings.{string_text};
 ghost use Rattle.nix_realise.specs.FaultWords.{drv_fault_words, name_fault_words};
-ghost use Rattle.nix_realise.specs.FaultWords.{table_fault_words, with_value};
+ghost use Rattle.nix_realise.specs.FaultWords.{run_fault_words, table_fault_words, with_value};
 ghost use Rattle.nix_realise.specs.Stops.{stop_fault_words, stop_line};
 
 use crate::graph_words::write_node_fault;
@@ -13,6 +13,7 @@ use itoa::Buffer;
 use nix_drv::{DrvFault, write_string};
 use nix_names::NameFault;
 use std::alloc::{AllocError, Global};
+use store_run::RunFault;
 use valid_table::TableFault;
 
 /// Adds the words of a fault on names.
@@ -67,6 +68,18 @@ pub fn write_table_fault(fault: &TableFault, out: &mut Vec<u8>) -> Result<(), Al
     }
 }
 
+/// Adds the words of a fault on workers.
+pub fn write_run_fault(fault: RunFault, out: &mut Vec<u8>) -> Result<(), AllocError>
+    ensures { OnOk result (out.new.items ≡ out.old.items ++ run_fault_words fault) }
+{
+    match fault {
+        RunFault::NoWorkers => write_name(b"NoWorkers", out),
+        RunFault::ThreadFault => write_name(b"ThreadFault", out),
+        RunFault::NoMemory => write_name(b"NoMemory", out),
+        RunFault::ForeignPlan => write_name(b"ForeignPlan", out),
+    }
+}
+
 /// Adds the words of the fault by which a run ends.
 pub fn write_stop_fault(stop: &Stop<'_>, out: &mut Vec<u8>) -> Result<(), AllocError>
     ensures { OnOk result (out.new.items ≡ out.old.items ++ stop_fault_words stop.now) }
@@ -77,11 +90,13 @@ pub fn write_stop_fault(stop: &Stop<'_>, out: &mut Vec<u8>) -> Result<(), AllocE
         Stop::TooLong(_) => write_name(b"TooLong", out),
         Stop::BadDraft(_, fault) => write_node_fault(fault, out),
         Stop::BadName(_) => write_name(b"BadName", out),
+        Stop::NoPath(_, fault) => write_name_fault(*fault, out),
         Stop::BadDrv(_, fault) => write_node_fault(fault, out),
         Stop::JournalUnreadable => write_name(b"Unreadable", out),
         Stop::BadJournal(fault) => write_table_fault(fault, out),
         Stop::NotWritten(_) => write_name(b"Unwritable", out),
         Stop::JournalNotWritten => write_name(b"Unwritable", out),
+        Stop::Run(fault) => write_run_fault(*fault, out),
         Stop::NoMemory => write_name(b"NoMemory", out),
         Stop::Unwritable => write_name(b"Unwritable", out),
     }
@@ -93,10 +108,18 @@ pub fn stop_line(alloc: Global, stop: &Stop<'_>) -> Result<Vec<u8>, AllocError>
 {
     let mut line = Vec::from_slice(alloc, b"nix_realise: ")?;
     line.extend_from_slice(stop.blamed())?;
-    line.extend_from_slice(b": ")?;
-    write_stop_fault(stop, &mut line)?;
-    line.extend_from_slice(b"\n")?;
+    write_why(stop, &mut line)?;
     Ok(line)
+}
+
+// Adds the end of the line of a run that ends without its report: the fault, and a newline.
+fn write_why(stop: &Stop<'_>, out: &mut Vec<u8>) -> Result<(), AllocError>
+    ensures { OnOk result
+        (out.new.items ≡ out.old.items ++ codes ": " ++ stop_fault_words stop.now ++ 10 ∷ []) }
+{
+    out.extend_from_slice(b": ")?;
+    write_stop_fault(stop, out)?;
+    out.extend_from_slice(b"\n")
 }
 
 /// Adds a name alone.

@@ -4,7 +4,6 @@ ghost use Rattle.std.specs.Prelude.{option_map, string_bytes};
 ghost use Rattle.nix_realise.specs.JournalFiles.{journal_path_of};
 
 use crate::files::{FileFault, is_no_memory, read_start};
-use crate::options::AddTextRequest;
 use crate::stop::Stop;
 use crate::whole_file::write_whole;
 use std::alloc::{AllocError, Global};
@@ -30,16 +29,17 @@ pub fn journal_path(
     }
 }
 
-/// The bytes of the journal file, one more than a journal may have at most; none where no file is
-/// found.
+/// The bytes of the journal file, the one that was given or that in the store folder, one more than
+/// a journal may have at most; none where no file is found.
 pub fn read_journal<R: Files + AllocGlobal>(
     rt: &R,
-    request: &AddTextRequest<'_>,
+    store_dir: &str,
+    given: Option<&str>,
 ) -> Result<Vec<u8>, FileFault>
     ensures { IfOk result (λ bytes. length bytes.items ≤ 67108865) }
 {
     let alloc = rt.alloc();
-    let path = journal_path(alloc, request.store_dir, request.journal)?;
+    let path = journal_path(alloc, store_dir, given)?;
     match read_start(alloc, rt, &path, MAX_READ) {
         Ok(bytes) => Ok(bytes),
         Err(error) if error.kind() == ErrorKind::NotFound => Ok(Vec::new(alloc)),
@@ -47,15 +47,17 @@ pub fn read_journal<R: Files + AllocGlobal>(
     }
 }
 
-/// Puts a journal file with these bytes in the place of the one that is there, if any.
+/// Puts a journal file with these bytes in the place of the one that is there, if any: at the path
+/// that was given, else in the store folder.
 pub fn write_journal<'a, R: Files + AllocGlobal>(
     rt: &R,
-    request: &AddTextRequest<'a>,
+    store_dir: &str,
+    given: Option<&str>,
     bytes: &[u8],
 ) -> Result<(), Stop<'a>>
     ensures { IfErr result (λ stop. (stop ≡ Stop.NoMemory) ⊎ (stop ≡ Stop.JournalNotWritten)) }
 {
-    let path = journal_path(rt.alloc(), request.store_dir, request.journal)?;
+    let path = journal_path(rt.alloc(), store_dir, given)?;
     match write_whole(rt, &path, bytes) {
         Ok(()) => Ok(()),
         Err(error) if is_no_memory(&error) => Err(Stop::NoMemory),

@@ -2,7 +2,8 @@
 //!
 //! | Module | What is in it |
 //! |---|---|
-//! | `options` | what a command line asks for |
+//! | `options`, `jobs` | what a command line asks for |
+//! | `command` | the command line that `clap` reads |
 //! | `words` | the words of a command line, read by `clap` |
 //! | `store_dir` | the store folder of a command line |
 //! | `files` | files that are read |
@@ -15,6 +16,9 @@
 //! | `added_text`, `add_text` | what `add-text` makes of a text; the subcommand |
 //! | `added_drv`, `add_drv` | what `add-drv` makes of a draft; the subcommand |
 //! | `process_build` | a builder that runs a job's program as a process |
+//! | `task` | what `realise` is over: a plan and a journal |
+//! | `settled` | what a book says at the end of a run |
+//! | `builders`, `realise` | the builders of a run; the subcommand `realise` |
 //! | `printing`, `run` | what is printed; one run of the program |
 #![tactic(auto)]
 
@@ -25,18 +29,24 @@ mod add_drv;
 mod add_text;
 mod added_drv;
 mod added_text;
+mod builders;
 mod check;
+mod command;
 mod fault_words;
 mod files;
 mod folder;
 mod graph_words;
+mod jobs;
 mod journal_file;
 mod options;
 mod printing;
 mod process_build;
+mod realise;
 mod run;
+mod settled;
 mod stop;
 mod store_dir;
+mod task;
 #[cfg(test)]
 mod tests;
 mod verdict;
@@ -46,8 +56,10 @@ mod words;
 use run::{print_no_memory, refuse_words, run};
 use std::alloc::{AllocError, Global};
 use std::io::{BufWriter, ErrorKind, Write};
-use std::process::ExitCode;
+use std::process::{ExitCode, Processes};
 use std::rt::{Env, Files};
+use std::sync::Wait;
+use std::thread::Threads;
 use std::{env, io};
 
 fn main(rt: HostRuntime) -> ExitCode {
@@ -60,7 +72,7 @@ fn main(rt: HostRuntime) -> ExitCode {
 }
 
 // Runs the program on the arguments of the process.
-fn run_arguments<R: Env + Files + AllocGlobal, O: Write, E: Write>(
+fn run_arguments<R: Env + Files + Processes + Threads + Wait + Sync + AllocGlobal, O: Write, E: Write>(
     rt: &R,
     out: &mut O,
     err: &mut E,
@@ -75,7 +87,7 @@ fn run_arguments<R: Env + Files + AllocGlobal, O: Write, E: Write>(
 }
 
 // Runs the program on these arguments.
-fn run_texts<R: Files + AllocGlobal, O: Write, E: Write>(
+fn run_texts<R: Files + Processes + Threads + Wait + Sync + AllocGlobal, O: Write, E: Write>(
     rt: &R,
     arguments: &[String],
     out: &mut O,

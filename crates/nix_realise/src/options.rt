@@ -1,4 +1,5 @@
 //! What a command line asks the program for.
+use crate::jobs::Jobs;
 
 /// One request, by its subcommand.
 #[derive(Debug, Drop)]
@@ -9,6 +10,8 @@ pub enum Request<'a> {
     AddText(AddTextRequest<'a>),
     /// `add-drv`: a draft is filled and put into the store.
     AddDrv(AddDrvRequest<'a>),
+    /// `realise`: the outputs of derivations are made valid.
+    Realise(RealiseRequest<'a>),
 }
 
 /// The words of `check`.
@@ -42,4 +45,20 @@ pub struct AddDrvRequest<'a> {
     pub name: &'a str,
     /// The path of the file whose bytes are the draft.
     pub file: &'a str,
+}
+
+/// The words of `realise`.
+#[derive(Debug, Drop)]
+pub struct RealiseRequest<'a> {
+    /// The store folder, as it was given.
+    pub store_dir: &'a str,
+    /// The path of the journal file, where one was given.
+    pub journal: Option<&'a str>,
+    /// The system for which derivations are built.
+    pub system: &'a str,
+    /// How many builders run at a time.
+    pub jobs: Jobs,
+    /// The paths of the derivations whose outputs are wanted, as they were given and in their
+    /// order.
+    pub drvs: Vec<&'a str>,
 }

@@ -14,21 +14,26 @@ use crate::fault_words::stop_line;
 use crate::folder::FolderSource;
 use crate::options::{CheckRequest, Request};
 use crate::printing::{print_bytes, print_text};
+use crate::realise::realise;
 use crate::stop::Stop;
 use crate::store_dir::store_dir;
 use crate::words::{not_text, request};
 use clap::error::ErrorKind;
 use std::alloc::Global;
 use std::io::Write;
+use std::process::Processes;
 use std::rt::Files;
+use std::sync::Wait;
+use std::thread::Threads;
 
 // The line of a run that ends for want of memory.
 const NO_MEMORY_LINE: &[u8; 27] = b"nix_realise: run: NoMemory\n";
 
 /// Runs the program on a command line, whose first word is the program's own name, and gives the
-/// status: 0, 2 where the input was refused or a word of `check` is bad, 3 for want of memory or a
-/// refused write, be it to standard output or to a file.
-pub fn run<'a, R: Files + AllocGlobal, O: Write, E: Write>(
+/// status: 0; 1 where a root of `realise` was not realised; 2 where the input was refused or a word
+/// of `check` is bad; 3 for want of memory, workers that end too early or a refused write, be it to
+/// standard output or to a file.
+pub fn run<'a, R: Files + Processes + Threads + Wait + Sync + AllocGlobal, O: Write, E: Write>(
     rt: &R,
     words: &'a [&'a str],
     out: &mut O,
@@ -43,7 +48,7 @@ pub fn run<'a, R: Files + AllocGlobal, O: Write, E: Write>(
 }
 
 // Runs a subcommand, and ends with its status or with the line that tells why it stopped.
-fn run_request<R: Files + AllocGlobal, O: Write, E: Write>(
+fn run_request<R: Files + Processes + Threads + Wait + Sync + AllocGlobal, O: Write, E: Write>(
     rt: &R,
     request: &Request<'_>,
     out: &mut O,
@@ -55,6 +60,7 @@ fn run_request<R: Files + AllocGlobal, O: Write, E: Write>(
         Request::Check(request) => check(rt, request, out),
         Request::AddText(request) => add_text(rt, request, out),
         Request::AddDrv(request) => add_drv(rt, request, out),
+        Request::Realise(request) => realise(rt, request, out),
     };
     match outcome {
         Ok(status) => status,

@@ -3,8 +3,9 @@ ghost use Rattle.std.specs.Prelude.{◌≡◌};
 ghost use Rattle.nix_realise.specs.Stops.{blamed_of, number_of, status_of};
 
 use drv_graph::NodeFault;
-use nix_names::StorePath;
-use std::alloc::AllocError;
+use nix_names::{NameFault, StorePath};
+use std::alloc::{AllocError, AllocFailed};
+use store_run::RunFault;
 use valid_table::TableFault;
 
 /// Why a run ends without its report.
@@ -20,7 +21,9 @@ pub enum Stop<'a> {
     BadDraft(&'a str, NodeFault),
     /// This text, given as a name, is none.
     BadName(&'a str),
-    /// The derivation at this path, which a draft reaches, is refused.
+    /// This text, given as the path of a derivation, is no path of the store folder.
+    NoPath(&'a str, NameFault),
+    /// The derivation at this path, which a draft or a plan reaches, is refused.
     BadDrv(StorePath, NodeFault),
     /// The journal file is there and cannot be read.
     JournalUnreadable,
@@ -30,6 +33,8 @@ pub enum Stop<'a> {
     NotWritten(StorePath),
     /// The journal file cannot be written.
     JournalNotWritten,
+    /// The workers gave no settled book.
+    Run(RunFault),
     /// Memory was refused.
     NoMemory,
     /// Standard output refused a write.
@@ -43,11 +48,13 @@ impl Stop<'_> {
     {
         match self {
             Stop::BadName(_) => 6,
+            Stop::NoPath(_, fault) => fault.number(),
             Stop::BadStoreDir(_) => 7,
             Stop::NoMemory => 9,
             Stop::TooLong(_) => 12,
             Stop::Unreadable(_) | Stop::JournalUnreadable => 20,
             Stop::BadJournal(fault) => fault.number(),
+            Stop::Run(fault) => fault.number(),
             Stop::BadDraft(_, fault) | Stop::BadDrv(_, fault) => fault.number(),
             Stop::NotWritten(_) | Stop::JournalNotWritten | Stop::Unwritable => 74,
         }
@@ -63,9 +70,11 @@ impl Stop<'_> {
             | Stop::TooLong(_)
             | Stop::BadDraft(..)
             | Stop::BadName(_)
+            | Stop::NoPath(..)
             | Stop::BadDrv(..)
             | Stop::BadJournal(_) => 2,
             Stop::JournalUnreadable
+            | Stop::Run(_)
             | Stop::NotWritten(_)
             | Stop::JournalNotWritten
             | Stop::NoMemory
@@ -82,10 +91,11 @@ impl Stop<'_> {
             | Stop::Unreadable(word)
             | Stop::TooLong(word)
             | Stop::BadDraft(word, _)
-            | Stop::BadName(word) => word.as_bytes(),
+            | Stop::BadName(word)
+            | Stop::NoPath(word, _) => word.as_bytes(),
             Stop::BadDrv(path, _) | Stop::NotWritten(path) => path.text(),
             Stop::JournalUnreadable | Stop::BadJournal(_) | Stop::JournalNotWritten => b"journal",
-            Stop::NoMemory | Stop::Unwritable => b"run",
+            Stop::Run(_) | Stop::NoMemory | Stop::Unwritable => b"run",
         }
     }
 }
@@ -96,6 +106,16 @@ impl From<AllocError> for Stop<'_> {
     ghost from_gives = { λ _ stop. stop ≡ NoMemory };
 
     fn from(_: AllocError) -> Self {
+        Stop::NoMemory
+    }
+}
+
+impl<T: Drop> From<AllocFailed<T>> for Stop<'_> {
+    ghost use Rattle.nix_realise.specs.declared.stop.Stop.TheVariants.{NoMemory};
+
+    ghost from_gives = { λ _ stop. stop ≡ NoMemory };
+
+    fn from(_: AllocFailed<T>) -> Self {
         Stop::NoMemory
     }
 }

@@ -4,12 +4,18 @@ mod drvs;
 mod files;
 mod journals;
 mod lines;
+mod realisations;
+mod realising;
 mod runs;
+mod scene;
 mod store;
 
 use crate::run::run;
 use std::io::Write;
+use std::process::Processes;
 use std::rt::{Env, Files};
+use std::sync::Wait;
+use std::thread::Threads;
 use std::{env, fs, io};
 
 /// The derivation of which nothing is set.
@@ -23,8 +29,13 @@ struct Outcome {
     err: Vec<u8>,
 }
 
+/// What a run needs of its host.
+trait Host: Files + AllocGlobal + Processes + Threads + Wait + Sync {}
+
+impl<R: Files + AllocGlobal + Processes + Threads + Wait + Sync> Host for R {}
+
 /// Runs the program on a command line.
-fn run_words<'a, R: Files + AllocGlobal>(rt: &R, words: &'a [&'a str]) -> Outcome {
+fn run_words<'a, R: Host>(rt: &R, words: &'a [&'a str]) -> Outcome {
     let mut out = Vec::new(rt.alloc());
     let mut err = Vec::new(rt.alloc());
     let status = run(rt, words, &mut out, &mut err);

@@ -1,6 +1,6 @@
 //! `add-text` over files on disk.
 use super::store::{GREETING, Store, has, has_written};
-use super::{Narrow, new_folder, run_words};
+use super::{Host, Narrow, new_folder, run_words};
 use crate::run::run;
 use std::rt::{Env, Files};
 use std::test::Fail;
@@ -8,7 +8,7 @@ use std::{fs, io, process};
 
 // Whether the file's bytes under a name in a folder that is none get this path: it is printed, and
 // no file is written.
-fn meets_no_folder<R: Files + AllocGlobal>(rt: &R, store: &Store, path: &str) -> io::Result<bool> {
+fn meets_no_folder<R: Host>(rt: &R, store: &Store, path: &str) -> io::Result<bool> {
     let words = [
         "nix_realise",
         "add-text",
@@ -54,7 +54,7 @@ fn longest_text(rt: HostRuntime) -> Result<(), Fail> {
 }
 
 // Puts what a run finds at the text's path: nothing, another file, a link to `other`.
-fn put_before<R: Files + AllocGlobal>(rt: &R, store: &Store, before: &str) -> io::Result<()> {
+fn put_before<R: Host>(rt: &R, store: &Store, before: &str) -> io::Result<()> {
     match before {
         "a file" => fs::write(rt, store.path.as_str(), b"old"),
         "a link" => rt.symlink(store.at(rt, "other")?.as_str(), store.path.as_str()),
@@ -64,22 +64,26 @@ fn put_before<R: Files + AllocGlobal>(rt: &R, store: &Store, before: &str) -> io
 
 // Whether a run that finds this at the text's path puts the text in its place; the text and the
 // journal are removed again.
-fn replaces<R: Files + AllocGlobal>(rt: &R, store: &Store, before: &str) -> io::Result<bool> {
+fn replaces<R: Host>(rt: &R, store: &Store, before: &str) -> io::Result<bool> {
     put_before(rt, store, before)?;
-    let printed = store.is_printed(rt, &run_words(rt, &store.words()))?;
-    let written = has(rt, store.path.as_str(), GREETING)?;
+    let replaced = puts_text(rt, store)?;
     fs::remove_file(rt, store.path.as_str())?;
-    fs::remove_file(rt, store.journal.as_str())?;
-    Ok(printed && written)
+    fs::remove_file(rt, store.journal.as_str()).map(|()| replaced)
+}
+
+// Whether a run prints the text's path, and puts the text there.
+fn puts_text<R: Host>(rt: &R, store: &Store) -> io::Result<bool> {
+    let printed = store.is_printed(rt, &run_words(rt, &store.words()))?;
+    Ok(printed && has(rt, store.path.as_str(), GREETING)?)
 }
 
 // Writes a file in the store folder, whose text is its name.
-fn put<R: Files + AllocGlobal>(rt: &R, store: &Store, name: &str) -> io::Result<()> {
+fn put<R: Host>(rt: &R, store: &Store, name: &str) -> io::Result<()> {
     fs::write(rt, store.at(rt, name)?.as_str(), name)
 }
 
 // A store folder with a file that another run left behind and one that a link may lead to.
-fn with_others<R: Env + Files + AllocGlobal>(rt: &R, process: u32) -> Result<Store, Fail> {
+fn with_others<R: Env + Host>(rt: &R, process: u32) -> Result<Store, Fail> {
     let store = Store::greeting(rt, process, "replaced")?;
     put(rt, &store, ".nix_realise-0")?;
     put(rt, &store, "other")?;
@@ -101,7 +105,7 @@ fn replaced(rt: HostRuntime) -> Result<(), Fail> {
 }
 
 // Whether a file in the store folder has its name as its text.
-fn stands<R: Files + AllocGlobal>(rt: &R, store: &Store, name: &str) -> bool {
+fn stands<R: Host>(rt: &R, store: &Store, name: &str) -> bool {
     match store.at(rt, name) {
         Ok(file) => has(rt, file.as_str(), name).unwrap_or(false),
         Err(_) => false,
@@ -109,7 +113,7 @@ fn stands<R: Files + AllocGlobal>(rt: &R, store: &Store, name: &str) -> bool {
 }
 
 // Whether a run prints the path and cannot write the text at it, where a folder stands.
-fn is_unwritten<R: Files + AllocGlobal>(rt: &R, store: &Store) -> io::Result<bool> {
+fn is_unwritten<R: Host>(rt: &R, store: &Store) -> io::Result<bool> {
     fs::create_dir(rt, store.path.as_str())?;
     let err = format!(in rt.alloc(); "nix_realise: {}: Unwritable\n", store.path)?;
     let ran = run_words(rt, &store.words());
@@ -125,12 +129,7 @@ fn folder_in_place_of_the_text(rt: HostRuntime) -> Result<(), Fail> {
 }
 
 // Whether a run on these words is refused by this fault, found in the word.
-fn refuses<R: Files + AllocGlobal>(
-    rt: &R,
-    words: [&str; 3],
-    word: &str,
-    fault: &str,
-) -> io::Result<bool> {
+fn refuses<R: Host>(rt: &R, words: [&str; 3], word: &str, fault: &str) -> io::Result<bool> {
     let [dir, name, file] = words;
     let ran = run_words(
         rt,

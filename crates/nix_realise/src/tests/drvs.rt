@@ -1,6 +1,6 @@
 //! `add-drv` over files on disk.
 use super::store::{Store, has, has_written};
-use super::{NOTHING, Outcome, new_folder, run_words};
+use super::{Host, NOTHING, Outcome, new_folder, run_words};
 use nix_drv::text_path;
 use nix_names::{StoreDir, StorePath, make_path};
 use sha2::{Digest, Sha256};
@@ -33,7 +33,7 @@ fn with_draft<R: Env + Files + AllocGlobal>(
 }
 
 // Runs `add-drv` in a folder.
-fn add_drv<R: Files + AllocGlobal>(rt: &R, words: [&str; 3]) -> Outcome {
+fn add_drv<R: Host>(rt: &R, words: [&str; 3]) -> Outcome {
     let [dir, name, file] = words;
     run_words(
         rt,
@@ -41,8 +41,8 @@ fn add_drv<R: Files + AllocGlobal>(rt: &R, words: [&str; 3]) -> Outcome {
     )
 }
 
-// A store path as text.
-fn spelled(alloc: Global, path: &StorePath) -> Result<String, Fail> {
+/// A store path as text.
+pub fn spelled(alloc: Global, path: &StorePath) -> Result<String, Fail> {
     Ok(String::from_str(alloc, str::from_utf8(path.text())?)?)
 }
 
@@ -57,25 +57,40 @@ fn output_of<R: AllocGlobal>(rt: &R, folder: &str) -> Result<String, Fail> {
 // The text of the greeting derivation in a folder, and the path of its file: by the rules alone,
 // since the folder is another one in each run.
 fn filled<R: AllocGlobal>(rt: &R, folder: &str) -> Result<(String, String), Fail> {
-    let alloc = rt.alloc();
-    let dir = StoreDir::new(alloc, folder.as_bytes())?;
     let text = greet(rt, output_of(rt, folder)?.as_str())?;
-    let path = text_path(alloc, &dir, b"greet.drv", text.as_bytes(), &[])?;
-    Ok((text, spelled(alloc, &path)?))
+    let path = drv_path(rt.alloc(), folder, "greet.drv", text.as_str())?;
+    Ok((text, path))
+}
+
+/// The path of a derivation with this text, which has no references.
+pub fn drv_path(alloc: Global, folder: &str, name: &str, text: &str) -> Result<String, Fail> {
+    let dir = StoreDir::new(alloc, folder.as_bytes())?;
+    let path = text_path(alloc, &dir, name.as_bytes(), text.as_bytes(), &[])?;
+    spelled(alloc, &path)
 }
 
 // The draft's file is written and its path printed; what was there is replaced.
 #[test]
 fn greet_draft(rt: HostRuntime) -> Result<(), Fail> {
     let store = with_draft(&rt, process::id(rt.process()), "greet-draft")?;
-    let (text, path) = filled(&rt, store.folder.as_str())?;
-    fs::write(&rt, path.as_str(), b"old")?;
-    let line = format!(in rt.alloc(); "{path}\n")?;
-    let ran = add_drv(&rt, [&store.folder, "greet", &store.file]);
-    assert!(rt; has_written(&ran, line.as_str(), "", 0));
-    assert!(rt; has(&rt, path.as_str(), text.as_str())?);
+    assert!(rt; puts_drv(&rt, &store)?);
     assert!(rt; store.held(&rt, 2)?);
     Ok(())
+}
+
+// Whether a run puts the derivation at its path.
+fn puts_drv<R: Host>(rt: &R, store: &Store) -> Result<bool, Fail> {
+    let (text, path) = filled(rt, store.folder.as_str())?;
+    let printed = prints_over(rt, store, path.as_str())?;
+    Ok(printed && has(rt, path.as_str(), text.as_str())?)
+}
+
+// Whether a run prints the path, at which another file lies.
+fn prints_over<R: Host>(rt: &R, store: &Store, path: &str) -> io::Result<bool> {
+    fs::write(rt, path, b"old")?;
+    let line = format!(in rt.alloc(); "{path}\n")?;
+    let ran = add_drv(rt, [&store.folder, "greet", &store.file]);
+    Ok(has_written(&ran, line.as_str(), "", 0))
 }
 
 // In a folder that is none the file can't be written, and its path isn't printed. The path is what
@@ -91,17 +106,12 @@ fn greet_in_no_folder(rt: HostRuntime) -> Result<(), Fail> {
 }
 
 // Whether a run on these words is refused by this fault, found in the word.
-fn refuses<R: Files + AllocGlobal>(
-    rt: &R,
-    words: [&str; 3],
-    word: &str,
-    fault: &str,
-) -> io::Result<bool> {
+fn refuses<R: Host>(rt: &R, words: [&str; 3], word: &str, fault: &str) -> io::Result<bool> {
     let err = format!(in rt.alloc(); "nix_realise: {word}: {fault}\n")?;
     Ok(has_written(&add_drv(rt, words), "", err.as_str(), 2))
 }
 
-// The folder is looked at before the file, the file and its text before the name.
+// The folder is looked at before the file, the file before the name.
 #[test]
 fn refused_words(rt: HostRuntime) -> Result<(), Fail> {
     let store = with_draft(&rt, process::id(rt.process()), "no-draft")?;
@@ -116,14 +126,27 @@ fn refused_words(rt: HostRuntime) -> Result<(), Fail> {
             "at {word}: {fault}"
         );
     }
-    fs::write(&rt, file, b"Derive(")?;
-    assert!(rt; refuses(&rt, [folder, ".", file], file, "Syntax(7)")?);
     assert!(rt; store.held(&rt, 1)?);
     Ok(())
 }
 
+// The draft's text is looked at before the name.
+#[test]
+fn refused_text(rt: HostRuntime) -> Result<(), Fail> {
+    let store = with_draft(&rt, process::id(rt.process()), "no-text")?;
+    assert!(rt; refuses_text(&rt, &store)?);
+    assert!(rt; store.held(&rt, 1)?);
+    Ok(())
+}
+
+fn refuses_text<R: Host>(rt: &R, store: &Store) -> io::Result<bool> {
+    let file = store.file.as_str();
+    fs::write(rt, file, b"Derive(")?;
+    refuses(rt, [&store.folder, ".", file], file, "Syntax(7)")
+}
+
 // Whether a draft with this text is refused by this fault, found in the word or in the file.
-fn is_refused<R: Files + AllocGlobal>(
+fn is_refused<R: Host>(
     rt: &R,
     store: &Store,
     text: &[u8],
@@ -138,17 +161,40 @@ fn is_refused<R: Files + AllocGlobal>(
 #[test]
 fn refused_drafts(rt: HostRuntime) -> Result<(), Fail> {
     let store = with_draft(&rt, process::id(rt.process()), "bad-draft")?;
-    let file = store.file.as_str();
-    assert!(rt; is_refused(&rt, &store, NOTHING, file, "MixedOutputs")?);
-    let other = greet(&rt, "x")?;
-    let (_, path) = filled(&rt, store.folder.as_str())?;
-    let output = output_of(&rt, store.folder.as_str())?;
-    let fault = format!(in rt.alloc(); "OutputMismatch(\"out\", {output})")?;
-    assert!(rt; is_refused(&rt, &store, other.as_bytes(), file, fault.as_str())?);
+    assert!(rt; refuses_drafts(&rt, &store)?);
+    assert!(rt; store.held(&rt, 1)?);
+    Ok(())
+}
+
+// Whether three drafts are refused: one without outputs, one with another path in its output's
+// place, one whose input has no file.
+fn refuses_drafts<R: Host>(rt: &R, store: &Store) -> Result<bool, Fail> {
+    let nothing = is_refused(rt, store, NOTHING, store.file.as_str(), "MixedOutputs")?;
+    Ok(nothing && refuses_other_path(rt, store)? && refuses_user(rt, store)?)
+}
+
+fn refuses_other_path<R: Host>(rt: &R, store: &Store) -> Result<bool, Fail> {
+    let other = greet(rt, "x")?;
+    let fault = mismatch(rt, store.folder.as_str())?;
+    Ok(is_refused(
+        rt,
+        store,
+        other.as_bytes(),
+        store.file.as_str(),
+        fault.as_str(),
+    )?)
+}
+
+// The fault of a draft whose output should have the greeting's path.
+fn mismatch<R: AllocGlobal>(rt: &R, folder: &str) -> Result<String, Fail> {
+    let output = output_of(rt, folder)?;
+    Ok(format!(in rt.alloc(); "OutputMismatch(\"out\", {output})")?)
+}
+
+fn refuses_user<R: Host>(rt: &R, store: &Store) -> Result<bool, Fail> {
+    let (_, path) = filled(rt, store.folder.as_str())?;
     let user = format!(in rt.alloc();
         r#"Derive([("out","","","")],[("{path}",["out"])],[],"","",[],[])"#
     )?;
-    assert!(rt; is_refused(&rt, &store, user.as_bytes(), path.as_str(), "Unreadable")?);
-    assert!(rt; store.held(&rt, 1)?);
-    Ok(())
+    Ok(is_refused(rt, store, user.as_bytes(), path.as_str(), "Unreadable")?)
 }

@@ -1,5 +1,5 @@
 //! `check` over files on disk.
-use super::{NOTHING, new_folder, run_words};
+use super::{Host, NOTHING, new_folder, run_words};
 use crate::folder::FolderSource;
 use nix_drv::{DrvSource, SourceFault, text_path};
 use nix_names::{StoreDir, StorePath};
@@ -29,19 +29,13 @@ fn line<R: AllocGlobal>(rt: &R, path: &str, fault: &str) -> io::Result<String> {
 }
 
 // Whether `check` of a path prints this fault and has this status.
-fn is_told<R: Files + AllocGlobal>(
-    rt: &R,
-    folder: &str,
-    path: &str,
-    fault: &str,
-    status: u8,
-) -> io::Result<bool> {
+fn is_told<R: Host>(rt: &R, folder: &str, path: &str, fault: &str, status: u8) -> io::Result<bool> {
     let ran = run_words(rt, &["nix_realise", "check", "--store-dir", folder, path]);
     Ok(ran.out.as_slice() == line(rt, path, fault)?.as_bytes() && ran.status == status)
 }
 
 // Whether `check` of a path whose file has these bytes prints this fault and has this status.
-fn is_checked<R: Files + AllocGlobal>(
+fn is_checked<R: Host>(
     rt: &R,
     folder: &str,
     path: &StorePath,
@@ -84,11 +78,7 @@ fn long_file(rt: HostRuntime) -> Result<(), Fail> {
 }
 
 // Whether a folder in the place of a path's file is a failure of the device, and is told.
-fn is_failure<R: Files + AllocGlobal>(
-    rt: &R,
-    folder: &str,
-    path: &StorePath,
-) -> Result<bool, Fail> {
+fn is_failure<R: Host>(rt: &R, folder: &str, path: &StorePath) -> Result<bool, Fail> {
     let word = str::from_utf8(path.text())?;
     fs::create_dir(rt, word)?;
     let mut source = FolderSource::new(rt);

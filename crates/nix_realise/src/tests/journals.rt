@@ -1,6 +1,6 @@
 //! The journal of `add-text`, in files on disk.
 use super::store::{GREETING, Store, has, has_written};
-use super::{Narrow, new_folder, run_words};
+use super::{Host, Narrow, new_folder, run_words};
 use crate::run::run;
 use std::alloc::{AllocError, Global};
 use std::rt::{Env, Files};
@@ -14,19 +14,14 @@ const HELLO: &str = "5891b5b522d5df086d0ff0b110fbd9d21bb4fc7163af34d08286a2e846f
 
 // Whether a run prints the path, and leaves the text of a journal that registers it with this
 // digest behind the lines.
-fn registers<R: Files + AllocGlobal>(
-    rt: &R,
-    store: &Store,
-    before: &str,
-    digest: &str,
-) -> io::Result<bool> {
+fn registers<R: Host>(rt: &R, store: &Store, before: &str, digest: &str) -> io::Result<bool> {
     let printed = store.is_printed(rt, &run_words(rt, &store.words()))?;
     let after = format!(in rt.alloc(); "{before}A {} {digest}\n", store.path)?;
     Ok(printed && has(rt, store.journal.as_str(), after.as_str())?)
 }
 
 // Removes the text, and puts a link to the journal in the journal's place.
-fn take_away<R: Files + AllocGlobal>(rt: &R, store: &Store) -> io::Result<()> {
+fn take_away<R: Host>(rt: &R, store: &Store) -> io::Result<()> {
     fs::remove_file(rt, store.path.as_str())?;
     let moved = store.at(rt, "moved")?;
     fs::rename(rt, store.journal.as_str(), moved.as_str())?;
@@ -48,7 +43,7 @@ fn add_text_empty_twice(rt: HostRuntime) -> Result<(), Fail> {
 }
 
 // Whether the first run writes text and journal, and the second neither.
-fn is_kept<R: Files + AllocGlobal>(rt: &R, store: &Store) -> io::Result<bool> {
+fn is_kept<R: Host>(rt: &R, store: &Store) -> io::Result<bool> {
     let first = registers(rt, store, "realiser-journal 1\n", NOTHING)?;
     let written = has(rt, store.path.as_str(), "")?;
     take_away(rt, store)?;
@@ -65,12 +60,18 @@ fn is_link<R: Files>(rt: &R, path: &str) -> bool {
 }
 
 // Whether a run with this journal file puts its entry behind the one that is there.
-fn adds_behind<R: Files + AllocGlobal>(rt: &R, store: &Store, given: &str) -> io::Result<bool> {
+fn adds_behind<R: Host>(rt: &R, store: &Store, given: &str) -> io::Result<bool> {
     let before = format!(in rt.alloc();
         "realiser-journal 1\nA {}/aaaaaaaaaaaaaaaaaaaaaaaaaaaaaaaa-x -\n",
         store.folder
     )?;
     fs::write(rt, given, before.as_bytes())?;
+    grows(rt, store, given, before.as_str())
+}
+
+// Whether a run with this journal file, which has these lines, prints the path and puts its entry
+// behind them.
+fn grows<R: Host>(rt: &R, store: &Store, given: &str, before: &str) -> io::Result<bool> {
     let printed = store.is_printed(rt, &run_words(rt, &store.words_with(given)))?;
     let after = format!(in rt.alloc(); "{before}A {} {HELLO}\n", store.path)?;
     Ok(printed && has(rt, given, after.as_str())?)
@@ -86,11 +87,16 @@ fn given_journal(rt: HostRuntime) -> Result<(), Fail> {
 }
 
 // Whether a run with a journal file leaves the other one as it is, and writes the text.
-fn leaves_other_journal<R: Files + AllocGlobal>(rt: &R, store: &Store) -> io::Result<bool> {
+fn leaves_other_journal<R: Host>(rt: &R, store: &Store) -> io::Result<bool> {
     fs::write(rt, store.journal.as_str(), b"none")?;
     let added = adds_behind(rt, store, store.at(rt, "given")?.as_str())?;
-    let left = has(rt, store.journal.as_str(), "none")?;
-    Ok(added && left && has(rt, store.path.as_str(), GREETING)?)
+    Ok(added && has_both(rt, store))
+}
+
+// Whether the journal file has the text `none`, and the text stands at its path.
+fn has_both<R: Host>(rt: &R, store: &Store) -> bool {
+    has(rt, store.journal.as_str(), "none").unwrap_or(false)
+        && has(rt, store.path.as_str(), GREETING).unwrap_or(false)
 }
 
 // The journal's folder is missing: the path is printed and the text written.
@@ -103,7 +109,7 @@ fn journal_that_cannot_be_written(rt: HostRuntime) -> Result<(), Fail> {
 }
 
 // Whether a run writes the text, and tells that it cannot write the journal.
-fn writes_text_alone<R: Files + AllocGlobal>(rt: &R, store: &Store) -> io::Result<bool> {
+fn writes_text_alone<R: Host>(rt: &R, store: &Store) -> io::Result<bool> {
     let given = store.at(rt, "none/f")?;
     let ran = run_words(rt, &store.words_with(given.as_str()));
     let out = store.line(rt)?;
@@ -131,18 +137,12 @@ fn push_path(text: &mut String, folder: &str, rest: &str) -> Result<(), AllocErr
 }
 
 // Whether a run refuses the journal with this fault, prints nothing, and leaves it as it is.
-fn refuses<R: Files + AllocGlobal>(
-    rt: &R,
-    store: &Store,
-    lines: &str,
-    fault: &str,
-) -> io::Result<bool> {
+fn refuses<R: Host>(rt: &R, store: &Store, lines: &str, fault: &str) -> io::Result<bool> {
     let journal = journal_of(rt.alloc(), store.folder.as_str(), lines)?;
     fs::write(rt, store.journal.as_str(), journal.as_bytes())?;
-    let ran = run_words(rt, &store.words());
     let err = format!(in rt.alloc(); "nix_realise: journal: {fault}\n")?;
-    let told = has_written(&ran, "", err.as_str(), 2);
-    Ok(told && has(rt, store.journal.as_str(), journal.as_str())?)
+    let told = has_written(&run_words(rt, &store.words()), "", err.as_str(), 2);
+    Ok(told && has(rt, store.journal.as_str(), journal.as_str()).unwrap_or(false))
 }
 
 #[test]
@@ -163,12 +163,7 @@ fn refused_journals(rt: HostRuntime) -> Result<(), Fail> {
 }
 
 // Whether a run refuses a journal of so many newlines with this line.
-fn refuses_newlines<R: Files + AllocGlobal>(
-    rt: &R,
-    store: &Store,
-    length: usize,
-    err: &str,
-) -> io::Result<bool> {
+fn refuses_newlines<R: Host>(rt: &R, store: &Store, length: usize, err: &str) -> io::Result<bool> {
     let journal = vec![in rt.alloc(); b'\n'; length]?;
     fs::write(rt, store.journal.as_str(), journal)?;
     Ok(has_written(&run_words(rt, &store.words()), "", err, 2))

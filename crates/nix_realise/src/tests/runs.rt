@@ -17,7 +17,8 @@ fn help(rt: HostRuntime) {
     let ran = run_words(&rt, &["nix_realise", "--help"]);
     assert!(rt;
         ran.out.starts_with(
-            b"Checks store derivations, and adds texts and derivations to a store\n\nUsage: nix_realise <COMMAND>\n"
+            b"Checks and realises store derivations, and adds texts and derivations to a store\n\n\
+                Usage: nix_realise <COMMAND>\n"
         )
     );
     assert_eq!(rt; ran.err.len(), 0);

@@ -45,15 +45,21 @@ impl Store {
         name: &str,
         bytes: &[u8],
     ) -> Result<Store, Fail> {
-        let store = Store {
-            file: format!(in rt.alloc(); "{folder}/file")?,
-            path: path_of(rt.alloc(), folder.as_str(), name, bytes)?,
-            journal: format!(in rt.alloc(); "{folder}/realiser-journal")?,
-            name: String::from_str(rt.alloc(), name)?,
-            folder,
-        };
+        let path = path_of(rt.alloc(), folder.as_str(), name, bytes)?;
+        let store = Store::at_path(rt.alloc(), folder, name, path)?;
         fs::write(rt, store.file.as_str(), bytes)?;
         Ok(store)
+    }
+
+    // A store folder whose file is not written yet.
+    fn at_path(alloc: Global, folder: String, name: &str, path: String) -> io::Result<Store> {
+        Ok(Store {
+            file: format!(in alloc; "{folder}/file")?,
+            journal: format!(in alloc; "{folder}/realiser-journal")?,
+            name: String::from_str(alloc, name)?,
+            path,
+            folder,
+        })
     }
 
     /// The words of `add-text`.

@@ -1,0 +1,76 @@
+-- The command line, in `clap`'s words for one: its subcommands, and the words and options of each
+-- (the documentation of clap 4, `Command` and `Arg`).
+use Rattle.std.specs.Prelude.{ℕ, List, [], ◌∷◌, Some, true, pos, codes}
+use Rattle.clap.specs.Words.{App, Rule, new_app, new_rule, with_rule, with_subcommand}
+use Rattle.clap.specs.declared.builder.action.ArgAction.TheVariants.{Append}
+use Rattle.clap.specs.declared.builder.value_parser.ValueParser.TheVariants.{Signed}
+
+-- an option with one value
+abbrev pub option : (name : List ℕ) → Rule
+option name = record (new_rule name) { long = Some name; value_names = 1 }
+
+-- the same with the value that it has where it isn't given
+abbrev pub option_or : (name default : List ℕ) → Rule
+option_or name default = record (option name) { defaults = default ∷ [] }
+
+-- a word that has to be given
+abbrev pub required_word : List ℕ → Rule
+required_word name = record (new_rule name) { required = true }
+
+abbrev pub store_dir_option : Rule
+store_dir_option = option_or (codes "store-dir") (codes "/nix/store")
+
+abbrev pub journal_option : Rule
+journal_option = option (codes "journal")
+
+abbrev pub system_option : Rule
+system_option = option_or (codes "system") (codes "x86_64-linux")
+
+-- a whole number from 1 to 64
+abbrev pub jobs_option : Rule
+jobs_option = record (option_or (codes "jobs") (codes "1")) {
+  parser = Some (Signed (pos 1) (pos 64));
+}
+
+-- words of which there is one or more
+abbrev pub drv_words : Rule
+drv_words = record (required_word (codes "DRV")) { action = Some Append }
+
+abbrev pub check_line : App
+check_line = with_rule (with_rule (new_app (codes "check")) store_dir_option) drv_words
+
+abbrev pub add_text_line : App
+add_text_line =
+    with_rule
+    (with_rule (with_rule (with_rule (new_app (codes "add-text")) store_dir_option) journal_option)
+    (required_word (codes "NAME"))) (required_word (codes "FILE"))
+
+abbrev pub add_drv_line : App
+add_drv_line =
+    with_rule
+    (with_rule (with_rule (new_app (codes "add-drv")) store_dir_option)
+    (required_word (codes "NAME"))) (required_word (codes "FILE"))
+
+abbrev pub realise_line : App
+realise_line =
+    with_rule
+    (with_rule
+    (with_rule (with_rule (with_rule (new_app (codes "realise")) store_dir_option) journal_option)
+    system_option) jobs_option) drv_words
+
+-- the program, which has a version and wants a subcommand
+abbrev pub top_line : App
+top_line =
+    let top = (new_app (codes "nix_realise")).top in
+    record {
+      top = record top { has_version = true; subcommand_required = true };
+      subs = [];
+    }
+
+abbrev pub with_adding_lines : App → App
+with_adding_lines app = with_subcommand (with_subcommand app add_text_line.top) add_drv_line.top
+
+-- the whole command line
+abbrev pub command_line : App
+command_line =
+    with_subcommand (with_adding_lines (with_subcommand top_line check_line.top)) realise_line.top
