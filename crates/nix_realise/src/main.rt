@@ -72,11 +72,11 @@ fn main(rt: HostRuntime) -> ExitCode {
 }
 
 // Runs the program on the arguments of the process.
-fn run_arguments<R: Env + Files + Processes + Threads + Wait + Sync + AllocGlobal, O: Write, E: Write>(
-    rt: &R,
-    out: &mut O,
-    err: &mut E,
-) -> u8
+fn run_arguments<
+    R: Env + Files + Processes + Threads + Wait + Sync + AllocGlobal,
+    O: Write,
+    E: Write,
+>(rt: &R, out: &mut O, err: &mut E) -> u8
     ensures { IsStatus result }
 {
     match arguments(rt) {

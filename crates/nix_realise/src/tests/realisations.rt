@@ -1,7 +1,8 @@
 //! `realise` with builders that run.
 use super::Host;
-use super::scene::{Drv, is_left, is_realised, put_draft, put_drv, realise, realise_for, scene};
-use super::scene::realise_all;
+use super::scene::{
+    Drv, is_left, is_realised, put_draft, put_drv, realise, realise_all, realise_for, scene,
+};
 use super::store::{Store, has};
 use std::test::Fail;
 use std::{fs, process};
@@ -151,7 +152,11 @@ fn refused_for_own_cause(rt: HostRuntime) -> Result<(), Fail> {
     let key = r#"("allowedReferences","x")"#;
     for (name, parts, why) in [
         ("system", ["aarch64-linux", "/bin/sh", ""], "WrongSystem"),
-        ("builtin", ["x86_64-linux", "builtin:fetchurl", ""], "Unsupported"),
+        (
+            "builtin",
+            ["x86_64-linux", "builtin:fetchurl", ""],
+            "Unsupported",
+        ),
         ("key", ["x86_64-linux", "/bin/sh", key], "Unsupported"),
     ] {
         assert!(rt; is_refused(&rt, &store, name, parts, why)?, "at {name}");
@@ -164,7 +169,13 @@ fn refused_for_own_cause(rt: HostRuntime) -> Result<(), Fail> {
 // Whether a derivation with a source that is not registered is refused.
 fn misses_source<R: Host>(rt: &R, store: &Store) -> Result<bool, Fail> {
     let source = format!(in rt.alloc(); "\"{}\"", store.path)?;
-    let drv = put_drv(rt, store, "user", ["", source.as_str(), "x86_64-linux"], "exit 0")?;
+    let drv = put_drv(
+        rt,
+        store,
+        "user",
+        ["", source.as_str(), "x86_64-linux"],
+        "exit 0",
+    )?;
     let why = format!(in rt.alloc(); "MissingSource({})", store.path)?;
     is_left(rt, &realise(rt, store, &drv), "refused", &drv, why.as_str())
 }
@@ -191,14 +202,26 @@ fn put_user<R: Host>(
     script: &str,
 ) -> Result<Drv, Fail> {
     let inputs = input(rt, of)?;
-    put_drv(rt, store, name, [inputs.as_str(), "", "x86_64-linux"], script)
+    put_drv(
+        rt,
+        store,
+        name,
+        [inputs.as_str(), "", "x86_64-linux"],
+        script,
+    )
 }
 
 // Puts a derivation that uses two others; inputs stand by path.
 fn put_last<R: Host>(rt: &R, store: &Store, b: &Drv, c: &Drv) -> Result<Drv, Fail> {
     let (first, second) = if b.path < c.path { (b, c) } else { (c, b) };
     let inputs = format!(in rt.alloc(); "{},{}", input(rt, first)?, input(rt, second)?)?;
-    put_drv(rt, store, "d", [inputs.as_str(), "", "x86_64-linux"], "echo > $out")
+    put_drv(
+        rt,
+        store,
+        "d",
+        [inputs.as_str(), "", "x86_64-linux"],
+        "echo > $out",
+    )
 }
 
 // The derivations of a diamond: `b` and `c` use `a`, `d` uses both; these scripts build `b` and
@@ -254,7 +277,12 @@ fn push_told<R: Host>(
 fn builds_all<R: Host>(rt: &R, store: &Store, jobs: &str) -> Result<bool, Fail> {
     let [a, b, c, d] = diamond(rt, store, "echo > $out")?;
     let ran = realise_all(rt, store, jobs, &[&d.path]);
-    let lines = [(&a, "built", ""), (&b, "built", ""), (&c, "built", ""), (&d, "built", "")];
+    let lines = [
+        (&a, "built", ""),
+        (&b, "built", ""),
+        (&c, "built", ""),
+        (&d, "built", ""),
+    ];
     let output = format!(in rt.alloc(); "output {}\n", d.output())?;
     Ok(ran.status == 0 && tells(rt, &ran.out, &lines, output.as_str())?)
 }
@@ -281,16 +309,15 @@ fn fails_in_the_middle<R: Host>(rt: &R, store: &Store) -> Result<bool, Fail> {
     is_told(rt, store, [&a, &b, &c, &d, &other], refused.as_str())
 }
 
-fn is_told<R: Host>(
-    rt: &R,
-    store: &Store,
-    drvs: [&Drv; 5],
-    refused: &str,
-) -> Result<bool, Fail> {
+fn is_told<R: Host>(rt: &R, store: &Store, drvs: [&Drv; 5], refused: &str) -> Result<bool, Fail> {
     let [a, b, c, d, other] = drvs;
     let ran = realise_all(rt, store, "3", &[&d.path, &other.path]);
     let status = ": ExitStatus(3)";
-    let failed = [(b, "failed", status), (c, "failed", status), (d, "refused", refused)];
+    let failed = [
+        (b, "failed", status),
+        (c, "failed", status),
+        (d, "refused", refused),
+    ];
     let [first, second, third] = failed;
     let lines = [(a, "built", ""), first, second, third, (other, "built", "")];
     let output = format!(in rt.alloc(); "output {}\n", other.output())?;

@@ -98,9 +98,36 @@ pub fn realise_for<R: Host>(rt: &R, store: &Store, drv: &Drv, system: &str) -> O
 pub fn realise_all<R: Host>(rt: &R, store: &Store, jobs: &str, paths: &[&String]) -> Outcome {
     let folder = store.folder.as_str();
     let words = match paths {
-        [path] => ["nix_realise", "realise", "--store-dir", folder, "--jobs", jobs, path, path],
-        [path, other, ..] => ["nix_realise", "realise", "--store-dir", folder, "--jobs", jobs, path, other],
-        [] => ["nix_realise", "realise", "--store-dir", folder, "--jobs", jobs, "x", "x"],
+        [path] => [
+            "nix_realise",
+            "realise",
+            "--store-dir",
+            folder,
+            "--jobs",
+            jobs,
+            path,
+            path,
+        ],
+        [path, other, ..] => [
+            "nix_realise",
+            "realise",
+            "--store-dir",
+            folder,
+            "--jobs",
+            jobs,
+            path,
+            other,
+        ],
+        [] => [
+            "nix_realise",
+            "realise",
+            "--store-dir",
+            folder,
+            "--jobs",
+            jobs,
+            "x",
+            "x",
+        ],
     };
     run_words(rt, &words)
 }
