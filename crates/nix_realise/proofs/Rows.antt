@@ -1,6 +1,6 @@
 -- What the matches of a subcommand say, by the rows of what was found.
 use Rattle.std.proofs.Common.{◌≡◌, ◌∙◌, refl, subst, sym, ℕ, List, Option, Some, None}
-use Rattle.std.specs.Prelude.{◌<◌, ◌^◌, Ok, Err, Result, IfOk, IfSome, MatchOption, option_map}
+use Rattle.std.specs.Prelude.{Ok, Err, Result, IfOk, IfSome, MatchOption, option_map}
 use Rattle.std.specs.Str.Parse.{ParsesUnsigned}
 use Rattle.clap.specs.Words.{ReadsOne, all_of, first_of, first_value, found_of, matched_of, one_of}
 use Rattle.clap.specs.Words.{Row, one_text, raw_values, rows_of, subcommand_name_of, subcommand_of}
@@ -48,7 +48,8 @@ jobs_read text (Some count) n P made number = rw made number
 -- two parts of a value that is there, each by itself and together
 parts_agree : (B X Y : Type 0) (found : Option B) (name : B → X) (rows : B → Y) (n : X) (r : Y)
     → Some n ≡ option_map name found
-    → Some r ≡ option_map (λ (p : X × Y). p.1) (option_map {U = X × Y} (λ b. (name b, rows b)) found)
+    → Some r
+    ≡ option_map (λ (p : X × Y). p.1) (option_map {U = X × Y} (λ b. (name b, rows b)) found)
     → option_map {U = X × Y} (λ b. (name b, rows b)) found ≡ Some (n, r)
 parts_agree B X Y None name rows n r a b = cc
 parts_agree B X Y (Some found) name rows n r a b =

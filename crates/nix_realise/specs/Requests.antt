@@ -1,6 +1,7 @@
 -- What a command line asks for: the subcommand that `clap` meets, and its words and options, with
 -- the defaults where none stand (the documentation of clap 4, `ArgMatches`).
-use Rattle.std.specs.Prelude.{◌≡◌, ℕ, List, [], Option, Some, None, codes, map, option_map, unwrap_or}
+use Rattle.std.specs.Prelude.{◌≡◌, ℕ, List, [], Option, Some, None, codes, map, option_map}
+use Rattle.std.specs.Prelude.{unwrap_or}
 use Rattle.std.specs.Str.Parse.{IsNumeral, digits_value, without_leading_plus}
 use Rattle.clap.specs.Words.{Row, all_of, first_of, one_of, subcommand_of}
 use Rattle.nix_realise.specs.CommandLine.{command_line}

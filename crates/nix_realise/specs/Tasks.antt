@@ -1,5 +1,5 @@
--- What `realise` makes of its request and of what its files gave: a plan and a journal, or the first
--- of its faults.
+-- What `realise` makes of its request and of what its files gave: a plan and a journal, or the
+-- first of its faults.
 use Rattle.std.specs.Prelude.{◌≡◌, ℕ, List, ◌∷◌, ◌++◌, All, Some, None, Result, Ok, Err, map}
 use Rattle.std.specs.Borrow.{Bor}
 use Rattle.std.specs.Global.{Vec}
@@ -15,7 +15,8 @@ use Rattle.nix_realise.specs.declared.files.FileFault.TheVariants as file
 use Rattle.nix_realise.specs.declared.options.RealiseRequest.{RealiseRequest}
 use Rattle.nix_realise.specs.declared.stop.Stop.{Stop}
 use Rattle.nix_realise.specs.declared.stop.Stop.TheVariants.{BadStoreDir, NoPath, BadDrv}
-use Rattle.nix_realise.specs.declared.stop.Stop.TheVariants.{JournalUnreadable, BadJournal, NoMemory}
+use Rattle.nix_realise.specs.declared.stop.Stop.TheVariants.{JournalUnreadable, BadJournal}
+use Rattle.nix_realise.specs.declared.stop.Stop.TheVariants.{NoMemory}
 use Rattle.nix_realise.specs.declared.task.Task.{Task}
 
 -- the words are paths of the folder

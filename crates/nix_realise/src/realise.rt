@@ -21,9 +21,9 @@ use store_run::{Build, RunFault};
 use valid_table::ListOutlet;
 
 /// Builds what is wanted of the request's derivations, writes the journal and prints the report.
-/// What is refused, and in which order, is the answer of `task_of`; nothing is run then. Once the workers
-/// gave a book the journal is written, whatever became of them; nothing is printed where they
-/// ended before all was settled, or where the journal is not written.
+/// What is refused, and in which order, is the answer of `task_of`; nothing is run then. Once the
+/// workers gave a book the journal is written, whatever became of them; nothing is printed where
+/// they ended before all was settled, or where the journal is not written.
 pub fn realise<'a, R, O>(rt: &R, request: &RealiseRequest<'a>, out: &mut O) -> Result<u8, Stop<'a>>
 where
     R: Files + AllocGlobal + Processes + Threads + Wait + Sync,

@@ -43,7 +43,7 @@ fn run_words<'a, R: Host>(rt: &R, words: &'a [&'a str]) -> Outcome {
 }
 
 /// A folder of its own for each process and test.
-pub fn new_folder<R: Env + Files + AllocGlobal>(
+fn new_folder<R: Env + Files + AllocGlobal>(
     rt: &R,
     process: u32,
     test: &str,

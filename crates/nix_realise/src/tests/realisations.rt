@@ -101,8 +101,9 @@ fn flat_fixed_output(rt: HostRuntime) -> Result<(), Fail> {
 // Puts a derivation with the outputs `dev` and `out`.
 fn put_two<R: Host>(rt: &R, store: &Store, name: &str, script: &str) -> Result<Drv, Fail> {
     let outputs = r#"("dev","","",""),("out","","","")"#;
+    let build = format!(in rt.alloc(); r#""x86_64-linux","/bin/sh",["-c","{script}"]"#)?;
     let draft = format!(in rt.alloc();
-        r#"Derive([{outputs}],[],[],"x86_64-linux","/bin/sh",["-c","{script}"],[("dev",""),("out","")])"#
+        r#"Derive([{outputs}],[],[],{build},[("dev",""),("out","")])"#
     )?;
     put_draft(rt, store, name, draft.as_str())
 }

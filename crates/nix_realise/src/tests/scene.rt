@@ -41,8 +41,9 @@ pub fn put_drv<R: Host>(
     script: &str,
 ) -> Result<Drv, Fail> {
     let [inputs, sources, system] = parts;
+    let build = format!(in rt.alloc(); r#""{system}","/bin/sh",["-c","{script}"]"#)?;
     let draft = format!(in rt.alloc();
-        r#"Derive([("out","","","")],[{inputs}],[{sources}],"{system}","/bin/sh",["-c","{script}"],[("out","")])"#
+        r#"Derive([("out","","","")],[{inputs}],[{sources}],{build},[("out","")])"#
     )?;
     put_draft(rt, store, name, draft.as_str())
 }

@@ -1,5 +1,5 @@
-use Rattle.std.proofs.Common.{◌≡◌, ◌∙◌, ap, refl, true}
-use Rattle.clap.specs.Words.{app_of, is_simple}
+use Rattle.std.proofs.Common.{◌≡◌, ◌∙◌, ap, map, refl, true, ℕ, List}
+use Rattle.clap.specs.Words.{App, is_simple, subcommand_of}
 use Rattle.clap.proofs.OnLiterals.{clap_on_literals}
 use Rattle.nix_realise.proofs.Rows.{asked, met}
 use Rattle.nix_realise.specs.CommandLine.{command_line}
@@ -12,7 +12,9 @@ is_read = refl
 pub returns-in-Some : goal.returns-in-Some
 returns-in-Some c =
     let line = c.in_ok-command.ensures in
+    let words : List (List ℕ) = map (λ w. w.now) c.args.words.now in
     let matches = c.in_ok-matches.ensures.matches (ap is_simple line ∙ is_read) in
     let found = met c.in_ok-matches.matches _ _ c.in-Some.ensures.name c.in-Some.ensures.rows in
-    asked _ c.in_ok-matches.matches _ _ _ _ (rw line at matches.1) found
+    asked words c.in_ok-matches.matches _ _ _ _
+    (matches.1 ∙ ap (λ (app : App). subcommand_of app words) line) found
     c.subcommand_request.ensures
