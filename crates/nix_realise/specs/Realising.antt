@@ -1,5 +1,5 @@
 -- How a run of `realise` ends: its status, and what standard output got.
-use Rattle.std.specs.Prelude.{◌≡◌, ◌⊎◌, ⊤, ℕ, List, Option, Result, Ok, Err, if◌then◌else◌}
+use Rattle.std.specs.Prelude.{◌≡◌, ◌⊎◌, ℕ, List, Option, Result, Ok, Err, if◌then◌else◌}
 use Rattle.std.specs.Io.KnownBytes.{Appends}
 use Rattle.std.specs.List.{list_all}
 use Rattle.sched_core.specs.Books.{Ledger}
@@ -70,7 +70,8 @@ RealiseEndsBy may request gave before after result =
     × (RunEnds may request task before after result
     ⊎ ((result ≡ Err NoMemory) × (after ≡ before))))
 
--- how a run ends: nothing is known of what the journal file gave, nor of what a builder gives
-abbrev pub RealiseEnds : RealiseRequest → (before after : Option (List ℕ)) → Result ℕ Stop → Type 0
-RealiseEnds request before after result =
-    (gave : FileBytes) × RealiseEndsBy (λ _ _. ⊤) request gave before after result
+-- how a run ends: nothing is known of what the journal file gave
+abbrev pub RealiseEnds : May → RealiseRequest → (before after : Option (List ℕ)) → Result ℕ Stop
+    → Type 0
+RealiseEnds may request before after result =
+    (gave : FileBytes) × RealiseEndsBy may request gave before after result

@@ -2,21 +2,29 @@
 ghost use Rattle.std.specs.Prelude.{◌≡◌, IfOk, length};
 
 use crate::options::RealiseRequest;
-use crate::process_build::ProcessBuild;
-use std::alloc::AllocError;
-use std::process::Processes;
-use std::rt::Files;
+use std::alloc::{AllocError, Global};
+use store_run::Build;
 
-/// A builder by processes for each worker that a request asks for.
-pub fn builders<'a, R: Files + AllocGlobal + Processes>(
-    rt: &'a R,
-    request: &RealiseRequest<'a>,
-) -> Result<Vec<ProcessBuild<'a, R, R>>, AllocError>
+/// What makes the builders of a run.
+pub trait Builders {
+    /// What is made.
+    type Builder: Build + Send + Drop;
+
+    /// A builder in this store folder.
+    fn builder(&self, alloc: Global, store_dir: &str) -> Result<Self::Builder, AllocError>;
+}
+
+/// A builder for each worker that a request asks for.
+pub fn make_all<M: Builders>(
+    alloc: Global,
+    make: &M,
+    request: &RealiseRequest<'_>,
+) -> Result<Vec<M::Builder>, AllocError>
     ensures { IfOk result (λ builders. length builders.items ≡ request.now.jobs) }
 {
-    let mut builders = Vec::new(rt.alloc());
+    let mut builders = Vec::new(alloc);
     for _ in 0..request.jobs.count() {
-        builders.push(ProcessBuild::new(rt, rt, request.store_dir))?;
+        builders.push(make.builder(alloc, request.store_dir)?)?;
     }
     Ok(builders)
 }

@@ -53,50 +53,54 @@ mod verdict;
 mod whole_file;
 mod words;
 
+use builders::Builders;
+use process_build::ByProcesses;
 use run::{print_no_memory, refuse_words, run};
 use std::alloc::{AllocError, Global};
 use std::io::{BufWriter, ErrorKind, Write};
-use std::process::{ExitCode, Processes};
+use std::process::ExitCode;
 use std::rt::{Env, Files};
 use std::sync::Wait;
 use std::thread::Threads;
 use std::{env, io};
 
 fn main(rt: HostRuntime) -> ExitCode {
+    let make = ByProcesses::new(&rt, &rt);
     let mut err = rt.stderr();
     let status = match BufWriter::new(rt.alloc(), io::writer(&rt)) {
-        Ok(mut out) => run_arguments(&rt, &mut out, &mut err),
+        Ok(mut out) => run_arguments(&rt, &make, &mut out, &mut err),
         Err(_) => print_no_memory(&mut err),
     };
     ExitCode::from(status)
 }
 
 // Runs the program on the arguments of the process.
-fn run_arguments<
-    R: Env + Files + Processes + Threads + Wait + Sync + AllocGlobal,
+fn run_arguments<R, M, O, E>(rt: &R, make: &M, out: &mut O, err: &mut E) -> u8
+where
+    R: Env + Files + Threads + Wait + Sync + AllocGlobal,
+    M: Builders,
     O: Write,
     E: Write,
->(rt: &R, out: &mut O, err: &mut E) -> u8
     ensures { IsStatus result }
 {
     match arguments(rt) {
-        Ok(arguments) => run_texts(rt, &arguments, out, err),
+        Ok(arguments) => run_texts(rt, make, &arguments, out, err),
         Err(error) if error.kind() == ErrorKind::InvalidData => refuse_words(rt.alloc(), out, err),
         Err(_) => print_no_memory(err),
     }
 }
 
 // Runs the program on these arguments.
-fn run_texts<R: Files + Processes + Threads + Wait + Sync + AllocGlobal, O: Write, E: Write>(
-    rt: &R,
-    arguments: &[String],
-    out: &mut O,
-    err: &mut E,
-) -> u8
+fn run_texts<R, M, O, E>(rt: &R, make: &M, arguments: &[String], out: &mut O, err: &mut E) -> u8
+where
+    R: Files + Threads + Wait + Sync + AllocGlobal,
+    M: Builders,
+    O: Write,
+    E: Write,
     ensures { IsStatus result }
 {
     match texts(rt.alloc(), arguments) {
-        Ok(words) => run(rt, &words, out, err),
+        Ok(words) => run(rt, make, &words, out, err),
         Err(_) => print_no_memory(err),
     }
 }

@@ -18,6 +18,7 @@ mod start;
 #[cfg(test)]
 mod tests;
 
+use crate::builders::Builders;
 use crate::files::file_path;
 use call::Call;
 use reading::read_outputs;
@@ -25,6 +26,7 @@ use reasons::no_start;
 use removal::remove;
 use sched_core::{Answer, Job, Reason};
 use start::run_builder;
+use std::alloc::{AllocError, Global};
 use std::fs;
 use std::process::Processes;
 use std::rt::Files;
@@ -39,17 +41,48 @@ use store_run::Build;
 pub struct ProcessBuild<'a, R, P> {
     rt: &'a R,
     processes: &'a P,
-    store_dir: &'a str,
+    store_dir: String,
 }
 
 impl<'a, R, P> ProcessBuild<'a, R, P> {
     /// Builds in this store folder, with the files and memory of a runtime and these processes.
-    pub fn new(rt: &'a R, processes: &'a P, store_dir: &'a str) -> ProcessBuild<'a, R, P> {
-        ProcessBuild {
+    pub fn new(
+        alloc: Global,
+        rt: &'a R,
+        processes: &'a P,
+        store_dir: &str,
+    ) -> Result<ProcessBuild<'a, R, P>, AllocError> {
+        Ok(ProcessBuild {
             rt,
             processes,
-            store_dir,
-        }
+            store_dir: String::from_str(alloc, store_dir)?,
+        })
+    }
+}
+
+/// Makes builders that build by processes.
+#[derive(Drop)]
+pub struct ByProcesses<'a, R, P> {
+    rt: &'a R,
+    processes: &'a P,
+}
+
+impl<'a, R, P> ByProcesses<'a, R, P> {
+    /// With the files and memory of a runtime and these processes.
+    pub fn new(rt: &'a R, processes: &'a P) -> ByProcesses<'a, R, P> {
+        ByProcesses { rt, processes }
+    }
+}
+
+impl<'a, R: Files + AllocGlobal + Sync, P: Processes + Sync> Builders for ByProcesses<'a, R, P> {
+    type Builder = ProcessBuild<'a, R, P>;
+
+    fn builder(
+        &self,
+        alloc: Global,
+        store_dir: &str,
+    ) -> Result<ProcessBuild<'a, R, P>, AllocError> {
+        ProcessBuild::new(alloc, self.rt, self.processes, store_dir)
     }
 }
 
@@ -77,7 +110,7 @@ impl<R: Files + AllocGlobal, P: Processes> ProcessBuild<'_, R, P> {
     fn build(&self, folder: &str, call: &Call<'_>, job: &Job) -> Result<Answer, Reason> {
         self.make_room(folder, job)?;
         let alloc = self.rt.alloc();
-        let status = run_builder(alloc, self.processes, self.store_dir, folder, call)?;
+        let status = run_builder(alloc, self.processes, self.store_dir.as_str(), folder, call)?;
         let trees = match status {
             Some(0) => read_outputs(self.rt, job)?,
             _ => Vec::new(alloc),

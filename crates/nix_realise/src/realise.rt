@@ -3,7 +3,7 @@ ghost use Rattle.std.specs.Prelude.{◌≡◌, ◌⊎◌, IfErr, length};
 ghost use Rattle.sched_core.specs.Books.{IsRunSettled};
 ghost use Rattle.nix_realise.specs.Realising.{BookEnds, RealiseEnds, RunEnds};
 
-use crate::builders::builders;
+use crate::builders::{Builders, make_all};
 use crate::folder::FolderSource;
 use crate::journal_file::{read_journal, write_journal};
 use crate::options::RealiseRequest;
@@ -13,7 +13,6 @@ use crate::stop::Stop;
 use crate::task::{Task, task_of};
 use sched_core::Book;
 use std::io::Write;
-use std::process::Processes;
 use std::rt::Files;
 use std::sync::Wait;
 use std::thread::Threads;
@@ -24,16 +23,22 @@ use valid_table::ListOutlet;
 /// What is refused, and in which order, is the answer of `task_of`; nothing is run then. Once the
 /// workers gave a book the journal is written, whatever became of them; nothing is printed where
 /// they ended before all was settled, or where the journal is not written.
-pub fn realise<'a, R, O>(rt: &R, request: &RealiseRequest<'a>, out: &mut O) -> Result<u8, Stop<'a>>
+pub fn realise<'a, R, M, O>(
+    rt: &R,
+    make: &M,
+    request: &RealiseRequest<'a>,
+    out: &mut O,
+) -> Result<u8, Stop<'a>>
 where
-    R: Files + AllocGlobal + Processes + Threads + Wait + Sync,
+    R: Files + AllocGlobal + Threads + Wait + Sync,
+    M: Builders,
     O: Write,
-    ensures { RealiseEnds request.now (O.contents out.old) (O.contents out.new) result }
+    ensures { RealiseEnds M.Builder.may request.now (O.contents out.old) (O.contents out.new) result }
 {
     let journal = read_journal(rt, request.store_dir, request.journal);
     let mut source = FolderSource::new(rt);
     let task = task_of(rt.alloc(), &mut source, request, journal)?;
-    let builders = builders(rt, request)?;
+    let builders = make_all(rt.alloc(), make, request)?;
     run_task(rt, request, &task, builders, out)
 }
 

@@ -9,6 +9,7 @@ ghost use Rattle.nix_realise.specs.Stops.{IsStatus, IsStopOf, IsTold, IsUsageSta
 
 use crate::add_drv::add_drv;
 use crate::add_text::add_text;
+use crate::builders::Builders;
 use crate::check::check_lines;
 use crate::fault_words::stop_line;
 use crate::folder::FolderSource;
@@ -21,7 +22,6 @@ use crate::words::{not_text, request};
 use clap::error::ErrorKind;
 use std::alloc::Global;
 use std::io::Write;
-use std::process::Processes;
 use std::rt::Files;
 use std::sync::Wait;
 use std::thread::Threads;
@@ -33,34 +33,34 @@ const NO_MEMORY_LINE: &[u8; 27] = b"nix_realise: run: NoMemory\n";
 /// status: 0; 1 where a root of `realise` was not realised; 2 where the input was refused or a word
 /// of `check` is bad; 3 for want of memory, workers that end too early or a refused write, be it to
 /// standard output or to a file.
-pub fn run<'a, R: Files + Processes + Threads + Wait + Sync + AllocGlobal, O: Write, E: Write>(
-    rt: &R,
-    words: &'a [&'a str],
-    out: &mut O,
-    err: &mut E,
-) -> u8
+pub fn run<'a, R, M, O, E>(rt: &R, make: &M, words: &'a [&'a str], out: &mut O, err: &mut E) -> u8
+where
+    R: Files + Threads + Wait + Sync + AllocGlobal,
+    M: Builders,
+    O: Write,
+    E: Write,
     ensures { IsStatus result }
 {
     match request(rt.alloc(), words) {
-        Ok(request) => run_request(rt, &request, out, err),
+        Ok(request) => run_request(rt, make, &request, out, err),
         Err(fault) => print_usage(rt.alloc(), &fault, out, err),
     }
 }
 
 // Runs a subcommand, and ends with its status or with the line that tells why it stopped.
-fn run_request<R: Files + Processes + Threads + Wait + Sync + AllocGlobal, O: Write, E: Write>(
-    rt: &R,
-    request: &Request<'_>,
-    out: &mut O,
-    err: &mut E,
-) -> u8
+fn run_request<R, M, O, E>(rt: &R, make: &M, request: &Request<'_>, out: &mut O, err: &mut E) -> u8
+where
+    R: Files + Threads + Wait + Sync + AllocGlobal,
+    M: Builders,
+    O: Write,
+    E: Write,
     ensures { IsStatus result }
 {
     let outcome = match request {
         Request::Check(request) => check(rt, request, out),
         Request::AddText(request) => add_text(rt, request, out),
         Request::AddDrv(request) => add_drv(rt, request, out),
-        Request::Realise(request) => realise(rt, request, out),
+        Request::Realise(request) => realise(rt, make, request, out),
     };
     match outcome {
         Ok(status) => status,

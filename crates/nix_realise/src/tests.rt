@@ -10,13 +10,16 @@ mod runs;
 mod scene;
 mod store;
 
+use crate::builders::Builders;
 use crate::run::run;
+use sched_core::{Answer, Job, Reason};
+use std::alloc::{AllocError, Global};
 use std::io::Write;
-use std::process::Processes;
 use std::rt::{Env, Files};
 use std::sync::Wait;
 use std::thread::Threads;
 use std::{env, fs, io};
+use store_run::Build;
 
 /// The derivation of which nothing is set.
 const NOTHING: &[u8; 28] = b"Derive([],[],[],\"\",\"\",[],[])";
@@ -30,20 +33,45 @@ struct Outcome {
 }
 
 /// What a run needs of its host.
-trait Host: Files + AllocGlobal + Processes + Threads + Wait + Sync {}
+trait Host: Files + AllocGlobal + Threads + Wait + Sync {}
 
-impl<R: Files + AllocGlobal + Processes + Threads + Wait + Sync> Host for R {}
+impl<R: Files + AllocGlobal + Threads + Wait + Sync> Host for R {}
 
-/// Runs the program on a command line.
+/// A builder that starts nothing.
+#[derive(Drop)]
+struct Idle;
+
+impl Build for Idle {
+    ghost may = { λ _ _. Unit {0} };
+
+    fn run(&self, _number: u64, _job: &Job) -> Result<Answer, Reason> {
+        Err(Reason::NoStart)
+    }
+}
+
+impl Builders for Idle {
+    type Builder = Idle;
+
+    fn builder(&self, _alloc: Global, _store_dir: &str) -> Result<Idle, AllocError> {
+        Ok(Idle)
+    }
+}
+
+/// Runs the program on a command line, with builders that start nothing.
 fn run_words<'a, R: Host>(rt: &R, words: &'a [&'a str]) -> Outcome {
+    run_by(rt, &Idle, words)
+}
+
+/// Runs the program on a command line, with the builders that are made so.
+fn run_by<'a, R: Host, M: Builders>(rt: &R, make: &M, words: &'a [&'a str]) -> Outcome {
     let mut out = Vec::new(rt.alloc());
     let mut err = Vec::new(rt.alloc());
-    let status = run(rt, words, &mut out, &mut err);
+    let status = run(rt, make, words, &mut out, &mut err);
     Outcome { status, out, err }
 }
 
 /// A folder of its own for each process and test.
-fn new_folder<R: Env + Files + AllocGlobal>(
+pub fn new_folder<R: Env + Files + AllocGlobal>(
     rt: &R,
     process: u32,
     test: &str,

@@ -86,7 +86,7 @@ impl Site {
 
     /// Builds a job as the first one.
     fn run<R: Files + Processes + AllocGlobal>(&self, rt: &R, job: &Job) -> Result<Answer, Reason> {
-        ProcessBuild::new(rt, rt, self.folder.as_str()).run(0, job)
+        ProcessBuild::new(rt.alloc(), rt, rt, self.folder.as_str())?.run(0, job)
     }
 
     /// Builds what a script makes at the output `out`.

@@ -1,6 +1,6 @@
 //! `add-text` over files on disk.
 use super::store::{GREETING, Store, has, has_written};
-use super::{Host, Narrow, new_folder, run_words};
+use super::{Host, Idle, Narrow, new_folder, run_words};
 use crate::run::run;
 use std::rt::{Env, Files};
 use std::test::Fail;
@@ -177,7 +177,7 @@ fn refused_path(rt: HostRuntime) -> Result<(), Fail> {
     let store = Store::greeting(&rt, process::id(rt.process()), "no-path")?;
     for room in 0..store.path.len().saturating_add(1) {
         let mut err = Vec::new(rt.alloc());
-        let status = run(&rt, &store.words(), &mut Narrow { room }, &mut err);
+        let status = run(&rt, &Idle, &store.words(), &mut Narrow { room }, &mut err);
         assert_eq!(rt; status, 3, "at {room}");
         assert_eq!(rt;
             err.as_slice(),

@@ -1,6 +1,6 @@
 //! The journal of `add-text`, in files on disk.
 use super::store::{GREETING, Store, has, has_written};
-use super::{Host, Narrow, new_folder, run_words};
+use super::{Host, Idle, Narrow, new_folder, run_words};
 use crate::run::run;
 use std::alloc::{AllocError, Global};
 use std::rt::{Env, Files};
@@ -189,7 +189,13 @@ fn folder_in_place_of_the_journal(rt: HostRuntime) -> Result<(), Fail> {
     let store = Store::greeting(&rt, process::id(rt.process()), "folder-j")?;
     fs::create_dir(&rt, store.journal.as_str())?;
     let mut err = Vec::new(rt.alloc());
-    let status = run(&rt, &store.words(), &mut Narrow { room: 0 }, &mut err);
+    let status = run(
+        &rt,
+        &Idle,
+        &store.words(),
+        &mut Narrow { room: 0 },
+        &mut err,
+    );
     assert_eq!(rt; status, 3);
     assert_eq!(rt;
         err.as_slice(),

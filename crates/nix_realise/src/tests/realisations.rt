@@ -4,6 +4,8 @@ use super::scene::{
     Drv, is_left, is_realised, put_draft, put_drv, realise, realise_all, realise_for, scene,
 };
 use super::store::{Store, has};
+use crate::builders::Builders;
+use crate::process_build::ByProcesses;
 use std::test::Fail;
 use std::{fs, process};
 
@@ -15,8 +17,8 @@ const HELLO: &str = "5891b5b522d5df086d0ff0b110fbd9d21bb4fc7163af34d08286a2e846f
 const LINUX: [&str; 3] = ["", "", "x86_64-linux"];
 
 // Whether a run builds a derivation that greets, and registers its output.
-fn greets<R: Host>(rt: &R, store: &Store, drv: &Drv) -> Result<bool, Fail> {
-    let built = is_realised(rt, &realise(rt, store, drv), "built", drv)?;
+fn greets<R: Host, M: Builders>(rt: &R, make: &M, store: &Store, drv: &Drv) -> Result<bool, Fail> {
+    let built = is_realised(rt, &realise(rt, make, store, drv), "built", drv)?;
     Ok(built && is_greeted(rt, store, drv)?)
 }
 
@@ -28,21 +30,27 @@ fn is_greeted<R: Host>(rt: &R, store: &Store, drv: &Drv) -> Result<bool, Fail> {
 }
 
 // Whether a first run builds a derivation, and a second one, which may not, leaves all as it is.
-fn greets_twice<R: Host>(rt: &R, store: &Store) -> Result<bool, Fail> {
+fn greets_twice<R: Host, M: Builders>(rt: &R, make: &M, store: &Store) -> Result<bool, Fail> {
     let drv = put_drv(rt, store, "greet", LINUX, "echo hello > $out")?;
-    Ok(greets(rt, store, &drv)? && is_reused(rt, store, &drv)?)
+    Ok(greets(rt, make, store, &drv)? && is_reused(rt, make, store, &drv)?)
 }
 
 // Whether a run for another system finds the output valid, and leaves all as it is.
-fn is_reused<R: Host>(rt: &R, store: &Store, drv: &Drv) -> Result<bool, Fail> {
-    let ran = realise_for(rt, store, drv, "aarch64-linux");
+fn is_reused<R: Host, M: Builders>(
+    rt: &R,
+    make: &M,
+    store: &Store,
+    drv: &Drv,
+) -> Result<bool, Fail> {
+    let ran = realise_for(rt, make, store, drv, "aarch64-linux");
     Ok(is_realised(rt, &ran, "reused", drv)? && is_greeted(rt, store, drv)?)
 }
 
 #[test]
 fn greet_twice(rt: HostRuntime) -> Result<(), Fail> {
+    let make = ByProcesses::new(&rt, &rt);
     let store = scene(&rt, process::id(rt.process()), "greet-twice")?;
-    assert!(rt; greets_twice(&rt, &store)?);
+    assert!(rt; greets_twice(&rt, &make, &store)?);
     assert!(rt; store.held(&rt, 4)?);
     Ok(())
 }
@@ -57,19 +65,21 @@ fn put_empty<R: Host>(rt: &R, store: &Store, name: &str, script: &str) -> Result
 }
 
 // Whether a builder with this script comes to nothing, for this reason.
-fn fails<R: Host>(
+fn fails<R: Host, M: Builders>(
     rt: &R,
+    make: &M,
     store: &Store,
     name: &str,
     script: &str,
     why: &str,
 ) -> Result<bool, Fail> {
     let drv = put_empty(rt, store, name, script)?;
-    is_left(rt, &realise(rt, store, &drv), "failed", &drv, why)
+    is_left(rt, &realise(rt, make, store, &drv), "failed", &drv, why)
 }
 
 #[test]
 fn flat_fixed_failures(rt: HostRuntime) -> Result<(), Fail> {
+    let make = ByProcesses::new(&rt, &rt);
     let store = scene(&rt, process::id(rt.process()), "flat-failures")?;
     for (name, script, why) in [
         ("byte", "printf x > $out", "HashMismatch"),
@@ -78,22 +88,23 @@ fn flat_fixed_failures(rt: HostRuntime) -> Result<(), Fail> {
         ("status", "exit 3", "ExitStatus(3)"),
         ("signal", "kill -9 $$", "Killed"),
     ] {
-        assert!(rt; fails(&rt, &store, name, script, why)?, "at {why}");
+        assert!(rt; fails(&rt, &make, &store, name, script, why)?, "at {why}");
     }
     assert!(rt; store.held(&rt, 9)?);
     Ok(())
 }
 
 // Whether a flat fixed output of no bytes is built.
-fn builds_empty<R: Host>(rt: &R, store: &Store) -> Result<bool, Fail> {
+fn builds_empty<R: Host, M: Builders>(rt: &R, make: &M, store: &Store) -> Result<bool, Fail> {
     let drv = put_empty(rt, store, "empty", ": > $out")?;
-    is_realised(rt, &realise(rt, store, &drv), "built", &drv)
+    is_realised(rt, &realise(rt, make, store, &drv), "built", &drv)
 }
 
 #[test]
 fn flat_fixed_output(rt: HostRuntime) -> Result<(), Fail> {
+    let make = ByProcesses::new(&rt, &rt);
     let store = scene(&rt, process::id(rt.process()), "flat-output")?;
-    assert!(rt; builds_empty(&rt, &store)?);
+    assert!(rt; builds_empty(&rt, &make, &store)?);
     assert!(rt; store.held(&rt, 4)?);
     Ok(())
 }
@@ -110,29 +121,37 @@ fn put_two<R: Host>(rt: &R, store: &Store, name: &str, script: &str) -> Result<D
 
 // Whether `dev`, which holds the path of `out`, is built beside it; the two are told in the order
 // of the text, though the journal has them by path.
-fn builds_two<R: Host>(rt: &R, store: &Store) -> Result<bool, Fail> {
+fn builds_two<R: Host, M: Builders>(rt: &R, make: &M, store: &Store) -> Result<bool, Fail> {
     let drv = put_two(rt, store, "two", "echo $out > $dev; echo > $out")?;
-    is_realised(rt, &realise(rt, store, &drv), "built", &drv)
+    is_realised(rt, &realise(rt, make, store, &drv), "built", &drv)
 }
 
 // Whether two outputs that hold each other's paths are refused.
-fn refuses_cycle<R: Host>(rt: &R, store: &Store) -> Result<bool, Fail> {
+fn refuses_cycle<R: Host, M: Builders>(rt: &R, make: &M, store: &Store) -> Result<bool, Fail> {
     let drv = put_two(rt, store, "cycle", "echo $out > $dev; echo $dev > $out")?;
-    is_left(rt, &realise(rt, store, &drv), "failed", &drv, "OutputCycle")
+    is_left(
+        rt,
+        &realise(rt, make, store, &drv),
+        "failed",
+        &drv,
+        "OutputCycle",
+    )
 }
 
 #[test]
 fn two_outputs(rt: HostRuntime) -> Result<(), Fail> {
+    let make = ByProcesses::new(&rt, &rt);
     let store = scene(&rt, process::id(rt.process()), "two-outputs")?;
-    assert!(rt; builds_two(&rt, &store)? && refuses_cycle(&rt, &store)?);
+    assert!(rt; builds_two(&rt, &make, &store)? && refuses_cycle(&rt, &make, &store)?);
     assert!(rt; store.held(&rt, 8)?);
     Ok(())
 }
 
 // Whether a run refuses a derivation of this name, with this system and builder and this entry of
 // the environment.
-fn is_refused<R: Host>(
+fn is_refused<R: Host, M: Builders>(
     rt: &R,
+    make: &M,
     store: &Store,
     name: &str,
     parts: [&str; 3],
@@ -143,12 +162,13 @@ fn is_refused<R: Host>(
         r#"Derive([("out","","","")],[],[],"{system}","{builder}",[],[{env}])"#
     )?;
     let drv = put_draft(rt, store, name, draft.as_str())?;
-    is_left(rt, &realise(rt, store, &drv), "refused", &drv, why)
+    is_left(rt, &realise(rt, make, store, &drv), "refused", &drv, why)
 }
 
 // The journal is written where nothing was begun, too.
 #[test]
 fn refused_for_own_cause(rt: HostRuntime) -> Result<(), Fail> {
+    let make = ByProcesses::new(&rt, &rt);
     let store = scene(&rt, process::id(rt.process()), "own-cause")?;
     let key = r#"("allowedReferences","x")"#;
     for (name, parts, why) in [
@@ -160,7 +180,10 @@ fn refused_for_own_cause(rt: HostRuntime) -> Result<(), Fail> {
         ),
         ("key", ["x86_64-linux", "/bin/sh", key], "Unsupported"),
     ] {
-        assert!(rt; is_refused(&rt, &store, name, parts, why)?, "at {name}");
+        assert!(rt;
+            is_refused(&rt, &make, &store, name, parts, why)?,
+            "at {name}"
+        );
     }
     assert!(rt; has(&rt, store.journal.as_str(), "realiser-journal 1\n").unwrap_or(false));
     assert!(rt; store.held(&rt, 5)?);
@@ -168,7 +191,7 @@ fn refused_for_own_cause(rt: HostRuntime) -> Result<(), Fail> {
 }
 
 // Whether a derivation with a source that is not registered is refused.
-fn misses_source<R: Host>(rt: &R, store: &Store) -> Result<bool, Fail> {
+fn misses_source<R: Host, M: Builders>(rt: &R, make: &M, store: &Store) -> Result<bool, Fail> {
     let source = format!(in rt.alloc(); "\"{}\"", store.path)?;
     let drv = put_drv(
         rt,
@@ -178,13 +201,20 @@ fn misses_source<R: Host>(rt: &R, store: &Store) -> Result<bool, Fail> {
         "exit 0",
     )?;
     let why = format!(in rt.alloc(); "MissingSource({})", store.path)?;
-    is_left(rt, &realise(rt, store, &drv), "refused", &drv, why.as_str())
+    is_left(
+        rt,
+        &realise(rt, make, store, &drv),
+        "refused",
+        &drv,
+        why.as_str(),
+    )
 }
 
 #[test]
 fn missing_source(rt: HostRuntime) -> Result<(), Fail> {
+    let make = ByProcesses::new(&rt, &rt);
     let store = scene(&rt, process::id(rt.process()), "no-source")?;
-    assert!(rt; misses_source(&rt, &store)?);
+    assert!(rt; misses_source(&rt, &make, &store)?);
     assert!(rt; store.held(&rt, 3)?);
     Ok(())
 }
@@ -275,9 +305,14 @@ fn push_told<R: Host>(
 }
 
 // Whether all of a diamond is built, by this many workers.
-fn builds_all<R: Host>(rt: &R, store: &Store, jobs: &str) -> Result<bool, Fail> {
+fn builds_all<R: Host, M: Builders>(
+    rt: &R,
+    make: &M,
+    store: &Store,
+    jobs: &str,
+) -> Result<bool, Fail> {
     let [a, b, c, d] = diamond(rt, store, "echo > $out")?;
-    let ran = realise_all(rt, store, jobs, &[&d.path]);
+    let ran = realise_all(rt, make, store, jobs, &[&d.path]);
     let lines = [
         (&a, "built", ""),
         (&b, "built", ""),
@@ -290,8 +325,9 @@ fn builds_all<R: Host>(rt: &R, store: &Store, jobs: &str) -> Result<bool, Fail> 
 
 #[test]
 fn built_diamond(rt: HostRuntime) -> Result<(), Fail> {
+    let make = ByProcesses::new(&rt, &rt);
     let store = scene(&rt, process::id(rt.process()), "diamond")?;
-    assert!(rt; builds_all(&rt, &store, "2")?);
+    assert!(rt; builds_all(&rt, &make, &store, "2")?);
     assert!(rt; store.held(&rt, 10)?);
     Ok(())
 }
@@ -303,16 +339,26 @@ fn refusal<R: Host>(rt: &R, b: &Drv, c: &Drv) -> Result<String, Fail> {
 }
 
 // Whether a diamond whose middle fails is told so, and another root is built all the same.
-fn fails_in_the_middle<R: Host>(rt: &R, store: &Store) -> Result<bool, Fail> {
+fn fails_in_the_middle<R: Host, M: Builders>(
+    rt: &R,
+    make: &M,
+    store: &Store,
+) -> Result<bool, Fail> {
     let [a, b, c, d] = diamond(rt, store, "exit 3")?;
     let other = put_drv(rt, store, "other", LINUX, "echo > $out")?;
     let refused = refusal(rt, &b, &c)?;
-    is_told(rt, store, [&a, &b, &c, &d, &other], refused.as_str())
+    is_told(rt, make, store, [&a, &b, &c, &d, &other], refused.as_str())
 }
 
-fn is_told<R: Host>(rt: &R, store: &Store, drvs: [&Drv; 5], refused: &str) -> Result<bool, Fail> {
+fn is_told<R: Host, M: Builders>(
+    rt: &R,
+    make: &M,
+    store: &Store,
+    drvs: [&Drv; 5],
+    refused: &str,
+) -> Result<bool, Fail> {
     let [a, b, c, d, other] = drvs;
-    let ran = realise_all(rt, store, "3", &[&d.path, &other.path]);
+    let ran = realise_all(rt, make, store, "3", &[&d.path, &other.path]);
     let status = ": ExitStatus(3)";
     let failed = [
         (b, "failed", status),
@@ -327,22 +373,29 @@ fn is_told<R: Host>(rt: &R, store: &Store, drvs: [&Drv; 5], refused: &str) -> Re
 
 #[test]
 fn failing_diamond(rt: HostRuntime) -> Result<(), Fail> {
+    let make = ByProcesses::new(&rt, &rt);
     let store = scene(&rt, process::id(rt.process()), "diamond-f")?;
-    assert!(rt; fails_in_the_middle(&rt, &store)?);
+    assert!(rt; fails_in_the_middle(&rt, &make, &store)?);
     assert!(rt; store.held(&rt, 9)?);
     Ok(())
 }
 
 // Whether the user's output is registered with the path that it holds: its input's.
-fn keeps_reference<R: Host>(rt: &R, store: &Store) -> Result<bool, Fail> {
+fn keeps_reference<R: Host, M: Builders>(rt: &R, make: &M, store: &Store) -> Result<bool, Fail> {
     let input = put_drv(rt, store, "input", LINUX, "echo > $out")?;
     let script = format!(in rt.alloc(); "echo {} > $out", input.output())?;
     let user = put_user(rt, store, "user", &input, script.as_str())?;
-    has_reference(rt, store, &user, input.output())
+    has_reference(rt, make, store, &user, input.output())
 }
 
-fn has_reference<R: Host>(rt: &R, store: &Store, user: &Drv, of: &str) -> Result<bool, Fail> {
-    let ran = realise_all(rt, store, "2", &[&user.path]);
+fn has_reference<R: Host, M: Builders>(
+    rt: &R,
+    make: &M,
+    store: &Store,
+    user: &Drv,
+    of: &str,
+) -> Result<bool, Fail> {
+    let ran = realise_all(rt, make, store, "2", &[&user.path]);
     let line = format!(in rt.alloc(); "\nR {of}\n")?;
     let journal = fs::read(rt, store.journal.as_str())?;
     Ok(ran.status == 0 && journal.ends_with(line.as_bytes()))
@@ -350,8 +403,9 @@ fn has_reference<R: Host>(rt: &R, store: &Store, user: &Drv, of: &str) -> Result
 
 #[test]
 fn fresh_input_reference(rt: HostRuntime) -> Result<(), Fail> {
+    let make = ByProcesses::new(&rt, &rt);
     let store = scene(&rt, process::id(rt.process()), "reference")?;
-    assert!(rt; keeps_reference(&rt, &store)?);
+    assert!(rt; keeps_reference(&rt, &make, &store)?);
     assert!(rt; store.held(&rt, 6)?);
     Ok(())
 }

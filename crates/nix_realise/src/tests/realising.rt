@@ -2,6 +2,8 @@
 use super::scene::{Drv, put_drv, realise, scene};
 use super::store::{Store, has, has_written};
 use super::{Host, run_words};
+use crate::builders::Builders;
+use crate::process_build::ByProcesses;
 use std::test::Fail;
 use std::{fs, io, process};
 
@@ -40,15 +42,22 @@ fn put_any<R: Host>(rt: &R, store: &Store) -> Result<Drv, Fail> {
 }
 
 // Whether a journal of these bytes ends a run with this line, and stays as it is.
-fn refuses_journal<R: Host>(rt: &R, store: &Store, text: &str, err: &str) -> Result<bool, Fail> {
+fn refuses_journal<R: Host, M: Builders>(
+    rt: &R,
+    make: &M,
+    store: &Store,
+    text: &str,
+    err: &str,
+) -> Result<bool, Fail> {
     let drv = put_any(rt, store)?;
     fs::write(rt, store.journal.as_str(), text.as_bytes())?;
-    let told = has_written(&realise(rt, store, &drv), "", err, 2);
+    let told = has_written(&realise(rt, make, store, &drv), "", err, 2);
     Ok(told && has(rt, store.journal.as_str(), text)?)
 }
 
 #[test]
 fn refused_journal(rt: HostRuntime) -> Result<(), Fail> {
+    let make = ByProcesses::new(&rt, &rt);
     let store = scene(&rt, process::id(rt.process()), "no-journal")?;
     for (text, err) in [
         (
@@ -60,7 +69,7 @@ fn refused_journal(rt: HostRuntime) -> Result<(), Fail> {
             "nix_realise: journal: WrongVersion\n",
         ),
     ] {
-        assert!(rt; refuses_journal(&rt, &store, text, err)?, "at {err}");
+        assert!(rt; refuses_journal(&rt, &make, &store, text, err)?, "at {err}");
     }
     assert!(rt; store.held(&rt, 3)?);
     Ok(())
@@ -68,9 +77,9 @@ fn refused_journal(rt: HostRuntime) -> Result<(), Fail> {
 
 // Whether a run cannot read the journal, in whose place a folder stands, but looks at the plan
 // first.
-fn meets_folder<R: Host>(rt: &R, store: &Store) -> Result<bool, Fail> {
+fn meets_folder<R: Host, M: Builders>(rt: &R, make: &M, store: &Store) -> Result<bool, Fail> {
     fs::create_dir(rt, store.journal.as_str())?;
-    let ran = realise(rt, store, &put_any(rt, store)?);
+    let ran = realise(rt, make, store, &put_any(rt, store)?);
     let told = has_written(&ran, "", "nix_realise: journal: Unreadable\n", 3);
     let (folder, path) = (store.folder.as_str(), store.path.as_str());
     Ok(told && refuses(rt, [folder, path, path], path, "Unreadable")?)
@@ -78,8 +87,9 @@ fn meets_folder<R: Host>(rt: &R, store: &Store) -> Result<bool, Fail> {
 
 #[test]
 fn folder_in_place_of_the_journal(rt: HostRuntime) -> Result<(), Fail> {
+    let make = ByProcesses::new(&rt, &rt);
     let store = scene(&rt, process::id(rt.process()), "folder-r")?;
-    assert!(rt; meets_folder(&rt, &store)?);
+    assert!(rt; meets_folder(&rt, &make, &store)?);
     assert!(rt; store.held(&rt, 3)?);
     Ok(())
 }

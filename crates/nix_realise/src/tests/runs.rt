@@ -1,5 +1,5 @@
 //! Runs that need no files: usage, help, a bad folder, refused writes.
-use super::{Narrow, run_words};
+use super::{Idle, Narrow, run_words};
 use crate::run::{refuse_words, run};
 use std::test::Fail;
 
@@ -104,7 +104,7 @@ fn refused_report(rt: HostRuntime) {
     for room in 0..24 {
         let mut out = Narrow { room };
         let mut err = Vec::new(rt.alloc());
-        let status = run(&rt, &words, &mut out, &mut err);
+        let status = run(&rt, &Idle, &words, &mut out, &mut err);
         if room < 23 {
             assert_eq!(rt; status, 3, "at {room}");
             assert_eq!(rt;
@@ -123,6 +123,7 @@ fn refused_texts(rt: HostRuntime) {
     let mut err = Vec::new(rt.alloc());
     let help = run(
         &rt,
+        &Idle,
         &["nix_realise", "--help"],
         &mut Narrow { room: 9 },
         &mut err,
@@ -137,7 +138,10 @@ fn refused_texts(rt: HostRuntime) {
         ["nix_realise", "check", "--store-dir=x y"],
     ] {
         let mut out = Vec::new(rt.alloc());
-        assert_eq!(rt; run(&rt, &words, &mut out, &mut Narrow { room: 5 }), 3);
+        assert_eq!(rt;
+            run(&rt, &Idle, &words, &mut out, &mut Narrow { room: 5 }),
+            3
+        );
         assert_eq!(rt; out.len(), 0);
     }
 }

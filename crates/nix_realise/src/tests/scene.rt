@@ -1,6 +1,7 @@
 //! A store folder with derivations, and runs of `realise` over it.
 use super::store::{Store, has_written};
-use super::{Host, Outcome, new_folder, run_words};
+use super::{Host, Outcome, new_folder, run_by, run_words};
+use crate::builders::Builders;
 use nix_drv::read;
 use std::alloc::Global;
 use std::rt::Env;
@@ -74,15 +75,22 @@ fn outputs_of<R: Host>(rt: &R, file: &str) -> Result<Vec<String>, Fail> {
 }
 
 /// Runs `realise` on a derivation.
-pub fn realise<R: Host>(rt: &R, store: &Store, drv: &Drv) -> Outcome {
-    realise_for(rt, store, drv, "x86_64-linux")
+pub fn realise<R: Host, M: Builders>(rt: &R, make: &M, store: &Store, drv: &Drv) -> Outcome {
+    realise_for(rt, make, store, drv, "x86_64-linux")
 }
 
 /// Runs `realise` on a derivation, for a system.
-pub fn realise_for<R: Host>(rt: &R, store: &Store, drv: &Drv, system: &str) -> Outcome {
+pub fn realise_for<R: Host, M: Builders>(
+    rt: &R,
+    make: &M,
+    store: &Store,
+    drv: &Drv,
+    system: &str,
+) -> Outcome {
     let (folder, path) = (store.folder.as_str(), drv.path.as_str());
-    run_words(
+    run_by(
         rt,
+        make,
         &[
             "nix_realise",
             "realise",
@@ -96,7 +104,13 @@ pub fn realise_for<R: Host>(rt: &R, store: &Store, drv: &Drv, system: &str) -> O
 }
 
 /// Runs `realise` on derivations, by so many workers.
-pub fn realise_all<R: Host>(rt: &R, store: &Store, jobs: &str, paths: &[&String]) -> Outcome {
+pub fn realise_all<R: Host, M: Builders>(
+    rt: &R,
+    make: &M,
+    store: &Store,
+    jobs: &str,
+    paths: &[&String],
+) -> Outcome {
     let folder = store.folder.as_str();
     let words = match paths {
         [path] => [
@@ -130,7 +144,7 @@ pub fn realise_all<R: Host>(rt: &R, store: &Store, jobs: &str, paths: &[&String]
             "x",
         ],
     };
-    run_words(rt, &words)
+    run_by(rt, make, &words)
 }
 
 /// Whether a run told of a derivation that it was built or reused, and of each output.

@@ -226,7 +226,7 @@ fn refused_starts(rt: HostRuntime) -> Result<(), Fail> {
         (io::ErrorKind::WouldBlock, Reason::NoStart),
     ] {
         let none = NoProcess { cause };
-        let build = ProcessBuild::new(&rt, &none, site.folder.as_str());
+        let build = ProcessBuild::new(rt.alloc(), &rt, &none, site.folder.as_str())?;
         assert_eq!(rt; build.run(0, &job).err(), Some(reason));
         assert!(rt; !site.has(&rt, ".build-0")?);
     }

@@ -1,5 +1,5 @@
 use Rattle.std.proofs.Common.{◌≡◌, length}
-use Rattle.nix_realise.proofs.builders.builders.Given as goal
+use Rattle.nix_realise.proofs.builders.make_all.Given as goal
 
 -- a builder for each round
 abbrev pub invariant-loop : goal.invariant-loop
