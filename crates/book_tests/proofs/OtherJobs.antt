@@ -8,7 +8,7 @@ use Rattle.sched_core.specs.Verdicts.{IsExamining}
 use Rattle.sched_core.specs.declared.job.Answer.{Answer}
 use Rattle.sched_core.specs.declared.job.Job.{Job}
 use Rattle.sched_core.specs.declared.reason.Reason.{Reason}
-use Rattle.sched_core.proofs.Places.{place_of}
+use Rattle.nix_names.proofs.Lists.{get_from_contains}
 
 pub may_refer_by_permitted : (entries : List Entry) (job other : Job) (permitted : List (List ℕ))
     (answer : Answer) (found : Result (List PathInfo) Reason)
@@ -19,6 +19,6 @@ may_refer_by_permitted entries job other permitted answer (Ok infos) are (inl re
 may_refer_by_permitted entries job other permitted answer (Ok infos) are
     (inr (taken, records, acyclic)) =
     λ info path has refers.
-    let place = place_of infos info has in
+    let place = get_from_contains infos info has in
     let is_record = records.each place.0 info place.1 in
     (are.each path).0 ((is_record.2.found.each path).0 refers).0

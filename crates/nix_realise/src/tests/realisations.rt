@@ -1,7 +1,7 @@
 //! `realise` with builders that run.
 use super::Host;
 use super::scene::{
-    Drv, is_left, is_realised, put_draft, put_drv, realise, realise_all, realise_for, scene,
+    Drv, is_left, is_realised, put_draft, put_drv, realise, realise_both, realise_for, scene,
 };
 use super::store::{Store, has};
 use crate::builders::Builders;
@@ -312,7 +312,7 @@ fn builds_all<R: Host, M: Builders>(
     jobs: &str,
 ) -> Result<bool, Fail> {
     let [a, b, c, d] = diamond(rt, store, "echo > $out")?;
-    let ran = realise_all(rt, make, store, jobs, &[&d.path]);
+    let ran = realise_both(rt, make, store, jobs, &d, &d);
     let lines = [
         (&a, "built", ""),
         (&b, "built", ""),
@@ -358,7 +358,7 @@ fn is_told<R: Host, M: Builders>(
     refused: &str,
 ) -> Result<bool, Fail> {
     let [a, b, c, d, other] = drvs;
-    let ran = realise_all(rt, make, store, "3", &[&d.path, &other.path]);
+    let ran = realise_both(rt, make, store, "3", d, other);
     let status = ": ExitStatus(3)";
     let failed = [
         (b, "failed", status),
@@ -395,7 +395,7 @@ fn has_reference<R: Host, M: Builders>(
     user: &Drv,
     of: &str,
 ) -> Result<bool, Fail> {
-    let ran = realise_all(rt, make, store, "2", &[&user.path]);
+    let ran = realise_both(rt, make, store, "2", user, user);
     let line = format!(in rt.alloc(); "\nR {of}\n")?;
     let journal = fs::read(rt, store.journal.as_str())?;
     Ok(ran.status == 0 && journal.ends_with(line.as_bytes()))

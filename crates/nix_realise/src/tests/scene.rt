@@ -103,47 +103,25 @@ pub fn realise_for<R: Host, M: Builders>(
     )
 }
 
-/// Runs `realise` on derivations, by so many workers.
-pub fn realise_all<R: Host, M: Builders>(
+/// Runs `realise` on two derivations, or on one that is named twice, by so many workers.
+pub fn realise_both<'x, R: Host, M: Builders>(
     rt: &R,
     make: &M,
-    store: &Store,
-    jobs: &str,
-    paths: &[&String],
+    store: &'x Store,
+    jobs: &'x str,
+    first: &'x Drv,
+    other: &'x Drv,
 ) -> Outcome {
-    let folder = store.folder.as_str();
-    let words = match paths {
-        [path] => [
-            "nix_realise",
-            "realise",
-            "--store-dir",
-            folder,
-            "--jobs",
-            jobs,
-            path,
-            path,
-        ],
-        [path, other, ..] => [
-            "nix_realise",
-            "realise",
-            "--store-dir",
-            folder,
-            "--jobs",
-            jobs,
-            path,
-            other,
-        ],
-        [] => [
-            "nix_realise",
-            "realise",
-            "--store-dir",
-            folder,
-            "--jobs",
-            jobs,
-            "x",
-            "x",
-        ],
-    };
+    let words = [
+        "nix_realise",
+        "realise",
+        "--store-dir",
+        store.folder.as_str(),
+        "--jobs",
+        jobs,
+        first.path.as_str(),
+        other.path.as_str(),
+    ];
     run_by(rt, make, &words)
 }
 
