@@ -409,3 +409,18 @@ fn fresh_input_reference(rt: HostRuntime) -> Result<(), Fail> {
     assert!(rt; store.held(&rt, 6)?);
     Ok(())
 }
+
+// Whether an output that holds its own path is built, with itself as a reference.
+fn keeps_itself<R: Host, M: Builders>(rt: &R, make: &M, store: &Store) -> Result<bool, Fail> {
+    let drv = put_drv(rt, store, "itself", LINUX, "echo $out > $out")?;
+    has_reference(rt, make, store, &drv, drv.output())
+}
+
+#[test]
+fn self_reference(rt: HostRuntime) -> Result<(), Fail> {
+    let make = ByProcesses::new(&rt, &rt);
+    let store = scene(&rt, process::id(rt.process()), "itself")?;
+    assert!(rt; keeps_itself(&rt, &make, &store)?);
+    assert!(rt; store.held(&rt, 4)?);
+    Ok(())
+}
