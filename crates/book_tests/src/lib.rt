@@ -9,7 +9,7 @@
 //! | `refusals` | leases of another book, records of another job |
 //! | `growths` | memory that is refused while a lease ends |
 //! | `random_runs` | random plans and answers, beside states that the test works out |
-//! | `random_plans` | derivations that are made up |
+//! | `random_plans`, `made` | derivations that are made up |
 //! | `builders` | what builders answer, and how leases end with it |
 //! | `books` | plans, journals and books that the tests are made of |
 //! | `files`, `hindered` | files of derivations |
@@ -29,6 +29,8 @@ mod files;
 mod growths;
 #[cfg(test)]
 mod hindered;
+#[cfg(test)]
+mod made;
 #[cfg(test)]
 mod random_plans;
 #[cfg(test)]

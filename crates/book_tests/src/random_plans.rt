@@ -3,8 +3,9 @@
 ghost use Rattle.std.specs.Prelude.{◌<◌};
 
 use crate::books::store_dir;
-use drv_graph::{Plan, fill_outputs};
-use nix_drv::{Derivation, EnvEntry, Input, ListSource, ListedFile, Output, Parts, write};
+use crate::made::{Made, derivation, make};
+use drv_graph::Plan;
+use nix_drv::{Derivation, EnvEntry, Input, ListSource, ListedFile, Output, Parts};
 use nix_names::{StorePath, parse_path};
 use std::alloc::{AllocError, Global};
 use std::test::Fail;
@@ -49,14 +50,18 @@ impl Random {
     }
 }
 
-/// Derivations that were made up, each behind those that it uses: their files, their paths, and
-/// which outputs are valid at the opening.
+/// Derivations that were made up, each behind those that it uses: their files, and their paths and
+/// modulo hashes at the same places; and which outputs are valid at the opening.
 #[derive(Drop)]
 pub(crate) struct MadeUp {
     pub files: Vec<ListedFile>,
     pub paths: Vec<StorePath>,
+    hashes: Vec<[u8; 32]>,
     pub journal: Journal,
 }
+
+// How many of those before it a derivation may use.
+const WINDOW: usize = 60;
 
 fn texts(alloc: Global, all: &[&[u8]]) -> Result<Vec<Vec<u8>>, AllocError> {
     let mut texts = Vec::new(alloc);
@@ -80,16 +85,16 @@ fn empty_outputs(alloc: Global, names: &[&[u8]]) -> Result<Vec<Output>, AllocErr
     Ok(outputs)
 }
 
-// Up to three of the last 60 paths, in order; some of them may be the same.
+// Up to three of the last paths, in order; some of them may be the same.
 fn used(
     alloc: Global,
     paths: &[StorePath],
     random: &mut Random,
 ) -> Result<Vec<Vec<u8>>, AllocError> {
-    let recent = &paths[paths.len().saturating_sub(60)..];
+    let recent = &paths[paths.len().saturating_sub(WINDOW)..];
     let mut used = Vec::new(alloc);
     for _ in 0..random.below(4) {
-        if let Some(path) = recent.get(random.below(60)) {
+        if let Some(path) = recent.get(random.below(WINDOW)) {
             used.push(Vec::from_slice(alloc, path.text())?)?;
         }
     }
@@ -164,21 +169,7 @@ fn draft(alloc: Global, letter: u8, inputs: Vec<Input>) -> Result<Derivation, Fa
         args: Vec::new(alloc),
         env: env(alloc, letter)?,
     };
-    match Derivation::new(parts) {
-        Ok(draft) => Ok(draft),
-        Err(_) => Err("not in order".into()),
-    }
-}
-
-// The same files again, as a source.
-fn source(alloc: Global, files: &[ListedFile]) -> Result<ListSource, Fail> {
-    let mut copies = Vec::new(alloc);
-    for file in files {
-        let path = Vec::from_slice(alloc, &file.path)?;
-        let bytes = Vec::from_slice(alloc, &file.bytes)?;
-        copies.push(ListedFile { path, bytes })?;
-    }
-    Ok(ListSource::new(alloc, copies, Vec::new(alloc))?)
+    derivation(parts)
 }
 
 // Registers the first output of a derivation that is reused, or partly valid.
@@ -198,19 +189,26 @@ fn register(
     Ok(())
 }
 
-// The draft filled, behind these files.
-fn filled(
-    alloc: Global,
-    files: &[ListedFile],
-    name: &[u8],
-    draft: &Derivation,
-) -> Result<(Derivation, StorePath), Fail> {
-    let dir = store_dir(alloc)?;
-    let mut source = source(alloc, files)?;
-    Ok(fill_outputs(alloc, &mut source, &dir, name, draft)?)
-}
-
 impl MadeUp {
+    // The modulo hash of the derivation at this path, which is one of the last; else none.
+    fn hash_of(&self, path: &[u8]) -> Option<[u8; 32]> {
+        let from = self.paths.len().saturating_sub(WINDOW);
+        let recent = self.paths.iter().zip(&self.hashes).skip(from);
+        let mut found = recent.filter(|(known, _)| known.text() == path);
+        found.next().map(|(_, hash)| *hash)
+    }
+
+    // The modulo hashes of these inputs.
+    fn hashes_of(&self, alloc: Global, inputs: &[Input]) -> Result<Vec<[u8; 32]>, AllocError> {
+        let mut hashes = Vec::new(alloc);
+        for input in inputs {
+            if let Some(hash) = self.hash_of(&input.path) {
+                hashes.push(hash)?;
+            }
+        }
+        Ok(hashes)
+    }
+
     // A derivation with this letter and this number that uses some of those before it.
     fn next(
         &self,
@@ -218,36 +216,42 @@ impl MadeUp {
         random: &mut Random,
         letter: u8,
         number: usize,
-    ) -> Result<(Derivation, StorePath), Fail> {
+    ) -> Result<Made, Fail> {
         let inputs = inputs(alloc, used(alloc, &self.paths, random)?)?;
+        let hashes = self.hashes_of(alloc, &inputs)?;
         let draft = draft(alloc, letter, inputs)?;
-        let digit = |n: usize| b'0' + (n % 10) as u8;
-        let name = [
-            letter,
-            digit(number / 100),
-            digit(number / 10),
-            digit(number),
-        ];
-        filled(alloc, &self.files, &name, &draft)
+        make(alloc, &name_of(letter, number), draft, &hashes)
     }
 
     // Adds a derivation.
-    fn add(&mut self, alloc: Global, drv: &Derivation, path: StorePath) -> Result<(), Fail> {
-        self.files.push(ListedFile {
-            path: Vec::from_slice(alloc, path.text())?,
-            bytes: write(alloc, drv)?,
-        })?;
-        self.paths.push(path)?;
+    fn add(&mut self, alloc: Global, made: Made) -> Result<(), Fail> {
+        let path = Vec::from_slice(alloc, made.path.text())?;
+        let bytes = made.text;
+        self.files.push(ListedFile { path, bytes })?;
+        self.hashes.push(made.hash)?;
+        self.paths.push(made.path)?;
         Ok(())
     }
 
     // Makes up one more derivation.
     fn make_up(&mut self, alloc: Global, random: &mut Random, number: usize) -> Result<(), Fail> {
         let letter = LETTERS[random.below(64)];
-        let (drv, path) = self.next(alloc, random, letter, number)?;
-        register(alloc, &mut self.journal, letter, &drv)?;
-        self.add(alloc, &drv, path)
+        let made = self.next(alloc, random, letter, number)?;
+        register(alloc, &mut self.journal, letter, &made.drv)?;
+        self.add(alloc, made)
     }
+}
+
+// A letter, and a number of four digits.
+fn name_of(letter: u8, number: usize) -> [u8; 5] {
+    let digit = |n: usize| b'0' + (n % 10) as u8;
+    [
+        letter,
+        digit(number / 1000),
+        digit(number / 100),
+        digit(number / 10),
+        digit(number),
+    ]
 }
 
 /// So many derivations.
@@ -255,12 +259,24 @@ pub(crate) fn made_up(alloc: Global, random: &mut Random, count: usize) -> Resul
     let mut made_up = MadeUp {
         files: Vec::new(alloc),
         paths: Vec::new(alloc),
+        hashes: Vec::new(alloc),
         journal: Journal::new(alloc),
     };
     for number in 0..count {
         made_up.make_up(alloc, random, number)?;
     }
     Ok(made_up)
+}
+
+// The same files again, as a source.
+fn source(alloc: Global, files: &[ListedFile]) -> Result<ListSource, Fail> {
+    let mut copies = Vec::new(alloc);
+    for file in files {
+        let path = Vec::from_slice(alloc, &file.path)?;
+        let bytes = Vec::from_slice(alloc, &file.bytes)?;
+        copies.push(ListedFile { path, bytes })?;
+    }
+    Ok(ListSource::new(alloc, copies, Vec::new(alloc))?)
 }
 
 // Some of the paths.

@@ -11,7 +11,8 @@ use std::alloc::{AllocError, AllocFailed, Global};
 use std::test::*;
 use valid_table::ListOutlet;
 
-const DERIVATIONS: usize = 300;
+// After how many steps a run has not ended well.
+const MOST_STEPS: usize = 100_000;
 
 // What the test knows of a run.
 #[derive(Drop)]
@@ -126,12 +127,13 @@ fn has_states(book: &Book<ListOutlet>, states: &[State]) -> bool {
     true
 }
 
-// A run, and its leases that have not ended.
+// A run, and its leases that have not ended. At one of so many steps, all states are compared.
 struct Running {
     book: Book<ListOutlet>,
     leases: Vec<Lease<usize>>,
     known: Known,
     random: Random,
+    every: usize,
 }
 
 impl Running {
@@ -162,15 +164,16 @@ impl Running {
         Ok(is_idle(&self.known, &states))
     }
 
-    // Takes the next lease, and says whether it is one that can be given, or whether there is none.
-    fn begin(&mut self, alloc: Global) -> Result<bool, Fail> {
+    // Takes the next lease, and where it is looked at says whether it is one that can be given, or
+    // whether there is none.
+    fn begin(&mut self, alloc: Global, looked_at: bool) -> Result<bool, Fail> {
         let Some(lease) = self.book.next()? else {
-            return Ok(self.is_idle(alloc)?);
+            return Ok(!looked_at || self.is_idle(alloc)?);
         };
         let d = lease.job().derivation;
         let number = lease.number();
         keep(&mut self.leases, lease)?;
-        let can_begin = self.can_begin(alloc, d)?;
+        let can_begin = !looked_at || self.can_begin(alloc, d)?;
         self.note(d, State::Building(number));
         Ok(can_begin)
     }
@@ -190,24 +193,27 @@ impl Running {
         build(alloc, &mut self.book, lease, &[])
     }
 
-    // Makes a step, and says whether the book is as it has to be behind it.
-    fn step(&mut self, alloc: Global) -> Result<bool, Fail> {
-        let mut is_right = true;
+    // Makes a step, and says whether it could be made, where it is looked at.
+    fn step(&mut self, alloc: Global, looked_at: bool) -> Result<bool, Fail> {
         if self.random.below(2) == 0 {
-            is_right = self.begin(alloc)?;
-        } else {
-            self.end(alloc)?;
+            return self.begin(alloc, looked_at);
         }
-        Ok(is_right && self.agrees(alloc)?)
+        self.end(alloc)?;
+        Ok(true)
     }
 
-    // Whether the book is as it has to be behind each step, up to its end.
+    // Makes a step, and says whether the book is as it has to be, where that is looked at.
+    fn step_is_right(&mut self, alloc: Global, looked_at: bool) -> Result<bool, Fail> {
+        Ok(self.step(alloc, looked_at)? && (!looked_at || self.agrees(alloc)?))
+    }
+
+    // Whether the book is as it has to be, up to its end and there.
     fn runs(&mut self, alloc: Global) -> Result<bool, Fail> {
-        for _ in 0..40 * DERIVATIONS {
+        for step in 0..MOST_STEPS {
             if self.book.settled() {
-                return Ok(self.leases.is_empty());
+                return Ok(self.leases.is_empty() && self.agrees(alloc)?);
             }
-            if !self.step(alloc)? {
+            if !self.step_is_right(alloc, step.is_multiple_of(self.every))? {
                 return Ok(false);
             }
         }
@@ -221,6 +227,7 @@ impl Running {
             leases,
             known: _known,
             random: _random,
+            every: _,
         } = self;
         give_up_all(leases);
         book.close();
@@ -253,10 +260,10 @@ fn give_up_all(mut leases: Vec<Lease<usize>>) {
     leases.destroy_empty();
 }
 
-// A random run that begins.
-fn begin_run(alloc: Global, seed: u64) -> Result<Running, Fail> {
+// A random run that begins, with so many derivations.
+fn begin_run(alloc: Global, seed: u64, count: usize, every: usize) -> Result<Running, Fail> {
     let mut random = Random { state: seed };
-    let made_up = made_up(alloc, &mut random, DERIVATIONS)?;
+    let made_up = made_up(alloc, &mut random, count)?;
     let plan = random_plan(alloc, &made_up, &mut random)?;
     let known = nothing_begun(alloc, &plan)?;
     let book = book_of(alloc, plan, made_up.journal)?;
@@ -265,6 +272,7 @@ fn begin_run(alloc: Global, seed: u64) -> Result<Running, Fail> {
         leases: Vec::new(alloc),
         known,
         random,
+        every,
     })
 }
 
@@ -276,8 +284,8 @@ fn nothing_begun(alloc: Global, plan: &Plan) -> Result<Known, AllocError> {
 }
 
 // How many events there are in a random run in which all is as it has to be.
-fn events(alloc: Global, seed: u64) -> Result<usize, Fail> {
-    let mut running = begin_run(alloc, seed)?;
+fn events(alloc: Global, seed: u64, count: usize, every: usize) -> Result<usize, Fail> {
+    let mut running = begin_run(alloc, seed, count, every)?;
     let runs = running.runs(alloc);
     let count = running.book.events().len();
     running.close();
@@ -291,8 +299,15 @@ fn events(alloc: Global, seed: u64) -> Result<usize, Fail> {
 #[test]
 fn random_runs(rt: HostRuntime) -> Result<(), Fail> {
     for seed in [1, 271_828, 314_159_265] {
-        let events = events(rt.alloc(), seed)?;
+        let events = events(rt.alloc(), seed, 300, 1)?;
         assert!(rt; events > 100, "{events} events from {seed}");
     }
+    Ok(())
+}
+
+#[test]
+fn long_random_run(rt: HostRuntime) -> Result<(), Fail> {
+    let events = events(rt.alloc(), 141_421, 2_000, 10)?;
+    assert!(rt; events > 1_000, "{events} events");
     Ok(())
 }
