@@ -8,6 +8,7 @@
 //! | `calls` | leases, and what a book tells of itself |
 //! | `refusals` | leases of another book, records of another job |
 //! | `growths` | memory that is refused while a lease ends |
+//! | `costs` | what events cost |
 //! | `random_runs` | random plans and answers, beside states that the test works out |
 //! | `random_plans`, `made` | derivations that are made up |
 //! | `builders` | what builders answer, and how leases end with it |
@@ -23,6 +24,8 @@ mod builders;
 mod calls;
 #[cfg(test)]
 mod causes;
+#[cfg(test)]
+mod costs;
 #[cfg(test)]
 mod files;
 #[cfg(test)]

@@ -118,6 +118,12 @@ fn inputs(alloc: Global, paths: Vec<Vec<u8>>) -> Result<Vec<Input>, AllocError> 
     Ok(inputs)
 }
 
+// The input at this path alone.
+fn one_input(alloc: Global, path: &StorePath) -> Result<Vec<Input>, AllocError> {
+    let path = Vec::from_slice(alloc, path.text())?;
+    inputs(alloc, vec![in alloc; path]?)
+}
+
 // The environment of a derivation with this letter.
 fn env(alloc: Global, letter: u8) -> Result<Vec<EnvEntry>, AllocError> {
     let mut env = Vec::new(alloc);
@@ -209,20 +215,6 @@ impl MadeUp {
         Ok(hashes)
     }
 
-    // A derivation with this letter and this number that uses some of those before it.
-    fn next(
-        &self,
-        alloc: Global,
-        random: &mut Random,
-        letter: u8,
-        number: usize,
-    ) -> Result<Made, Fail> {
-        let inputs = inputs(alloc, used(alloc, &self.paths, random)?)?;
-        let hashes = self.hashes_of(alloc, &inputs)?;
-        let draft = draft(alloc, letter, inputs)?;
-        make(alloc, &name_of(letter, number), draft, &hashes)
-    }
-
     // Adds a derivation.
     fn add(&mut self, alloc: Global, made: Made) -> Result<(), Fail> {
         let path = Vec::from_slice(alloc, made.path.text())?;
@@ -233,20 +225,48 @@ impl MadeUp {
         Ok(())
     }
 
-    // Makes up one more derivation.
-    fn make_up(&mut self, alloc: Global, random: &mut Random, number: usize) -> Result<(), Fail> {
-        let letter = LETTERS[random.below(64)];
-        let made = self.next(alloc, random, letter, number)?;
+    // Makes up one more derivation, with this letter, whose inputs have these hashes.
+    fn push(
+        &mut self,
+        alloc: Global,
+        letter: u8,
+        inputs: Vec<Input>,
+        hashes: &[[u8; 32]],
+    ) -> Result<(), Fail> {
+        let draft = draft(alloc, letter, inputs)?;
+        let made = make(alloc, &name_of(letter, self.paths.len()), draft, hashes)?;
         register(alloc, &mut self.journal, letter, &made.drv)?;
         self.add(alloc, made)
     }
+
+    // Makes up one more derivation, with some of those before it as inputs.
+    fn push_any(&mut self, alloc: Global, random: &mut Random) -> Result<(), Fail> {
+        let letter = LETTERS[random.below(64)];
+        let inputs = inputs(alloc, used(alloc, &self.paths, random)?)?;
+        let hashes = self.hashes_of(alloc, &inputs)?;
+        self.push(alloc, letter, inputs, &hashes)
+    }
+
+    /// Makes up one more derivation that can be built, with the one that was made up as this one,
+    /// counted from 0, as its only input: without inputs where there is none yet.
+    pub(crate) fn push_user(&mut self, alloc: Global, of: usize) -> Result<(), Fail> {
+        match (self.paths.get(of), self.hashes.get(of)) {
+            (Some(path), Some(hash)) => {
+                let hashes = [*hash];
+                let inputs = one_input(alloc, path)?;
+                self.push(alloc, b'f', inputs, &hashes)
+            }
+            _ => self.push(alloc, b'f', Vec::new(alloc), &[]),
+        }
+    }
 }
 
-// A letter, and a number of four digits.
-fn name_of(letter: u8, number: usize) -> [u8; 5] {
+// A letter, and a number of five digits.
+fn name_of(letter: u8, number: usize) -> [u8; 6] {
     let digit = |n: usize| b'0' + (n % 10) as u8;
     [
         letter,
+        digit(number / 10_000),
         digit(number / 1000),
         digit(number / 100),
         digit(number / 10),
@@ -254,16 +274,21 @@ fn name_of(letter: u8, number: usize) -> [u8; 5] {
     ]
 }
 
-/// So many derivations.
-pub(crate) fn made_up(alloc: Global, random: &mut Random, count: usize) -> Result<MadeUp, Fail> {
-    let mut made_up = MadeUp {
+/// No derivations.
+pub(crate) fn nothing(alloc: Global) -> MadeUp {
+    MadeUp {
         files: Vec::new(alloc),
         paths: Vec::new(alloc),
         hashes: Vec::new(alloc),
         journal: Journal::new(alloc),
-    };
-    for number in 0..count {
-        made_up.make_up(alloc, random, number)?;
+    }
+}
+
+/// So many derivations.
+pub(crate) fn made_up(alloc: Global, random: &mut Random, count: usize) -> Result<MadeUp, Fail> {
+    let mut made_up = nothing(alloc);
+    for _ in 0..count {
+        made_up.push_any(alloc, random)?;
     }
     Ok(made_up)
 }
@@ -300,8 +325,13 @@ pub(crate) fn random_plan(
     made_up: &MadeUp,
     random: &mut Random,
 ) -> Result<Plan, Fail> {
+    let roots = some_of(alloc, &made_up.paths, random)?;
+    plan_of(alloc, made_up, &roots)
+}
+
+/// The plan of these roots, which were made up.
+pub(crate) fn plan_of(alloc: Global, made_up: &MadeUp, roots: &[StorePath]) -> Result<Plan, Fail> {
     let dir = store_dir(alloc)?;
     let mut source = source(alloc, &made_up.files)?;
-    let roots = some_of(alloc, &made_up.paths, random)?;
-    Ok(Plan::load(alloc, &mut source, &dir, &roots)?)
+    Ok(Plan::load(alloc, &mut source, &dir, roots)?)
 }
