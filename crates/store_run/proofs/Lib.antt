@@ -1,7 +1,9 @@
 pub mod Answered
+pub mod Carried
 pub mod Examined
 pub mod Openings
 pub mod RunEndings
+pub mod Standings
 pub mod Telling
 pub mod ToldRuns
 pub mod Unhindered

@@ -15,7 +15,7 @@ use Rattle.valid_table.specs.Valid.{AreReferencesValid, IsValid, Registers}
 use Rattle.valid_table.specs.declared.entry.Entry.{Entry}
 use Rattle.valid_table.specs.declared.entry.Registration.{Registration}
 use Rattle.valid_table.proofs.AddedEntries.{registered_push}
-use Rattle.valid_table.proofs.JournalLists.{closed_references_valid}
+use Rattle.valid_table.proofs.JournalLists.{closed_references_valid, registered-append}
 use Rattle.sched_core.specs.Headline.{AreDrvPaths}
 use Rattle.sched_core.specs.Jobs.{output_paths, seeds_of}
 use Rattle.sched_core.specs.Legal.{IsEntryOf, IsLegal, begins, begun, ended, failed}
@@ -211,7 +211,8 @@ pub record WasMade (may : Job → Result Answer Reason → Type 0) (run : Run) (
   pub is_node : slice_get run.graph.nodes d ≡ Some node
   pub entry : Entry
   pub is_entry : IsEntryOf node infos entry
-  pub among : Contains history.entries entry
+  pub kept : (r : Registration) → Contains (registered_by entry) r
+      → Contains (registered history.entries) r
 
 module _ (excused : Reason → Type 0) (may : Job → Result Answer Reason → Type 0) (run : Run)
     (sound : IsSound run.graph) where
@@ -239,8 +240,9 @@ module _ (excused : Reason → Type 0) (may : Job → Result Answer Reason → T
     is_node = made.is_node;
     entry = made.entry;
     is_entry = made.is_entry;
-    among = subst (λ (es : List Entry). Contains es made.entry) (sym is)
-        (Contains-append_left history.entries more made.entry made.among);
+    kept = λ r has. subst (λ (rs : List Registration). Contains rs r)
+        (sym (ap registered is ∙ registered-append history.entries more))
+        (Contains-append_left (registered history.entries) (registered more) r (made.kept r has));
   }
 
   pub drv_paths : AreDrvPaths run
@@ -285,7 +287,9 @@ module _ (excused : Reason → Type 0) (may : Job → Result Answer Reason → T
         is_node = is_node;
         entry = entry;
         is_entry = is_entry;
-        among = Contains-append_right history.entries (entry ∷ []) entry (Contains-first entry []);
+        kept = λ r has. subst (λ (rs : List Registration). Contains rs r)
+            (sym (registered_push history.entries entry))
+            (Contains-append_right (registered history.entries) (registered_by entry) r has);
       }))
       (λ other. made_more history (ended history e lease entry) (entry ∷ []) d refl
       (made_is history told d (sym (phase_other history.events (Finish e lease) d other) ∙ ends)))
