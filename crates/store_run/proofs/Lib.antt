@@ -1,6 +1,7 @@
 pub mod Answered
 pub mod Carried
 pub mod Examined
+pub mod OneOutcome
 pub mod Openings
 pub mod RunEndings
 pub mod Standings
