@@ -2,7 +2,7 @@
 use Rattle.std.proofs.Common.{◌≡◌, ◌∙◌, ◌⊎◌, inl, inr, ◌<◌, ℕ, zero, suc, Bool, true, false, List, [], ◌∷◌, ◌++◌, length, Result, Ok, Err, Option, Some, refl, sym, ap, subst, ⊎_elim, arith}
 use Rattle.std.specs.Prelude.{Contains, flat_map, slice_get}
 use Rattle.std.specs.List.{position_or_len}
-use Rattle.std.proofs.lemmas.List.Elements.{Contains-append_cases}
+use Rattle.std.proofs.lemmas.List.Elements.{Contains-append_cases, Contains-append_left}
 use Rattle.std.proofs.lemmas.Map.Views.{Contains-from_any}
 use Rattle.std.proofs.lemmas.Option.{slice_get_within}
 use Rattle.nix_names.specs.Names.{same_bytes}
@@ -212,6 +212,20 @@ made_carried may run history other once once' d node at made made' same carried 
 
 -- ---- one derivation
 
+-- what began there has an event here
+not_idle : (may : Job → Result Answer Reason → Type 0) (run : Run) (sound : IsSound run.graph)
+    (history other : History) (end : IsAtEnd may run history) (end' : IsAtEnd may run other)
+    (opening : other.opening ≡ history.opening) (d : ℕ)
+    (above : (i : ℕ) → i < d → IsAlikeAt run other history i)
+    → phase_of history.events d ≡ Idle → (phase_of other.events d ≡ Idle → ⊥) → ⊥
+not_idle may run sound history other end end' opening d above idle moved =
+    let was = end'.begun d moved in
+    let un = unhindered_there may run sound other history end' end (sym opening) d above
+    was.unhindered in
+    end.settled d was.within
+    (subst (λ (opens : List Entry). IsWanted run opens d) opening was.wanted)
+    (inr (inl (unhindered_ready run history sound d un idle)))
+
 module _ (may : Job → Result Answer Reason → Type 0) (run : Run) (sound : IsSound run.graph)
     (outcome : HasOneOutcome may run.graph) (history other : History)
     (end : IsAtEnd may run history) (end' : IsAtEnd may run other)
@@ -219,16 +233,6 @@ module _ (may : Job → Result Answer Reason → Type 0) (run : Run) (sound : Is
     (below : (i : ℕ) → i < d → IsAlikeAt run history other i) where
   above : (i : ℕ) → i < d → IsAlikeAt run other history i
   above i less = swapped run history other i (below i less)
-
-  -- a derivation that began there has an event here
-  not_idle : phase_of history.events d ≡ Idle → (phase_of other.events d ≡ Idle → ⊥) → ⊥
-  not_idle idle moved =
-      let was = end'.begun d moved in
-      let un = unhindered_there may run sound other history end' end (sym opening) d above
-      was.unhindered in
-      end.settled d was.within
-      (subst (λ (opens : List Entry). IsWanted run opens d) opening was.wanted)
-      (inr (inl (unhindered_ready run history sound d un idle)))
 
   -- the seeds of what has an event are carried
   seeds_there : (phase_of history.events d ≡ Idle → ⊥) → (node : Node)
@@ -346,11 +350,64 @@ module _ (may : Job → Result Answer Reason → Type 0) (run : Run) (sound : Is
           absurd (none_building may run sound history other end end' opening d lease is)
       by p (Begun lease) is is' =
           absurd (none_building may run sound other history end' end (sym opening) d lease is')
-      by Idle Ended is is' = absurd (not_idle is (λ idle.
+      by Idle Ended is is' = absurd
+          (not_idle may run sound history other end end' opening d above is (λ idle.
           let clash : Ended ≡ Idle = sym is' ∙ idle in cc))
-      by Idle (Broken why) is is' = absurd (not_idle is (λ idle.
+      by Idle (Broken why) is is' = absurd
+          (not_idle may run sound history other end end' opening d above is (λ idle.
           let clash : Broken why ≡ Idle = sym is' ∙ idle in cc))
-      by Ended Idle is is' = ?
-      by (Broken why) Idle is is' = ?
+      by Ended Idle is is' = absurd
+          (not_idle may run sound other history end' end (sym opening) d below is' (λ idle.
+          let clash : Ended ≡ Idle = sym is ∙ idle in cc))
+      by (Broken why) Idle is is' = absurd
+          (not_idle may run sound other history end' end (sym opening) d below is' (λ idle.
+          let clash : Broken why ≡ Idle = sym is ∙ idle in cc))
 
 -- ---- all of them
+
+module _ (may : Job → Result Answer Reason → Type 0) (run : Run) (sound : IsSound run.graph)
+    (outcome : HasOneOutcome may run.graph) (history other : History)
+    (end : IsAtEnd may run history) (end' : IsAtEnd may run other)
+    (opening : other.opening ≡ history.opening) where
+  alike_below : (bound d : ℕ) → d < bound → IsAlikeAt run history other d
+  alike_below zero d low = absurd (omega arith)
+  alike_below (suc bound) d low =
+      alike_at may run sound outcome history other end end' opening d
+      (λ i less. alike_below bound i (omega arith))
+
+  is_alike : (d : ℕ) → IsAlikeAt run history other d
+  is_alike d = alike_below (suc d) d (omega arith)
+
+  -- what is registered here is registered there
+  record_there : (path : List ℕ) (info : PathInfo)
+      → Registers (registered history.entries) path info
+      → Registers (registered other.entries) path info
+  record_there path info has = by (end.from path info has)
+    where
+      valid : IsValid (registered history.entries) path
+      valid = valid_from_registers (registered history.entries) path info has
+
+      by : IsFrom run history path info → Registers (registered other.entries) path info
+      by (from_opening first) =
+          let whole' : registered other.entries
+          ≡ registered history.opening ++ registered end'.more =
+          ap registered end'.parts ∙ registered-append other.opening end'.more
+          ∙ ap (λ (es : List Entry). registered es ++ registered end'.more) opening in
+          subst (λ (rs : List Registration). Registers rs path info) (sym whole')
+          (Contains-append_left (registered history.opening) (registered end'.more)
+          (record { path = path; info = info }) first)
+      by (from_built d node at ends own) =
+          (is_alike d).there (is_good_by run history sound d (good_ended ends)) node at path own
+          path info ([], (valid, refl)) has
+
+pub are_alike : (may : Job → Result Answer Reason → Type 0) (run : Run)
+    (sound : IsSound run.graph) (outcome : HasOneOutcome may run.graph) (history other : History)
+    (end : IsAtEnd may run history) (end' : IsAtEnd may run other)
+    (opening : other.opening ≡ history.opening) → AreAlike run history other
+are_alike may run sound outcome history other end end' opening = record {
+  states = λ d. (is_alike may run sound outcome history other end end' opening d).same;
+  records = λ path info. (
+    record_there may run sound outcome history other end end' opening path info,
+    record_there may run sound outcome other history end' end (sym opening) path info,
+  );
+}
