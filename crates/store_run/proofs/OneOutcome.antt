@@ -15,7 +15,7 @@ use Rattle.valid_table.specs.declared.entry.Registration.{Registration}
 use Rattle.valid_table.proofs.JournalLists.{registered-append}
 use Rattle.sched_core.specs.Books.{ArePermittedPaths}
 use Rattle.sched_core.specs.Jobs.{IsJob, output_paths, seeds_of}
-use Rattle.sched_core.specs.Legal.{ArePermitted, MayRefer}
+use Rattle.sched_core.specs.Legal.{ArePermitted, ArePermittedTo, MayRefer}
 use Rattle.sched_core.specs.Runs.{History, Run}
 use Rattle.sched_core.specs.Verdicts.{IsVerdict, outputs_of}
 use Rattle.sched_core.specs.declared.job.Answer.{Answer}
@@ -55,6 +55,19 @@ permitted_job graph d job node entries permitted is at are =
     (subst (λ (outputs : List (List ℕ)). ArePermitted (registered entries) job.seeds.items outputs
     permitted) (job_outputs graph d job node is at) are)
 
+-- each reference of what a derivation came to is permitted there
+pub refers_behind : (may : Job → Result Answer Reason → Type 0) (run : Run) (entries : List Entry)
+    (d : ℕ) (node : Node) (infos : List PathInfo) → slice_get run.graph.nodes d ≡ Some node
+    → IsVerdictBehind may run entries d (Ok infos) → ArePermittedTo run entries node infos
+refers_behind may run entries d node infos at behind info path has refers =
+    let job = behind.job in
+    let there : MayRefer (registered entries) job.seeds.items (outputs_of job) path =
+    came_may_refer may entries job infos behind.comes_to info path has refers in
+    subst (λ (seeds : List (List ℕ)). MayRefer (registered entries) seeds (output_paths node.drv)
+    path) (job_seeds run.graph d job node behind.is_job at)
+    (subst (λ (outputs : List (List ℕ)). MayRefer (registered entries) job.seeds.items outputs
+    path) (job_outputs run.graph d job node behind.is_job at) there)
+
 -- ---- what is permitted behind the first entries is permitted behind all
 
 module _ (may : Job → Result Answer Reason → Type 0) (run : Run) (history : History)
@@ -82,15 +95,8 @@ module _ (may : Job → Result Answer Reason → Type 0) (run : Run) (history : 
       → MayRefer (registered history.entries) (seeds_of run.graph.nodes node.drv)
       (output_paths node.drv) path
   came_refers infos came info path has refers =
-      let job = came.behind.job in
-      let is_job = came.behind.is_job in
-      let there : MayRefer (registered came.before) job.seeds.items (outputs_of job) path =
-      came_may_refer may came.before job infos came.behind.comes_to info path has refers in
       (permitted_whole (Ok infos) came path).0
-      (subst (λ (seeds : List (List ℕ)). MayRefer (registered came.before) seeds
-      (output_paths node.drv) path) (job_seeds run.graph d job node is_job at)
-      (subst (λ (outputs : List (List ℕ)). MayRefer (registered came.before) job.seeds.items
-      outputs path) (job_outputs run.graph d job node is_job at) there))
+      (refers_behind may run came.before d node infos at came.behind info path has refers)
 
   -- there is a record for each output
   pub came_count : (infos : List PathInfo) → CameTo may run history d (Ok infos)
