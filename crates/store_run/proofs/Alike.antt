@@ -1,5 +1,5 @@
 -- Two whole runs over one opening are alike, derivation by derivation in plan order.
-use Rattle.std.proofs.Common.{◌≡◌, ◌∙◌, ◌⊎◌, inl, inr, ◌<◌, ℕ, zero, suc, Bool, true, false, List, [], ◌∷◌, ◌++◌, length, Result, Ok, Err, Option, Some, refl, sym, ap, subst, ⊎_elim, arith}
+use Rattle.std.proofs.Common.{◌≡◌, ◌∙◌, inl, inr, ◌<◌, ℕ, zero, suc, true, false, List, [], ◌++◌, Result, Ok, Err, Option, Some, refl, sym, ap, subst, ⊎_elim, arith}
 use Rattle.std.specs.Prelude.{Contains, flat_map, slice_get}
 use Rattle.std.specs.List.{position_or_len}
 use Rattle.std.proofs.lemmas.List.Elements.{Contains-append_cases, Contains-append_left}
@@ -20,14 +20,14 @@ use Rattle.valid_table.proofs.Following.{one_info}
 use Rattle.valid_table.proofs.JournalLists.{registered-append}
 use Rattle.sched_core.specs.Books.{IsRunSettled}
 use Rattle.sched_core.specs.Jobs.{named_outputs, output_paths, seeds_of}
-use Rattle.sched_core.specs.Legal.{IsEntryOf, MayRefer}
+use Rattle.sched_core.specs.Legal.{IsEntryOf}
 use Rattle.sched_core.specs.Runs.{History, IsWanted, Run, input_numbers, inputs_at, is_valid, standing_at, state_in}
 use Rattle.sched_core.specs.States.{Phase, Idle, Begun, Ended, Broken, is_good, phase_of}
 use Rattle.sched_core.specs.declared.job.Answer.{Answer}
 use Rattle.sched_core.specs.declared.job.Job.{Job}
 use Rattle.sched_core.specs.declared.reason.Reason.{Reason}
 use Rattle.sched_core.specs.declared.reason.State.{State}
-use Rattle.sched_core.specs.declared.reason.State.TheVariants.{Building, Done, Failed, Ready}
+use Rattle.sched_core.specs.declared.reason.State.TheVariants.{Failed}
 use Rattle.sched_core.proofs.Dones.{part_with}
 use Rattle.sched_core.proofs.PlanInputs.{inputs_first}
 use Rattle.sched_core.proofs.Seeds.{named_at}
@@ -36,7 +36,7 @@ use Rattle.store_run.proofs.Carried.{IsCarried, first_carried, outputs_carried, 
 use Rattle.store_run.proofs.OneOutcome.{came_count, came_refers, one_verdict}
 use Rattle.store_run.proofs.Standings.{output_of_reused, source_of_free}
 use Rattle.store_run.proofs.Telling.{CameTo, IsFrom, WasBegun, WasMade, from_built, from_opening}
-use Rattle.store_run.proofs.Unhindered.{IsGoodBy, IsUnhindered, aside_same, good_ended, good_is, good_reused, inputs_in, is_good_by, standing_in, state_by, unhindered_ready}
+use Rattle.store_run.proofs.Unhindered.{IsGoodBy, IsUnhindered, aside_same, good_ended, good_is, good_reused, inputs_in, is_good_by, state_by, unhindered_ready}
 
 -- A history in which no wanted derivation has anything before it, and each that has an event was
 -- begun and came to a verdict.

@@ -1,11 +1,11 @@
 -- Paths whose records stand in another list of registrations too, with those of all that they reach.
-use Rattle.std.proofs.Common.{◌≡◌, ◌∙◌, ◌⊎◌, inl, inr, ◌↔◌, ℕ, List, [], ◌∷◌, ◌++◌, refl, sym, subst, ⊎_elim}
+use Rattle.std.proofs.Common.{◌≡◌, inl, inr, ℕ, List, [], ◌∷◌, ◌++◌, refl, sym, subst, ⊎_elim}
 use Rattle.std.specs.Prelude.{Contains}
 use Rattle.std.proofs.lemmas.List.Elements.{Contains-append_left}
 use Rattle.nix_names.proofs.Lists.{Contains-map}
 use Rattle.valid_table.specs.Closure.{Leads, Reaches}
 use Rattle.valid_table.specs.PathInfos.{PathInfo}
-use Rattle.valid_table.specs.Valid.{AreReferencesValid, IsOnce, IsValid, RefersTo, Registers}
+use Rattle.valid_table.specs.Valid.{AreReferencesValid, IsOnce, IsValid, Registers}
 use Rattle.valid_table.specs.declared.entry.Registration.{Registration}
 use Rattle.valid_table.proofs.ClosureLaws.{leads_before, registers_from_valid}
 use Rattle.valid_table.proofs.Following.{one_info}

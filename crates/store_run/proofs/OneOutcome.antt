@@ -1,7 +1,7 @@
 -- A derivation that came to a verdict in two histories came to the same, where its seeds are carried
 -- both ways.
-use Rattle.std.proofs.Common.{◌≡◌, ◌∙◌, ◌⊎◌, inl, inr, ◌↔◌, ℕ, List, [], ◌∷◌, ◌++◌, length, Result, Ok, Err, Some, refl, sym, ap, subst, ⊎_elim}
-use Rattle.std.specs.Prelude.{Contains, map, slice_get}
+use Rattle.std.proofs.Common.{◌≡◌, ◌∙◌, ◌↔◌, ℕ, List, [], ◌++◌, length, Result, Ok, Err, Some, sym, ap, subst}
+use Rattle.std.specs.Prelude.{Contains, slice_get}
 use Rattle.std.proofs.lemmas.List.{length-map}
 use Rattle.nix_names.proofs.Lists.{same_element}
 use Rattle.nix_names.proofs.RisingLists.{rising_same}

@@ -1,12 +1,12 @@
 -- *Any schedule*: a whole run and one thread over the same opening are alike.
-use Rattle.std.proofs.Common.{◌≡◌, ◌∙◌, ℕ, List, Result, length, refl, sym, subst, ⊎_elim}
+use Rattle.std.proofs.Common.{◌≡◌, ◌∙◌, ℕ, List, Result, sym, subst, ⊎_elim}
 use Rattle.drv_graph.specs.SoundGraphs.{IsSound}
 use Rattle.valid_table.specs.Valid.{IsJournal}
 use Rattle.valid_table.specs.declared.entry.Entry.{Entry}
 use Rattle.valid_table.proofs.JournalLists.{closed_references_valid}
 use Rattle.sched_core.specs.Books.{IsRunSettled}
 use Rattle.sched_core.specs.Legal.{IsLegal}
-use Rattle.sched_core.specs.Reports.{IsReport, IsReportIn}
+use Rattle.sched_core.specs.Reports.{IsReport}
 use Rattle.sched_core.specs.Runs.{History, IsWanted, Run, state_in}
 use Rattle.sched_core.specs.States.{Broken, Idle, phase_of}
 use Rattle.sched_core.specs.declared.job.Answer.{Answer}
@@ -19,7 +19,7 @@ use Rattle.sched_core.proofs.OneReport.{one_report}
 use Rattle.sched_core.proofs.Registering.{entries_are_journal}
 use Rattle.sched_core.proofs.Seeds.{opened_with}
 use Rattle.store_run.specs.OneThread.{IsOneThread}
-use Rattle.store_run.specs.Scheduling.{AnySchedule, AreAlike, IsWholeRun, OneReport}
+use Rattle.store_run.specs.Scheduling.{AnySchedule, IsWholeRun, OneReport}
 use Rattle.store_run.proofs.Alike.{IsAtEnd, are_alike}
 use Rattle.store_run.proofs.Telling.{begun_is, broke_is, drv_paths, from_is, made_is}
 use Rattle.store_run.proofs.ToldRuns.{IsTold, told_begin, told_done, told_fail, told_from, told_opening}

@@ -1,5 +1,5 @@
 -- What a derivation's standing says of its sources and its outputs.
-use Rattle.std.proofs.Common.{◌≡◌, ℕ, Bool, true, false, List, Option, Some, None, refl}
+use Rattle.std.proofs.Common.{◌≡◌, ℕ, true, false, List, Option, Some, None, refl}
 use Rattle.std.specs.Prelude.{Contains, not, if◌then◌else◌}
 use Rattle.std.specs.List.{list_all, position}
 use Rattle.nix_names.specs.Names.{same_bytes}

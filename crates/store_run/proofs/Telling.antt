@@ -5,7 +5,7 @@ use Rattle.std.proofs.Math.Dec.{eqb}
 use Rattle.std.proofs.lemmas.List.{append-nil}
 use Rattle.std.proofs.lemmas.List.Elements.{All-contains, Contains-append_cases, Contains-append_left, Contains-append_right}
 use Rattle.nix_names.specs.StorePaths.{IsDrvPath}
-use Rattle.nix_names.proofs.Lists.{Contains-first, either_side}
+use Rattle.nix_names.proofs.Lists.{either_side}
 use Rattle.nix_drv.proofs.Fixed.{eqb_same}
 use Rattle.drv_graph.specs.Nodes.{Node}
 use Rattle.drv_graph.specs.SoundGraphs.{IsSound}
@@ -26,7 +26,7 @@ use Rattle.sched_core.specs.declared.job.Job.{Job}
 use Rattle.sched_core.specs.declared.reason.Event.{Event}
 use Rattle.sched_core.specs.declared.reason.Event.TheVariants.{Begin, Done as Finish, Fail}
 use Rattle.sched_core.specs.declared.reason.Reason.{Reason}
-use Rattle.sched_core.specs.declared.reason.State.TheVariants.{Building, Ready}
+use Rattle.sched_core.specs.declared.reason.State.TheVariants.{Ready}
 use Rattle.sched_core.proofs.Dones.{registered_output}
 use Rattle.sched_core.proofs.Histories.{ready_is_idle}
 use Rattle.sched_core.proofs.Permitting.{begun_event}
@@ -34,7 +34,7 @@ use Rattle.sched_core.proofs.Registering.{entries_are_journal}
 use Rattle.sched_core.proofs.Seeds.{phase_push, same_number, seeds_are_valid}
 use Rattle.store_run.specs.Builders.{IsVerdictBehind}
 use Rattle.store_run.proofs.ToldRuns.{IsTold, told_begin, told_done, told_fail, told_opening}
-use Rattle.store_run.proofs.Unhindered.{IsGoodBy, IsUnhindered, good_ended, good_is, good_reused, is_good_by, ready_unhindered, standing_in, state_by}
+use Rattle.store_run.proofs.Unhindered.{IsGoodBy, IsUnhindered, good_ended, good_is, good_reused, is_good_by, ready_unhindered, state_by}
 
 -- ---- where a derivation stands behind one event more
 

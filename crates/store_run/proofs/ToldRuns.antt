@@ -1,28 +1,21 @@
 -- Legal histories in which each event tells what it follows from.
-use Rattle.std.proofs.Common.{◌≡◌, ◌∙◌, ◌⊎◌, inl, inr, ◌<◌, ◌==◌, ℕ, Bool, true, false, List, [], ◌∷◌, ◌++◌, length, Result, Ok, Err, Some, refl, sym, ap, subst, ⊎_elim}
-use Rattle.std.specs.Prelude.{Contains, slice_get, if◌then◌else◌}
+use Rattle.std.proofs.Common.{◌≡◌, ◌⊎◌, ℕ, List, [], ◌∷◌, ◌++◌, Result, Ok, Err, Some, refl, ap, subst}
+use Rattle.std.specs.Prelude.{slice_get}
 use Rattle.std.proofs.lemmas.List.{same_from_push}
-use Rattle.nix_drv.proofs.Fixed.{eqb_same}
 use Rattle.drv_graph.specs.Nodes.{Node}
-use Rattle.drv_graph.specs.SoundGraphs.{IsSound}
 use Rattle.valid_table.specs.PathInfos.{PathInfo}
 use Rattle.valid_table.specs.Valid.{IsJournal}
 use Rattle.valid_table.specs.declared.entry.Entry.{Entry}
 use Rattle.sched_core.specs.Books.{CanBegin, opened}
 use Rattle.sched_core.specs.Legal.{IsEntryOf, IsLegal, legal_opening, legal_begin, legal_done, legal_fail, begins, begun, ended, failed}
-use Rattle.sched_core.specs.Runs.{History, IsWanted, Run, state_in}
-use Rattle.sched_core.specs.States.{Phase, Idle, Begun, Ended, Broken, is_good, later, phase_by, phase_of}
+use Rattle.sched_core.specs.Runs.{History, Run}
+use Rattle.sched_core.specs.States.{Begun, phase_of}
 use Rattle.sched_core.specs.declared.job.Answer.{Answer}
 use Rattle.sched_core.specs.declared.job.Job.{Job}
-use Rattle.sched_core.specs.declared.reason.Event.{Event}
 use Rattle.sched_core.specs.declared.reason.Event.TheVariants.{Begin, Done as Finish, Fail}
 use Rattle.sched_core.specs.declared.reason.Reason.{Reason}
 use Rattle.sched_core.specs.declared.reason.Reason.TheVariants.{OutOfMemory}
-use Rattle.sched_core.specs.declared.reason.State.TheVariants.{Building, Ready}
-use Rattle.sched_core.proofs.Histories.{ready_is_idle}
-use Rattle.sched_core.proofs.Seeds.{phase_push, same_number}
 use Rattle.store_run.specs.Builders.{IsAnswered, IsVerdictBehind, answered_begin, answered_done, answered_fail, answered_opening}
-use Rattle.store_run.proofs.Unhindered.{IsGoodBy, IsUnhindered, good_ended, good_is, good_reused, is_good_by, ready_unhindered, state_by}
 
 -- A legal history, each event of which tells what it follows from. A Fail may be excused.
 pub data IsTold (excused : Reason → Type 0) (may : Job → Result Answer Reason → Type 0) (run : Run)

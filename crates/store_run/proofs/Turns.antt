@@ -1,29 +1,28 @@
 -- A history in which all derivations had their turns is a legal one that is settled, and tells what
 -- each event follows from, without an excuse.
-use Rattle.std.proofs.Common.{◌≡◌, ◌&&◌, cond, ◌∙◌, ◌⊎◌, inl, inr, ◌<◌, ◌≤◌, ℕ, zero, suc, Bool, true, false, List, [], ◌∷◌, ◌++◌, length, take, drop, Result, Ok, Err, Option, Some, None, refl, sym, ap, subst, ⊎_elim, arith}
+use Rattle.std.proofs.Common.{◌≡◌, ◌&&◌, cond, ◌∙◌, ◌⊎◌, inl, inr, ◌<◌, ◌≤◌, ℕ, zero, suc, Bool, true, false, List, [], ◌∷◌, length, take, drop, Result, Ok, Err, Option, Some, None, refl, sym, ap, subst, ⊎_elim, arith}
 use Rattle.std.specs.Prelude.{Contains, find, slice_get}
 use Rattle.std.specs.List.{list_all}
 use Rattle.std.proofs.lemmas.List.{length-take-le}
 use Rattle.std.specs.Cmp.Lexicographic.{nat_list_eq_equiv}
 use Rattle.std.proofs.lemmas.Map.Views.{list_any-from_Contains}
 use Rattle.std.proofs.lemmas.Option.{slice_get_within}
-use Rattle.nix_names.proofs.Lists.{Contains-first, Contains-from_get, Contains-from_map, Contains-later, Contains-nothing, either_side, element_at, get_grows, same_element, split_get}
+use Rattle.nix_names.proofs.Lists.{Contains-first, Contains-from_get, Contains-from_map, Contains-later, either_side, element_at, get_grows, same_element, split_get}
 use Rattle.nix_drv.specs.Derivation.{Output}
 use Rattle.drv_graph.specs.Nodes.{Node}
 use Rattle.drv_graph.specs.Plans.{Graph}
 use Rattle.drv_graph.specs.SoundGraphs.{IsSound}
 use Rattle.valid_table.specs.Entries.{paths_of, registered}
 use Rattle.valid_table.specs.PathInfos.{PathInfo}
-use Rattle.valid_table.specs.Valid.{IsValid, Registers}
+use Rattle.valid_table.specs.Valid.{IsValid}
 use Rattle.valid_table.specs.declared.entry.Entry.{Entry}
-use Rattle.valid_table.specs.declared.entry.Registration.{Registration}
 use Rattle.valid_table.proofs.ClosureLaws.{registers_from_valid}
 use Rattle.sched_core.specs.Books.{CanBegin, IsRunSettled}
 use Rattle.sched_core.specs.Courses.{IsOpen}
 use Rattle.sched_core.specs.Jobs.{output_paths}
-use Rattle.sched_core.specs.Legal.{ArePermittedTo, IsAllowed, IsEntryOf, IsLegal, legal_begin, legal_done, legal_fail, legal_opening, begins, begun, ended, failed}
+use Rattle.sched_core.specs.Legal.{IsAllowed, IsLegal, legal_begin, legal_done, legal_fail, legal_opening, begins, begun, ended, failed}
 use Rattle.sched_core.specs.Runs.{History, IsWanted, Run, is_valid, standing_at, state_in, wanted_input}
-use Rattle.sched_core.specs.States.{Phase, Idle, Begun, Ended, Broken, by_first, by_inputs, by_phase, by_standing, is_bad, is_good, phase_of}
+use Rattle.sched_core.specs.States.{Idle, Ended, Broken, by_first, by_phase, by_standing, is_bad, is_good, phase_of}
 use Rattle.sched_core.specs.declared.job.Answer.{Answer}
 use Rattle.sched_core.specs.declared.job.Job.{Job}
 use Rattle.sched_core.specs.declared.reason.Event.TheVariants.{Begin, Done as Finish, Fail}
@@ -41,9 +40,9 @@ use Rattle.store_run.specs.OneThread.{HadTurns, turn_done, turn_failed, turn_ope
 use Rattle.store_run.proofs.Carried.{valid_from_registers}
 use Rattle.store_run.proofs.OneOutcome.{refers_behind}
 use Rattle.store_run.proofs.Standings.{output_of_free}
-use Rattle.store_run.proofs.Telling.{IsFrom, from_built, from_is, from_opening, number_of, phase_begun, phase_broken, phase_ended, phase_other, same_or_other}
+use Rattle.store_run.proofs.Telling.{IsFrom, from_built, from_is, from_opening, phase_begun, phase_broken, phase_ended, phase_other, same_or_other}
 use Rattle.store_run.proofs.ToldRuns.{IsTold, told_begin, told_done, told_fail, told_opening}
-use Rattle.store_run.proofs.Unhindered.{aside_same, inputs_in, ready_unhindered, standing_in, state_aside, state_by}
+use Rattle.store_run.proofs.Unhindered.{aside_same, inputs_in, ready_unhindered, standing_in, state_by}
 
 -- ---- an output is made by one derivation
 

@@ -1,17 +1,16 @@
 -- What the state of a derivation follows from, in a history of a run.
-use Rattle.std.proofs.Common.{◌≡◌, ◌∙◌, ◌⊎◌, inl, inr, ◌&&◌, ℕ, Bool, true, false, List, [], ◌∷◌, Option, Some, None, refl, sym, ap, subst, ⊎_elim}
+use Rattle.std.proofs.Common.{◌≡◌, ◌∙◌, ℕ, Bool, true, false, List, [], ◌∷◌, Option, Some, None, refl, sym, ap}
 use Rattle.std.specs.Prelude.{Contains, find, slice_get}
 use Rattle.std.specs.List.{list_all}
 use Rattle.drv_graph.specs.SoundGraphs.{IsSound}
 use Rattle.sched_core.specs.Runs.{History, Run, inputs_at, rows_of, standing_at, state_in}
 use Rattle.sched_core.specs.States.{Phase, Idle, Begun, Ended, Broken, by_first, by_inputs, by_phase, by_standing, is_bad, is_good, phase_of, table}
-use Rattle.sched_core.specs.declared.reason.Reason.{Reason}
 use Rattle.sched_core.specs.declared.reason.State.{State}
 use Rattle.sched_core.specs.declared.reason.State.TheVariants.{Blocked, Building, Done, Failed, Ready, Refused, Reused}
 use Rattle.sched_core.specs.declared.standing.Standing.{Standing}
 use Rattle.sched_core.specs.declared.standing.Standing.TheVariants.{AllValid, Hindered, Free}
 use Rattle.sched_core.proofs.PlanInputs.{inputs_first}
-use Rattle.sched_core.proofs.Seeds.{IsReadyBy, all_good, good_by, list_all_has, ready_by}
+use Rattle.sched_core.proofs.Seeds.{all_good, list_all_has, ready_by}
 use Rattle.sched_core.proofs.StateLaws.{all_same, find_same, states_agree}
 use Rattle.nix_names.proofs.Lists.{Contains-first, Contains-later}
 

@@ -1,5 +1,4 @@
 use Rattle.store_run.proofs.Schedules.{any_schedule, one_report_of}
-use Rattle.store_run.proofs.laws.any_schedule.Given.{Over}
 use Rattle.store_run.proofs.laws.any_schedule.Goals as goal
 
 pub returns-clause-alike : goal.returns-clause-alike
