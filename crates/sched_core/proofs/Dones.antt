@@ -53,7 +53,7 @@ no_more_than xs ys distinct among =
 
 -- ---- what is registered
 
-reached_is_valid : (registrations : List Registration) (from to : List ℕ) (steps : List (List ℕ))
+pub reached_is_valid : (registrations : List Registration) (from to : List ℕ) (steps : List (List ℕ))
     → Leads registrations from to steps
     → IsValid registrations to
 reached_is_valid registrations from to [] leads = subst (IsValid registrations) leads.1 leads.0

@@ -41,7 +41,7 @@ use Rattle.nix_names.proofs.Lists.{Contains-cons_cases, Contains-first, Contains
 
 -- ---- where a derivation stands behind one event more
 
-later_assoc : (a b c : Phase) → later a (later b c) ≡ later (later a b) c
+pub later_assoc : (a b c : Phase) → later a (later b c) ≡ later (later a b) c
 later_assoc a b Idle = refl
 later_assoc a b (Begun n) = refl
 later_assoc a b Ended = refl
@@ -75,10 +75,10 @@ ended_by_done : (same : Bool) (p : Phase) → later p (if same then Ended else I
 ended_by_done true p is = inl refl
 ended_by_done false p is = inr is
 
-same_number : (a b : ℕ) → eqb a b ≡ true → a ≡ b
+pub same_number : (a b : ℕ) → eqb a b ≡ true → a ≡ b
 same_number a b e = eqb_yes (subst T (sym e) tt)
 
-valid_behind : (entries : List Entry) (entry : Entry) (path : List ℕ)
+pub valid_behind : (entries : List Entry) (entry : Entry) (path : List ℕ)
     → IsValid (registered entries) path → IsValid (registered (entries ++ entry ∷ [])) path
 valid_behind entries entry path valid =
     subst (λ (rs : List Registration). IsValid rs path) (sym (registered_push entries entry))
@@ -151,7 +151,7 @@ pub record IsReadyBy (p : Phase) (s : Standing) (o : State) : Type 0 where
   pub free : s ≡ Free
   pub open_is : o ≡ Ready
 
-ready_by : (p : Phase) (s : Standing) (o : State) → by_phase p (by_standing s o) ≡ Ready
+pub ready_by : (p : Phase) (s : Standing) (o : State) → by_phase p (by_standing s o) ≡ Ready
     → IsReadyBy p s o
 ready_by Idle AllValid o is = absurd cc
 ready_by Idle (Hindered cause) o is = absurd cc
@@ -160,7 +160,7 @@ ready_by (Begun n) s o is = absurd cc
 ready_by Ended s o is = absurd cc
 ready_by (Broken reason) s o is = absurd cc
 
-all_good : (first : Option ℕ) (all : Bool) → by_first first all ≡ Ready → all ≡ true
+pub all_good : (first : Option ℕ) (all : Bool) → by_first first all ≡ Ready → all ≡ true
 all_good (Some i) all is = absurd cc
 all_good None true is = refl
 all_good None false is = absurd cc
@@ -169,7 +169,7 @@ both : (a b : Bool) → (a && b) ≡ true → (a ≡ true) × (b ≡ true)
 both true b is = (refl, is)
 both false b is = absurd cc
 
-list_all_has : {X : Type 0} (p : X → Bool) (xs : List X) (x : X) → list_all p xs ≡ true
+pub list_all_has : {X : Type 0} (p : X → Bool) (xs : List X) (x : X) → list_all p xs ≡ true
     → Contains xs x → p x ≡ true
 list_all_has p [] x is has = absurd (Contains-nothing x has)
 list_all_has p (y ∷ ys) x is has =
@@ -183,7 +183,7 @@ not_good_by_first None true is = cc
 not_good_by_first None false is = cc
 
 -- who is good was built, or its outputs were all valid
-good_by : (p : Phase) (s : Standing) (first : Option ℕ) (all : Bool)
+pub good_by : (p : Phase) (s : Standing) (first : Option ℕ) (all : Bool)
     → is_good (by_phase p (by_standing s (by_first first all))) ≡ true → (p ≡ Ended)
     ⊎ (s ≡ AllValid)
 good_by Idle AllValid first all is = inr refl
@@ -195,23 +195,23 @@ good_by (Broken reason) s first all is = absurd cc
 
 -- ---- what standings say
 
-standing_all : (all : Bool) (cause : Option Refusal) → (if all then AllValid else by_cause cause)
+pub standing_all : (all : Bool) (cause : Option Refusal) → (if all then AllValid else by_cause cause)
     ≡ AllValid → all ≡ true
 standing_all true cause is = refl
 standing_all false (Some cause) is = absurd cc
 standing_all false None is = absurd cc
 
-standing_free : (all : Bool) (cause : Option Refusal) → (if all then AllValid else by_cause cause)
+pub standing_free : (all : Bool) (cause : Option Refusal) → (if all then AllValid else by_cause cause)
     ≡ Free → cause ≡ None
 standing_free true cause is = absurd cc
 standing_free false (Some cause) is = absurd cc
 standing_free false None is = refl
 
-or_else_none : (a b : Option Refusal) → or_else a b ≡ None → b ≡ None
+pub or_else_none : (a b : Option Refusal) → or_else a b ≡ None → b ≡ None
 or_else_none (Some cause) b is = absurd cc
 or_else_none None b is = is
 
-cause_none : (cause : ℕ → Refusal) (n : Option ℕ) → cause_at cause n ≡ None → n ≡ None
+pub cause_none : (cause : ℕ → Refusal) (n : Option ℕ) → cause_at cause n ≡ None → n ≡ None
 cause_none cause (Some n) is = absurd cc
 cause_none cause None is = refl
 
@@ -220,14 +220,14 @@ test_fails : {X : Type 0} (test : Bool) (x : X) → cond test (Some x) None ≡ 
 test_fails true x is = absurd cc
 test_fails false x is = refl
 
-none_found : {X : Type 0} (p : X → Bool) (xs : List X) → position p xs ≡ None → (x : X)
+pub none_found : {X : Type 0} (p : X → Bool) (xs : List X) → position p xs ≡ None → (x : X)
     → Contains xs x → p x ≡ false
 none_found p xs is x (k, lt, at) =
     let past = ltb-false (position_or_len p xs) (length xs)
     (test_fails (nat_lt (position_or_len p xs) (length xs)) (position_or_len p xs) is) in
     ap p (sym at) ∙ fails_before_first p xs k x (omega arith)
 
-not_false : (b : Bool) → not b ≡ false → b ≡ true
+pub not_false : (b : Bool) → not b ≡ false → b ≡ true
 not_false true is = refl
 not_false false is = absurd cc
 
@@ -285,7 +285,7 @@ filtered p (y ∷ ys) x has = by (p y) has (filtered p ys x)
     by false here rest = Contains-later y ys x (rest here)
 
 -- the outputs that an input names are among those of the node with the input's number
-named_at : (nodes : List Node) (input : Input) (path : List ℕ)
+pub named_at : (nodes : List Node) (input : Input) (path : List ℕ)
     → Contains (named_outputs nodes input) path
     → (node : Node)
     × (slice_get nodes (position_or_len (same_bytes input.path) (node_paths nodes)) ≡ Some node)

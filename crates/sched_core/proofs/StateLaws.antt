@@ -11,7 +11,7 @@ use Rattle.sched_core.specs.States.{InputsFirst, Rows, StatesAgree, StatesAreOne
 use Rattle.nix_names.proofs.Lists.{Contains-first, Contains-later}
 
 -- two ways to give states that agree at each input give the same
-find_same : (f g : ℕ → State) (inputs : List ℕ) → ((i : ℕ) → Contains inputs i → f i ≡ g i)
+pub find_same : (f g : ℕ → State) (inputs : List ℕ) → ((i : ℕ) → Contains inputs i → f i ≡ g i)
     → find (λ i. is_bad (f i)) inputs ≡ find (λ i. is_bad (g i)) inputs
 find_same f g [] same = refl
 find_same f g (i ∷ is) same =
@@ -19,7 +19,7 @@ find_same f g (i ∷ is) same =
     let rest = find_same f g is (λ j has. same j (Contains-later i is j has)) in
     rw (here, rest) refl
 
-all_same : (f g : ℕ → State) (inputs : List ℕ) → ((i : ℕ) → Contains inputs i → f i ≡ g i)
+pub all_same : (f g : ℕ → State) (inputs : List ℕ) → ((i : ℕ) → Contains inputs i → f i ≡ g i)
     → list_all (λ i. is_good (f i)) inputs ≡ list_all (λ i. is_good (g i)) inputs
 all_same f g [] same = refl
 all_same f g (i ∷ is) same =

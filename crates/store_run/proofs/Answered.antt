@@ -1,10 +1,10 @@
 -- What keeps a book's history answered.
-use Rattle.std.proofs.Common.{◌≡◌, ◌⊎◌, inl, inr, ℕ, List, Result, Ok, Err, ap, sym, subst}
+use Rattle.std.proofs.Common.{◌≡◌, ◌⊎◌, inl, inr, ℕ, List, Result, Ok, Err, ap, subst}
 use Rattle.valid_table.specs.PathInfos.{PathInfo}
 use Rattle.valid_table.specs.declared.entry.Entry.{Entry}
 use Rattle.sched_core.specs.Books.{IsBeginning, IsFailing, IsFinishing, Ledger, MayAllRefer}
 use Rattle.sched_core.specs.Jobs.{IsJob}
-use Rattle.sched_core.specs.Runs.{History, Run}
+use Rattle.sched_core.specs.Runs.{Run}
 use Rattle.sched_core.specs.declared.job.Answer.{Answer}
 use Rattle.sched_core.specs.declared.job.Job.{Job}
 use Rattle.sched_core.specs.declared.reason.Reason.{Reason}

@@ -1,4 +1,13 @@
+pub mod Alike
 pub mod Answered
+pub mod Carried
 pub mod Examined
+pub mod OneOutcome
 pub mod Openings
 pub mod RunEndings
+pub mod Schedules
+pub mod Standings
+pub mod Telling
+pub mod ToldRuns
+pub mod Turns
+pub mod Unhindered

@@ -2,4 +2,5 @@ pub mod Builders
 pub mod Numbers
 pub mod OneThread
 pub mod Realising
+pub mod Scheduling
 pub mod Sharing

@@ -10,10 +10,12 @@
 //! | `run` | a run, from a plan and a journal to a settled book |
 //! | `lent` | whether a book is over what was lent |
 //! | `fault` | why a run ends without a settled book |
+//! | `laws` | what holds of every run, over the definitions |
 #![tactic(auto)]
 
 mod build;
 mod fault;
+pub mod laws;
 mod lent;
 mod locked;
 mod run;

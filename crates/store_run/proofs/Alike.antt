@@ -1,0 +1,413 @@
+-- Two whole runs over one opening are alike, derivation by derivation in plan order.
+use Rattle.std.proofs.Common.{◌≡◌, ◌∙◌, inl, inr, ◌<◌, ℕ, zero, suc, true, false, List, [], ◌++◌, Result, Ok, Err, Option, Some, refl, sym, ap, subst, ⊎_elim, arith}
+use Rattle.std.specs.Prelude.{Contains, flat_map, slice_get}
+use Rattle.std.specs.List.{position_or_len}
+use Rattle.std.proofs.lemmas.List.Elements.{Contains-append_cases, Contains-append_left}
+use Rattle.std.proofs.lemmas.Map.Views.{Contains-from_any}
+use Rattle.std.proofs.lemmas.Option.{slice_get_within}
+use Rattle.nix_names.specs.Names.{same_bytes}
+use Rattle.nix_names.proofs.Lists.{Contains-from_get, Contains-map, element_at, get_from_contains, same_element}
+use Rattle.nix_names.proofs.RisingLists.{equal_from_eq}
+use Rattle.nix_drv.specs.Derivation.{Input}
+use Rattle.drv_graph.specs.Nodes.{Node, inputs_of, paths_of as node_paths}
+use Rattle.drv_graph.specs.SoundGraphs.{IsSound}
+use Rattle.valid_table.specs.Entries.{paths_of, registered, registered_by}
+use Rattle.valid_table.specs.PathInfos.{PathInfo}
+use Rattle.valid_table.specs.Valid.{AreReferencesValid, IsOnce, IsValid, Registers}
+use Rattle.valid_table.specs.declared.entry.Entry.{Entry}
+use Rattle.valid_table.specs.declared.entry.Registration.{Registration}
+use Rattle.valid_table.proofs.Following.{one_info}
+use Rattle.valid_table.proofs.JournalLists.{registered-append}
+use Rattle.sched_core.specs.Books.{IsRunSettled}
+use Rattle.sched_core.specs.Jobs.{named_outputs, output_paths, seeds_of}
+use Rattle.sched_core.specs.Legal.{IsEntryOf}
+use Rattle.sched_core.specs.Runs.{History, IsWanted, Run, input_numbers, inputs_at, is_valid, standing_at, state_in}
+use Rattle.sched_core.specs.States.{Phase, Idle, Begun, Ended, Broken, is_good, phase_of}
+use Rattle.sched_core.specs.declared.job.Answer.{Answer}
+use Rattle.sched_core.specs.declared.job.Job.{Job}
+use Rattle.sched_core.specs.declared.reason.Reason.{Reason}
+use Rattle.sched_core.specs.declared.reason.State.{State}
+use Rattle.sched_core.specs.declared.reason.State.TheVariants.{Failed}
+use Rattle.sched_core.proofs.Dones.{part_with}
+use Rattle.sched_core.proofs.PlanInputs.{inputs_first}
+use Rattle.sched_core.proofs.Seeds.{named_at}
+use Rattle.store_run.specs.Scheduling.{AreAlike, HasOneOutcome}
+use Rattle.store_run.proofs.Carried.{IsCarried, first_carried, outputs_carried, valid_from_registers}
+use Rattle.store_run.proofs.OneOutcome.{came_count, came_refers, one_verdict}
+use Rattle.store_run.proofs.Standings.{output_of_reused, source_of_free}
+use Rattle.store_run.proofs.Telling.{CameTo, IsFrom, WasBegun, WasMade, from_built, from_opening}
+use Rattle.store_run.proofs.Unhindered.{IsGoodBy, IsUnhindered, aside_same, good_ended, good_is, good_reused, inputs_in, is_good_by, state_by, unhindered_ready}
+
+-- A history in which no wanted derivation has anything before it, and each that has an event was
+-- begun and came to a verdict.
+pub record IsAtEnd (may : Job → Result Answer Reason → Type 0) (run : Run) (history : History)
+    : Type 0 where
+  pub begun : (d : ℕ) → (phase_of history.events d ≡ Idle → ⊥) → WasBegun run history d
+  pub settled : IsRunSettled run history
+  pub made : (d : ℕ) → phase_of history.events d ≡ Ended → WasMade may run history d
+  pub broke : (d : ℕ) (why : Reason) → phase_of history.events d ≡ Broken why
+      → CameTo may run history d (Err why)
+  pub more : List Entry
+  pub parts : history.entries ≡ history.opening ++ more
+  pub closed : AreReferencesValid (registered history.opening)
+  pub once : IsOnce (registered history.entries)
+  pub from : (path : List ℕ) (info : PathInfo) → Registers (registered history.entries) path info
+      → IsFrom run history path info
+
+-- the outputs of a derivation that is good are carried
+abbrev Carries : Run → (history other : History) → ℕ → Type 0
+Carries run history other d = is_good (state_in run history d) ≡ true → (node : Node)
+    → slice_get run.graph.nodes d ≡ Some node → (path : List ℕ)
+    → Contains (output_paths node.drv) path
+    → IsCarried (registered history.entries) (registered other.entries) path
+
+-- A derivation is in the same state in two histories, and its outputs are carried both ways.
+record IsAlikeAt (run : Run) (history other : History) (d : ℕ) : Type 0 where
+  same : state_in run history d ≡ state_in run other d
+  there : Carries run history other d
+  back : Carries run other history d
+
+swapped : (run : Run) (history other : History) (d : ℕ) → IsAlikeAt run history other d
+    → IsAlikeAt run other history d
+swapped run history other d alike = record {
+  same = sym alike.same;
+  there = alike.back;
+  back = alike.there;
+}
+
+-- ---- from one history to another
+
+module _ (may : Job → Result Answer Reason → Type 0) (run : Run) (sound : IsSound run.graph)
+    (history other : History) (end : IsAtEnd may run history) (end' : IsAtEnd may run other)
+    (opening : other.opening ≡ history.opening) where
+  -- what was valid at opening is carried
+  opening_carried : (path : List ℕ) → is_valid history.opening path ≡ true
+      → IsCarried (registered history.entries) (registered other.entries) path
+  opening_carried path is =
+      let first = registered history.opening in
+      let whole : registered history.entries ≡ first ++ registered end.more =
+      ap registered end.parts ∙ registered-append history.opening end.more in
+      let whole' : registered other.entries ≡ first ++ registered end'.more =
+      ap registered end'.parts ∙ registered-append other.opening end'.more
+      ∙ ap (λ (es : List Entry). registered es ++ registered end'.more) opening in
+      subst (λ (rs : List Registration). IsCarried rs (registered other.entries) path) (sym whole)
+      (subst (λ (rs : List Registration). IsCarried (first ++ registered end.more) rs path)
+      (sym whole')
+      (first_carried first (registered end.more) (registered end'.more) end.closed
+      (subst IsOnce whole end.once) path
+      (Contains-from_any equal_from_eq path (paths_of first) is)))
+
+  -- the outputs of a derivation that was reused are carried
+  reused_carried : (d : ℕ) → phase_of history.events d ≡ Idle → Carries run history other d
+  reused_carried d idle good node at path has = by (good_is run history sound d good)
+    where
+      by : IsGoodBy run history d
+          → IsCarried (registered history.entries) (registered other.entries) path
+      by (good_ended ends) = let clash : Idle ≡ Ended = sym idle ∙ ends in absurd cc
+      by (good_reused rests stands) =
+          opening_carried path
+          (output_of_reused run.system history.opening node.drv
+          (sym (ap (standing_at run.system history.opening) at) ∙ stands) path has)
+
+  -- no derivation is building
+  none_building : (d lease : ℕ) → phase_of history.events d ≡ Begun lease → ⊥
+  none_building d lease phase =
+      let was = end.begun d (λ idle. let clash : Begun lease ≡ Idle = sym phase ∙ idle in cc) in
+      end.settled d was.within was.wanted
+      (inr (inr (lease, state_by run history sound d (Begun lease) phase)))
+
+  module _ (d : ℕ) (below : (i : ℕ) → i < d → IsAlikeAt run history other i) where
+    input_alike : (i : ℕ) → Contains (inputs_in run d) i → IsAlikeAt run history other i
+    input_alike i has = below i (inputs_first run.graph sound d i has)
+
+    unhindered_there : IsUnhindered run history d → IsUnhindered run other d
+    unhindered_there un = record {
+      free = ap (λ (opens : List Entry). standing_at run.system opens
+          (slice_get run.graph.nodes d)) opening ∙ un.free;
+      good = λ i has. subst (λ (s : State). is_good s ≡ true) (input_alike i has).same
+          (un.good i has);
+    }
+
+    -- the seeds of a derivation with nothing in its way are carried
+    seed_carried : (node : Node) → slice_get run.graph.nodes d ≡ Some node
+        → IsUnhindered run history d → (seed : List ℕ)
+        → Contains (seeds_of run.graph.nodes node.drv) seed
+        → IsCarried (registered history.entries) (registered other.entries) seed
+    seed_carried node at un seed has =
+        let nodes = run.graph.nodes in
+        ⊎_elim
+        (λ source. opening_carried seed
+        (source_of_free run.system history.opening node.drv
+        (sym (ap (standing_at run.system history.opening) at) ∙ un.free) seed source))
+        (λ named.
+        let part = part_with (named_outputs nodes) node.drv.inputs seed named in
+        let input = part.0 in
+        let i = position_or_len (same_bytes input.path) (node_paths nodes) in
+        let found = named_at nodes input seed part.2 in
+        let listed : Contains (input_numbers nodes node.drv) i =
+        Contains-map (λ (p : List ℕ). position_or_len (same_bytes p) (node_paths nodes))
+        (inputs_of node.drv) input.path
+        (Contains-map (λ (x : Input). x.path) node.drv.inputs input part.1) in
+        let is_input : Contains (inputs_in run d) i =
+        subst (λ (o : Option Node). Contains (inputs_at nodes o) i) (sym at) listed in
+        (input_alike i is_input).there (un.good i is_input) found.0 found.1 seed found.2)
+        (Contains-append_cases node.drv.sources (flat_map (named_outputs nodes) node.drv.inputs)
+        seed has)
+
+-- ---- what was built
+
+module _ (may : Job → Result Answer Reason → Type 0) (run : Run) (history : History)
+    (once : IsOnce (registered history.entries)) (d : ℕ) (node : Node)
+    (at : slice_get run.graph.nodes d ≡ Some node) (made : WasMade may run history d) where
+  its_entry : IsEntryOf node made.infos made.entry
+  its_entry = subst (λ (n : Node). IsEntryOf n made.infos made.entry)
+      (same_element run.graph.nodes d made.node node made.is_node at) made.is_entry
+
+  -- each output is registered with its record
+  record_registered : (n : ℕ) (path : List ℕ) (info : PathInfo)
+      → slice_get (output_paths node.drv) n ≡ Some path → slice_get made.infos n ≡ Some info
+      → Registers (registered history.entries) path info
+  record_registered n path info path_at info_at =
+      let is = its_entry in
+      let r : Registration = record { path = path; info = info } in
+      made.kept r
+      (subst (λ (x : Entry). Contains (registered_by x) r) (sym is.is_done)
+      ((is.each path info).1 (n, path_at, info_at)))
+
+  -- and with no other
+  record_is : (path : List ℕ) (info : PathInfo) → Contains (output_paths node.drv) path
+      → Registers (registered history.entries) path info
+      → (n : ℕ) × (slice_get (output_paths node.drv) n ≡ Some path)
+      × (slice_get made.infos n ≡ Some info)
+  record_is path info own has =
+      let place = get_from_contains (output_paths node.drv) path own in
+      let below = slice_get_within (output_paths node.drv) place.0 path place.1 in
+      let count = came_count may run history once d node at made.infos made.came in
+      let found = element_at made.infos place.0 (omega (arith, below, count)) in
+      let same : found.0 ≡ info = one_info (registered history.entries) once path found.0 info
+      (record_registered place.0 path found.0 place.1 found.1) has in
+      (place.0, place.1, found.1 ∙ ap Some same)
+
+-- the outputs of a derivation with the same records are carried
+made_carried : (may : Job → Result Answer Reason → Type 0) (run : Run) (history other : History)
+    (once : IsOnce (registered history.entries)) (once' : IsOnce (registered other.entries))
+    (d : ℕ) (node : Node) (at : slice_get run.graph.nodes d ≡ Some node)
+    (made : WasMade may run history d) (made' : WasMade may run other d)
+    → made.infos ≡ made'.infos
+    → ((seed : List ℕ) → Contains (seeds_of run.graph.nodes node.drv) seed
+    → IsCarried (registered history.entries) (registered other.entries) seed)
+    → (path : List ℕ) → Contains (output_paths node.drv) path
+    → IsCarried (registered history.entries) (registered other.entries) path
+made_carried may run history other once once' d node at made made' same carried =
+    outputs_carried (registered history.entries) (registered other.entries)
+    (seeds_of run.graph.nodes node.drv) (output_paths node.drv) carried
+    (λ path info own has.
+    let place = record_is may run history once d node at made path info own has in
+    record_registered may run other once' d node at made' place.0 path info place.1
+    (ap (λ (infos : List PathInfo). slice_get infos place.0) (sym same) ∙ place.2))
+    (λ path next info own has refers.
+    let place = record_is may run history once d node at made path info own has in
+    came_refers may run history once d node at made.infos made.came info next
+    (Contains-from_get made.infos place.0 info place.2) refers)
+
+-- ---- one derivation
+
+-- what began there has an event here
+not_idle : (may : Job → Result Answer Reason → Type 0) (run : Run) (sound : IsSound run.graph)
+    (history other : History) (end : IsAtEnd may run history) (end' : IsAtEnd may run other)
+    (opening : other.opening ≡ history.opening) (d : ℕ)
+    (above : (i : ℕ) → i < d → IsAlikeAt run other history i)
+    → phase_of history.events d ≡ Idle → (phase_of other.events d ≡ Idle → ⊥) → ⊥
+not_idle may run sound history other end end' opening d above idle moved =
+    let was = end'.begun d moved in
+    let un = unhindered_there may run sound other history end' end (sym opening) d above
+    was.unhindered in
+    end.settled d was.within
+    (subst (λ (opens : List Entry). IsWanted run opens d) opening was.wanted)
+    (inr (inl (unhindered_ready run history sound d un idle)))
+
+module _ (may : Job → Result Answer Reason → Type 0) (run : Run) (sound : IsSound run.graph)
+    (outcome : HasOneOutcome may run.graph) (history other : History)
+    (end : IsAtEnd may run history) (end' : IsAtEnd may run other)
+    (opening : other.opening ≡ history.opening) (d : ℕ)
+    (below : (i : ℕ) → i < d → IsAlikeAt run history other i) where
+  above : (i : ℕ) → i < d → IsAlikeAt run other history i
+  above i less = swapped run history other i (below i less)
+
+  -- the seeds of what has an event are carried
+  seeds_there : (phase_of history.events d ≡ Idle → ⊥) → (node : Node)
+      → slice_get run.graph.nodes d ≡ Some node → (seed : List ℕ)
+      → Contains (seeds_of run.graph.nodes node.drv) seed
+      → IsCarried (registered history.entries) (registered other.entries) seed
+  seeds_there moved node at =
+      seed_carried may run sound history other end end' opening d below node at
+      (end.begun d moved).unhindered
+
+  seeds_back : (phase_of other.events d ≡ Idle → ⊥) → (node : Node)
+      → slice_get run.graph.nodes d ≡ Some node → (seed : List ℕ)
+      → Contains (seeds_of run.graph.nodes node.drv) seed
+      → IsCarried (registered other.entries) (registered history.entries) seed
+  seeds_back moved node at =
+      seed_carried may run sound other history end' end (sym opening) d above node at
+      (end'.begun d moved).unhindered
+
+  -- so it came to one verdict
+  verdicts_same : (phase_of history.events d ≡ Idle → ⊥) → (phase_of other.events d ≡ Idle → ⊥)
+      → (v w : Result (List PathInfo) Reason) → CameTo may run history d v
+      → CameTo may run other d w → v ≡ w
+  verdicts_same moved moved' v w came came' =
+      let node = came.behind.is_job.node in
+      let at = came.behind.is_job.is_node in
+      one_verdict may run outcome history other end.once end'.once d node at
+      (seeds_there moved node at) (seeds_back moved' node at) v w came came'
+
+  both_idle : phase_of history.events d ≡ Idle → phase_of other.events d ≡ Idle
+      → IsAlikeAt run history other d
+  both_idle idle idle' = record {
+    same = state_by run history sound d Idle idle
+        ∙ aside_same run history other d (sym opening)
+        (λ i has. (below i (inputs_first run.graph sound d i has)).same)
+        ∙ sym (state_by run other sound d Idle idle');
+    there = reused_carried may run sound history other end end' opening d idle;
+    back = reused_carried may run sound other history end' end (sym opening) d idle';
+  }
+
+  both_ended : phase_of history.events d ≡ Ended → phase_of other.events d ≡ Ended
+      → IsAlikeAt run history other d
+  both_ended ends ends' =
+      let moved : phase_of history.events d ≡ Idle → ⊥ =
+      λ idle. let clash : Ended ≡ Idle = sym ends ∙ idle in cc in
+      let moved' : phase_of other.events d ≡ Idle → ⊥ =
+      λ idle. let clash : Ended ≡ Idle = sym ends' ∙ idle in cc in
+      let made = end.made d ends in
+      let made' = end'.made d ends' in
+      let one = verdicts_same moved moved' (Ok made.infos) (Ok made'.infos) made.came made'.came in
+      let same : made.infos ≡ made'.infos = cc in
+      record {
+        same = state_by run history sound d Ended ends
+            ∙ sym (state_by run other sound d Ended ends');
+        there = λ good node at. made_carried may run history other end.once end'.once d node at made
+            made' same (seeds_there moved node at);
+        back = λ good node at. made_carried may run other history end'.once end.once d node at
+            made' made (sym same) (seeds_back moved' node at);
+      }
+
+  ended_and_broken : (why : Reason) → phase_of history.events d ≡ Ended
+      → phase_of other.events d ≡ Broken why → ⊥
+  ended_and_broken why ends breaks =
+      let moved : phase_of history.events d ≡ Idle → ⊥ =
+      λ idle. let clash : Ended ≡ Idle = sym ends ∙ idle in cc in
+      let moved' : phase_of other.events d ≡ Idle → ⊥ =
+      λ idle. let clash : Broken why ≡ Idle = sym breaks ∙ idle in cc in
+      let made = end.made d ends in
+      let one = verdicts_same moved moved' (Ok made.infos) (Err why) made.came
+      (end'.broke d why breaks) in
+      cc
+
+  broken_and_ended : (why : Reason) → phase_of history.events d ≡ Broken why
+      → phase_of other.events d ≡ Ended → ⊥
+  broken_and_ended why breaks ends =
+      let moved : phase_of history.events d ≡ Idle → ⊥ =
+      λ idle. let clash : Broken why ≡ Idle = sym breaks ∙ idle in cc in
+      let moved' : phase_of other.events d ≡ Idle → ⊥ =
+      λ idle. let clash : Ended ≡ Idle = sym ends ∙ idle in cc in
+      let made = end'.made d ends in
+      let one = verdicts_same moved moved' (Err why) (Ok made.infos) (end.broke d why breaks)
+      made.came in
+      cc
+
+  both_broken : (why why' : Reason) → phase_of history.events d ≡ Broken why
+      → phase_of other.events d ≡ Broken why' → IsAlikeAt run history other d
+  both_broken why why' breaks breaks' =
+      let moved : phase_of history.events d ≡ Idle → ⊥ =
+      λ idle. let clash : Broken why ≡ Idle = sym breaks ∙ idle in cc in
+      let moved' : phase_of other.events d ≡ Idle → ⊥ =
+      λ idle. let clash : Broken why' ≡ Idle = sym breaks' ∙ idle in cc in
+      let one = verdicts_same moved moved' (Err why) (Err why') (end.broke d why breaks)
+      (end'.broke d why' breaks') in
+      let same : why ≡ why' = cc in
+      let state = state_by run history sound d (Broken why) breaks in
+      let state' = state_by run other sound d (Broken why') breaks' in
+      record {
+        same = state ∙ ap (λ (r : Reason). Failed r) same ∙ sym state';
+        there = λ good node at. let clash : false ≡ true = sym (ap is_good state) ∙ good in
+            absurd cc;
+        back = λ good node at. let clash : false ≡ true = sym (ap is_good state') ∙ good in
+            absurd cc;
+      }
+
+  alike_at : IsAlikeAt run history other d
+  alike_at = by (phase_of history.events d) (phase_of other.events d) refl refl
+    where
+      by : (p q : Phase) → phase_of history.events d ≡ p → phase_of other.events d ≡ q
+          → IsAlikeAt run history other d
+      by Idle Idle is is' = both_idle is is'
+      by Ended Ended is is' = both_ended is is'
+      by (Broken why) (Broken why') is is' = both_broken why why' is is'
+      by Ended (Broken why) is is' = absurd (ended_and_broken why is is')
+      by (Broken why) Ended is is' = absurd (broken_and_ended why is is')
+      by (Begun lease) q is is' =
+          absurd (none_building may run sound history other end end' opening d lease is)
+      by p (Begun lease) is is' =
+          absurd (none_building may run sound other history end' end (sym opening) d lease is')
+      by Idle Ended is is' = absurd
+          (not_idle may run sound history other end end' opening d above is (λ idle.
+          let clash : Ended ≡ Idle = sym is' ∙ idle in cc))
+      by Idle (Broken why) is is' = absurd
+          (not_idle may run sound history other end end' opening d above is (λ idle.
+          let clash : Broken why ≡ Idle = sym is' ∙ idle in cc))
+      by Ended Idle is is' = absurd
+          (not_idle may run sound other history end' end (sym opening) d below is' (λ idle.
+          let clash : Ended ≡ Idle = sym is ∙ idle in cc))
+      by (Broken why) Idle is is' = absurd
+          (not_idle may run sound other history end' end (sym opening) d below is' (λ idle.
+          let clash : Broken why ≡ Idle = sym is ∙ idle in cc))
+
+-- ---- all of them
+
+module _ (may : Job → Result Answer Reason → Type 0) (run : Run) (sound : IsSound run.graph)
+    (outcome : HasOneOutcome may run.graph) (history other : History)
+    (end : IsAtEnd may run history) (end' : IsAtEnd may run other)
+    (opening : other.opening ≡ history.opening) where
+  alike_below : (bound d : ℕ) → d < bound → IsAlikeAt run history other d
+  alike_below zero d low = absurd (omega arith)
+  alike_below (suc bound) d low =
+      alike_at may run sound outcome history other end end' opening d
+      (λ i less. alike_below bound i (omega arith))
+
+  is_alike : (d : ℕ) → IsAlikeAt run history other d
+  is_alike d = alike_below (suc d) d (omega arith)
+
+  -- what is registered here is registered there
+  record_there : (path : List ℕ) (info : PathInfo)
+      → Registers (registered history.entries) path info
+      → Registers (registered other.entries) path info
+  record_there path info has = by (end.from path info has)
+    where
+      valid : IsValid (registered history.entries) path
+      valid = valid_from_registers (registered history.entries) path info has
+
+      by : IsFrom run history path info → Registers (registered other.entries) path info
+      by (from_opening first) =
+          let whole' : registered other.entries
+          ≡ registered history.opening ++ registered end'.more =
+          ap registered end'.parts ∙ registered-append other.opening end'.more
+          ∙ ap (λ (es : List Entry). registered es ++ registered end'.more) opening in
+          subst (λ (rs : List Registration). Registers rs path info) (sym whole')
+          (Contains-append_left (registered history.opening) (registered end'.more)
+          (record { path = path; info = info }) first)
+      by (from_built d node at ends own) =
+          (is_alike d).there (is_good_by run history sound d (good_ended ends)) node at path own
+          path info ([], (valid, refl)) has
+
+pub are_alike : (may : Job → Result Answer Reason → Type 0) (run : Run)
+    (sound : IsSound run.graph) (outcome : HasOneOutcome may run.graph) (history other : History)
+    (end : IsAtEnd may run history) (end' : IsAtEnd may run other)
+    (opening : other.opening ≡ history.opening) → AreAlike run history other
+are_alike may run sound outcome history other end end' opening = record {
+  states = λ d. (is_alike may run sound outcome history other end end' opening d).same;
+  records = λ path info. (
+    record_there may run sound outcome history other end end' opening path info,
+    record_there may run sound outcome other history end' end (sym opening) path info,
+  );
+}

@@ -1,0 +1,105 @@
+-- Paths whose records stand in another list of registrations too, with those of all that they reach.
+use Rattle.std.proofs.Common.{◌≡◌, inl, inr, ℕ, List, [], ◌∷◌, ◌++◌, refl, sym, subst, ⊎_elim}
+use Rattle.std.specs.Prelude.{Contains}
+use Rattle.std.proofs.lemmas.List.Elements.{Contains-append_left}
+use Rattle.nix_names.proofs.Lists.{Contains-map}
+use Rattle.valid_table.specs.Closure.{Leads, Reaches}
+use Rattle.valid_table.specs.PathInfos.{PathInfo}
+use Rattle.valid_table.specs.Valid.{AreReferencesValid, IsOnce, IsValid, Registers}
+use Rattle.valid_table.specs.declared.entry.Registration.{Registration}
+use Rattle.valid_table.proofs.ClosureLaws.{leads_before, registers_from_valid}
+use Rattle.valid_table.proofs.Following.{one_info}
+use Rattle.sched_core.specs.Legal.{MayRefer}
+use Rattle.sched_core.proofs.Dones.{reached_is_valid}
+
+-- what is registered is valid
+pub valid_from_registers : (all : List Registration) (path : List ℕ) (info : PathInfo)
+    → Registers all path info → IsValid all path
+valid_from_registers all path info has =
+    Contains-map (λ (r : Registration). r.path) all (record { path = path; info = info }) has
+
+-- all that a path reaches among some registrations has the same record among others
+abbrev pub IsCarried : (all other : List Registration) → (from : List ℕ) → Type 0
+IsCarried all other from = (to : List ℕ) (info : PathInfo) → Reaches all from to
+    → Registers all to info → Registers other to info
+
+-- what leads on
+leads_on : (all : List Registration) (a b c : List ℕ) (there on : List (List ℕ))
+    → Leads all a b there → Leads all b c on → Leads all a c (there ++ on)
+leads_on all a b c [] on there leads =
+    subst (λ (x : List ℕ). Leads all x c on) (sym there.1) leads
+leads_on all a b c (next ∷ there) on leads more =
+    (leads.0, leads_on all next b c there on leads.1 more)
+
+-- a carried path leads to the same paths by the same steps
+leads_carried : (all other : List Registration) (from to : List ℕ) (steps : List (List ℕ))
+    → IsCarried all other from → Leads all from to steps → Leads other from to steps
+leads_carried all other from to [] carried leads =
+    let had = registers_from_valid all from leads.0 in (
+      valid_from_registers other from had.0 (carried from had.0 ([], (leads.0, refl)) had.1),
+      leads.1,
+    )
+leads_carried all other from to (next ∷ steps) carried leads =
+    let valid = valid_from_registers all from leads.0.0 leads.0.1 in (
+      (leads.0.0, carried from leads.0.0 ([], (valid, refl)) leads.0.1, leads.0.2),
+      leads_carried all other next to steps
+          (λ x info reaches has. carried x info (next ∷ reaches.0, (leads.0, reaches.1)) has)
+          leads.1,
+    )
+
+-- so what may be referred to is the same, where the seeds are carried
+pub may_refer_there : (all other : List Registration) (seeds outputs : List (List ℕ))
+    → ((seed : List ℕ) → Contains seeds seed → IsCarried all other seed) → (path : List ℕ)
+    → MayRefer all seeds outputs path → MayRefer other seeds outputs path
+may_refer_there all other seeds outputs carried path may =
+    ⊎_elim
+    (λ reached. inl (
+      reached.0,
+      reached.1,
+      (
+        reached.2.0,
+        leads_carried all other reached.0 path reached.2.0 (carried reached.0 reached.1)
+            reached.2.1,
+      ),
+    ))
+    (λ own. inr own) may
+
+-- what was valid at first is carried to each list that begins the same
+pub first_carried : (first more other : List Registration) → AreReferencesValid first
+    → IsOnce (first ++ more) → (path : List ℕ) → IsValid first path
+    → IsCarried (first ++ more) (first ++ other) path
+first_carried first more other closed once path valid to info reaches has =
+    let there = reached_is_valid first path to reaches.0
+    (leads_before first more closed once path to reaches.0 valid reaches.1) in
+    let had = registers_from_valid first to there in
+    let same : had.0 ≡ info = one_info (first ++ more) once to had.0 info
+    (Contains-append_left first more (record { path = to; info = had.0 }) had.1) has in
+    subst (Registers (first ++ other) to) same
+    (Contains-append_left first other (record { path = to; info = had.0 }) had.1)
+
+-- outputs are carried that have the same records, and refer to one another or to what carried seeds
+-- reach
+module _ (all other : List Registration) (seeds outputs : List (List ℕ))
+    (carried : (seed : List ℕ) → Contains seeds seed → IsCarried all other seed)
+    (records : (path : List ℕ) (info : PathInfo) → Contains outputs path → Registers all path info
+    → Registers other path info)
+    (refers : (path next : List ℕ) (info : PathInfo) → Contains outputs path
+    → Registers all path info → Contains info.references next → MayRefer all seeds outputs next)
+    where
+  output_leads : (from to : List ℕ) (steps : List (List ℕ)) → Contains outputs from
+      → Leads all from to steps → (info : PathInfo) → Registers all to info
+      → Registers other to info
+  output_leads from to [] own leads info has =
+      records to info (subst (Contains outputs) leads.1 own) has
+  output_leads from to (next ∷ steps) own leads info has =
+      ⊎_elim
+      (λ reached. carried reached.0 reached.1 to info (
+        reached.2.0 ++ steps,
+        leads_on all reached.0 next to reached.2.0 steps reached.2.1 leads.1,
+      ) has)
+      (λ inner. output_leads next to steps inner leads.1 info has)
+      (refers from next leads.0.0 own leads.0.1 leads.0.2)
+
+  pub outputs_carried : (path : List ℕ) → Contains outputs path → IsCarried all other path
+  outputs_carried path own to info reaches has =
+      output_leads path to reaches.0 own reaches.1 info has

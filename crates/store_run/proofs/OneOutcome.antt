@@ -1,0 +1,175 @@
+-- A derivation that came to a verdict in two histories came to the same, where its seeds are carried
+-- both ways.
+use Rattle.std.proofs.Common.{◌≡◌, ◌∙◌, ◌↔◌, ℕ, List, [], ◌++◌, length, Result, Ok, Err, Some, sym, ap, subst}
+use Rattle.std.specs.Prelude.{Contains, slice_get}
+use Rattle.std.proofs.lemmas.List.{length-map}
+use Rattle.nix_names.proofs.Lists.{same_element}
+use Rattle.nix_names.proofs.RisingLists.{rising_same}
+use Rattle.drv_graph.specs.Nodes.{Node}
+use Rattle.drv_graph.specs.Plans.{Graph}
+use Rattle.valid_table.specs.Entries.{registered}
+use Rattle.valid_table.specs.PathInfos.{PathInfo}
+use Rattle.valid_table.specs.Valid.{IsOnce}
+use Rattle.valid_table.specs.declared.entry.Entry.{Entry}
+use Rattle.valid_table.specs.declared.entry.Registration.{Registration}
+use Rattle.valid_table.proofs.JournalLists.{registered-append}
+use Rattle.sched_core.specs.Books.{ArePermittedPaths}
+use Rattle.sched_core.specs.Jobs.{IsJob, output_paths, seeds_of}
+use Rattle.sched_core.specs.Legal.{ArePermitted, ArePermittedTo, MayRefer}
+use Rattle.sched_core.specs.Runs.{History, Run}
+use Rattle.sched_core.specs.Verdicts.{IsVerdict, outputs_of}
+use Rattle.sched_core.specs.declared.job.Answer.{Answer}
+use Rattle.sched_core.specs.declared.job.Job.{Job}
+use Rattle.sched_core.specs.declared.job.JobOutput.{JobOutput}
+use Rattle.sched_core.specs.declared.reason.Reason.{Reason}
+use Rattle.sched_core.proofs.Seeds.{permitted_stays}
+use Rattle.store_run.specs.Builders.{IsOutcomeVerdict, IsVerdictBehind}
+use Rattle.store_run.specs.Scheduling.{HasOneOutcome}
+use Rattle.store_run.proofs.Answered.{came_may_refer}
+use Rattle.store_run.proofs.Carried.{IsCarried, may_refer_there}
+use Rattle.store_run.proofs.Telling.{CameTo}
+
+-- ---- a job's parts are its derivation's
+
+job_seeds : (graph : Graph) (d : ℕ) (job : Job) (node : Node) → IsJob graph d job
+    → slice_get graph.nodes d ≡ Some node → job.seeds.items ≡ seeds_of graph.nodes node.drv
+job_seeds graph d job node is at =
+    is.seeds ∙ ap (λ (n : Node). seeds_of graph.nodes n.drv)
+    (same_element graph.nodes d is.node node is.is_node at)
+
+job_outputs : (graph : Graph) (d : ℕ) (job : Job) (node : Node) → IsJob graph d job
+    → slice_get graph.nodes d ≡ Some node → outputs_of job ≡ output_paths node.drv
+job_outputs graph d job node is at =
+    is.paths ∙ ap (λ (n : Node). output_paths n.drv)
+    (same_element graph.nodes d is.node node is.is_node at)
+
+-- what is permitted to the job is permitted to the derivation
+permitted_job : (graph : Graph) (d : ℕ) (job : Job) (node : Node) (entries : List Entry)
+    (permitted : List (List ℕ)) → IsJob graph d job → slice_get graph.nodes d ≡ Some node
+    → ArePermittedPaths entries job permitted
+    → ArePermitted (registered entries) (seeds_of graph.nodes node.drv) (output_paths node.drv)
+    permitted
+permitted_job graph d job node entries permitted is at are =
+    subst (λ (seeds : List (List ℕ)). ArePermitted (registered entries) seeds
+    (output_paths node.drv) permitted) (job_seeds graph d job node is at)
+    (subst (λ (outputs : List (List ℕ)). ArePermitted (registered entries) job.seeds.items outputs
+    permitted) (job_outputs graph d job node is at) are)
+
+-- each reference of what a derivation came to is permitted there
+pub refers_behind : (may : Job → Result Answer Reason → Type 0) (run : Run) (entries : List Entry)
+    (d : ℕ) (node : Node) (infos : List PathInfo) → slice_get run.graph.nodes d ≡ Some node
+    → IsVerdictBehind may run entries d (Ok infos) → ArePermittedTo run entries node infos
+refers_behind may run entries d node infos at behind info path has refers =
+    let job = behind.job in
+    let there : MayRefer (registered entries) job.seeds.items (outputs_of job) path =
+    came_may_refer may entries job infos behind.comes_to info path has refers in
+    subst (λ (seeds : List (List ℕ)). MayRefer (registered entries) seeds (output_paths node.drv)
+    path) (job_seeds run.graph d job node behind.is_job at)
+    (subst (λ (outputs : List (List ℕ)). MayRefer (registered entries) job.seeds.items outputs
+    path) (job_outputs run.graph d job node behind.is_job at) there)
+
+-- ---- what is permitted behind the first entries is permitted behind all
+
+module _ (may : Job → Result Answer Reason → Type 0) (run : Run) (history : History)
+    (once : IsOnce (registered history.entries)) (d : ℕ) (node : Node)
+    (at : slice_get run.graph.nodes d ≡ Some node) where
+  pub permitted_whole : (verdict : Result (List PathInfo) Reason)
+      (came : CameTo may run history d verdict) (path : List ℕ)
+      → MayRefer (registered came.before) (seeds_of run.graph.nodes node.drv)
+      (output_paths node.drv) path
+      ↔ MayRefer (registered history.entries) (seeds_of run.graph.nodes node.drv)
+      (output_paths node.drv) path
+  permitted_whole verdict came path =
+      let seeds = seeds_of run.graph.nodes node.drv in
+      let outputs = output_paths node.drv in
+      let whole : registered history.entries ≡ registered came.before ++ registered came.more =
+      ap registered came.parts ∙ registered-append came.before came.more in
+      subst (λ (rs : List Registration). MayRefer (registered came.before) seeds outputs path
+      ↔ MayRefer rs seeds outputs path) (sym whole)
+      (permitted_stays (registered came.before) (registered came.more) seeds outputs path
+      came.closed (subst IsOnce whole once) (came.seeds node at))
+
+  -- each reference of what was built may stand there
+  pub came_refers : (infos : List PathInfo) → CameTo may run history d (Ok infos)
+      → (info : PathInfo) (path : List ℕ) → Contains infos info → Contains info.references path
+      → MayRefer (registered history.entries) (seeds_of run.graph.nodes node.drv)
+      (output_paths node.drv) path
+  came_refers infos came info path has refers =
+      (permitted_whole (Ok infos) came path).0
+      (refers_behind may run came.before d node infos at came.behind info path has refers)
+
+  -- there is a record for each output
+  pub came_count : (infos : List PathInfo) → CameTo may run history d (Ok infos)
+      → length infos ≡ length (output_paths node.drv)
+  came_count infos came =
+      let job = came.behind.job in
+      by came.behind.comes_to.0 came.behind.comes_to.2
+      ∙ sym (length-map job.outputs.items (λ (o : JobOutput). o.path))
+      ∙ ap length (job_outputs run.graph d job node came.behind.is_job at)
+    where
+      by : (outcome : Result Answer Reason)
+          → IsOutcomeVerdict came.before came.behind.job outcome (Ok infos)
+          → length infos ≡ length came.behind.job.outputs.items
+      by (Ok answer) is = is.2.1.count
+      by (Err reason) is = absurd cc
+
+-- ---- two histories
+
+module _ (may : Job → Result Answer Reason → Type 0) (run : Run)
+    (outcome : HasOneOutcome may run.graph) (history other : History)
+    (once : IsOnce (registered history.entries)) (once' : IsOnce (registered other.entries))
+    (d : ℕ) (node : Node) (at : slice_get run.graph.nodes d ≡ Some node)
+    (there : (seed : List ℕ) → Contains (seeds_of run.graph.nodes node.drv) seed
+    → IsCarried (registered history.entries) (registered other.entries) seed)
+    (back : (seed : List ℕ) → Contains (seeds_of run.graph.nodes node.drv) seed
+    → IsCarried (registered other.entries) (registered history.entries) seed) where
+  same_permitted : (v w : Result (List PathInfo) Reason) (came : CameTo may run history d v)
+      (came' : CameTo may run other d w) (p q : List (List ℕ))
+      → ArePermittedPaths came.before came.behind.job p
+      → ArePermittedPaths came'.before came'.behind.job q → p ≡ q
+  same_permitted v w came came' p q of_p of_q =
+      let seeds = seeds_of run.graph.nodes node.drv in
+      let outputs = output_paths node.drv in
+      let are = permitted_job run.graph d came.behind.job node came.before p came.behind.is_job at
+      of_p in
+      let are' = permitted_job run.graph d came'.behind.job node came'.before q
+      came'.behind.is_job at of_q in
+      rising_same p q are.rising are'.rising (λ path. (
+        λ has. (are'.each path).1
+            ((permitted_whole may run other once' d node at w came' path).1
+            (may_refer_there (registered history.entries) (registered other.entries) seeds outputs
+            there path
+            ((permitted_whole may run history once d node at v came path).0
+            ((are.each path).0 has)))),
+        λ has. (are.each path).1
+            ((permitted_whole may run history once d node at v came path).1
+            (may_refer_there (registered other.entries) (registered history.entries) seeds outputs
+            back path
+            ((permitted_whole may run other once' d node at w came' path).0
+            ((are'.each path).0 has)))),
+      ))
+
+  -- there is one verdict
+  pub one_verdict : (v w : Result (List PathInfo) Reason) → CameTo may run history d v
+      → CameTo may run other d w → v ≡ w
+  one_verdict v w came came' =
+      by came.behind.comes_to.0 came'.behind.comes_to.0 came.behind.comes_to.1
+      came'.behind.comes_to.1 came.behind.comes_to.2 came'.behind.comes_to.2
+    where
+      by : (x y : Result Answer Reason) → may came.behind.job x → may came'.behind.job y
+          → IsOutcomeVerdict came.before came.behind.job x v
+          → IsOutcomeVerdict came'.before came'.behind.job y w → v ≡ w
+      by (Ok a) (Ok b) may_a may_b is is' =
+          outcome d came.behind.job came'.behind.job is.0 (Ok a) (Ok b) v w came.behind.is_job
+          came'.behind.is_job may_a may_b is.2
+          (subst (λ (ps : List (List ℕ)). IsVerdict came'.behind.job ps b w)
+          (sym (same_permitted v w came came' is.0 is'.0 is.1 is'.1)) is'.2)
+      by (Ok a) (Err r) may_a may_b is is' =
+          outcome d came.behind.job came'.behind.job is.0 (Ok a) (Err r) v w came.behind.is_job
+          came'.behind.is_job may_a may_b is.2 is'
+      by (Err r) (Ok b) may_a may_b is is' =
+          outcome d came.behind.job came'.behind.job is'.0 (Err r) (Ok b) v w came.behind.is_job
+          came'.behind.is_job may_a may_b is is'.2
+      by (Err r) (Err s) may_a may_b is is' =
+          outcome d came.behind.job came'.behind.job [] (Err r) (Err s) v w came.behind.is_job
+          came'.behind.is_job may_a may_b is is'

@@ -1,0 +1,102 @@
+-- *Any schedule*: a whole run and one thread over the same opening are alike.
+use Rattle.std.proofs.Common.{◌≡◌, ◌∙◌, ℕ, List, Result, sym, subst, ⊎_elim}
+use Rattle.drv_graph.specs.SoundGraphs.{IsSound}
+use Rattle.valid_table.specs.Valid.{IsJournal}
+use Rattle.valid_table.specs.declared.entry.Entry.{Entry}
+use Rattle.valid_table.proofs.JournalLists.{closed_references_valid}
+use Rattle.sched_core.specs.Books.{IsRunSettled}
+use Rattle.sched_core.specs.Legal.{IsLegal}
+use Rattle.sched_core.specs.Reports.{IsReport}
+use Rattle.sched_core.specs.Runs.{History, IsWanted, Run, state_in}
+use Rattle.sched_core.specs.States.{Broken, Idle, phase_of}
+use Rattle.sched_core.specs.declared.job.Answer.{Answer}
+use Rattle.sched_core.specs.declared.job.Job.{Job}
+use Rattle.sched_core.specs.declared.reason.Reason.{Reason}
+use Rattle.sched_core.specs.declared.reason.Reason.TheVariants.{OutOfMemory}
+use Rattle.sched_core.specs.declared.reason.State.{State}
+use Rattle.sched_core.specs.declared.reason.State.TheVariants.{Failed}
+use Rattle.sched_core.proofs.OneReport.{one_report}
+use Rattle.sched_core.proofs.Registering.{entries_are_journal}
+use Rattle.sched_core.proofs.Seeds.{opened_with}
+use Rattle.store_run.specs.OneThread.{IsOneThread}
+use Rattle.store_run.specs.Scheduling.{AnySchedule, IsWholeRun, OneReport}
+use Rattle.store_run.proofs.Alike.{IsAtEnd, are_alike}
+use Rattle.store_run.proofs.Telling.{begun_is, broke_is, drv_paths, from_is, made_is}
+use Rattle.store_run.proofs.ToldRuns.{IsTold, told_begin, told_done, told_fail, told_from, told_opening}
+use Rattle.store_run.proofs.Turns.{one_thread_legal, one_thread_opening, one_thread_settled, one_thread_told}
+use Rattle.store_run.proofs.Unhindered.{state_by}
+
+module _ (excused : Reason → Type 0) (may : Job → Result Answer Reason → Type 0) (run : Run) where
+  opening_journal : (history : History) → IsTold excused may run history
+      → IsJournal history.opening
+  opening_journal _ (told_opening entries journal) = journal
+  opening_journal _ (told_begin history d told legal can) = opening_journal history told
+  opening_journal _ (told_done history d lease node infos entry told legal phase at came is_entry) =
+      opening_journal history told
+  opening_journal _ (told_fail history d lease reason told legal phase why) =
+      opening_journal history told
+
+  -- a told history that is settled, and in which nothing is excused
+  at_end : IsSound run.graph → (history : History) → IsTold excused may run history
+      → IsLegal run history → IsRunSettled run history
+      → ((d : ℕ) (why : Reason) → phase_of history.events d ≡ Broken why → excused why → ⊥)
+      → IsAtEnd may run history
+  at_end sound history told legal settled none =
+      let opens = opened_with run history legal in
+      record {
+        begun = begun_is excused may run sound history told;
+        settled = settled;
+        made = made_is excused may run sound history told;
+        broke = λ d why at. ⊎_elim (λ excuse. absurd (none d why at excuse)) (λ came. came)
+            (broke_is excused may run sound history told d why at);
+        more = opens.0;
+        parts = opens.1;
+        closed = closed_references_valid history.opening (opening_journal history told).closed;
+        once = (entries_are_journal run history (drv_paths excused may run sound) legal).once;
+        from = from_is excused may run history told;
+      }
+
+module _ (may : Job → Result Answer Reason → Type 0) (run : Run) (history : History)
+    (whole : IsWholeRun may run history) where
+  run_told : IsTold (λ reason. reason ≡ OutOfMemory) may run history
+  run_told = told_from may run history whole.legal whole.answered
+
+  -- no derivation failed for want of memory
+  none_excused : (d : ℕ) (why : Reason) → phase_of history.events d ≡ Broken why
+      → why ≡ OutOfMemory → ⊥
+  none_excused d why at is =
+      let was = begun_is (λ reason. reason ≡ OutOfMemory) may run whole.plan history run_told d
+      (λ idle. let clash : Broken why ≡ Idle = sym at ∙ idle in cc) in
+      whole.memory d was.within was.wanted
+      (subst (λ (r : Reason). state_in run history d ≡ Failed r) is
+      (state_by run history whole.plan d (Broken why) at))
+
+  run_at_end : IsAtEnd may run history
+  run_at_end = at_end (λ reason. reason ≡ OutOfMemory) may run whole.plan history run_told
+      whole.legal whole.settled none_excused
+
+one_thread_at_end : (may : Job → Result Answer Reason → Type 0) (run : Run)
+    → IsSound run.graph → (opening : List Entry) (other : History)
+    → IsOneThread may run opening other → IsAtEnd may run other
+one_thread_at_end may run sound opening other one =
+    at_end (λ reason. ⊥) may run sound other (one_thread_told may run sound opening other one)
+    (one_thread_legal may run sound opening other one)
+    (one_thread_settled may run sound opening other one) (λ d why at none. none)
+
+pub any_schedule : (may : Job → Result Answer Reason → Type 0) → AnySchedule may
+any_schedule may run history other whole one =
+    are_alike may run whole.plan whole.outcome history other (run_at_end may run history whole)
+    (one_thread_at_end may run whole.plan history.opening other one)
+    (one_thread_opening may run whole.plan history.opening other one)
+
+-- the report follows from the states
+pub one_report_of : (may : Job → Result Answer Reason → Type 0) → OneReport may
+one_report_of may run history other a b whole one of_a of_b =
+    let alike = any_schedule may run history other whole one in
+    let opening = one_thread_opening may run whole.plan history.opening other one in
+    let states : state_in run other ≡ state_in run history = λ i d. sym (alike.states d) i in
+    let there : IsReport run.graph (IsWanted run history.opening) (state_in run history) b =
+    subst (λ (s : ℕ → State). IsReport run.graph (IsWanted run history.opening) s b) states
+    (subst (λ (opens : List Entry). IsReport run.graph (IsWanted run opens) (state_in run other) b)
+    opening of_b) in
+    one_report run.graph (IsWanted run history.opening) (state_in run history) a b of_a there

@@ -1,0 +1,360 @@
+-- A history in which all derivations had their turns is a legal one that is settled, and tells what
+-- each event follows from, without an excuse.
+use Rattle.std.proofs.Common.{◌≡◌, ◌&&◌, cond, ◌∙◌, ◌⊎◌, inl, inr, ◌<◌, ◌≤◌, ℕ, zero, suc, Bool, true, false, List, [], ◌∷◌, length, take, drop, Result, Ok, Err, Option, Some, None, refl, sym, ap, subst, ⊎_elim, arith}
+use Rattle.std.specs.Prelude.{Contains, find, slice_get}
+use Rattle.std.specs.List.{list_all}
+use Rattle.std.proofs.lemmas.List.{length-take-le}
+use Rattle.std.specs.Cmp.Lexicographic.{nat_list_eq_equiv}
+use Rattle.std.proofs.lemmas.Map.Views.{list_any-from_Contains}
+use Rattle.std.proofs.lemmas.Option.{slice_get_within}
+use Rattle.nix_names.proofs.Lists.{Contains-first, Contains-from_get, Contains-from_map, Contains-later, either_side, element_at, get_grows, same_element, split_get}
+use Rattle.nix_drv.specs.Derivation.{Output}
+use Rattle.drv_graph.specs.Nodes.{Node}
+use Rattle.drv_graph.specs.Plans.{Graph}
+use Rattle.drv_graph.specs.SoundGraphs.{IsSound}
+use Rattle.valid_table.specs.Entries.{paths_of, registered}
+use Rattle.valid_table.specs.PathInfos.{PathInfo}
+use Rattle.valid_table.specs.Valid.{IsValid}
+use Rattle.valid_table.specs.declared.entry.Entry.{Entry}
+use Rattle.valid_table.proofs.ClosureLaws.{registers_from_valid}
+use Rattle.sched_core.specs.Books.{CanBegin, IsRunSettled}
+use Rattle.sched_core.specs.Courses.{IsOpen}
+use Rattle.sched_core.specs.Jobs.{output_paths}
+use Rattle.sched_core.specs.Legal.{IsAllowed, IsLegal, legal_begin, legal_done, legal_fail, legal_opening, begins, begun, ended, failed}
+use Rattle.sched_core.specs.Runs.{History, IsWanted, Run, is_valid, standing_at, state_in, wanted_input}
+use Rattle.sched_core.specs.States.{Idle, Ended, Broken, by_first, by_phase, by_standing, is_bad, is_good, phase_of}
+use Rattle.sched_core.specs.declared.job.Answer.{Answer}
+use Rattle.sched_core.specs.declared.job.Job.{Job}
+use Rattle.sched_core.specs.declared.reason.Event.TheVariants.{Begin, Done as Finish, Fail}
+use Rattle.sched_core.specs.declared.reason.Reason.{Reason}
+use Rattle.sched_core.specs.declared.reason.State.{State}
+use Rattle.sched_core.specs.declared.reason.State.TheVariants.{Blocked, Building, Done, Failed, Ready, Refused, Reused}
+use Rattle.sched_core.specs.declared.standing.Standing.{Standing}
+use Rattle.sched_core.specs.declared.standing.Standing.TheVariants.{AllValid, Hindered, Free}
+use Rattle.sched_core.proofs.Histories.{ready_is_idle}
+use Rattle.sched_core.proofs.PlanInputs.{inputs_first}
+use Rattle.sched_core.proofs.Registrable.{verdicts_are_registrable}
+use Rattle.sched_core.specs.VerdictLaws.{AreRegistrable}
+use Rattle.store_run.specs.Builders.{IsOutcomeVerdict, IsVerdictBehind}
+use Rattle.store_run.specs.OneThread.{HadTurns, turn_done, turn_failed, turn_opening, turn_skipped}
+use Rattle.store_run.proofs.Carried.{valid_from_registers}
+use Rattle.store_run.proofs.OneOutcome.{refers_behind}
+use Rattle.store_run.proofs.Standings.{output_of_free}
+use Rattle.store_run.proofs.Telling.{IsFrom, from_built, from_is, from_opening, phase_begun, phase_broken, phase_ended, phase_other, same_or_other}
+use Rattle.store_run.proofs.ToldRuns.{IsTold, told_begin, told_done, told_fail, told_opening}
+use Rattle.store_run.proofs.Unhindered.{aside_same, inputs_in, ready_unhindered, standing_in, state_by}
+
+-- ---- an output is made by one derivation
+
+before_at : (nodes : List Node) (a b : ℕ) (x y : Node) → a < b → slice_get nodes a ≡ Some x
+    → slice_get nodes b ≡ Some y → Contains (take b nodes) x
+before_at nodes a b x y less at at' =
+    let within = slice_get_within nodes b y at' in
+    let found = element_at (take b nodes) a
+    (omega (arith, less, length-take-le b nodes (omega (arith, within)))) in
+    let there : slice_get nodes a ≡ Some found.0 =
+    subst (λ (ns : List Node). slice_get ns a ≡ Some found.0) (sym (split_get nodes b y at'))
+    (get_grows (take b nodes) (y ∷ drop (suc b) nodes) a found.0 found.1) in
+    subst (Contains (take b nodes)) (same_element nodes a found.0 x there at)
+    (Contains-from_get (take b nodes) a found.0 found.1)
+
+not_shared : (graph : Graph) → IsSound graph → (a b : ℕ) (x y : Node) (path : List ℕ) → a < b
+    → slice_get graph.nodes a ≡ Some x → slice_get graph.nodes b ≡ Some y
+    → Contains (output_paths x.drv) path → Contains (output_paths y.drv) path → ⊥
+not_shared graph sound a b x y path less at at' own own' =
+    let lawful = sound.lawful (take b graph.nodes) (drop (suc b) graph.nodes) y
+    (split_get graph.nodes b y at') in
+    let path_in : Output → List ℕ = λ o. o.path in
+    let one = Contains-from_map path_in x.drv.outputs path own in
+    let two = Contains-from_map path_in y.drv.outputs path own' in
+    lawful.alone x (before_at graph.nodes a b x y less at at')
+    (one.0, two.0, one.1, two.1, one.2 ∙ sym two.2)
+
+one_maker : (graph : Graph) → IsSound graph → (a b : ℕ) (x y : Node) (path : List ℕ)
+    → slice_get graph.nodes a ≡ Some x → slice_get graph.nodes b ≡ Some y
+    → Contains (output_paths x.drv) path → Contains (output_paths y.drv) path → a ≡ b
+one_maker graph sound a b x y path at at' own own' =
+    ⊎_elim (λ same. same)
+    (λ apart. ⊎_elim
+    (λ less. absurd (not_shared graph sound a b x y path less at at' own own'))
+    (λ more. absurd (not_shared graph sound b a y x path more at' at own' own)) apart)
+    (either_side a b)
+
+-- ---- states of the first derivations
+
+-- an event of a derivation leaves the states of those before it
+pub states_before : (run : Run) (sound : IsSound run.graph) (history after : History)
+    → history.opening ≡ after.opening → (d : ℕ)
+    → ((i : ℕ) → i < d → phase_of history.events i ≡ phase_of after.events i)
+    → (bound e : ℕ) → e < bound → e < d → state_in run history e ≡ state_in run after e
+states_before run sound history after opening d phases zero e low less = absurd (omega arith)
+states_before run sound history after opening d phases (suc bound) e low less =
+    state_by run history sound e (phase_of after.events e) (phases e less)
+    ∙ ap (by_phase (phase_of after.events e))
+    (aside_same run history after e opening (λ i has.
+    let first = inputs_first run.graph sound e i has in
+    states_before run sound history after opening d phases bound i (omega arith) (omega arith)))
+    ∙ sym (state_by run after sound e (phase_of after.events e) refl)
+
+-- what isn't open is good or bad
+not_open : (s : State) → (IsOpen s → ⊥) → (is_good s ≡ true) ⊎ (is_bad s ≡ true)
+not_open Done closed = inl refl
+not_open Reused closed = inl refl
+not_open (Failed reason) closed = inr refl
+not_open (Refused cause) closed = inr refl
+not_open (Building lease) closed = absurd (closed (inr (inr (lease, refl))))
+not_open Ready closed = absurd (closed (inr (inl refl)))
+not_open Blocked closed = absurd (closed (inl refl))
+
+-- behind such inputs nothing is blocked
+all_good_or_bad : (f : ℕ → State) (inputs : List ℕ)
+    → ((i : ℕ) → Contains inputs i → (is_good (f i) ≡ true) ⊎ (is_bad (f i) ≡ true))
+    → find (λ i. is_bad (f i)) inputs ≡ None → list_all (λ i. is_good (f i)) inputs ≡ true
+all_good_or_bad f [] closed none = refl
+all_good_or_bad f (i ∷ is) closed none =
+    by (is_good (f i)) (is_bad (f i)) (closed i (Contains-first i is))
+    (all_good_or_bad f is (λ j has. closed j (Contains-later i is j has))) none
+  where
+    by : (good bad : Bool) → (good ≡ true) ⊎ (bad ≡ true)
+        → (find (λ j. is_bad (f j)) is ≡ None → list_all (λ j. is_good (f j)) is ≡ true)
+        → cond bad (Some i) (find (λ j. is_bad (f j)) is) ≡ None
+        → (good && list_all (λ j. is_good (f j)) is) ≡ true
+    by good true closed rest none = absurd cc
+    by true false closed rest none = rest none
+    by false false (inl is) rest none = absurd cc
+    by false false (inr is) rest none = absurd cc
+
+never_blocked : (first : Option ℕ) (all : Bool) → (first ≡ None → all ≡ true)
+    → by_first first all ≡ Blocked → ⊥
+never_blocked (Some i) all closed is = cc
+never_blocked None true closed is = cc
+never_blocked None false closed is = let clash : false ≡ true = closed refl in cc
+
+-- a derivation without an event is open only where it is ready or an input of it is open
+idle_open : (standing : Standing) (first : Option ℕ) (all : Bool)
+    → (standing ≡ Free → first ≡ None → all ≡ true)
+    → IsOpen (by_phase Idle (by_standing standing (by_first first all)))
+    → by_phase Idle (by_standing standing (by_first first all)) ≡ Ready
+idle_open AllValid first all closed (inl is) = absurd cc
+idle_open AllValid first all closed (inr (inl is)) = is
+idle_open AllValid first all closed (inr (inr is)) = let clash = is.1 in absurd cc
+idle_open (Hindered cause) first all closed (inl is) = absurd cc
+idle_open (Hindered cause) first all closed (inr (inl is)) = is
+idle_open (Hindered cause) first all closed (inr (inr is)) = let clash = is.1 in absurd cc
+idle_open Free first all closed (inl is) = absurd (never_blocked first all (closed refl) is)
+idle_open Free first all closed (inr (inl is)) = is
+idle_open Free first all closed (inr (inr is)) =
+    absurd (never_building first all is.0 is.1)
+  where
+    never_building : (first : Option ℕ) (all : Bool) (lease : ℕ)
+        → by_first first all ≡ Building lease → ⊥
+    never_building (Some i) all lease is = cc
+    never_building None true lease is = cc
+    never_building None false lease is = cc
+
+-- ---- the turns
+
+-- What holds once the derivations below a number had their turns.
+record HaveTurned (may : Job → Result Answer Reason → Type 0) (run : Run) (opening : List Entry)
+    (count : ℕ) (history : History)
+    : Type 0 where
+  legal : IsLegal run history
+  told : IsTold (λ reason. ⊥) may run history
+  opening_is : history.opening ≡ opening
+  rest : (d : ℕ) → count ≤ d → phase_of history.events d ≡ Idle
+  closed : (d : ℕ) → d < count → d < length run.graph.nodes → IsWanted run opening d
+      → IsOpen (state_in run history d) → ⊥
+
+module _ (may : Job → Result Answer Reason → Type 0) (run : Run) (sound : IsSound run.graph)
+    (opening : List Entry) where
+  -- the records of a verdict may be registered
+  module _ (history : History) (told : IsTold (λ reason. ⊥) may run history) (d : ℕ) (node : Node)
+      (infos : List PathInfo) (at : slice_get run.graph.nodes d ≡ Some node)
+      (can : CanBegin run history d) (behind : IsVerdictBehind may run history.entries d (Ok infos))
+      where
+    outputs_new : (path : List ℕ) → Contains (output_paths node.drv) path
+        → IsValid (registered history.entries) path → ⊥
+    outputs_new path own valid =
+        let had = registers_from_valid (registered history.entries) path valid in
+        by had.0 (from_is (λ reason. ⊥) may run history told path had.0 had.1)
+      where
+        by : (info : PathInfo) → IsFrom run history path info → ⊥
+        by info (from_opening has) =
+            let un = ready_unhindered run history sound d can.ready in
+            let none : is_valid history.opening path ≡ false =
+            output_of_free run.system history.opening node.drv
+            (sym (ap (standing_at run.system history.opening) at) ∙ un.free) path own in
+            let some : is_valid history.opening path ≡ true =
+            list_any-from_Contains nat_list_eq_equiv path (paths_of (registered history.opening))
+            (valid_from_registers (registered history.opening) path info has) in
+            let clash : false ≡ true = sym none ∙ some in
+            cc
+        by info (from_built e other at' ends own') =
+            let same = one_maker run.graph sound d e node other path at at' own own' in
+            let clash : Idle ≡ Ended = sym (ready_is_idle run history d can.ready)
+            ∙ ap (phase_of history.events) same ∙ ends in
+            cc
+
+    registrable : (permitted : List (List ℕ)) × AreRegistrable node permitted infos
+    registrable = by behind.comes_to.0 behind.comes_to.2
+      where
+        by : (outcome : Result Answer Reason)
+            → IsOutcomeVerdict history.entries behind.job outcome (Ok infos)
+            → (permitted : List (List ℕ)) × AreRegistrable node permitted infos
+        by (Ok answer) is = (
+          is.0,
+          verdicts_are_registrable run.graph d behind.job node is.0 answer infos behind.is_job at
+              is.2,
+        )
+        by (Err reason) is = absurd cc
+
+    allowed : IsAllowed run history.entries node infos
+    allowed = record {
+      count = registrable.1.count;
+      new = outputs_new;
+      permitted = refers_behind may run history.entries d node infos at behind;
+      fixed = registrable.1.fixed;
+      acyclic = registrable.1.acyclic;
+    }
+
+  -- a turn that was passed over
+  skipped : (d : ℕ) (history : History) → HaveTurned may run opening d history
+      → (CanBegin run history d → ⊥) → HaveTurned may run opening (suc d) history
+  skipped d history turned cannot = record {
+    legal = turned.legal;
+    told = turned.told;
+    opening_is = turned.opening_is;
+    rest = λ e past. turned.rest e (omega arith);
+    closed = λ e low within wanted still. ⊎_elim
+        (λ same. here (subst (λ n. n < length run.graph.nodes) same within)
+        (subst (IsWanted run opening) same wanted)
+        (subst (λ n. IsOpen (state_in run history n)) same still))
+        (λ other. turned.closed e (omega (arith, other)) within wanted still)
+        (same_or_other e d);
+  }
+    where
+      closed_input : d < length run.graph.nodes → IsWanted run opening d
+          → standing_in run history d ≡ Free → (i : ℕ) → Contains (inputs_in run d) i
+          → (is_good (state_in run history i) ≡ true) ⊎ (is_bad (state_in run history i) ≡ true)
+      closed_input within wanted free i has =
+          let less = inputs_first run.graph sound d i has in
+          not_open (state_in run history i)
+          (turned.closed i less (omega arith)
+          (wanted_input d i wanted
+          (subst (λ (opens : List Entry). standing_at run.system opens
+          (slice_get run.graph.nodes d) ≡ Free) turned.opening_is free) has))
+
+      here : d < length run.graph.nodes → IsWanted run opening d → IsOpen (state_in run history d)
+          → ⊥
+      here within wanted still =
+          let f = state_in run history in
+          let inputs = inputs_in run d in
+          let idle = turned.rest d (omega arith) in
+          let is = state_by run history sound d Idle idle in
+          let ready = idle_open (standing_in run history d) (find (λ i. is_bad (f i)) inputs)
+          (list_all (λ i. is_good (f i)) inputs)
+          (λ free. all_good_or_bad f inputs (closed_input within wanted free))
+          (subst IsOpen is still) in
+          cannot (record {
+            within = within;
+            wanted = subst (λ (opens : List Entry). IsWanted run opens d) (sym turned.opening_is)
+                wanted;
+            ready = is ∙ ready;
+          })
+
+  -- a turn in which the derivation began, and ended at once
+  module _ (d : ℕ) (history after : History) (turned : HaveTurned may run opening d history)
+      (opening_same : history.opening ≡ after.opening)
+      (phases : (i : ℕ) → (d ≡ i → ⊥) → phase_of after.events i ≡ phase_of history.events i) where
+    turned_more : IsLegal run after → IsTold (λ reason. ⊥) may run after
+        → (IsOpen (state_in run after d) → ⊥) → HaveTurned may run opening (suc d) after
+    turned_more legal told ends = record {
+      legal = legal;
+      told = told;
+      opening_is = sym opening_same ∙ turned.opening_is;
+      rest = λ e past. phases e (λ same. omega (arith, past, same)) ∙ turned.rest e (omega arith);
+      closed = λ e low within wanted still. ⊎_elim
+          (λ same. ends (subst (λ n. IsOpen (state_in run after n)) same still))
+          (λ other.
+          let less : e < d = omega (arith, low, other) in
+          turned.closed e less within wanted
+          (subst IsOpen
+          (sym (states_before run sound history after opening_same d
+          (λ i before. sym (phases i (λ same. omega (arith, before, same)))) (suc e) e (omega arith)
+          less)) still))
+          (same_or_other e d);
+    }
+
+  done_is_closed : IsOpen Done → ⊥
+  done_is_closed (inl is) = cc
+  done_is_closed (inr (inl is)) = cc
+  done_is_closed (inr (inr is)) = let clash = is.1 in cc
+
+  failed_is_closed : (reason : Reason) → IsOpen (Failed reason) → ⊥
+  failed_is_closed reason (inl is) = cc
+  failed_is_closed reason (inr (inl is)) = cc
+  failed_is_closed reason (inr (inr is)) = let clash = is.1 in cc
+
+  turned_is : (count : ℕ) (history : History) → HadTurns may run opening count history
+      → HaveTurned may run opening count history
+  turned_is _ _ (turn_opening journal) = record {
+    legal = legal_opening opening journal;
+    told = told_opening opening journal;
+    opening_is = refl;
+    rest = λ d past. refl;
+    closed = λ d low within wanted still. absurd (omega arith);
+  }
+  turned_is _ _ (turn_skipped d history had cannot) =
+      skipped d history (turned_is d history had) cannot
+  turned_is _ _ (turn_done d history node infos entry had can at behind is_entry) =
+      let turned = turned_is d history had in
+      let lease = begins history.events in
+      let middle = begun history d in
+      let after = ended middle d lease entry in
+      let phase = phase_begun history.events d lease in
+      let legal = legal_begin history d turned.legal can.within can.wanted can.ready in
+      turned_more d history after turned refl
+      (λ i other. phase_other middle.events (Finish d lease) i other
+      ∙ phase_other history.events (Begin d lease) i other)
+      (legal_done middle d lease node infos entry legal phase at
+      (allowed history turned.told d node infos at can behind) is_entry)
+      (told_done middle d lease node infos entry (told_begin history d turned.told turned.legal can)
+      legal phase at behind is_entry)
+      (λ still. done_is_closed
+      (subst IsOpen (state_by run after sound d Ended (phase_ended middle.events d lease)) still))
+  turned_is _ _ (turn_failed d history reason had can behind) =
+      let turned = turned_is d history had in
+      let lease = begins history.events in
+      let middle = begun history d in
+      let after = failed middle d lease reason in
+      let phase = phase_begun history.events d lease in
+      let legal = legal_begin history d turned.legal can.within can.wanted can.ready in
+      turned_more d history after turned refl
+      (λ i other. phase_other middle.events (Fail d lease reason) i other
+      ∙ phase_other history.events (Begin d lease) i other)
+      (legal_fail middle d lease reason legal phase)
+      (told_fail middle d lease reason (told_begin history d turned.told turned.legal can) legal
+      phase (inr behind))
+      (λ still. failed_is_closed reason
+      (subst IsOpen
+      (state_by run after sound d (Broken reason) (phase_broken middle.events d lease reason))
+      still))
+
+  pub one_thread_legal : (history : History) → HadTurns may run opening (length run.graph.nodes)
+      history → IsLegal run history
+  one_thread_legal history had = (turned_is (length run.graph.nodes) history had).legal
+
+  pub one_thread_told : (history : History) → HadTurns may run opening (length run.graph.nodes)
+      history → IsTold (λ reason. ⊥) may run history
+  one_thread_told history had = (turned_is (length run.graph.nodes) history had).told
+
+  pub one_thread_opening : (history : History) → HadTurns may run opening (length run.graph.nodes)
+      history → history.opening ≡ opening
+  one_thread_opening history had = (turned_is (length run.graph.nodes) history had).opening_is
+
+  pub one_thread_settled : (history : History) → HadTurns may run opening (length run.graph.nodes)
+      history → IsRunSettled run history
+  one_thread_settled history had d within wanted still =
+      let turned = turned_is (length run.graph.nodes) history had in
+      turned.closed d within within
+      (subst (λ (opens : List Entry). IsWanted run opens d) turned.opening_is wanted) still

@@ -1,0 +1,71 @@
+-- *Any schedule*: whatever the number of workers and the order of their turns, a run that had memory
+-- ends as one thread would (this product's own).
+use Rattle.std.specs.Prelude.{◌≡◌, ◌↔◌, ◌<◌, ℕ, List, Result, Ok, Err, length}
+use Rattle.drv_graph.specs.Plans.{Graph}
+use Rattle.drv_graph.specs.SoundGraphs.{IsSound}
+use Rattle.valid_table.specs.Entries.{registered}
+use Rattle.valid_table.specs.PathInfos.{PathInfo}
+use Rattle.valid_table.specs.Valid.{Registers}
+use Rattle.sched_core.specs.Books.{IsRunSettled}
+use Rattle.sched_core.specs.Jobs.{IsJob}
+use Rattle.sched_core.specs.Legal.{IsLegal}
+use Rattle.sched_core.specs.Reports.{IsReportIn}
+use Rattle.sched_core.specs.Runs.{History, IsWanted, Run, state_in}
+use Rattle.sched_core.specs.Verdicts.{IsVerdict}
+use Rattle.sched_core.specs.declared.job.Answer.{Answer}
+use Rattle.sched_core.specs.declared.job.Job.{Job}
+use Rattle.sched_core.specs.declared.reason.Reason.{Reason}
+use Rattle.sched_core.specs.declared.reason.Reason.TheVariants.{OutOfMemory}
+use Rattle.sched_core.specs.declared.reason.State.TheVariants.{Failed}
+use Rattle.store_run.specs.Builders.{IsAnswered}
+use Rattle.store_run.specs.OneThread.{IsOneThread}
+
+-- *Verdict* on an outcome by permitted paths: the reason why there is no answer, or the verdict on
+-- the answer
+abbrev pub IsVerdictOn : Job → (permitted : List (List ℕ)) → Result Answer Reason
+    → Result (List PathInfo) Reason → Type 0
+IsVerdictOn job permitted (Ok answer) verdict = IsVerdict job permitted answer verdict
+IsVerdictOn job permitted (Err reason) verdict = verdict ≡ Err reason
+
+-- each derivation of a plan has one outcome: whatever paths are permitted, the verdicts on two
+-- outcomes that may be given for jobs of it are the same
+abbrev pub HasOneOutcome : (may : Job → Result Answer Reason → Type 0) → Graph → Type 0
+HasOneOutcome may graph = (d : ℕ) (job again : Job) (permitted : List (List ℕ))
+    (x y : Result Answer Reason) (a b : Result (List PathInfo) Reason)
+    → IsJob graph d job → IsJob graph d again → may job x → may again y
+    → IsVerdictOn job permitted x a → IsVerdictOn again permitted y b → a ≡ b
+
+-- no wanted derivation failed because memory was refused
+abbrev pub HasMemory : Run → History → Type 0
+HasMemory run history = (d : ℕ) → d < length run.graph.nodes → IsWanted run history.opening d
+    → state_in run history d ≡ Failed OutOfMemory → ⊥
+
+-- Two histories of a run are alike: each derivation is in the same state, and each path has the same
+-- records.
+pub record AreAlike (run : Run) (history other : History) : Type 0 where
+  pub states : (d : ℕ) → state_in run history d ≡ state_in run other d
+  pub records : (path : List ℕ) (info : PathInfo)
+      → Registers (registered history.entries) path info
+      ↔ Registers (registered other.entries) path info
+
+-- What a run over a loaded plan leaves behind that went to its end with memory enough, by a builder
+-- that may give one outcome to each derivation.
+pub record IsWholeRun (may : Job → Result Answer Reason → Type 0) (run : Run) (history : History)
+    : Type 0 where
+  pub plan : IsSound run.graph
+  pub outcome : HasOneOutcome may run.graph
+  pub legal : IsLegal run history
+  pub settled : IsRunSettled run history
+  pub answered : IsAnswered may run history
+  pub memory : HasMemory run history
+
+-- *Any schedule*: what such a run leaves behind is alike with what one thread would leave behind
+abbrev pub AnySchedule : (may : Job → Result Answer Reason → Type 0) → Type 0
+AnySchedule may = (run : Run) (history other : History) → IsWholeRun may run history
+    → IsOneThread may run history.opening other → AreAlike run history other
+
+-- so the report is one
+abbrev pub OneReport : (may : Job → Result Answer Reason → Type 0) → Type 0
+OneReport may = (run : Run) (history other : History) (a b : List ℕ) → IsWholeRun may run history
+    → IsOneThread may run history.opening other
+    → IsReportIn run history a → IsReportIn run other b → a ≡ b
