@@ -10,14 +10,6 @@ use Rattle.valid_table.proofs.JournalLists.{closed_references_valid}
 use Rattle.valid_table.proofs.RowNumbers.{once_from_unique}
 use Rattle.valid_table.proofs.checking.check_entries.Goals as goal
 
-pub loop-entry-init : goal.loop-entry-init
-loop-entry-init c = record {
-  right = tt;
-  rows = ap registrations_of c.new-rows.ensures.empty;
-  number = refl;
-  once = once_from_unique c.new-rows.result.entries c.new-rows.ensures.unique;
-}
-
 pub check_entry-requires : goal.check_entry-requires
 check_entry-requires c =
     let fits = lines_fit c.args.entries.now c.loop-entry.entry-index c.entry-item.result
@@ -63,9 +55,6 @@ loop-entry-preserved c =
       once = c.in_ok-line.ensures.unique;
     }
 
-pub of_rows-requires-clause-once : goal.of_rows-requires-clause-once
-of_rows-requires-clause-once c = c.loop-entry.invariant.once
-
 pub of_rows-requires-clause-closed : goal.of_rows-requires-clause-closed
 of_rows-requires-clause-closed c =
     let entries = c.args.entries.now in
@@ -79,16 +68,3 @@ of_rows-requires-clause-closed c =
 pub returns-clause-closed : goal.returns-clause-closed
 returns-clause-closed c = closed_behind c.args.entries.now c.loop-entry.entry-index
     c.loop-entry-test.false c.loop-entry.invariant.right
-
-pub returns-clause-once : goal.returns-clause-once
-returns-clause-once c =
-    subst IsOnce (c.loop-entry.invariant.rows
-    ∙ ap registered
-    (take_all c.loop-entry.entry-index c.args.entries.now c.loop-entry-test.false))
-    c.loop-entry.invariant.once
-
-pub returns-clause-table : goal.returns-clause-table
-returns-clause-table c =
-    c.of_rows.ensures ∙ c.loop-entry.invariant.rows
-    ∙ ap registered
-    (take_all c.loop-entry.entry-index c.args.entries.now c.loop-entry-test.false)

@@ -5,13 +5,6 @@ use Rattle.valid_table.specs.Tables.{registrations_of}
 use Rattle.valid_table.proofs.EnteredPaths.{front_all, front_here, new_more}
 use Rattle.valid_table.proofs.entering.new_front.Goals as goal
 
-pub returns-then-has_row : goal.returns-then-has_row
-returns-then-has_row c =
-    front_here (paths_of (registrations_of c.args.rows.now.entries)) c.args.registrations.now
-    c.loop-count.count c.index-registrations-count.result c.loop-count.invariant
-    c.loop-count-test.true c.index-registrations-count.is
-    (c.has_row.ensures.0 c.if-has_row.true)
-
 pub loop-count-preserved : goal.loop-count-preserved
 loop-count-preserved c =
     new_more (paths_of (registrations_of c.args.rows.now.entries)) c.args.registrations.now

@@ -9,9 +9,6 @@ paths-init c =
     subst (λ l. IsMerged left right l left right) (sym c.in_ok-paths.ensures.items)
     (merged_none left right c.requires.left c.requires.right)
 
-pub paths-smaller : goal.paths-smaller
-paths-smaller c = c.in-Some.ensures.shorter
-
 pub paths-preserved : goal.paths-preserved
 paths-preserved c =
     merged_more c.args.left.now c.args.right.now c.paths.paths.items c.paths.more.now
