@@ -1,8 +1,8 @@
-use Rattle.std.proofs.Common.{◌∙◌, sym}
+use Rattle.std.proofs.Common.{◌∙◌, sym, rules}
 use Rattle.std.proofs.lemmas.Bool.{false≢true}
 use Rattle.valid_table.specs.Entries.{paths_of}
 use Rattle.valid_table.specs.Tables.{registrations_of}
-use Rattle.valid_table.proofs.EnteredPaths.{front_all, front_here, new_more}
+use Rattle.valid_table.proofs.EnteredPaths.{front_all, new_more}
 use Rattle.valid_table.proofs.entering.new_front.Goals as goal
 
 pub loop-count-preserved : goal.loop-count-preserved
@@ -13,6 +13,4 @@ loop-count-preserved c =
     (λ there. false≢true (sym c.if-has_row.false ∙ c.has_row.ensures.1 there))
 
 pub returns : goal.returns
-returns c =
-    front_all (paths_of (registrations_of c.args.rows.now.entries)) c.args.registrations.now
-    c.loop-count.count c.loop-count-test.false c.loop-count.invariant
+returns c = search (rules, front_all)
