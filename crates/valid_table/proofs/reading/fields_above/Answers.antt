@@ -1,7 +1,7 @@
 use Rattle.std.proofs.Common.{sym, ◌∙◌}
 use Rattle.std.proofs.lemmas.Bool.{false≢true}
 use Rattle.std.proofs.lemmas.Option.{MatchOption-at_some}
-use Rattle.valid_table.proofs.RegistrationLines.{low_fields}
+use Rattle.valid_table.proofs.LinePaths.{low_fields}
 use Rattle.valid_table.proofs.reading.fields_above.Goals as goal
 
 pub returns : goal.returns
