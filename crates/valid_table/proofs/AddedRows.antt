@@ -50,17 +50,6 @@ paths_kept registrations old added new parts path has =
     ∙ map-append (path_at registrations) old added))
     (Contains-append_left (paths_at registrations old) (paths_at registrations added) path has)
 
--- no path adds no rows
-pub adds_none : (registrations : List Registration) (old : List ℕ) → AreRows registrations old
-    → AddsRows registrations old [] old
-adds_none registrations old rows = record {
-  rows = rows;
-  added = [];
-  parts = sym (append-nil old);
-  asked = All-nil (Contains []);
-  there = All-nil (λ path. IsValid registrations path → Contains (paths_at registrations old) path);
-}
-
 asked_more : (paths : List (List ℕ)) (path : List ℕ) (some : List (List ℕ))
     → All (Contains paths) some → All (Contains (paths ++ path ∷ [])) some
 asked_more paths path some asked = All-weaker (Contains paths) (Contains (paths ++ path ∷ []))

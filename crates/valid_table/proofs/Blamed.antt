@@ -14,11 +14,7 @@ use Rattle.valid_table.specs.declared.obstacle.Blame.{Blame}
 use Rattle.valid_table.specs.declared.obstacle.Obstacle.{Obstacle}
 use Rattle.valid_table.specs.declared.obstacle.Obstacle.TheVariants as obstacle
 use Rattle.valid_table.proofs.EnteredPaths.{unclosed_here}
-
--- what is read twice at one place is the same
-same_read : {X : Type 0} (xs : List X) (i : ℕ) (x y : X) → slice_get xs i ≡ Some x → slice_get xs i
-    ≡ Some y → x ≡ y
-same_read xs i x y one two = let same : Some x ≡ Some y = sym one ∙ two in cc
+use Rattle.nix_names.proofs.Lists.{same_element}
 
 -- the places of the first unclosed reference of registrations whose first ones have none
 pub unclosed_at :
@@ -50,11 +46,6 @@ pub blamed_or_closed :
 blamed_or_closed known some None new closed = (new, closed)
 blamed_or_closed known some (Some blame) new at = blamed_for_reference known some blame new at
 
--- who is to blame is one of them
-pub blamed_within : (known some : List Registration) (blame : Blame) → IsBlamed known some blame
-    → blame.registration < length some
-blamed_within known some blame (r, at, blamed) = slice_get_within some blame.registration r at
-
 -- and is who is read at the place
 pub blamed_read :
     (known some : List Registration) (blame : Blame) (r : Registration) →
@@ -63,27 +54,7 @@ pub blamed_read :
     IsBlamedFor known some r blame.reference
 blamed_read known some blame r (one, at, blamed) read =
     subst (λ (x : Registration). IsBlamedFor known some x blame.reference)
-    (same_read some blame.registration one r at read) blamed
-
--- by an index too
-pub blamed_index :
-    (known some : List Registration) (blame : Blame) (r : Registration) →
-    IsBlamed known some blame →
-    r ≡ get_or some blame.registration r →
-    IsBlamedFor known some r blame.reference
-blamed_index known some blame r blamed is =
-    blamed_read known some blame r blamed
-    (slice_get-get_or some blame.registration r (blamed_within known some blame blamed)
-    ∙ ap Some (sym is))
-
--- the obstacle of who is to blame stands against all
-pub obstacle_stands : (known some : List Registration) (r : Registration) (reference : Option ℕ)
-    (o : Obstacle) → IsBlamedFor known some r reference → IsObstacleOf r reference o
-    → IsObstacle known some o
-obstacle_stands known some r None (obstacle.AlreadyValid path) blamed told = rw told blamed
-obstacle_stands known some r (Some place) (obstacle.Unclosed path) (first, read, new, is) told =
-    rw (same_read r.info.references place path.now first told read) (new, is)
-obstacle_stands known some r reference o blamed told = absurd told
+    (same_element some blame.registration one r at read) blamed
 
 -- and the fault is what is answered
 pub taking_refused :
@@ -97,7 +68,7 @@ taking_refused known some taken same r None (AlreadyValid path) blamed told kept
     rw told (blamed, kept)
 taking_refused known some taken same r (Some place) (Unclosed path) (first, read, new, is) told
     kept =
-    rw (same_read r.info.references place path first told read) (new, is, kept)
+    rw (same_element r.info.references place path first told read) (new, is, kept)
 taking_refused known some taken same r reference fault blamed told kept = absurd told
 
 -- memory was refused, where nothing stands against them

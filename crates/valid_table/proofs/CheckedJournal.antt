@@ -15,7 +15,8 @@ use Rattle.valid_table.specs.declared.entry.Registration.{Registration}
 use Rattle.valid_table.specs.declared.fault.TableFault.{TableFault}
 use Rattle.valid_table.specs.declared.fault.TableFault.TheVariants.{NoMemory, NotClosed, Twice}
 use Rattle.valid_table.proofs.AddedEntries.{registered_push}
-use Rattle.valid_table.proofs.CheckedEntries.{All-right, entry_lines_are, lines_by, starts}
+use Rattle.valid_table.proofs.CheckedEntries.{entry_lines_are, lines_of}
+use Rattle.valid_table.proofs.PathLists.{All-right}
 use Rattle.nix_names.proofs.Lists.{All-left, parts_at}
 
 -- a line of an entry behind earlier registrations is right
@@ -63,25 +64,24 @@ references_valid : (known all references : List (List ℕ))
 references_valid known all [] right = All-nil (Contains all)
 references_valid known all (path ∷ references) right =
     All-cons (Contains all) path references
-    (All-head (IsRight known all) (Reference path) (map Reference references) right)
+    (All-head (IsRight known all) (Reference path) _ right)
     (references_valid known all references
     (All-tail (IsRight known all) (Reference path) (map Reference references) right))
 
 -- so the references of registrations whose lines are right are known
 references_valid_of :
     (known all : List (List ℕ)) (entry : Entry) (rs : List Registration) →
-    All (IsRight known all) (flat_map (lines_by (starts entry)) rs) →
+    All (IsRight known all) (lines_of entry rs) →
     All (Contains all) (references_of rs)
 references_valid_of known all entry [] right = All-nil (Contains all)
 references_valid_of known all entry (r ∷ rs) right =
     let Right = IsRight known all in
-    let rest = flat_map (lines_by (starts entry)) rs in
-    let mine = All-left Right (lines_by (starts entry) r) rest right in
-    All-append (Contains all) r.info.references (references_of rs)
+    let later = All-tail Right _ (map Reference r.info.references ++ lines_of entry rs) right in
+    All-append (Contains all) _ _
     (references_valid known all r.info.references
-    (All-tail Right (starts entry r.path r.info.digest) (map Reference r.info.references) mine))
+    (All-left Right (map Reference r.info.references) (lines_of entry rs) later))
     (references_valid_of known all entry rs
-    (All-right Right (lines_by (starts entry) r) rest right))
+    (All-right Right (map Reference r.info.references) (lines_of entry rs) later))
 
 -- right entries are closed
 right_closed : (earlier : List Registration) (entries : List Entry) → AreRight earlier entries
@@ -89,11 +89,11 @@ right_closed : (earlier : List Registration) (entries : List Entry) → AreRight
 right_closed earlier [] right = tt
 right_closed earlier (entry ∷ entries) right =
     let Right = IsRightBehind earlier entry in
-    let all = subst (All Right) (entry_lines_are entry) right.0 in (
+    let own = lines_of entry (registered_by entry) in (
       references_valid_of (paths_of earlier) (paths_of (earlier ++ registered_by entry)) entry
           (registered_by entry)
-          (All-right Right (header entry) (flat_map (lines_by (starts entry)) (registered_by entry))
-          all),
+          (All-right Right (header entry) own
+          (subst (All Right) (entry_lines_are entry) right.0)),
       right_closed (earlier ++ registered_by entry) entries right.1,
     )
 

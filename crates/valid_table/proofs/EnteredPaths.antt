@@ -1,7 +1,7 @@
 -- Registrations whose paths and references are looked up among known ones.
 use Rattle.std.proofs.Common.{◌≡◌, ◌∙◌, ℕ, ◌+◌, ◌<◌, ◌≤◌, List, ◌∷◌, ◌++◌, inl, inr, length, take, drop, get_or, sym, ap, subst, arith}
 use Rattle.std.specs.Prelude.{All, Contains, IfSome, Some, slice_get}
-use Rattle.std.proofs.lemmas.List.{get_or-map, get_or_at, length-append, length-take-le, take_all}
+use Rattle.std.proofs.lemmas.List.{get_or_at, length-append, length-take-le, take_all}
 use Rattle.std.proofs.lemmas.List.Elements.{All-append, All-more}
 use Rattle.std.proofs.lemmas.Option.{MatchOption-at_some, get_or_from_slice_get, slice_get-get_or, slice_get_cases, slice_get_past}
 use Rattle.nix_names.proofs.FirstElements.{first_at, first_within}
@@ -10,15 +10,14 @@ use Rattle.valid_table.specs.Entries.{paths_of}
 use Rattle.valid_table.specs.Valid.{references_of}
 use Rattle.valid_table.specs.declared.entry.Registration.{Registration}
 use Rattle.valid_table.proofs.JournalLists.{references_of_at, references_of_more}
-use Rattle.valid_table.proofs.RowNumbers.{path_count}
+use Rattle.valid_table.proofs.RowNumbers.{path_count, path_read}
 use Rattle.nix_names.specs.Firsts.{IsFirst}
 use Rattle.nix_names.proofs.Lists.{parts_at}
 
 -- the path of the registration at a place
 pub path_at : (rs : List Registration) (i : ℕ) (r : Registration) (d : List ℕ) → i < length rs → r
     ≡ get_or rs i r → get_or (paths_of rs) i d ≡ r.path
-path_at rs i r d lt is = get_or-map (λ (x : Registration). x.path) rs i r d lt
-    ∙ ap (λ (x : Registration). x.path) (sym is)
+path_at rs i r d lt is = path_read rs i r d lt ∙ ap (λ (x : Registration). x.path) (sym is)
 
 -- all paths were new
 pub front_all : (known : List (List ℕ)) (rs : List Registration) (n : ℕ) → length rs ≤ n
@@ -33,24 +32,6 @@ front_all known rs n all new =
       new = subst (AreUnknown known) same new;
       next = subst (λ o. IfSome o (Contains known))
           (sym (slice_get_past paths (length rs) (omega arith))) tt;
-    }
-
--- the next path is known
-pub front_here :
-    (known : List (List ℕ)) (rs : List Registration) (i : ℕ) (r : Registration) →
-    AreUnknown known (take i (paths_of rs)) →
-    i < length rs →
-    r ≡ get_or rs i r →
-    Contains known r.path →
-    IsNewFront known (paths_of rs) i
-front_here known rs i r new lt is there =
-    let paths = paths_of rs in
-    let within : i < length paths = omega (arith, path_count rs) in
-    record {
-      within = omega arith;
-      new = new;
-      next = subst (λ o. IfSome o (Contains known)) (sym (slice_get-get_or paths i r.path within))
-          (subst (Contains known) (sym (path_at rs i r r.path lt is)) there);
     }
 
 -- the next path is new too

@@ -2,7 +2,7 @@
 use Rattle.std.proofs.Common.{◌≡◌, true, ℕ, List, [], ◌∷◌, ◌++◌, length, ◌==◌, inl, refl, sym, ap, ◌∙◌, codes}
 use Rattle.std.specs.List.{flat_map}
 use Rattle.std.proofs.lemmas.Bool.{eqb-true}
-use Rattle.std.proofs.lemmas.List.{append-nil}
+use Rattle.std.proofs.lemmas.List.{append-nil, nil_from_length}
 use Rattle.std.proofs.lemmas.List.Concat.{flat_map-append}
 use Rattle.std.proofs.lemmas.List.Elements.{All-nil, All-push}
 use Rattle.valid_table.specs.LineTexts.{lines_text}
@@ -46,16 +46,12 @@ entries_more dir bytes entries more rest behind entry so_far h pushed = rw pushe
       so_far.leads left (λ from begins. lead dir rest entry behind from left h begins goes_on);
 })
 
-nothing_left : (rest : List ℕ) → length rest ≡ 0 → rest ≡ []
-nothing_left [] h = refl
-nothing_left (b ∷ rest) h = cc
-
 -- where nothing is left, the bytes are the entries' text
 pub text_read : (dir bytes : List ℕ) (entries : List Entry) (rest : List ℕ)
     → SoFarEntries dir bytes entries rest → (length rest == 0) ≡ true → IsText dir entries bytes
 unfolding text
 text_read dir bytes entries rest so_far empty =
-    let none = nothing_left rest (eqb-true (length rest) 0 empty) in
+    let none = nil_from_length rest (eqb-true (length rest) 0 empty) in
     record {
       of_dir = so_far.of_dir;
       bytes_are = inl (so_far.parts ∙ ap (λ r. lines_text (lines entries) ++ r) none

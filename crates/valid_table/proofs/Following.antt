@@ -4,7 +4,7 @@ use Rattle.std.specs.List.{slice_get}
 use Rattle.std.proofs.Math.Seq.{take-length}
 use Rattle.std.specs.Map.{values_of}
 use Rattle.std.proofs.lemmas.Bool.Decides.{Decides-eqb}
-use Rattle.std.proofs.lemmas.List.{get_or-map, get_or_default, map-append, take-append-le, take_all, take_more}
+use Rattle.std.proofs.lemmas.List.{get_or-map, get_or_default, map-append, take-append-le, take_all}
 use Rattle.std.proofs.lemmas.List.Elements.{All-append, All-contains, All-contains_itself, All-get_or, All-map, All-nil, All-push, All-tail, All-weaker, Contains-get_or}
 use Rattle.std.proofs.lemmas.Map.Steps.{length-le_from_distinct_below}
 use Rattle.std.proofs.lemmas.Map.Views.{Contains-from_any}
@@ -16,9 +16,10 @@ use Rattle.valid_table.specs.Tables.{registrations_of}
 use Rattle.valid_table.specs.Valid.{IsOnce, IsValid, Registers}
 use Rattle.valid_table.specs.declared.entry.Registration.{Registration}
 use Rattle.valid_table.proofs.AddedRows.{paths_kept}
+use Rattle.valid_table.proofs.PathLists.{All-right}
 use Rattle.valid_table.proofs.Reaching.{reached_itself, reached_more, same_place}
 use Rattle.valid_table.proofs.RowNumbers.{path_count, row_count, valid_from_row}
-use Rattle.nix_names.proofs.Lists.{Contains-map}
+use Rattle.nix_names.proofs.Lists.{Contains-map, taken_more}
 
 -- there are at most as many rows, none twice, as are registered
 pub few_rows : (registrations : List Registration) (rows : List ℕ) → AreRows registrations rows
@@ -149,22 +150,15 @@ followed_more registrations once start found new count row info before below at 
   where
     added_valid : All (IsValid registrations) (paths_at registrations adds.added)
     added_valid = rows_are_valid registrations adds.added
-        (added_below found adds.added
+        (All-right (λ r. r < length registrations) found adds.added
         (subst (All (λ r. r < length registrations)) adds.parts adds.rows.below))
-      where
-        added_below : (xs ys : List ℕ) → All (λ r. r < length registrations) (xs ++ ys)
-            → All (λ r. r < length registrations) ys
-        added_below [] ys all = all
-        added_below (x ∷ xs) ys all = added_below xs ys
-            (All-tail (λ r. r < length registrations) x (xs ++ ys) all)
 
     first_paths : paths_at registrations (take (count + 1) new)
         ≡ paths_at registrations (take count found) ++ path_at registrations row ∷ []
     first_paths =
         let taken : take (count + 1) new ≡ take count found ++ row ∷ [] =
         ap (take (count + 1)) adds.parts ∙ take-append-le (count + 1) found adds.added (omega arith)
-        ∙ take_more found count row below ∙ ap (λ (r : ℕ). take count found ++ r ∷ []) (sym at)
-        in
+        ∙ taken_more found count row below at in
         ap (map (path_at registrations)) taken
         ∙ map-append (path_at registrations) (take count found) (row ∷ [])
 

@@ -27,7 +27,6 @@ pub mod PathLists
 pub mod Reaching
 pub mod ReadAnswers
 pub mod ReferenceLines
-pub mod RegistrationLines
 pub mod RisingPaths
 pub mod Roots
 pub mod RowNumbers

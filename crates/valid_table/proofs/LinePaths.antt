@@ -6,9 +6,10 @@ use Rattle.nix_names.specs.StorePaths.{IsPathOf, name_of, path_fault}
 use Rattle.nix_names.specs.declared.fault.NameFault.{NameFault}
 use Rattle.nix_names.specs.declared.fault.NameFault.TheVariants.{NoMemory}
 use Rattle.nix_names.proofs.PathFaults.{no_fault_of_path}
-use Rattle.valid_table.specs.Readers.{IsDeriverLine, IsFieldsLine, IsNoLine, IsPathLine}
+use Rattle.valid_table.specs.Readers.{HasNoFields, IsDeriverLine, IsFieldsLine, IsNoLine, IsPathLine}
+use Rattle.valid_table.specs.Steps.{IsAbove}
 use Rattle.valid_table.specs.Texts.{IsDigest, digest_text}
-use Rattle.valid_table.proofs.LineTexts.{fields_apart, two_path_lines}
+use Rattle.valid_table.proofs.LineTexts.{fields_apart, two_fields, two_path_lines}
 use Rattle.valid_table.proofs.Separators.{Lacks, digest_lacks, dir_lacks, lacks_not, newline, path_lacks, same_cut, space}
 
 -- bytes that are refused, not for want of memory, are no path
@@ -97,3 +98,12 @@ pub not_ahead : (dir bytes path behind other rest : List ℕ) → IsPathLine dir
 not_ahead dir bytes path behind other rest line none is =
     let same = two_path_lines dir bytes other rest path behind is.line line in
     none is.ahead.0 (sym same.1 ∙ is.ahead.1)
+
+-- a path that isn't above the one before it is not the one of a line that is wanted
+pub low_fields : (dir : List ℕ) (before : Option (List ℕ)) (fields path : List ℕ)
+    (digest : Option (List ℕ)) (rest : List ℕ)
+    → IsFieldsLine dir fields path digest rest → (IsAbove before path → ⊥)
+    → HasNoFields dir before fields
+low_fields dir before fields path digest rest line low = λ other sum more above is.
+    low (subst (IsAbove before) (two_fields dir fields other sum more path digest rest is line).0
+    above)

@@ -1,14 +1,19 @@
 -- Lists of paths of which no two are the same, and the parts of a list.
-use Rattle.std.proofs.Common.{◌≡◌, ◌∙◌, ℕ, false, List, [], ◌∷◌, ◌++◌, length, get_or, refl, sym, arith, nat_eq, length-append}
-use Rattle.std.specs.Prelude.{Contains}
+use Rattle.std.proofs.Common.{◌≡◌, ◌∙◌, ℕ, false, List, [], ◌∷◌, ◌++◌, length, get_or, refl, sym, subst, arith, nat_eq, length-append}
+use Rattle.std.specs.Prelude.{All, Contains}
 use Rattle.std.specs.Cmp.Lexicographic.{pointwise, nat_list_eq_equiv}
 use Rattle.std.specs.List.{AllByRecursion, IsDistinct}
 use Rattle.std.proofs.lemmas.Bool.{false_from_ne_true, false≢true}
-use Rattle.std.proofs.lemmas.List.{get_or_append_left, get_or_at}
-use Rattle.std.proofs.lemmas.List.Elements.{All-head, All-tail, All-weaker, Contains-append_right}
+use Rattle.std.proofs.lemmas.List.{drop_at, get_or_append_left, get_or_at}
+use Rattle.std.proofs.lemmas.List.Elements.{All-drop, All-head, All-tail, All-weaker, Contains-append_right}
 use Rattle.std.proofs.lemmas.Map.Keys.{apart_from_distinct, IsDistinct-cons, IsDistinct-from_apart, IsDistinct-head, IsDistinct-tail}
 use Rattle.nix_names.proofs.RisingLists.{equal_from_eq}
 use Rattle.valid_table.specs.Entering.{AreUnknown, IsUnknown}
+
+-- the end of a list whose elements have a property
+pub All-right : {X : Type 0} (P : X → Type 0) (xs ys : List X) → All P (xs ++ ys) → All P ys
+All-right P xs ys all = subst (All P) (drop_at xs ys (length xs) refl)
+    (All-drop P (length xs) (xs ++ ys) all)
 
 -- a path of a list without repetition is not among those before it
 pub once_apart :

@@ -40,15 +40,6 @@ few_lines dir bytes entries within is =
       | inr none ↦ rw none.0 (omega arith)
     ]
 
--- no more bytes are left than there are
-pub left_within : (dir bytes : List ℕ) (left : ℕ) → Stops dir Start bytes left → left ≤ length bytes
-left_within dir bytes left h = omega (
-  arith,
-  h.is_left,
-  ap length h.parts,
-  length-append (lines_text h.lines) h.bad,
-)
-
 -- the line behind the newlines before the place where lines stop is the first bad one
 pub bad_line_number : (dir bytes : List ℕ) (left n : ℕ) → IsStoreDir dir
     → Stops dir Start bytes left → n ≡ 1 + length

@@ -4,7 +4,7 @@ use Rattle.std.specs.Cmp.Lexicographic.{pointwise, nat_list_eq_equiv}
 use Rattle.std.specs.List.{IsDistinct}
 use Rattle.std.specs.Map.{keys_of}
 use Rattle.std.proofs.lemmas.Bool.{false≢true}
-use Rattle.std.proofs.lemmas.List.{get_or_default, length-map}
+use Rattle.std.proofs.lemmas.List.{get_or-map, get_or_default, length-map}
 use Rattle.std.proofs.lemmas.List.Quantifiers.{position-Some}
 use Rattle.std.proofs.lemmas.Map.Views.{hash_map_contains_key_iff}
 use Rattle.std.proofs.lemmas.Simd.{map-map}
@@ -27,6 +27,11 @@ paths_are_keys rows = map-map (λ (r : Registration). r.path)
 pub path_count : (registrations : List Registration) → length (paths_of registrations)
     ≡ length registrations
 path_count registrations = length-map registrations (λ (r : Registration). r.path)
+
+-- the path of the registration at a place
+pub path_read : (rs : List Registration) (i : ℕ) (r : Registration) (d : List ℕ) → i < length rs
+    → get_or (paths_of rs) i d ≡ (get_or rs i r).path
+path_read rs i r d lt = get_or-map (λ (x : Registration). x.path) rs i r d lt
 
 -- a row is a registration
 pub row_count : (rows : List (List ℕ × PathInfo)) → length (registrations_of rows) ≡ length rows
@@ -64,9 +69,3 @@ valid_from_row registrations path row of =
     let below : row < length (paths_of registrations) =
     omega (arith, of.0, path_count registrations)
     in (row, below, get_or_default (paths_of registrations) row path [] below ∙ of.1)
-
--- the keys of a map are apart, so no path is registered twice
-pub once_from_unique : (rows : List (List ℕ × PathInfo))
-    → IsDistinct (pointwise nat_eq) (keys_of rows) → IsOnce (registrations_of rows)
-once_from_unique rows unique = subst (IsDistinct (pointwise nat_eq)) (sym (paths_are_keys rows))
-    unique

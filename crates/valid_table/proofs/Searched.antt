@@ -7,36 +7,28 @@ use Rattle.std.specs.declared.cmp.Ordering.{Ordering}
 use Rattle.std.specs.declared.cmp.Ordering.TheVariants.{Less, Equal, Greater}
 use Rattle.std.proofs.lemmas.Bool.{cases_lt, false≢true}
 use Rattle.std.proofs.lemmas.Cmp.{nat_list_cmp_total, tied_itself}
-use Rattle.std.proofs.lemmas.List.{get_or-map, length-map}
 use Rattle.std.proofs.lemmas.List.Sorted.{searchable_from_sorted}
 use Rattle.nix_names.specs.Rising.{IsRising}
 use Rattle.nix_names.proofs.RisingLists.{equal_from_eq}
 use Rattle.valid_table.specs.Entries.{paths_of}
 use Rattle.valid_table.specs.Valid.{IsValid}
 use Rattle.valid_table.specs.declared.entry.Registration.{Registration}
+use Rattle.valid_table.proofs.RowNumbers.{path_count, path_read}
+use Rattle.valid_table.proofs.SortedOutputs.{neighbours_rise}
 
 -- how a registration's path compares with a path
 abbrev pub compared : List ℕ → Registration → Ordering
 compared path r = slice_cmp nat_cmp r.path path
 
--- the path of the registration at a place
-path_at : (rs : List Registration) (i : ℕ) (r : Registration) (d : List ℕ) → i < length rs
-    → get_or (paths_of rs) i d ≡ (get_or rs i r).path
-path_at rs i r d lt = get_or-map (λ (x : Registration). x.path) rs i r d lt
-
 -- of neighbours in a rising list the second is not less
 pub rising_sorted_at : (rs : List Registration) (k : ℕ) (d : Registration) → IsRising (paths_of rs)
     → k + 1 < length rs → is_lt (slice_cmp nat_cmp (get_or rs (k + 1) d).path (get_or rs k d).path)
     ≡ false
-rising_sorted_at [] k d rises lt = absurd (omega arith)
-rising_sorted_at (x ∷ []) k d rises lt = absurd (omega arith)
-rising_sorted_at (x ∷ y ∷ rs) zero d rises lt =
-    ap is_lt (nat_list_cmp_total.antisymm y.path x.path ∙ ap ordering_reverse rises.0)
-rising_sorted_at (x ∷ y ∷ rs) (suc k) d rises lt =
-    let next : suc (k + 1) ≡ suc k + 1 = omega arith in
-    subst (λ n. is_lt (slice_cmp nat_cmp (get_or (x ∷ y ∷ rs) n d).path (get_or (y ∷ rs) k d).path)
-    ≡ false) next
-    (rising_sorted_at (y ∷ rs) k d rises.1 (omega arith))
+rising_sorted_at rs k d rises lt =
+    let less = neighbours_rise rs rises k d lt in
+    ap is_lt
+    (nat_list_cmp_total.antisymm (get_or rs (k + 1) d).path (get_or rs k d).path
+    ∙ ap ordering_reverse less)
 
 -- a search tells whether a path is registered
 pub search_tells :
@@ -52,8 +44,8 @@ search_tells rs path (Ok i) rises within here = (
       let same : (get_or rs i none).path ≡ path =
       equal_from_eq _ path (texts_ties (get_or rs i none).path path ∙ ap is_eq (here none)) in (
         i,
-        omega (arith, length-map rs (λ (r : Registration). r.path)),
-        path_at rs i none path within ∙ same,
+        omega (arith, path_count rs),
+        path_read rs i none path within ∙ same,
       ),
   λ _. refl,
 )
@@ -63,13 +55,13 @@ search_tells rs path (Err i) rises within apart = (
       let none : Registration =
       record { path = path; info = record { references = []; digest = None } } in
       let k = valid.0 in
-      let lt : k < length rs = omega (arith, valid.1, length-map rs (λ (r : Registration). r.path))
+      let lt : k < length rs = omega (arith, valid.1, path_count rs)
       in
       let parts = apart
       (searchable_from_sorted nat_list_cmp_total (λ (r : Registration). r.path) rs path
       (λ j d low below. rising_sorted_at rs j d rises below)) in
       let same : compared path (get_or rs k none) ≡ Equal =
-      ap (λ p. slice_cmp nat_cmp p path) (sym (path_at rs k none path lt) ∙ valid.2)
+      ap (λ p. slice_cmp nat_cmp p path) (sym (path_read rs k none path lt) ∙ valid.2)
       ∙ tied_itself nat_list_cmp_total path in
       ⊎_elim
       (λ before. let less : compared path (get_or rs k none)

@@ -121,8 +121,3 @@ next_new known later r once =
 pub on_ok : {T E P : Type 0} (result : Result T E) → IsOk result → OnOk result P → P
 on_ok (Ok x) is holds = holds
 on_ok (Err e) is holds = absurd (false≢true is)
-
--- a list without elements
-pub no_element : {X : Type 0} (xs : List X) → length xs ≡ 0 → xs ≡ []
-no_element [] long = refl
-no_element (x ∷ xs) long = absurd (omega arith)

@@ -1,44 +1,18 @@
-use Rattle.std.proofs.Common.{◌≡◌, ◌∙◌, ap, arith, refl, subst, take}
-use Rattle.std.specs.Prelude.{Err, Ok}
+use Rattle.std.proofs.Common.{◌≡◌, ◌∙◌, ap, arith, take, rules}
+use Rattle.std.specs.Prelude.{Ok}
 use Rattle.std.proofs.lemmas.List.{take_all}
 use Rattle.std.proofs.lemmas.Result.{err_from_is_err_and}
 use Rattle.valid_table.specs.Entries.{registered}
 use Rattle.valid_table.specs.Tables.{registrations_of}
-use Rattle.valid_table.specs.Valid.{IsOnce}
 use Rattle.valid_table.proofs.CheckedJournal.{check_behind, closed_behind, first_fault, known_more, lines_fit, lines_more, right_more}
 use Rattle.valid_table.proofs.JournalLists.{closed_references_valid}
-use Rattle.valid_table.proofs.RowNumbers.{once_from_unique}
 use Rattle.valid_table.proofs.checking.check_entries.Goals as goal
 
-pub loop-entry-init : goal.loop-entry-init
-loop-entry-init c = record {
-  right = tt;
-  rows = ap registrations_of c.new-rows.ensures.empty;
-  number = refl;
-  once = once_from_unique c.new-rows.result.entries c.new-rows.ensures.unique;
-}
-
 pub check_entry-requires : goal.check_entry-requires
-check_entry-requires c =
-    let fits = lines_fit c.args.entries.now c.loop-entry.entry-index c.entry-item.result
-    c.loop-entry-test.true c.entry-item.is in
-    record {
-      few = omega (arith, c.requires.few, c.loop-entry.invariant.number);
-      once = c.loop-entry.invariant.once;
-    }
+check_entry-requires c = search (rules, lines_fit)
 
 pub returns-in_err-line-clause-err : goal.returns-in_err-line-clause-err
-returns-in_err-line-clause-err c =
-    let entries = c.args.entries.now in
-    let i = c.loop-entry.entry-index in
-    let entry = c.entry-item.result in
-    let check = check_behind (take i entries) entry (registrations_of c.loop-entry.rows.entries)
-    c.loop-entry.line (Err c.in_err-line.field-0.0) c.loop-entry.invariant.rows
-    c.in_err-line.ensures.checked in
-    let p = err_from_is_err_and c.from_residual.result c.from_residual.ensures.1 in
-    rw (p.1, p.2)
-    (first_fault entries i entry c.loop-entry.line c.in_err-line.field-0.0 c.loop-entry-test.true
-    c.entry-item.is c.loop-entry.invariant.right c.loop-entry.invariant.number check)
+returns-in_err-line-clause-err c = search (rules, check_behind, err_from_is_err_and, first_fault)
 
 pub loop-entry-preserved : goal.loop-entry-preserved
 loop-entry-preserved c =
@@ -63,9 +37,6 @@ loop-entry-preserved c =
       once = c.in_ok-line.ensures.unique;
     }
 
-pub of_rows-requires-clause-once : goal.of_rows-requires-clause-once
-of_rows-requires-clause-once c = c.loop-entry.invariant.once
-
 pub of_rows-requires-clause-closed : goal.of_rows-requires-clause-closed
 of_rows-requires-clause-closed c =
     let entries = c.args.entries.now in
@@ -77,18 +48,4 @@ of_rows-requires-clause-closed c =
     c.loop-entry.invariant.right))
 
 pub returns-clause-closed : goal.returns-clause-closed
-returns-clause-closed c = closed_behind c.args.entries.now c.loop-entry.entry-index
-    c.loop-entry-test.false c.loop-entry.invariant.right
-
-pub returns-clause-once : goal.returns-clause-once
-returns-clause-once c =
-    subst IsOnce (c.loop-entry.invariant.rows
-    ∙ ap registered
-    (take_all c.loop-entry.entry-index c.args.entries.now c.loop-entry-test.false))
-    c.loop-entry.invariant.once
-
-pub returns-clause-table : goal.returns-clause-table
-returns-clause-table c =
-    c.of_rows.ensures ∙ c.loop-entry.invariant.rows
-    ∙ ap registered
-    (take_all c.loop-entry.entry-index c.args.entries.now c.loop-entry-test.false)
+returns-clause-closed c = search (rules, closed_behind)

@@ -1,5 +1,5 @@
-use Rattle.std.proofs.Common.{◌+◌, ap, subst, sym}
-use Rattle.std.specs.Prelude.{Err, Ok}
+use Rattle.std.proofs.Common.{◌+◌, ap, subst, sym, rules}
+use Rattle.std.specs.Prelude.{Ok}
 use Rattle.std.proofs.lemmas.Result.{err_from_is_err_and}
 use Rattle.valid_table.specs.Entries.{paths_of}
 use Rattle.valid_table.specs.Tables.{registrations_of}
@@ -10,14 +10,7 @@ use Rattle.valid_table.proofs.TakenIn.{once_more}
 use Rattle.valid_table.proofs.checking.check_entry.Goals as goal
 
 pub returns-in_err-behind-clause-checked : goal.returns-in_err-behind-clause-checked
-returns-in_err-behind-clause-checked c =
-    let p = err_from_is_err_and c.from_residual.result c.from_residual.ensures.1 in
-    rw (p.1, p.2)
-    (own_checked (registrations_of c.args.rows.now.entries) c.args.entry.now
-    c.registrations-registrations.result.now c.new_front-new.result c.args.line _
-    (Err c.in_err-behind.field-0.0)
-    c.registrations-registrations.ensures.value (ap (λ n. c.args.line + n) c.header_len.ensures)
-    c.new_front-new.ensures c.in_err-behind.ensures)
+returns-in_err-behind-clause-checked c = search (rules, err_from_is_err_and, own_checked)
 
 pub add_rows-requires : goal.add_rows-requires
 add_rows-requires c = record {

@@ -1,4 +1,4 @@
-use Rattle.std.proofs.Common.{◌++◌, ap, arith, length}
+use Rattle.std.proofs.Common.{◌++◌, ap, arith, length, rules}
 use Rattle.valid_table.specs.Entries.{paths_of}
 use Rattle.valid_table.specs.Tables.{registrations_of}
 use Rattle.valid_table.proofs.CheckedLines.{line_count_fits, line_count_more, open_here, right_behind, twice_here, unknown_within}
@@ -6,17 +6,10 @@ use Rattle.valid_table.proofs.EnteredPaths.{closed_more}
 use Rattle.valid_table.proofs.checking.check_lines.Goals as goal
 
 pub returns-then-place-new : goal.returns-then-place-new
-returns-then-place-new c =
-    twice_here (paths_of (registrations_of c.args.rows.now.entries ++ c.args.registrations.now))
-    c.args.registrations.now c.args.new c.args.line c.loop-place.place c.loop-place.line
-    c.if-place-new.true c.loop-place-test.true c.loop-place.invariant.closed
-    c.loop-place.invariant.number
+returns-then-place-new c = search (rules, twice_here)
 
 pub overflow_add-result : goal.overflow_add-result
-overflow_add-result c =
-    let fits = line_count_fits c.args.registrations.now c.loop-place.place
-    c.index-registrations-place.result c.loop-place-test.true c.index-registrations-place.is in
-    omega (arith, c.requires.few, c.loop-place.invariant.number)
+overflow_add-result c = search (rules, line_count_fits)
 
 pub overflow_add-result-in-Some : goal.overflow_add-result-in-Some
 overflow_add-result-in-Some c =
@@ -42,15 +35,7 @@ returns-in-Some c =
     c.loop-place.invariant.closed c.in-Some.ensures c.loop-place.invariant.number
 
 pub overflow_add-line-in-loop-place : goal.overflow_add-line-in-loop-place
-overflow_add-line-in-loop-place c =
-    let fits = line_count_fits c.args.registrations.now c.loop-place.place
-    c.index-registrations-place.result c.loop-place-test.true c.index-registrations-place.is in
-    omega (
-      arith,
-      c.requires.few,
-      c.loop-place.invariant.number,
-      ap length c.references-references.ensures.value,
-    )
+overflow_add-line-in-loop-place c = search (rules, line_count_fits)
 
 pub loop-place-preserved : goal.loop-place-preserved
 loop-place-preserved c =
@@ -73,8 +58,4 @@ loop-place-preserved c =
     }
 
 pub returns : goal.returns
-returns c =
-    right_behind (paths_of (registrations_of c.args.rows.now.entries ++ c.args.registrations.now))
-    c.args.registrations.now c.args.new c.args.line c.loop-place.place c.loop-place.line
-    c.loop-place.invariant.new c.loop-place-test.false c.loop-place.invariant.closed
-    c.loop-place.invariant.number
+returns c = search (rules, right_behind)

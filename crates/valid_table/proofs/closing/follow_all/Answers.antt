@@ -1,4 +1,4 @@
-use Rattle.std.proofs.Common.{arith, length, get_or, ◌<◌}
+use Rattle.std.proofs.Common.{arith, length, get_or, ◌<◌, rules}
 use Rattle.std.proofs.lemmas.List.{get_or_default}
 use Rattle.valid_table.specs.Tables.{registrations_of}
 use Rattle.valid_table.proofs.Following.{few_rows, followed_all, followed_more, followed_none, row_below, row_registers}
@@ -6,14 +6,10 @@ use Rattle.valid_table.proofs.RowNumbers.{row_count}
 use Rattle.valid_table.proofs.closing.follow_all.Goals as goal
 
 pub loop-next-init : goal.loop-next-init
-loop-next-init c = followed_none (registrations_of c.args.rows.now.entries) c.args.found.now.keys
-    c.requires.rows
+loop-next-init c = search (rules, followed_none)
 
 pub loop-next-smaller : goal.loop-next-smaller
-loop-next-smaller c =
-    let few = few_rows (registrations_of c.args.rows.now.entries) c.loop-next.found.keys
-    c.loop-next.invariant.rows in
-    omega (arith, few, c.loop-next-test.true, c.len.ensures.len)
+loop-next-smaller c = search (rules, few_rows)
 
 pub loop-next-preserved : goal.loop-next-preserved
 loop-next-preserved c =

@@ -1,4 +1,4 @@
-use Rattle.std.proofs.Common.{subst, take, [], All}
+use Rattle.std.proofs.Common.{subst, take, [], All, rules}
 use Rattle.std.proofs.lemmas.List.{take_all}
 use Rattle.std.proofs.lemmas.List.Elements.{All-push}
 use Rattle.valid_table.specs.Tables.{registrations_of}
@@ -10,10 +10,7 @@ use Rattle.valid_table.proofs.closing.root_rows.Goals as goal
 use Rattle.nix_names.proofs.Lists.{taken_more}
 
 pub returns-in_default-clause-err : goal.returns-in_default-clause-err
-returns-in_default-clause-err c =
-    first_not_valid (registrations_of c.args.rows.now.entries) c.args.roots.now
-    c.loop-root.root-index c.root-item.result _ c.loop-root-test.true c.root-item.is
-    c.in_ok-copy_path.ensures.ok c.loop-root.invariant.valid c.in_default.ensures
+returns-in_default-clause-err c = search (rules, first_not_valid)
 
 pub loop-root-preserved : goal.loop-root-preserved
 loop-root-preserved c =

@@ -1,4 +1,4 @@
-use Rattle.std.proofs.Common.{◌++◌}
+use Rattle.std.proofs.Common.{◌++◌, rules}
 use Rattle.valid_table.specs.Entries.{paths_of}
 use Rattle.valid_table.specs.Tables.{registrations_of}
 use Rattle.valid_table.proofs.Blamed.{unclosed_at}
@@ -20,6 +20,4 @@ loop-place-preserved c =
     c.index-registrations-place.is c.references-references.ensures.value c.in_default.ensures
 
 pub returns : goal.returns
-returns c =
-    closed_all (paths_of (registrations_of c.args.rows.now.entries ++ c.args.registrations.now))
-    c.args.registrations.now c.loop-place.place c.loop-place-test.false c.loop-place.invariant
+returns c = search (rules, closed_all)

@@ -1,16 +1,9 @@
-use Rattle.std.proofs.Common.{◌∙◌, sym}
+use Rattle.std.proofs.Common.{◌∙◌, sym, rules}
 use Rattle.std.proofs.lemmas.Bool.{false≢true}
 use Rattle.valid_table.specs.Entries.{paths_of}
 use Rattle.valid_table.specs.Tables.{registrations_of}
-use Rattle.valid_table.proofs.EnteredPaths.{front_all, front_here, new_more}
+use Rattle.valid_table.proofs.EnteredPaths.{front_all, new_more}
 use Rattle.valid_table.proofs.entering.new_front.Goals as goal
-
-pub returns-then-has_row : goal.returns-then-has_row
-returns-then-has_row c =
-    front_here (paths_of (registrations_of c.args.rows.now.entries)) c.args.registrations.now
-    c.loop-count.count c.index-registrations-count.result c.loop-count.invariant
-    c.loop-count-test.true c.index-registrations-count.is
-    (c.has_row.ensures.0 c.if-has_row.true)
 
 pub loop-count-preserved : goal.loop-count-preserved
 loop-count-preserved c =
@@ -20,6 +13,4 @@ loop-count-preserved c =
     (λ there. false≢true (sym c.if-has_row.false ∙ c.has_row.ensures.1 there))
 
 pub returns : goal.returns
-returns c =
-    front_all (paths_of (registrations_of c.args.rows.now.entries)) c.args.registrations.now
-    c.loop-count.count c.loop-count-test.false c.loop-count.invariant
+returns c = search (rules, front_all)

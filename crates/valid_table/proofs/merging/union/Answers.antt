@@ -1,16 +1,9 @@
-use Rattle.std.proofs.Common.{subst, sym}
+use Rattle.std.proofs.Common.{rules}
 use Rattle.valid_table.proofs.Merged.{IsMerged, merged_all, merged_more, merged_none}
 use Rattle.valid_table.proofs.merging.union.Goals as goal
 
 pub paths-init : goal.paths-init
-paths-init c =
-    let left = c.args.left.now in
-    let right = c.args.right.now in
-    subst (λ l. IsMerged left right l left right) (sym c.in_ok-paths.ensures.items)
-    (merged_none left right c.requires.left c.requires.right)
-
-pub paths-smaller : goal.paths-smaller
-paths-smaller c = c.in-Some.ensures.shorter
+paths-init c = search (rules, IsMerged, merged_none)
 
 pub paths-preserved : goal.paths-preserved
 paths-preserved c =

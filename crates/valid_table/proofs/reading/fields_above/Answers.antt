@@ -1,12 +1,8 @@
 use Rattle.std.proofs.Common.{sym, ◌∙◌}
 use Rattle.std.proofs.lemmas.Bool.{false≢true}
-use Rattle.std.proofs.lemmas.Option.{MatchOption-at_none, MatchOption-at_some}
-use Rattle.valid_table.proofs.RegistrationLines.{low_fields, no_fields}
+use Rattle.std.proofs.lemmas.Option.{MatchOption-at_some}
+use Rattle.valid_table.proofs.LinePaths.{low_fields}
 use Rattle.valid_table.proofs.reading.fields_above.Goals as goal
-
-pub returns-in_default : goal.returns-in_default
-returns-in_default c = no_fields c.args.dir.now _ c.args.bytes.now
-    (MatchOption-at_none _ _ c.in_default.is c.in_ok-path.ensures)
 
 pub returns : goal.returns
 returns c =

@@ -1,4 +1,4 @@
-use Rattle.std.proofs.Common.{None, ap, ◌∙◌}
+use Rattle.std.proofs.Common.{None, ap, ◌∙◌, rules}
 use Rattle.std.proofs.lemmas.Option.{MatchOption-at_some}
 use Rattle.std.proofs.lemmas.Result.{err_from_is_err_and}
 use Rattle.std.specs.List.{last_or}
@@ -8,13 +8,7 @@ use Rattle.valid_table.proofs.OutputLines.{outputs_more, outputs_stop}
 use Rattle.valid_table.proofs.reading.outputs_of.Goals as goal
 
 pub returns-in_err-output-clause-left : goal.returns-in_err-output-clause-left
-returns-in_err-output-clause-left c =
-    let p = err_from_is_err_and c.from_residual.result c.from_residual.ensures.1 in
-    rw (p.1, p.2) (stops_where _ _
-    (λ left h. outputs_stop _ _ _ _ _ left c.outputs.invariant
-    (c.last_path-before.ensures ∙ ap (λ os. last_or None (paths_of os)) c.deref.ensures.value)
-    h)
-    c.in_err-output.field-0.0 c.in_err-output.ensures.left)
+returns-in_err-output-clause-left c = search (rules, err_from_is_err_and, stops_where, outputs_stop)
 
 pub outputs-preserved : goal.outputs-preserved
 outputs-preserved c =
