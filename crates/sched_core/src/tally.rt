@@ -1,0 +1,48 @@
+//! What is kept of a derivation, so that its state needs no look at its inputs.
+ghost use Rattle.std.specs.Prelude.{◌≡◌, ◌<◌, All, List, ℕ, length, slice_set};
+ghost use Rattle.sched_core.specs.Coursing.{kept, phase_in};
+ghost use Rattle.sched_core.specs.States.{Idle};
+ghost use Rattle.sched_core.specs.Tallies.{CanHear, Hears, IsSameElse, IsTally, News, Turns, news_by, states_in};
+
+use crate::reason::State;
+use crate::standing::Standing;
+
+// What is kept of a derivation: where it stands by itself, whether it is wanted, its state, how
+// many of its inputs are neither Done nor Reused, and the place of the first of its inputs that
+// failed or is refused (where none did, their number).
+#[derive(Clone, Copy, Debug)]
+pub(crate) struct Tally {
+    pub(crate) standing: Standing,
+    pub(crate) wanted: bool,
+    pub(crate) state: State,
+    pub(crate) waits: usize,
+    pub(crate) first: usize,
+}
+
+// The tally of a derivation that hasn't begun, behind its inputs, whose tallies are among these.
+pub(crate) fn tally_of(
+    standing: Standing,
+    wanted: bool,
+    inputs: &[usize],
+    tallies: &[Tally],
+) -> Tally
+    requires { All (λ input. input < length tallies.now) inputs.now }
+    ensures hears { Hears inputs.now (kept (states_in tallies.now)) (λ place. 0) result }
+    ensures standing { result.standing ≡ standing }
+    ensures wanted { result.wanted ≡ wanted }
+    ensures idle { phase_in result.state ≡ Idle }
+{
+    todo!()
+}
+
+// The tally of a user that is told whether this input, at this place in its text, can be built
+// behind, or failed or is refused.
+pub(crate) fn told(tally: Tally, place: usize, input: usize, good: bool) -> Tally
+    requires { (inputs : List ℕ) × (heard : List News) × CanHear inputs heard tally place input }
+    ensures is { (inputs : List ℕ) (heard : List News) → CanHear inputs heard tally place input
+        → IsTally inputs (slice_set heard place (news_by good)) result }
+    ensures same { IsSameElse tally result }
+    ensures turns { Turns tally.state result.state }
+{
+    todo!()
+}
