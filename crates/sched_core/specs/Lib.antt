@@ -15,6 +15,8 @@ pub mod Runs
 pub mod SameJobs
 pub mod Seeding
 pub mod States
+pub mod Tallies
+pub mod Users
 pub mod VerdictLaws
 pub mod Verdicts
 pub mod Walking

@@ -45,6 +45,8 @@ mod seeds_of;
 mod standing;
 mod standings;
 mod states;
+mod tally;
+mod users;
 mod verdict;
 #[cfg(test)]
 mod verdict_tests;

@@ -1,8 +1,7 @@
 //! Reverse edges: from each derivation of a plan to those that have it as an input.
-ghost use Rattle.std.specs.Prelude.{◌≡◌, ◌<◌, [], IfErr, IfOk, length, slice_get};
-ghost use Rattle.std.specs.List.{slice_index_or};
+ghost use Rattle.std.specs.Prelude.{◌≡◌, ◌<◌, IfErr, IfOk, length, slice_get};
 ghost use Rattle.sched_core.specs.Runs.{inputs_at};
-ghost use Rattle.sched_core.specs.Users.{AreUsers};
+ghost use Rattle.sched_core.specs.Users.{AreUsers, users_of};
 ghost use Rattle.sched_core.specs.declared.fault.BookFault.TheVariants.{NoMemory};
 
 use crate::fault::BookFault;
@@ -21,4 +20,34 @@ pub(crate) struct Edge {
 #[derive(Debug, Drop)]
 pub(crate) struct Users {
     rows: Vec<Vec<Edge>>,
+}
+
+impl Model for Users {
+    ghost use Rattle.std.specs.Prelude.{List, map};
+    ghost use Rattle.sched_core.specs.declared.users.Edge.{Edge};
+
+    ghost Value = { List (List Edge) };
+
+    ghost view = { λ u. map (λ row. row.items) u.rows.items };
+}
+
+impl Users {
+    // The reverse edges of a plan. `NoMemory`, the only fault, where memory is refused. Costs a step
+    // for each derivation and each pair of one and an input of it.
+    pub(crate) fn open(alloc: Global, plan: &Plan) -> Result<Users, BookFault>
+        ensures ok { IfOk result (λ users.
+            AreUsers (λ d. inputs_at plan.now.nodes (slice_get plan.now.nodes d))
+            (length plan.now.nodes) users) }
+        ensures err { IfErr result (λ fault. fault ≡ NoMemory) }
+    {
+        Err(BookFault::NoMemory)
+    }
+
+    // The edges to the users of this derivation.
+    pub(crate) fn of(&self, input: usize) -> &[Edge]
+        requires { input < length self.now }
+        ensures { result.now ≡ users_of self.now input }
+    {
+        &self.rows[input]
+    }
 }
