@@ -1,3 +1,4 @@
+pub mod Agendas
 pub mod Comparing
 pub mod Coursed
 pub mod Cycles

@@ -1,3 +1,4 @@
+pub mod Agendas
 pub mod Booking
 pub mod Books
 pub mod Courses

@@ -22,6 +22,7 @@
 //! | `laws` | laws over the definitions that contracts cite |
 #![tactic(auto)]
 
+mod agenda;
 mod book;
 mod checked;
 mod course;
