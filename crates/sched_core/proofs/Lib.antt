@@ -5,9 +5,11 @@ pub mod Cycles
 pub mod DoneEntries
 pub mod Dones
 pub mod Ending
+pub mod Hearing
 pub mod Histories
 pub mod JobParts
 pub mod Keeping
+pub mod KnownNews
 pub mod Linkages
 pub mod OneReport
 pub mod OneVerdict
