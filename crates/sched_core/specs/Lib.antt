@@ -17,6 +17,7 @@ pub mod SameJobs
 pub mod Seeding
 pub mod States
 pub mod Tallies
+pub mod UserRows
 pub mod Users
 pub mod VerdictLaws
 pub mod Verdicts

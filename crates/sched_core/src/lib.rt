@@ -13,6 +13,7 @@
 //! | `reason` | why a derivation was not built, its state, and events |
 //! | `standing` | where a derivation stands by itself |
 //! | `course`, `states` | where each derivation of a plan stands |
+//! | `users` | the users of each derivation |
 //! | `job_of`, `seeds_of` | the job of a derivation, and the paths that it is built from |
 //! | `is_job`, `has_seeds` | whether a job is that of a derivation |
 //! | `standings` | where the derivations of a plan stand by themselves |

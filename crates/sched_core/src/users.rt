@@ -1,12 +1,14 @@
 //! Reverse edges: from each derivation of a plan to those that have it as an input.
-ghost use Rattle.std.specs.Prelude.{◌≡◌, ◌<◌, IfErr, IfOk, length, slice_get};
+ghost use Rattle.std.specs.Prelude.{◌≡◌, ◌<◌, All, IfErr, IfOk, OnOk, [], length, slice_get};
 ghost use Rattle.sched_core.specs.Runs.{inputs_at};
+ghost use Rattle.sched_core.specs.UserRows.{AddsUser, row_at};
 ghost use Rattle.sched_core.specs.Users.{AreUsers, users_of};
 ghost use Rattle.sched_core.specs.declared.fault.BookFault.TheVariants.{NoMemory};
 
 use crate::fault::BookFault;
+use crate::states::inputs_of;
 use drv_graph::Plan;
-use std::alloc::Global;
+use std::alloc::{AllocError, AllocFailed, Global};
 use std::marker::Model;
 
 // The edge to a user of an input, which stands in the user's text at this place.
@@ -40,7 +42,11 @@ impl Users {
             (length plan.now.nodes) users) }
         ensures err { IfErr result (λ fault. fault ≡ NoMemory) }
     {
-        Err(BookFault::NoMemory)
+        let mut rows = no_edges(alloc, plan.len())?;
+        for d in 0..plan.len() {
+            add_edges(d, inputs_of(plan, d), &mut rows)?;
+        }
+        Ok(Users { rows })
     }
 
     // The edges to the users of this derivation.
@@ -50,4 +56,33 @@ impl Users {
     {
         &self.rows[input]
     }
+}
+
+// Lists without edges, so many.
+fn no_edges(alloc: Global, count: usize) -> Result<Vec<Vec<Edge>>, AllocError>
+    ensures count { IfOk result (λ rows. length rows.items ≡ count) }
+    ensures none { IfOk result (λ rows. (d : _) → row_at rows.items d ≡ []) }
+{
+    let mut rows = Vec::with_capacity(alloc, count)?;
+    for _ in 0..count {
+        rows.push(Vec::new(alloc))?;
+    }
+    Ok(rows)
+}
+
+// Adds the edges of a user with these inputs.
+fn add_edges(
+    user: usize,
+    inputs: &[usize],
+    rows: &mut Vec<Vec<Edge>>,
+) -> Result<(), AllocFailed<Edge>>
+    requires { All (λ input. input < length rows.old.items) inputs.now }
+    ensures count { length rows.new.items ≡ length rows.old.items }
+    ensures adds { OnOk result (AddsUser user inputs.now (length rows.old.items)
+        (row_at rows.old.items) (row_at rows.new.items)) }
+{
+    for (place, &input) in inputs.iter().enumerate() {
+        rows[input].push(Edge { user, place })?;
+    }
+    Ok(())
 }
