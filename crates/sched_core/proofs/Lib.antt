@@ -23,6 +23,7 @@ pub mod Reported
 pub mod RunReports
 pub mod SeedParts
 pub mod Seeds
+pub mod Telling
 pub mod StateLaws
 pub mod Tabled
 pub mod UserRows

@@ -102,6 +102,10 @@ pub record IsSpreading (inputs : ℕ → List ℕ) (users : List (List Edge)) (t
   pub heard : HaveHeard inputs tallies (left ++ users_of_all users agenda.work)
   pub listed : IsAgenda tallies agenda
 
+-- how many derivations' users are still to be told, now or once there is news of them
+abbrev pub to_end : List Tally → Agenda → ℕ
+to_end tallies agenda = length agenda.work + tally_count (λ tally. is_open tally.state) tallies
+
 -- All users are told.
 pub record IsSteady (inputs : ℕ → List ℕ) (users : List (List Edge)) (tallies : List Tally)
     (agenda : Agenda) : Type 0 where

@@ -44,6 +44,7 @@ mod progress;
 mod reason;
 mod report;
 mod seeds_of;
+mod spreading;
 mod standing;
 mod standings;
 mod states;
