@@ -1,6 +1,5 @@
 pub mod Agendas
 pub mod Comparing
-pub mod Coursed
 pub mod Cycles
 pub mod DoneEntries
 pub mod Dones
@@ -26,6 +25,7 @@ pub mod Seeds
 pub mod Telling
 pub mod StateLaws
 pub mod Tabled
+pub mod Tallied
 pub mod UserRows
 pub mod Verdicts
 pub mod Walks

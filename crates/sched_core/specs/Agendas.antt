@@ -1,11 +1,12 @@
 -- *Agenda*: what is still to be done of a plan: which derivations can be begun, and of which the
 -- users are still to be told (this product's own).
 use Rattle.std.specs.Prelude.{◌≡◌, ◌<◌, ◌≤◌, ◌+◌, ◌-◌, ◌&&◌, ℕ, not, Bool, true, false, Some, List, [], ◌∷◌, ◌++◌, All, Contains, length, map, slice_get, slice_set, if◌then◌else◌}
+use Rattle.std.specs.List.{slice_index_or}
 use Rattle.drv_graph.specs.Plans.{Graph}
-use Rattle.sched_core.specs.Courses.{Course}
+use Rattle.sched_core.specs.Courses.{Course, course_rows}
 use Rattle.sched_core.specs.Coursing.{course_of, kept, phase_in}
 use Rattle.sched_core.specs.Runs.{inputs_at}
-use Rattle.sched_core.specs.States.{Phase}
+use Rattle.sched_core.specs.States.{Idle, InputsFirst, Phase}
 use Rattle.sched_core.specs.Tallies.{HaveHeard, states_in}
 use Rattle.sched_core.specs.Users.{AreUsers, users_of_all}
 use Rattle.sched_core.specs.declared.reason.State.{State}
@@ -132,6 +133,16 @@ pub record AreSameElse (before after : List Tally) : Type 0 where
 abbrev pub course_by : Graph → List Tally → Course
 course_by graph tallies =
     course_of graph (standings_in tallies) (wanted_in tallies) (states_in tallies)
+
+-- These are the tallies of a plan on which nothing has begun.
+pub record AreOpening (graph : Graph) (standings : List Standing) (wanted : List Bool)
+    (tallies : List Tally) : Type 0 where
+  pub count : length tallies ≡ length graph.nodes
+  pub stand : standings_in tallies ≡ standings
+  pub are_wanted : wanted_in tallies ≡ wanted
+  pub idle : (d : ℕ) → slice_index_or (phases_in tallies) d Idle ≡ Idle
+  pub first : InputsFirst (course_rows (course_by graph tallies))
+  pub heard : HaveHeard (λ d. inputs_at graph.nodes (slice_get graph.nodes d)) tallies []
 
 -- These are the tallies of a plan, with the edges to users, and what is still to be done.
 pub record IsCourse (graph : Graph) (tallies : List Tally) (users : List (List Edge))

@@ -1,0 +1,4 @@
+use Rattle.sched_core.proofs.course.Course.done.Goals as goal
+
+pub note-requires-clause-turns : goal.note-requires-clause-turns
+note-requires-clause-turns c = ?

@@ -1,0 +1,5 @@
+use Rattle.sched_core.proofs.Tallied.{state_told}
+use Rattle.sched_core.proofs.course.Course.state.Goals as goal
+
+pub returns : goal.returns
+returns c = ?
