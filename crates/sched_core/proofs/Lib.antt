@@ -1,4 +1,5 @@
 pub mod Comparing
+pub mod CountedNews
 pub mod Coursed
 pub mod Cycles
 pub mod DoneEntries
@@ -24,6 +25,7 @@ pub mod SeedParts
 pub mod Seeds
 pub mod StateLaws
 pub mod Tabled
+pub mod ToldStates
 pub mod Verdicts
 pub mod Walks
 pub mod Wanting

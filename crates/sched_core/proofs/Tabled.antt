@@ -25,7 +25,7 @@ first_is_idle (Some input) all = refl
 first_is_idle None true = refl
 first_is_idle None false = refl
 
-standing_is_idle : (standing : Standing) (first : Option ℕ) (all : Bool)
+pub standing_is_idle : (standing : Standing) (first : Option ℕ) (all : Bool)
     → phase_in (by_standing standing (by_first first all)) ≡ Idle
 standing_is_idle AllValid first all = refl
 standing_is_idle (Hindered cause) first all = refl
