@@ -1,10 +1,9 @@
 -- News of inputs, counted one after the other.
-use Rattle.std.proofs.Common.{◌≡◌, ◌∙◌, ⊎_elim, ℕ, ◌+◌, ◌-◌, ◌<◌, ◌≤◌, Bool, true, false, List, [], ◌∷◌, ◌++◌, length, take, get_or, set, zero, suc, refl, sym, ap, subst, arith}
+use Rattle.std.proofs.Common.{◌≡◌, ◌∙◌, ⊎_elim, ℕ, ◌+◌, ◌-◌, ◌<◌, ◌≤◌, Bool, true, false, List, [], ◌∷◌, ◌++◌, length, take, get_or, refl, sym, ap, subst, arith}
 use Rattle.std.specs.List.{position_or_len, slice_index_or}
 use Rattle.std.proofs.Math.Nat.{eq-or-lt_of_le}
 use Rattle.std.proofs.lemmas.List.{get_or-map, take_all, take_more}
 use Rattle.std.proofs.lemmas.List.Sums.{position_or_len_is}
-use Rattle.std.proofs.lemmas.Bool.{false≢true}
 use Rattle.sched_core.specs.Coursing.{kept}
 use Rattle.sched_core.specs.States.{is_bad, is_good}
 use Rattle.sched_core.specs.Tallies.{News, Open, Good, Bad, is_bad_news, is_good_news, news_of, states_in, waiting}
@@ -67,12 +66,15 @@ module _ (heard : List News) (place waits first : ℕ) (low : place < length hea
       (eq-or-lt_of_le {n = k} {m = place} (omega (arith, under)))
 
   -- an input of which there is good news
-  pub good_counted : is_good_news news ≡ true → (1 ≤ waits) × AreCounted heard (place + 1) (waits - 1) first
+  pub good_counted : is_good_news news ≡ true
+      → (1 ≤ waits) × AreCounted heard (place + 1) (waits - 1) first
   good_counted good =
       let one : waiting (news ∷ []) ≡ 0 = rw good refl in
-      let some : 1 ≤ waits = omega (arith, are.number, low) in
-      (some, counted_more (waits - 1) (omega (arith, one, some)) first are.short
-      (before_more first (λ sooner. good_is_harmless news good) (omega arith)) are.here)
+      let some : 1 ≤ waits = omega (arith, are.number, low) in (
+        some,
+        counted_more (waits - 1) (omega (arith, one, some)) first are.short
+            (before_more first (λ sooner. good_is_harmless news good) (omega arith)) are.here,
+      )
 
   -- the first of which there is bad news
   pub bad_counted : is_good_news news ≡ false → is_bad_news news ≡ true → place < first

@@ -1,5 +1,5 @@
 -- News of inputs, as they are counted.
-use Rattle.std.proofs.Common.{◌≡◌, ◌∙◌, ⊎_elim, ℕ, ◌+◌, ◌<◌, ◌==◌, ◌&&◌, Bool, true, false, cond, List, [], ◌∷◌, length, map, get_or, not, Option, Some, None, refl, sym, ap, subst, ltb-false, ne_eqb, nat_lt, if◌then◌else◌, arith}
+use Rattle.std.proofs.Common.{◌≡◌, ◌∙◌, ⊎_elim, ℕ, ◌+◌, ◌<◌, ◌==◌, List, [], ◌∷◌, length, map, get_or, Some, refl, sym, ap, ltb-false, ne_eqb, nat_lt, arith}
 use Rattle.std.specs.Prelude.{find, slice_get}
 use Rattle.std.specs.List.{list_all, position, position_or_len, slice_index_or}
 use Rattle.std.proofs.lemmas.Bool.{cases_Bool}

@@ -1,8 +1,8 @@
 -- The states of users that are told of an input.
-use Rattle.std.proofs.Common.{◌≡◌, ◌∙◌, ⊎_elim, inl, ℕ, ◌+◌, ◌-◌, ◌<◌, ◌≤◌, ◌==◌, Bool, true, false, List, [], ◌∷◌, length, get_or, set, Option, Some, None, zero, suc, refl, sym, ap, subst, ne_eqb, arith, Bor, option_copied}
+use Rattle.std.proofs.Common.{◌≡◌, ◌∙◌, inl, ℕ, ◌+◌, ◌-◌, ◌<◌, ◌≤◌, ◌==◌, Bool, true, false, List, [], ◌∷◌, length, get_or, set, Option, Some, None, zero, suc, refl, sym, ap, ne_eqb, arith, Bor, option_copied}
 use Rattle.std.proofs.lemmas.Bool.{false≢true}
 use Rattle.std.specs.Prelude.{slice_get, slice_set}
-use Rattle.std.specs.List.{position_or_len, slice_index_or}
+use Rattle.std.specs.List.{position_or_len}
 use Rattle.std.specs.Slice.{IsItemAt}
 use Rattle.std.proofs.lemmas.List.{get_or-map, get_or-set_other, get_or-set_same, length-map, length-set}
 use Rattle.std.proofs.lemmas.List.Folds.{position_or_len-set}
@@ -180,7 +180,8 @@ module _ (tally : Tally) (inputs : List ℕ) (heard : List News) (place input : 
 
   pub told_before : tally.state ≡ by_phase (phase_in tally.state)
       (by_standing tally.standing (by_first (slice_get inputs tally.first) false))
-  told_before = can.is.state ∙ ap (λ s. by_phase (phase_in tally.state) (by_standing tally.standing s))
+  told_before = can.is.state
+      ∙ ap (λ s. by_phase (phase_in tally.state) (by_standing tally.standing s))
       (by_counts inputs heard tally can.is.count can.is.waits can.is.first
       ∙ ap (by_first (slice_get inputs tally.first))
       (ne_eqb tally.waits 0 (λ none. omega (arith, none, told_waits))))

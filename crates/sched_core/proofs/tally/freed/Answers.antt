@@ -13,7 +13,8 @@ returns-else-all-clause-turns c =
 
 pub returns-in_default : goal.returns-in_default
 returns-in_default c = record {
-  is = λ standing first is. not_freed c.args.state standing first c.args.all c.in_default.not-Blocked is;
+  is = λ standing first is.
+      not_freed c.args.state standing first c.args.all c.in_default.not-Blocked is;
   phase = refl;
   turns = turns_stays c.args.state;
 }

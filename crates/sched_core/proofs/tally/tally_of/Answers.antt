@@ -1,4 +1,4 @@
-use Rattle.std.proofs.Common.{true, false, get_or, arith, ap, ◌∙◌, ◌==◌, ◌≡◌, ◌<◌, length}
+use Rattle.std.proofs.Common.{true, false, arith, ap, ◌∙◌, ◌==◌, ◌<◌, length}
 use Rattle.std.proofs.lemmas.List.{length-map}
 use Rattle.sched_core.specs.Coursing.{kept}
 use Rattle.sched_core.specs.States.{by_first, by_standing}
@@ -16,33 +16,37 @@ loop-place-preserved c =
     let l = c.loop-place in
     let heard = news_in (kept (states_in tallies)) inputs in
     let low : c.loop-place.place < length heard =
-    omega (arith, c.loop-place-test.true, length-map inputs (λ i. news_of (kept (states_in tallies) i))) in
+    omega (
+      arith,
+      c.loop-place-test.true,
+      length-map inputs (λ i. news_of (kept (states_in tallies) i)),
+    ) in
     let below = c.requires l.place 0 c.loop-place-test.true in
     elim c.if-serves.branch [
       | then-serves w ↦
-      rw (w.waits-is, w.first-is)
-      (good_counted heard l.place l.waits l.first low l.invariant
-      (good_read tallies inputs l.place _ c.loop-place-test.true below c.serves.result true
-      c.serves.ensures w.if-serves.true)).1
+          rw (w.waits-is, w.first-is)
+          (good_counted heard l.place l.waits l.first low l.invariant
+          (good_read tallies inputs l.place _ c.loop-place-test.true below c.serves.result true
+          c.serves.ensures w.if-serves.true)).1
       | else-serves+then-place-first+then-fails w ↦
-      rw (w.waits-is, w.first-is)
-      (bad_counted heard l.place l.waits l.first low l.invariant
-      (good_read tallies inputs l.place _ c.loop-place-test.true below c.serves.result false
-      c.serves.ensures w.if-serves.false)
-      (bad_read tallies inputs l.place _ c.loop-place-test.true below w.fails.result true
-      w.fails.ensures w.if-fails.true) w.if-place-first.true)
+          rw (w.waits-is, w.first-is)
+          (bad_counted heard l.place l.waits l.first low l.invariant
+          (good_read tallies inputs l.place _ c.loop-place-test.true below c.serves.result false
+          c.serves.ensures w.if-serves.false)
+          (bad_read tallies inputs l.place _ c.loop-place-test.true below w.fails.result true
+          w.fails.ensures w.if-fails.true) w.if-place-first.true)
       | else-serves+else-place-first w ↦
-      rw (w.waits-is, w.first-is)
-      (other_counted heard l.place l.waits l.first low l.invariant
-      (good_read tallies inputs l.place _ c.loop-place-test.true below c.serves.result false
-      c.serves.ensures w.if-serves.false)
-      (λ sooner. elim w.else-place-first.branch [
-        | else-place-first-via-then-place-first+else-fails u ↦
-        bad_read tallies inputs l.place _ c.loop-place-test.true below u.fails.result false
-        u.fails.ensures u.if-fails.false
-        | else-place-first-via-else-place-first u ↦
-        absurd (omega (arith, sooner, u.if-place-first.false))
-      ]))
+          rw (w.waits-is, w.first-is)
+          (other_counted heard l.place l.waits l.first low l.invariant
+          (good_read tallies inputs l.place _ c.loop-place-test.true below c.serves.result false
+          c.serves.ensures w.if-serves.false)
+          (λ sooner. elim w.else-place-first.branch [
+            | else-place-first-via-then-place-first+else-fails u ↦
+                bad_read tallies inputs l.place _ c.loop-place-test.true below u.fails.result false
+                u.fails.ensures u.if-fails.false
+            | else-place-first-via-else-place-first u ↦
+                absurd (omega (arith, sooner, u.if-place-first.false))
+          ]))
     ]
 
 pub returns-clause-hears : goal.returns-clause-hears
