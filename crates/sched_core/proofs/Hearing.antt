@@ -7,10 +7,10 @@ use Rattle.std.proofs.lemmas.List.{get_or-set_other, get_or-set_same, get_or_app
 use Rattle.std.proofs.lemmas.Option.{get_or_from_slice_get, none-some, same_Some, slice_get-get_or, slice_get_within}
 use Rattle.nix_names.proofs.Lists.{Contains-from_get, element_at, get_mapped, get_push_cases, same_element}
 use Rattle.sched_core.specs.Coursing.{AreStatesOf, kept, phase_in}
-use Rattle.sched_core.specs.States.{Idle, InputsFirst, Rows, by_inputs, by_phase, by_standing, table}
+use Rattle.sched_core.specs.States.{Idle, InputsFirst, Rows, by_phase, by_standing, table}
 use Rattle.sched_core.proofs.KnownNews.{by_news_known}
 use Rattle.sched_core.proofs.StateLaws.{states_are_one}
-use Rattle.sched_core.specs.Tallies.{CanHear, HaveHeard, Hears, IsSameElse, IsTally, Knows, News, Open, Good, Bad, Turns, turns_begun, turns_done, turns_failed, turns_freed, turns_named, turns_refused, turns_stays, are_news, by_news, news_of, states_in, to_tell}
+use Rattle.sched_core.specs.Tallies.{CanHear, HaveHeard, Hears, IsTally, Knows, News, Open, Good, Bad, Turns, turns_begun, turns_done, turns_failed, turns_freed, turns_named, turns_refused, turns_stays, are_news, by_news, news_of, states_in, to_tell}
 use Rattle.sched_core.specs.Users.{AreUsers, once_at, times, users_of}
 use Rattle.sched_core.specs.declared.reason.State.{State}
 use Rattle.sched_core.specs.declared.reason.State.TheVariants.{Blocked, Building, Done, Failed, Ready, Refused, Reused}
@@ -90,7 +90,11 @@ knows_turned before after known left here turns once knows =
     ⊎_elim
     (λ same. ⊎_elim
     (λ heard. inl (heard.0 ∙ sym same.1, rw same.0 (omega (arith, heard.1))))
-    (λ unheard. inr (unheard.0, λ e. unheard.1 (sym same.1 ∙ e), rw same.0 (omega (arith, unheard.2))))
+    (λ unheard. inr (
+      unheard.0,
+      λ e. unheard.1 (sym same.1 ∙ e),
+      rw same.0 (omega (arith, unheard.2)),
+    ))
     knows)
     (λ news. ⊎_elim
     (λ heard. inr (heard.0 ∙ news.1, news.2, rw news.0 (omega (arith, heard.1, once))))
@@ -186,7 +190,8 @@ module _ (inputs : ℕ → List ℕ) (count : ℕ) (users : List (List Edge)) (t
       (sym (ap after it ∙ after_is))
       (knows_turned tally.state new.state known (times u place left) (if input == d then 1 else 0)
       turns (rw here refl)
-      (subst (λ s. Knows known (news_of s) (times u place left)) (ap before it ∙ before_is) knows))))
+      (subst (λ s. Knows known (news_of s) (times u place left)) (ap before it ∙ before_is)
+      knows))))
       (λ other.
       let apart = eqb-false input d other in
       subst (λ n. Knows known (news_of (after input)) n) (sym (times_more u place input low is))
@@ -354,7 +359,8 @@ pub heard_more : (inputs : ℕ → List ℕ) (tallies : List Tally) (tally : Tal
 heard_more inputs tallies tally first have hears = record {
   each = λ d t is.
       ⊎_elim
-      (λ earlier. grown d t (le_of_lt (slice_get_within tallies d t earlier)) (have.each d t earlier))
+      (λ earlier. grown d t (le_of_lt (slice_get_within tallies d t earlier))
+      (have.each d t earlier))
       (λ last.
       subst (λ n. Hears (inputs n) after (λ place. 0) t) (sym last.0)
       (subst (λ w. Hears (inputs (length tallies)) after (λ place. 0) w) last.1
@@ -389,7 +395,8 @@ pub heard_states : (rows : Rows) (tallies : List Tally) → InputsFirst rows
     → AreStatesOf rows (length tallies) (states_in tallies)
 unfolding table
 heard_states rows tallies first stand have = states_are_one rows state (length tallies) first
-    (λ d low. let (tally, at) = element_at tallies d low in by_table d tally at (have.each d tally at))
+    (λ d low. let (tally, at) = element_at tallies d low in
+    by_table d tally at (have.each d tally at))
   where
     state : ℕ → State
     state = kept (states_in tallies)

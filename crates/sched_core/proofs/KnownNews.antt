@@ -1,5 +1,5 @@
 -- News of inputs, as they are counted.
-use Rattle.std.proofs.Common.{◌≡◌, ◌∙◌, ⊎_elim, ℕ, ◌+◌, ◌<◌, ◌==◌, ◌&&◌, Bool, true, false, cond, List, [], ◌∷◌, length, map, get_or, not, Option, Some, None, refl, sym, ap, subst, ltb-false, ne_eqb, nat_lt, if◌then◌else◌, arith}
+use Rattle.std.proofs.Common.{◌≡◌, ◌∙◌, ⊎_elim, ℕ, ◌+◌, ◌<◌, ◌==◌, List, [], ◌∷◌, length, map, get_or, Some, refl, sym, ap, ltb-false, ne_eqb, nat_lt, arith}
 use Rattle.std.specs.Prelude.{find, slice_get}
 use Rattle.std.specs.List.{list_all, position, position_or_len, slice_index_or}
 use Rattle.std.proofs.lemmas.Bool.{cases_Bool}
@@ -11,7 +11,7 @@ use Rattle.sched_core.specs.Tallies.{News, Open, Good, Bad, by_news, input_at, i
 use Rattle.sched_core.specs.declared.reason.State.{State}
 use Rattle.sched_core.specs.declared.reason.State.TheVariants.{Blocked, Building, Done, Failed, Ready, Refused, Reused}
 
-bad_news : (s : State) → is_bad_news (news_of s) ≡ is_bad s
+pub bad_news : (s : State) → is_bad_news (news_of s) ≡ is_bad s
 bad_news Done = refl
 bad_news (Failed reason) = refl
 bad_news (Building lease) = refl
@@ -20,7 +20,7 @@ bad_news (Refused cause) = refl
 bad_news Ready = refl
 bad_news Blocked = refl
 
-good_news : (s : State) → is_good_news (news_of s) ≡ is_good s
+pub good_news : (s : State) → is_good_news (news_of s) ≡ is_good s
 good_news Done = refl
 good_news (Failed reason) = refl
 good_news (Building lease) = refl

@@ -1,5 +1,6 @@
 pub mod Agendas
 pub mod Comparing
+pub mod CountedNews
 pub mod Cycles
 pub mod DoneEntries
 pub mod Dones
@@ -22,10 +23,11 @@ pub mod Reported
 pub mod RunReports
 pub mod SeedParts
 pub mod Seeds
-pub mod Telling
 pub mod StateLaws
 pub mod Tabled
 pub mod Tallied
+pub mod Telling
+pub mod ToldStates
 pub mod UserRows
 pub mod Verdicts
 pub mod Walks

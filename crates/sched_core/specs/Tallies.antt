@@ -1,6 +1,6 @@
 -- *Tally*: what is kept of a derivation, so that its state needs no look at its inputs (this
 -- product's own).
-use Rattle.std.specs.Prelude.{◌≡◌, ◌⊎◌, ◌<◌, ◌+◌, ℕ, zero, suc, not, Bool, true, false, Option, Some, None, List, [], ◌∷◌, length, map, slice_get, slice_set, if◌then◌else◌}
+use Rattle.std.specs.Prelude.{◌≡◌, ◌⊎◌, ◌+◌, ℕ, Bool, true, false, Option, Some, None, List, [], ◌∷◌, length, map, slice_get, if◌then◌else◌}
 use Rattle.std.specs.List.{list_all, position, position_or_len, slice_index_or}
 use Rattle.sched_core.specs.Coursing.{kept, phase_in}
 use Rattle.sched_core.specs.States.{by_first, by_phase, by_standing}

@@ -1,7 +1,7 @@
 //! What is kept of a derivation, so that its state needs no look at its inputs.
-ghost use Rattle.std.specs.Prelude.{◌≡◌, ◌<◌, All, List, ℕ, length, slice_set};
+ghost use Rattle.std.specs.Prelude.{◌≡◌, ◌<◌, All, List, Option, Some, false, ℕ, length, slice_set};
 ghost use Rattle.sched_core.specs.Coursing.{kept, phase_in};
-ghost use Rattle.sched_core.specs.States.{Idle};
+ghost use Rattle.sched_core.specs.States.{Idle, by_first, by_phase, by_standing};
 ghost use Rattle.sched_core.specs.Tallies.{CanHear, Hears, IsSameElse, IsTally, News, Turns, news_by, states_in};
 
 use crate::reason::{Refusal, State};
@@ -39,14 +39,15 @@ pub(crate) fn tally_of(
         let state = tallies[input].state;
         if serves(state) {
             waits -= 1;
-        } else if fails(state) && place < first {
+        } else if place < first && fails(state) {
             first = place;
         }
     }
+    let state = opening_state(standing, inputs.get(first).copied(), waits == 0);
     Tally {
         standing,
         wanted,
-        state: opening_state(standing, inputs, waits, first),
+        state,
         waits,
         first,
     }
@@ -62,54 +63,68 @@ pub(crate) fn told(tally: Tally, place: usize, input: usize, good: bool) -> Tall
     ensures turns { Turns tally.state result.state }
 {
     if good {
-        relieved(tally)
+        let waits = tally.waits - 1;
+        let state = freed(tally.state, waits == 0);
+        Tally {
+            state,
+            waits,
+            ..tally
+        }
     } else if place < tally.first {
-        hindered(tally, place, input)
+        let state = refused(tally.standing, tally.state, input);
+        Tally {
+            state,
+            first: place,
+            ..tally
+        }
     } else {
         tally
     }
 }
 
-// The state of a derivation that hasn't begun, by how many inputs it waits for and the place of the
-// first that failed or is refused.
-fn opening_state(standing: Standing, inputs: &[usize], waits: usize, first: usize) -> State {
+// The state of a derivation that hasn't begun, by the first of its inputs that failed or is
+// refused, if there is one, and by whether all can be built behind.
+fn opening_state(standing: Standing, first: Option<usize>, all: bool) -> State
+    ensures { result ≡ by_standing standing (by_first first all) }
+{
+    match (standing, first) {
+        (Standing::AllValid, _) => State::Reused,
+        (Standing::Hindered(cause), _) => State::Refused(cause),
+        (Standing::Free, Some(input)) => State::Refused(Refusal::InputNotRealised(input)),
+        (Standing::Free, None) if all => State::Ready,
+        (Standing::Free, None) => State::Blocked,
+    }
+}
+
+// The state after one more input can be built behind, by whether all can be now.
+fn freed(state: State, all: bool) -> State
+    ensures is { (standing : Standing) (first : Option ℕ) → state
+        ≡ by_phase (phase_in state) (by_standing standing (by_first first false)) → result
+        ≡ by_phase (phase_in result) (by_standing standing (by_first first all)) }
+    ensures phase { phase_in result ≡ phase_in state }
+    ensures turns { Turns state result }
+{
+    match state {
+        State::Blocked => if all { State::Ready } else { State::Blocked },
+        _ => state,
+    }
+}
+
+// The state after this input failed or was refused, before all others that did.
+fn refused(standing: Standing, state: State, input: usize) -> State
+    ensures is { (first : Option ℕ) → state
+        ≡ by_phase (phase_in state) (by_standing standing (by_first first false)) → result
+        ≡ by_phase (phase_in result) (by_standing standing (by_first (Some input) false)) }
+    ensures phase { phase_in result ≡ phase_in state }
+    ensures turns { Turns state result }
+{
     match standing {
-        Standing::AllValid => State::Reused,
-        Standing::Hindered(cause) => State::Refused(cause),
-        Standing::Free if first < inputs.len() => {
-            State::Refused(Refusal::InputNotRealised(inputs[first]))
-        }
-        Standing::Free if waits == 0 => State::Ready,
-        Standing::Free => State::Blocked,
-    }
-}
-
-// After one more input was built.
-fn relieved(tally: Tally) -> Tally {
-    let waits = tally.waits - 1;
-    let state = if waits == 0 && tally.state == State::Blocked {
-        State::Ready
-    } else {
-        tally.state
-    };
-    Tally {
-        state,
-        waits,
-        ..tally
-    }
-}
-
-// After an input failed that stands before all others that did.
-fn hindered(tally: Tally, place: usize, input: usize) -> Tally {
-    let state = match (tally.standing, tally.state) {
-        (Standing::Free, State::Blocked | State::Refused(_)) => {
-            State::Refused(Refusal::InputNotRealised(input))
-        }
-        (_, state) => state,
-    };
-    Tally {
-        state,
-        first: place,
-        ..tally
+        Standing::Free => match state {
+            State::Blocked | State::Refused(_) => {
+                State::Refused(Refusal::InputNotRealised(input))
+            }
+            _ => state,
+        },
+        _ => state,
     }
 }
