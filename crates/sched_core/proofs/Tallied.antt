@@ -124,8 +124,8 @@ module _ (graph : Graph) (tallies : List Tally) (users : List (List Edge)) (agen
   settled_told settled settled_is = (forward, back)
     where
       forward : IsTrue settled → IsSettled course
-      forward yes d low wanted still =
-          let none : agenda.unsettled ≡ 0 = eqb-true agenda.unsettled 0 (sym settled_is ∙ yes) in
+      forward holds d low wanted still =
+          let none : agenda.unsettled ≡ 0 = eqb-true agenda.unsettled 0 (sym settled_is ∙ holds) in
           let within : d < length tallies = omega (arith, low, is.count) in
           let tally : Tally = get_or tallies d unknown in
           let w : tally.wanted ≡ true = wanted_told d unknown low ∙ wanted in

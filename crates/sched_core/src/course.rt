@@ -134,7 +134,7 @@ impl Course {
         self.agenda.is_settled()
     }
 
-    // How many states events worked out, and edges to users they followed, so far.
+    // How many states the events worked out, and edges to users they followed.
     pub(crate) fn steps(&self) -> u64 {
         self.agenda.steps()
     }

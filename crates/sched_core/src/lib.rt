@@ -12,7 +12,11 @@
 //! | `cycle`, `links`, `walk` | whether outputs refer to each other in a cycle |
 //! | `reason` | why a derivation was not built, its state, and events |
 //! | `standing` | where a derivation stands by itself |
-//! | `course`, `states` | where each derivation of a plan stands |
+//! | `course` | where each derivation of a plan stands |
+//! | `tally`, `states` | what is kept of a derivation, and what an input's state says to its users |
+//! | `users` | the edges from each derivation to its users |
+//! | `agenda` | what can be begun, and of which the users are still to be told |
+//! | `spreading` | an event, and how users are told of it |
 //! | `users` | the users of each derivation |
 //! | `job_of`, `seeds_of` | the job of a derivation, and the paths that it is built from |
 //! | `is_job`, `has_seeds` | whether a job is that of a derivation |
