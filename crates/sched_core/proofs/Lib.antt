@@ -1,12 +1,15 @@
+pub mod Agendas
 pub mod Comparing
-pub mod Coursed
+pub mod CountedNews
 pub mod Cycles
 pub mod DoneEntries
 pub mod Dones
 pub mod Ending
+pub mod Hearing
 pub mod Histories
 pub mod JobParts
 pub mod Keeping
+pub mod KnownNews
 pub mod Linkages
 pub mod OneReport
 pub mod OneVerdict
@@ -22,6 +25,10 @@ pub mod SeedParts
 pub mod Seeds
 pub mod StateLaws
 pub mod Tabled
+pub mod Tallied
+pub mod Telling
+pub mod ToldStates
+pub mod UserRows
 pub mod Verdicts
 pub mod Walks
 pub mod Wanting

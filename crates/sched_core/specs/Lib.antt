@@ -1,3 +1,4 @@
+pub mod Agendas
 pub mod Booking
 pub mod Books
 pub mod Courses
@@ -15,6 +16,9 @@ pub mod Runs
 pub mod SameJobs
 pub mod Seeding
 pub mod States
+pub mod Tallies
+pub mod UserRows
+pub mod Users
 pub mod VerdictLaws
 pub mod Verdicts
 pub mod Walking

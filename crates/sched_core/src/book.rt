@@ -199,6 +199,14 @@ impl<O: Outlet> Book<O> {
         self.progress.settled()
     }
 
+    /// How much work the states of derivations were: one for each state that an event worked out,
+    /// and one for each time that it followed the edge from an input to a user. In a run at most
+    /// twice its derivations and twice the pairs of a derivation and a place of its text at which
+    /// an input stands.
+    pub fn steps(&self) -> u64 {
+        self.progress.steps()
+    }
+
     /// The report of the run, which is settled. For each wanted derivation, by path, a line `built
     /// P`,
     /// `reused P`, `failed P: WHY` or `refused P: WHY`; then for each root that was built or

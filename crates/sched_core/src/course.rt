@@ -1,38 +1,45 @@
 //! Where each derivation of a plan stands.
 ghost use Rattle.std.specs.Prelude.{◌≡◌, ◌<◌, ◌↔◌, false, ℕ, IfErr, IfOk, IsTrue, MatchOption, length, slice_set};
 ghost use Rattle.std.specs.List.{slice_index_or};
-ghost use Rattle.sched_core.specs.Courses.{HasBegun, IsNext, IsOpen, IsSettled, course_state};
+ghost use Rattle.sched_core.specs.Agendas.{AreOpening};
+ghost use Rattle.sched_core.specs.Courses.{HasBegun, IsNext, IsSettled, course_state};
 ghost use Rattle.sched_core.specs.Coursing.{phase_in};
 ghost use Rattle.sched_core.specs.States.{Begun, Broken, Ended, Idle};
+ghost use Rattle.sched_core.specs.Tallies.{Turns};
 ghost use Rattle.sched_core.specs.declared.fault.BookFault.TheVariants.{NoMemory};
 
+use crate::agenda::Agenda;
 use crate::fault::BookFault;
 use crate::reason::{Reason, State};
+use crate::spreading::turn;
 use crate::standing::Standing;
-use crate::states::refresh;
+use crate::states::inputs_of;
+use crate::tally::{Tally, tally_of};
+use crate::users::Users;
 use drv_graph::Plan;
 use std::alloc::Global;
 use std::marker::Model;
 
-// A plan, and where each of its derivations stands.
+// A plan, and where each of its derivations stands: of each a tally and the edges to its users, and
+// what is still to be done. An event costs a step for each edge along which a user is told, and each
+// edge is told along at most once.
 #[derive(Debug, Drop)]
 pub(crate) struct Course {
     plan: Plan,
-    standings: Vec<Standing>,
-    wanted: Vec<bool>,
-    states: Vec<State>,
+    tallies: Vec<Tally>,
+    users: Users,
+    agenda: Agenda,
 }
 
 impl Model for Course {
     ghost use Rattle.sched_core.specs.Courses.{Course};
-    ghost use Rattle.sched_core.specs.Coursing.{AreStates, course_of};
+    ghost use Rattle.sched_core.specs.Agendas.{IsCourse, course_by};
 
     ghost Value = { Course };
 
-    ghost view = { λ c. course_of c.plan c.standings.items c.wanted.items c.states.items };
+    ghost view = { λ c. course_by c.plan c.tallies.items };
 
-    ghost invariant = { λ c. AreStates (course_of c.plan c.standings.items c.wanted.items c.states.items)
-        c.states.items };
+    ghost invariant = { λ c. IsCourse c.plan c.tallies.items c.users c.agenda };
 }
 
 impl Course {
@@ -53,13 +60,14 @@ impl Course {
             ≡ Idle) }
         ensures err { IfErr result (λ fault. fault ≡ NoMemory) }
     {
-        let mut states = vec![in alloc; State::Blocked; plan.len()]?;
-        refresh(&plan, &standings, &mut states);
+        let users = Users::open(alloc, &plan)?;
+        let tallies = tallies_of(alloc, &plan, &standings, &wanted)?;
+        let agenda = Agenda::open(alloc, &tallies)?;
         Ok(Course {
             plan,
-            standings,
-            wanted,
-            states,
+            tallies,
+            users,
+            agenda,
         })
     }
 
@@ -75,7 +83,7 @@ impl Course {
         requires { d < length self.now.graph.nodes }
         ensures { result ≡ slice_index_or self.now.wanted d false }
     {
-        self.wanted[d]
+        self.tallies[d].wanted
     }
 
     // The state of the derivation with this number.
@@ -83,19 +91,14 @@ impl Course {
         requires { d < length self.now.graph.nodes }
         ensures { result ≡ course_state self.now d }
     {
-        self.states[d]
+        self.tallies[d].state
     }
 
     // A derivation that is wanted and can be begun, if there is one.
     pub(crate) fn next(&self) -> Option<usize>
         ensures { MatchOption result ((d : ℕ) → IsNext self.now d → ⊥) (λ d. IsNext self.now d) }
     {
-        for d in 0..self.states.len() {
-            if self.wanted[d] && self.states[d] == State::Ready {
-                return Some(d);
-            }
-        }
-        None
+        self.agenda.first()
     }
 
     // Begins a derivation under the lease with this number. Takes no memory.
@@ -128,28 +131,43 @@ impl Course {
     pub(crate) fn settled(&self) -> bool
         ensures { IsTrue result ↔ IsSettled self.now }
     {
-        for d in 0..self.states.len() {
-            if self.wanted[d] && is_open(self.states[d]) {
-                return false;
-            }
-        }
-        true
+        self.agenda.is_settled()
+    }
+
+    // How many states the events worked out, and edges to users they followed.
+    pub(crate) fn steps(&self) -> u64 {
+        self.agenda.steps()
     }
 
     // Notes the state of a derivation, by its last event.
     fn note(&mut self, d: usize, state: State)
-        requires { d < length self.old.graph.nodes }
+        requires within { d < length self.old.graph.nodes }
+        requires turns { Turns (course_state self.old d) state }
+        requires begun { phase_in state ≡ Idle → ⊥ }
         ensures { self.new
             ≡ record self.old { phases = slice_set self.old.phases d (phase_in state) } }
     {
-        self.states[d] = state;
-        refresh(&self.plan, &self.standings, &mut self.states);
+        turn(&self.users, &mut self.tallies, &mut self.agenda, d, state);
     }
 }
 
-// Whether a derivation in this state still has something before it.
-fn is_open(state: State) -> bool
-    ensures { IsTrue result ↔ IsOpen state }
+// The tallies of a plan on which nothing has begun, by one pass in plan order. Costs a step for each
+// derivation and each pair of one and an input of it.
+fn tallies_of(
+    alloc: Global,
+    plan: &Plan,
+    standings: &[Standing],
+    wanted: &[bool],
+) -> Result<Vec<Tally>, BookFault>
+    requires standings { length standings.now ≡ length plan.now.nodes }
+    requires wanted { length wanted.now ≡ length plan.now.nodes }
+    ensures ok { IfOk result (λ tallies. AreOpening plan.now standings.now wanted.now tallies.items) }
+    ensures err { IfErr result (λ fault. fault ≡ NoMemory) }
 {
-    matches!(state, State::Blocked | State::Ready | State::Building(_))
+    let mut tallies = Vec::with_capacity(alloc, plan.len())?;
+    for d in 0..plan.len() {
+        let tally = tally_of(standings[d], wanted[d], inputs_of(plan, d), &tallies);
+        tallies.push(tally)?;
+    }
+    Ok(tallies)
 }

@@ -12,7 +12,12 @@
 //! | `cycle`, `links`, `walk` | whether outputs refer to each other in a cycle |
 //! | `reason` | why a derivation was not built, its state, and events |
 //! | `standing` | where a derivation stands by itself |
-//! | `course`, `states` | where each derivation of a plan stands |
+//! | `course` | where each derivation of a plan stands |
+//! | `tally`, `states` | what is kept of a derivation, and what an input's state says to its users |
+//! | `users` | the edges from each derivation to its users |
+//! | `agenda` | what can be begun, and of which the users are still to be told |
+//! | `spreading` | an event, and how users are told of it |
+//! | `users` | the users of each derivation |
 //! | `job_of`, `seeds_of` | the job of a derivation, and the paths that it is built from |
 //! | `is_job`, `has_seeds` | whether a job is that of a derivation |
 //! | `standings` | where the derivations of a plan stand by themselves |
@@ -22,6 +27,7 @@
 //! | `laws` | laws over the definitions that contracts cite |
 #![tactic(auto)]
 
+mod agenda;
 mod book;
 mod checked;
 mod course;
@@ -42,9 +48,12 @@ mod progress;
 mod reason;
 mod report;
 mod seeds_of;
+mod spreading;
 mod standing;
 mod standings;
 mod states;
+mod tally;
+mod users;
 mod verdict;
 #[cfg(test)]
 mod verdict_tests;

@@ -148,6 +148,11 @@ impl Progress {
         self.course.settled()
     }
 
+    // How many states the events worked out, and edges to users they followed.
+    pub(crate) fn steps(&self) -> u64 {
+        self.course.steps()
+    }
+
     // The report of the run. Costs as `report_of` does.
     pub(crate) fn report(&self) -> Result<Vec<u8>, BookFault>
         ensures ok { IfOk result (λ text. IsReportIn self.now.run self.now.history text.items) }

@@ -1,18 +1,15 @@
-use Rattle.std.proofs.Common.{◌≡◌, ◌∙◌, ap, arith}
-use Rattle.std.specs.Vec.{with_item, with_items}
-use Rattle.std.proofs.lemmas.List.{with_items_is}
-use Rattle.sched_core.specs.Coursing.{course_of}
-use Rattle.sched_core.proofs.Coursed.{noted_course}
+use Rattle.std.proofs.Common.{◌≡◌, ◌∙◌, ◌<◌, ap, length, subst, sym}
+use Rattle.sched_core.specs.Courses.{Course, course_state}
+use Rattle.sched_core.specs.Coursing.{kept}
+use Rattle.sched_core.specs.Tallies.{Turns, states_in}
+use Rattle.sched_core.proofs.Tallied.{state_kept}
 use Rattle.sched_core.proofs.course.Course.note.Goals as goal
 
-pub returns : goal.returns
-returns c =
-    let s = c.self.inside in
-    let whole : (with_items (with_item s.states c.args.d c.args.state) c.refresh.new.states).items
-    ≡ c.refresh.new.states =
-    with_items_is (with_item s.states c.args.d c.args.state) c.refresh.new.states
-    (omega (arith, c.refresh.ensures.count, c.deref_mut.ensures.len)) in
-    ap (course_of s.plan s.standings.items s.wanted.items) whole
-    ∙ noted_course s.plan s.standings.items s.wanted.items s.states.items c.deref_mut.result.now
-    c.refresh.new.states c.args.d c.args.state c.args.self.now c.self.view_is
-    c.deref_mut.ensures.value c.refresh.ensures.phases
+pub turn-requires-clause-turns : goal.turn-requires-clause-turns
+turn-requires-clause-turns c = subst (λ s. Turns s c.args.state)
+    (sym (ap (λ l. kept (states_in l) c.args.d) c.deref_mut.ensures.value
+    ∙ state_kept c.self.inside.plan c.self.inside.tallies.items c.self.inside.users
+    c.self.inside.agenda c.self.invariant c.args.d
+    (subst (λ (k : Course). c.args.d < length k.graph.nodes) (sym c.self.view_is)
+    c.requires.within)
+    ∙ ap (λ k. course_state k c.args.d) c.self.view_is)) c.requires.turns

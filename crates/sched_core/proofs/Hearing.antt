@@ -1,0 +1,416 @@
+-- Tallies are right but for the edges along which users are still to be told: what keeps it so.
+use Rattle.std.proofs.Common.{◌≡◌, ◌∙◌, ◌⊎◌, inl, inr, ⊎_elim, ℕ, zero, suc, ◌+◌, ◌<◌, ◌==◌, ◌&&◌, Bool, true, false, List, [], ◌∷◌, ◌++◌, length, Some, get_or, set, if◌then◌else◌, refl, sym, ap, subst, eqb, eqb-true, eq-eqb, ne_eqb, le_of_lt, le_refl, lt_of_lt_of_le, ◌≤◌, arith}
+use Rattle.std.specs.Prelude.{Contains, slice_get, slice_set}
+use Rattle.std.specs.List.{slice_index_or}
+use Rattle.std.proofs.lemmas.Bool.{cases_Bool, eqb-false}
+use Rattle.std.proofs.lemmas.List.{get_or-set_other, get_or-set_same, get_or_append_left, length-map, map-append, map-set}
+use Rattle.std.proofs.lemmas.Option.{get_or_from_slice_get, none-some, same_Some, slice_get-get_or, slice_get_within}
+use Rattle.nix_names.proofs.Lists.{Contains-from_get, element_at, get_mapped, get_push_cases, same_element}
+use Rattle.sched_core.specs.Coursing.{AreStatesOf, kept, phase_in}
+use Rattle.sched_core.specs.States.{Idle, InputsFirst, Rows, by_phase, by_standing, table}
+use Rattle.sched_core.proofs.KnownNews.{by_news_known}
+use Rattle.sched_core.proofs.StateLaws.{states_are_one}
+use Rattle.sched_core.specs.Tallies.{CanHear, HaveHeard, Hears, IsTally, Knows, News, Open, Good, Bad, Turns, turns_begun, turns_done, turns_failed, turns_freed, turns_named, turns_refused, turns_stays, are_news, by_news, news_of, states_in, to_tell}
+use Rattle.sched_core.specs.Users.{AreUsers, once_at, times, users_of}
+use Rattle.sched_core.specs.declared.reason.State.{State}
+use Rattle.sched_core.specs.declared.reason.State.TheVariants.{Blocked, Building, Done, Failed, Ready, Refused, Reused}
+use Rattle.sched_core.specs.declared.tally.Tally.{Tally}
+use Rattle.sched_core.specs.declared.users.Edge.{Edge}
+
+-- ---- how often an edge is in a list
+
+times-append : (user place : ℕ) (xs ys : List Edge)
+    → times user place (xs ++ ys) ≡ times user place xs + times user place ys
+times-append user place [] ys = omega arith
+times-append user place (x ∷ xs) ys = omega (arith, times-append user place xs ys)
+
+times-where : (user place : ℕ) (b : Bool) (edges : List Edge)
+    → times user place (if b then edges else []) ≡ (if b then times user place edges else 0)
+times-where user place true edges = refl
+times-where user place false edges = refl
+
+times-first : (edge : Edge) (left : List Edge)
+    → times edge.user edge.place (edge ∷ left) ≡ 1 + times edge.user edge.place left
+times-first edge left = rw (eq-eqb edge.user edge.user refl, eq-eqb edge.place edge.place refl) refl
+
+times-other_user : (user place : ℕ) (edge : Edge) (left : List Edge) → (user ≡ edge.user → ⊥)
+    → times user place (edge ∷ left) ≡ times user place left
+times-other_user user place edge left apart =
+    rw (ne_eqb edge.user user (λ e. apart (sym e))) (omega arith)
+
+times-other_place : (user place : ℕ) (edge : Edge) (left : List Edge) → (place ≡ edge.place → ⊥)
+    → times user place (edge ∷ left) ≡ times user place left
+times-other_place user place edge left apart = by (eqb edge.user user) (eqb edge.place place)
+    (ne_eqb edge.place place (λ e. apart (sym e)))
+  where
+    by : (a b : Bool) → b ≡ false
+        → (if a && b then 1 else 0) + times user place left ≡ times user place left
+    by true b failed = rw failed (omega arith)
+    by false b failed = omega arith
+
+-- ---- lists of tallies
+
+get_set_cases : {X : Type 0} (xs : List X) (i j : ℕ) (x y : X) → slice_get (set xs i x) j ≡ Some y
+    → ((j ≡ i) × (x ≡ y)) ⊎ ((j ≡ i → ⊥) × (slice_get xs j ≡ Some y))
+get_set_cases [] i j x y is = absurd (none-some y is)
+get_set_cases (z ∷ xs) zero zero x y is = inl (refl, same_Some x y is)
+get_set_cases (z ∷ xs) zero (suc j) x y is = inr (λ e. omega (arith, e), is)
+get_set_cases (z ∷ xs) (suc i) zero x y is = inr (λ e. omega (arith, e), is)
+get_set_cases (z ∷ xs) (suc i) (suc j) x y is =
+    ⊎_elim (λ here. inl (ap suc here.0, here.1))
+    (λ other. inr (λ e. other.0 (omega (arith, e)), other.1))
+    (get_set_cases xs i j x y is)
+
+-- ---- news
+
+-- what a change of state tells: nothing new, or news where there was none
+turns_news : (before after : State) → Turns before after
+    → ((are_news (news_of before) (news_of after) ≡ false) × (news_of after ≡ news_of before))
+    ⊎ ((are_news (news_of before) (news_of after) ≡ true) × (news_of before ≡ Open)
+    × (news_of after ≡ Open → ⊥))
+turns_news before after (turns_stays s) = inl (no_news (news_of s), refl)
+  where
+    no_news : (n : News) → are_news n n ≡ false
+    no_news Open = refl
+    no_news Good = refl
+    no_news Bad = refl
+turns_news before after (turns_named cause other) = inl (refl, refl)
+turns_news before after turns_freed = inl (refl, refl)
+turns_news before after (turns_refused cause) = inr (refl, refl, λ e. cc)
+turns_news before after (turns_begun lease) = inl (refl, refl)
+turns_news before after (turns_done lease) = inr (refl, refl, λ e. cc)
+turns_news before after (turns_failed lease reason) = inr (refl, refl, λ e. cc)
+
+-- what is left to tell of an input whose state may change so
+knows_turned : (before after : State) (known : News) (left here : ℕ) → Turns before after
+    → here ≡ 1 → Knows known (news_of before) left
+    → Knows known (news_of after)
+    (left + (if are_news (news_of before) (news_of after) then here else 0))
+knows_turned before after known left here turns once knows =
+    ⊎_elim
+    (λ same. ⊎_elim
+    (λ heard. inl (heard.0 ∙ sym same.1, rw same.0 (omega (arith, heard.1))))
+    (λ unheard. inr (
+      unheard.0,
+      λ e. unheard.1 (sym same.1 ∙ e),
+      rw same.0 (omega (arith, unheard.2)),
+    ))
+    knows)
+    (λ news. ⊎_elim
+    (λ heard. inr (heard.0 ∙ news.1, news.2, rw news.0 (omega (arith, heard.1, once))))
+    (λ unheard. absurd (unheard.1 news.1))
+    knows)
+    (turns_news before after turns)
+
+-- of one whose state stays
+knows_more : (known now : News) (left more : ℕ) → more ≡ 0 → Knows known now left
+    → Knows known now (left + more)
+knows_more known now left more none knows =
+    ⊎_elim (λ heard. inl (heard.0, omega (arith, heard.1, none)))
+    (λ unheard. inr (unheard.0, unheard.1, omega (arith, unheard.2, none)))
+    knows
+
+-- a tally that is right for some states is right for others where so much is left to tell
+hears_others : (inputs : List ℕ) (before after : ℕ → State) (left more : ℕ → ℕ) (tally : Tally)
+    → ((place input : ℕ) (known : News) → slice_get inputs place ≡ Some input
+    → Knows known (news_of (before input)) (left place)
+    → Knows known (news_of (after input)) (more place))
+    → Hears inputs before left tally → Hears inputs after more tally
+hears_others inputs before after left more tally step hears = record {
+  heard = hears.heard;
+  is = hears.is;
+  knows = λ place input at. step place input (slice_index_or hears.heard place Open) at
+      (hears.knows place input at);
+}
+
+-- ---- one tally that changes
+
+module _ (inputs : ℕ → List ℕ) (count : ℕ) (users : List (List Edge)) (tallies : List Tally)
+    (d : ℕ) (tally new : Tally) (left : List Edge)
+    (long : length tallies ≡ count) (are : AreUsers inputs count users)
+    (at : slice_get tallies d ≡ Some tally) (turns : Turns tally.state new.state) where
+  abbrev state_of : Tally → State
+  state_of tally = tally.state
+
+  abbrev before : ℕ → State
+  before = kept (states_in tallies)
+
+  abbrev after : ℕ → State
+  after = kept (states_in (set tallies d new))
+
+  abbrev news : Bool
+  news = are_news (news_of tally.state) (news_of new.state)
+
+  abbrev more : List Edge
+  more = left ++ to_tell tally.state new.state (users_of users d)
+
+  in_plan : (u : ℕ) (t : Tally) → slice_get tallies u ≡ Some t → u < count
+  in_plan u t is = subst (λ n. u < n) long (slice_get_within tallies u t is)
+
+  state_at : slice_get (states_in tallies) d ≡ Some tally.state
+  state_at = get_mapped state_of tallies d tally at
+
+  before_is : before d ≡ tally.state
+  before_is = get_or_from_slice_get (states_in tallies) d tally.state Blocked state_at
+
+  after_is : after d ≡ new.state
+  after_is =
+      ap (λ ss. get_or ss d Blocked) (map-set state_of tallies d new)
+      ∙ get_or-set_same (states_in tallies) d new.state Blocked
+      (slice_get_within (states_in tallies) d tally.state state_at)
+
+  after_other : (i : ℕ) → (i ≡ d → ⊥) → after i ≡ before i
+  after_other i apart =
+      ap (λ ss. get_or ss i Blocked) (map-set state_of tallies d new)
+      ∙ get_or-set_other (states_in tallies) d i new.state Blocked apart
+
+  -- how often the edge from the one that changed is to be told
+  times_more : (u place input : ℕ) → u < count → slice_get (inputs u) place ≡ Some input
+      → times u place more
+      ≡ times u place left + (if news then (if input == d then 1 else 0) else 0)
+  times_more u place input low is =
+      times-append u place left (to_tell tally.state new.state (users_of users d))
+      ∙ ap (λ n. times u place left + n)
+      (times-where u place news (users_of users d)
+      ∙ ap (λ n. if news then n else 0)
+      (are.each d u place (in_plan d tally at) low ∙ ap (λ o. once_at o d) is))
+
+  -- of each input of a user
+  pub knows_step : (u place input : ℕ) (known : News) → u < count
+      → slice_get (inputs u) place ≡ Some input
+      → Knows known (news_of (before input)) (times u place left)
+      → Knows known (news_of (after input)) (times u place more)
+  knows_step u place input known low is knows =
+      ⊎_elim
+      (λ here.
+      let it = eqb-true input d here in
+      subst (λ n. Knows known (news_of (after input)) n) (sym (times_more u place input low is))
+      (subst (λ s. Knows known (news_of s)
+      (times u place left + (if news then (if input == d then 1 else 0) else 0)))
+      (sym (ap after it ∙ after_is))
+      (knows_turned tally.state new.state known (times u place left) (if input == d then 1 else 0)
+      turns (rw here refl)
+      (subst (λ s. Knows known (news_of s) (times u place left)) (ap before it ∙ before_is)
+      knows))))
+      (λ other.
+      let apart = eqb-false input d other in
+      subst (λ n. Knows known (news_of (after input)) n) (sym (times_more u place input low is))
+      (subst (λ s. Knows known (news_of s)
+      (times u place left + (if news then (if input == d then 1 else 0) else 0)))
+      (sym (after_other input apart))
+      (knows_more known (news_of (before input)) (times u place left)
+      (if news then (if input == d then 1 else 0) else 0) (rw other (nothing news)) knows)))
+      (cases_Bool (input == d))
+    where
+      nothing : (b : Bool) → ◌≡◌ {A = ℕ} (if b then 0 else 0) 0
+      nothing true = refl
+      nothing false = refl
+
+  -- each user's tally is right, where the others' and the one's that changed are
+  pub heard_step : (earlier : List Edge)
+      → ((u place : ℕ) → (u ≡ d → ⊥) → times u place earlier ≡ times u place left)
+      → HaveHeard inputs tallies earlier
+      → Hears (inputs d) before (λ place. times d place left) new
+      → HaveHeard inputs (set tallies d new) more
+  heard_step earlier same have own = record {
+    each = λ u t is.
+        ⊎_elim
+        (λ here.
+        subst (λ n. Hears (inputs n) after (λ place. times n place more) t) (sym here.0)
+        (subst (λ w. Hears (inputs d) after (λ place. times d place more) w) here.1
+        (hears_others (inputs d) before after (λ place. times d place left)
+        (λ place. times d place more) new
+        (λ place input known it. knows_step d place input known (in_plan d tally at) it) own)))
+        (λ other.
+        hears_others (inputs u) before after (λ place. times u place earlier)
+        (λ place. times u place more) t
+        (λ place input known it knows. knows_step u place input known (in_plan u t other.1) it
+        (subst (λ n. Knows known (news_of (before input)) n) (same u place other.0) knows))
+        (have.each u t other.1))
+        (get_set_cases tallies d u new t is);
+  }
+
+-- ---- an event
+
+-- the state of a derivation becomes Building, Done or Failed
+pub heard_turned : (inputs : ℕ → List ℕ) (count : ℕ) (users : List (List Edge))
+    (tallies : List Tally) (d : ℕ) (tally : Tally) (after : State) (left : List Edge)
+    → length tallies ≡ count → AreUsers inputs count users → slice_get tallies d ≡ Some tally
+    → Turns tally.state after → (phase_in after ≡ Idle → ⊥)
+    → HaveHeard inputs tallies left
+    → HaveHeard inputs (slice_set tallies d (record tally { state = after }))
+    (left ++ to_tell tally.state after (users_of users d))
+heard_turned inputs count users tallies d tally after left long are at turns begun have =
+    heard_step inputs count users tallies d tally (record tally { state = after }) left long are at
+    turns left (λ u place apart. refl) have
+    (let hears = have.each d tally at in
+    record {
+      heard = hears.heard;
+      is = record {
+        count = hears.is.count;
+        state = by_event after begun
+            (by_standing tally.standing (by_news (inputs d) hears.heard));
+        waits = hears.is.waits;
+        first = hears.is.first;
+      };
+      knows = hears.knows;
+    })
+  where
+    by_event : (after : State) → (phase_in after ≡ Idle → ⊥) → (other : State)
+        → after ≡ by_phase (phase_in after) other
+    by_event (Building lease) begun other = refl
+    by_event Done begun other = refl
+    by_event (Failed reason) begun other = refl
+    by_event Reused begun other = absurd (begun refl)
+    by_event (Refused cause) begun other = absurd (begun refl)
+    by_event Ready begun other = absurd (begun refl)
+    by_event Blocked begun other = absurd (begun refl)
+
+-- ---- a user that is told along the first edge that is left
+
+module _ (inputs : ℕ → List ℕ) (tallies : List Tally) (edge : Edge) (w : ℕ) (tally : Tally)
+    (left : List Edge) (at : slice_get tallies edge.user ≡ Some tally)
+    (it : slice_get (inputs edge.user) edge.place ≡ Some w)
+    (have : HaveHeard inputs tallies (edge ∷ left)) where
+  abbrev state : ℕ → State
+  state = kept (states_in tallies)
+
+  abbrev hears : Hears (inputs edge.user) state (λ place. times edge.user place (edge ∷ left)) tally
+  hears = have.each edge.user tally at
+
+  abbrev told_news : List News
+  told_news = set hears.heard edge.place (news_of (state w))
+
+  low : edge.place < length hears.heard
+  low = omega (arith, hears.is.count, slice_get_within (inputs edge.user) edge.place w it)
+
+  unheard : (slice_index_or hears.heard edge.place Open ≡ Open)
+      × (times edge.user edge.place left ≡ 0)
+  unheard = ⊎_elim
+      (λ heard. absurd (omega (arith, heard.1, times-first edge left)))
+      (λ unheard. (unheard.0, omega (arith, unheard.2, times-first edge left)))
+      (hears.knows edge.place w it)
+
+  hearing : CanHear (inputs edge.user) hears.heard tally edge.place w
+  hearing = record {
+    is = hears.is;
+    unknown = slice_get-get_or hears.heard edge.place Open low ∙ ap Some unheard.0;
+    input_is = it;
+  }
+
+  -- what `told` requires
+  pub can_hear : (heard : List News) × CanHear (inputs edge.user) heard tally edge.place w
+  can_hear = (hears.heard, hearing)
+
+  knows_told : (place input : ℕ) → slice_get (inputs edge.user) place ≡ Some input
+      → Knows (slice_index_or told_news place Open) (news_of (state input))
+      (times edge.user place left)
+  knows_told place input is = ⊎_elim
+      (λ here.
+      let same : place ≡ edge.place = eqb-true place edge.place here in
+      let one : w ≡ input = same_element (inputs edge.user) edge.place w input it
+      (subst (λ n. slice_get (inputs edge.user) n ≡ Some input) same is) in
+      inl (
+        ap (λ n. get_or told_news n Open) same
+            ∙ get_or-set_same hears.heard edge.place (news_of (state w)) Open low
+            ∙ ap (λ n. news_of (state n)) one,
+        ap (λ n. times edge.user n left) same ∙ unheard.1,
+      ))
+      (λ other.
+      let apart : place ≡ edge.place → ⊥ = eqb-false place edge.place other in
+      subst (λ n. Knows n (news_of (state input)) (times edge.user place left))
+      (sym (get_or-set_other hears.heard edge.place place (news_of (state w)) Open apart))
+      (subst (λ n. Knows (get_or hears.heard place Open) (news_of (state input)) n)
+      (times-other_place edge.user place edge left apart) (hears.knows place input is)))
+      (cases_Bool (place == edge.place))
+
+  pub hears_told : (new : Tally)
+      → ((heard : List News) → CanHear (inputs edge.user) heard tally edge.place w
+      → IsTally (inputs edge.user) (slice_set heard edge.place (news_of (state w))) new)
+      → Hears (inputs edge.user) state (λ place. times edge.user place left) new
+  hears_told new told = record {
+    heard = told_news;
+    is = told hears.heard hearing;
+    knows = knows_told;
+  }
+
+pub heard_told : (inputs : ℕ → List ℕ) (count : ℕ) (users : List (List Edge))
+    (tallies : List Tally) (edge : Edge) (w : ℕ) (tally new : Tally) (left : List Edge)
+    → length tallies ≡ count → AreUsers inputs count users
+    → slice_get tallies edge.user ≡ Some tally
+    → slice_get (inputs edge.user) edge.place ≡ Some w → HaveHeard inputs tallies (edge ∷ left)
+    → ((heard : List News) → CanHear (inputs edge.user) heard tally edge.place w
+    → IsTally (inputs edge.user)
+    (slice_set heard edge.place (news_of (kept (states_in tallies) w))) new)
+    → Turns tally.state new.state
+    → HaveHeard inputs (slice_set tallies edge.user new)
+    (left ++ to_tell tally.state new.state (users_of users edge.user))
+heard_told inputs count users tallies edge w tally new left long are at it have told turns =
+    heard_step inputs count users tallies edge.user tally new left long are at turns (edge ∷ left)
+    (λ u place apart. times-other_user u place edge left apart) have
+    (hears_told inputs tallies edge w tally left at it have new told)
+
+-- ---- one more tally, in plan order
+
+pub heard_more : (inputs : ℕ → List ℕ) (tallies : List Tally) (tally : Tally)
+    → ((d i : ℕ) → Contains (inputs d) i → i < d) → HaveHeard inputs tallies []
+    → Hears (inputs (length tallies)) (kept (states_in tallies)) (λ place. 0) tally
+    → HaveHeard inputs (tallies ++ tally ∷ []) []
+heard_more inputs tallies tally first have hears = record {
+  each = λ d t is.
+      ⊎_elim
+      (λ earlier. grown d t (le_of_lt (slice_get_within tallies d t earlier))
+      (have.each d t earlier))
+      (λ last.
+      subst (λ n. Hears (inputs n) after (λ place. 0) t) (sym last.0)
+      (subst (λ w. Hears (inputs (length tallies)) after (λ place. 0) w) last.1
+      (grown (length tallies) tally (le_refl (length tallies)) hears)))
+      (get_push_cases tallies tally d t is);
+}
+  where
+    after : ℕ → State
+    after = kept (states_in (tallies ++ tally ∷ []))
+
+    stays : (i : ℕ) → i < length tallies → after i ≡ kept (states_in tallies) i
+    stays i low =
+        ap (λ ss. get_or ss i Blocked) (map-append (λ (t : Tally). t.state) tallies (tally ∷ []))
+        ∙ get_or_append_left (states_in tallies) (tally.state ∷ []) Blocked i
+        (omega (arith, low, length-map tallies (λ (t : Tally). t.state)))
+
+    grown : (d : ℕ) (t : Tally) → d ≤ length tallies
+        → Hears (inputs d) (kept (states_in tallies)) (λ place. 0) t
+        → Hears (inputs d) after (λ place. 0) t
+    grown d t low =
+        hears_others (inputs d) (kept (states_in tallies)) after (λ place. 0) (λ place. 0) t
+        (λ place input known it knows. subst (λ s. Knows known (news_of s) 0)
+        (sym (stays input
+        (lt_of_lt_of_le (first d input (Contains-from_get (inputs d) place input it)) low))) knows)
+
+-- ---- once nothing is left to tell, the states are the table's
+
+pub heard_states : (rows : Rows) (tallies : List Tally) → InputsFirst rows
+    → ((d : ℕ) (tally : Tally) → slice_get tallies d ≡ Some tally
+    → (tally.standing ≡ rows.standing d) × (phase_in tally.state ≡ rows.phase d))
+    → HaveHeard rows.inputs tallies []
+    → AreStatesOf rows (length tallies) (states_in tallies)
+unfolding table
+heard_states rows tallies first stand have = states_are_one rows state (length tallies) first
+    (λ d low. let (tally, at) = element_at tallies d low in
+    by_table d tally at (have.each d tally at))
+  where
+    state : ℕ → State
+    state = kept (states_in tallies)
+
+    by_table : (d : ℕ) (tally : Tally) → slice_get tallies d ≡ Some tally
+        → Hears (rows.inputs d) state (λ place. 0) tally → state d ≡ table rows state d
+    by_table d tally at hears =
+        let is : state d ≡ tally.state =
+        get_or_from_slice_get (states_in tallies) d tally.state Blocked
+        (get_mapped (λ (t : Tally). t.state) tallies d tally at) in
+        let known : (place input : ℕ) → slice_get (rows.inputs d) place ≡ Some input
+        → slice_index_or hears.heard place Open ≡ news_of (state input) =
+        λ place input it. ⊎_elim (λ heard. heard.0) (λ unheard. absurd (omega (arith, unheard.2)))
+        (hears.knows place input it) in
+        let by_inputs_is = by_news_known (rows.inputs d) hears.heard state hears.is.count known in
+        let (standing, phase) = stand d tally at in
+        is ∙ hears.is.state ∙ rw (standing, phase, by_inputs_is) refl

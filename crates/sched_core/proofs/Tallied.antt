@@ -1,0 +1,254 @@
+-- A course by the tallies that are kept.
+use Rattle.std.proofs.Common.{◌≡◌, ◌∙◌, ◌↔◌, ◌⊎◌, inl, inr, ⊎_elim, ℕ, zero, suc, ◌+◌, ◌<◌, ◌==◌, ◌&&◌, Bool, true, false, List, [], ◌∷◌, ◌++◌, length, map, take, get_or, IsTrue, Option, Some, None, refl, sym, ap, subst, arith, eqb-true, eq-eqb}
+use Rattle.std.specs.Prelude.{Contains, MatchOption, slice_get, slice_set}
+use Rattle.std.specs.List.{slice_index_or}
+use Rattle.std.proofs.lemmas.Bool.{false≢true}
+use Rattle.std.proofs.lemmas.List.{get_or-map, length_push, map_push, take_all, take_more}
+use Rattle.std.proofs.lemmas.Option.{get_or_from_slice_get, slice_get-get_or, slice_get_within}
+use Rattle.nix_names.proofs.Lists.{Contains-from_get, Contains-nothing, get_mapped, get_push_cases}
+use Rattle.drv_graph.specs.Plans.{Graph}
+use Rattle.drv_graph.specs.SoundGraphs.{IsSound}
+use Rattle.sched_core.specs.Agendas.{Agenda, AreOpening, IsAgenda, IsCourse, IsFresh, IsSteady, course_by, is_open, is_unsettled, phases_in, standings_in, wanted_in}
+use Rattle.sched_core.specs.Courses.{Course, HasBegun, IsNext, IsOpen, IsSettled, course_rows, course_state}
+use Rattle.sched_core.specs.Coursing.{AreStatesOf, kept, phase_in}
+use Rattle.sched_core.specs.Runs.{inputs_at}
+use Rattle.sched_core.specs.States.{Begun, Idle, Phase, by_phase, state, table}
+use Rattle.sched_core.specs.Tallies.{HaveHeard, Hears, states_in}
+use Rattle.sched_core.specs.Users.{AreUsers, users_of_all}
+use Rattle.sched_core.specs.declared.reason.State.{State}
+use Rattle.sched_core.specs.declared.reason.State.TheVariants.{Done, Failed, Building, Reused, Refused, Ready, Blocked}
+use Rattle.sched_core.specs.declared.standing.Standing.{Standing}
+use Rattle.sched_core.specs.declared.standing.Standing.TheVariants.{Free}
+use Rattle.sched_core.specs.declared.tally.Tally.{Tally}
+use Rattle.sched_core.specs.declared.users.Edge.{Edge}
+use Rattle.sched_core.proofs.Agendas.{count_none, none_counted}
+use Rattle.sched_core.proofs.Hearing.{heard_more, heard_states}
+use Rattle.sched_core.proofs.PlanInputs.{inputs_first}
+
+-- a part of the tallies, read at a tally
+part_at : {X : Type 0} (part : Tally → X) (tallies : List Tally) (d : ℕ) (tally : Tally)
+    (default : X) → slice_get tallies d ≡ Some tally → get_or (map part tallies) d default ≡ part tally
+part_at part tallies d tally default at =
+    get_or-map part tallies d tally default (slice_get_within tallies d tally at)
+    ∙ ap part (get_or_from_slice_get tallies d tally tally at)
+
+phase_at : (tallies : List Tally) (d : ℕ) (tally : Tally) → slice_get tallies d ≡ Some tally
+    → get_or (phases_in tallies) d Idle ≡ phase_in tally.state
+phase_at [] d tally at = absurd cc
+phase_at (t ∷ tallies) zero tally at = let same : t ≡ tally = cc in
+    ap (λ (u : Tally). phase_in u.state) same
+phase_at (t ∷ tallies) (suc d) tally at = phase_at tallies d tally at
+
+-- what is read past the end of the tallies
+abbrev unknown : Tally
+unknown = record { standing = Free; wanted = false; state = Blocked; waits = 0; first = 0 }
+
+module _ (graph : Graph) (tallies : List Tally) (users : List (List Edge)) (agenda : Agenda)
+    (is : IsCourse graph tallies users agenda) where
+  abbrev course : Course
+  course = course_by graph tallies
+
+  heard : HaveHeard (course_rows course).inputs tallies []
+  heard = subst (λ l. HaveHeard (course_rows course).inputs tallies (users_of_all users l))
+      is.steady.none is.steady.told.heard
+
+  -- the states that are kept are the course's
+  pub state_kept : (d : ℕ) → d < length graph.nodes
+      → kept (states_in tallies) d ≡ course_state course d
+  state_kept d low = heard_states (course_rows course) tallies is.steady.told.first
+      (λ e tally at. (
+        sym (part_at (λ (t : Tally). t.standing) tallies e tally Free at),
+        sym (phase_at tallies e tally at),
+      )) heard d (omega (arith, low, is.count))
+
+  pub state_told : (d : ℕ) (none : Tally) → d < length graph.nodes
+      → (get_or tallies d none).state ≡ course_state course d
+  state_told d none low =
+      sym (get_or-map (λ (t : Tally). t.state) tallies d none Blocked (omega (arith, low, is.count)))
+      ∙ state_kept d low
+
+  pub wanted_told : (d : ℕ) (none : Tally) → d < length graph.nodes
+      → (get_or tallies d none).wanted ≡ slice_index_or course.wanted d false
+  wanted_told d none low = sym (get_or-map (λ (t : Tally). t.wanted) tallies d none false
+      (omega (arith, low, is.count)))
+
+  -- what the ring says
+  pub next_told : (first : Option ℕ) → first ≡ slice_get agenda.ring 0
+      → MatchOption first ((d : ℕ) → IsNext course d → ⊥) (IsNext course)
+  next_told None at = λ d next. none d next
+    where
+      empty : (xs : List ℕ) → None ≡ slice_get xs 0 → xs ≡ []
+      empty [] at = refl
+      empty (x ∷ xs) at = absurd cc
+
+      none : (d : ℕ) → IsNext course d → ⊥
+      none d next =
+          let low : d < length tallies = omega (arith, next.0, is.count) in
+          let tally : Tally = get_or tallies d unknown in
+          Contains-nothing d (subst (λ l. Contains l d) (empty agenda.ring at)
+          (is.steady.told.listed.ready d tally (slice_get-get_or tallies d unknown low)
+          (wanted_told d unknown next.0 ∙ next.1) (state_told d unknown next.0 ∙ next.2)))
+  next_told (Some d) at =
+      let has = is.steady.told.listed.ring 0 d (slice_get_within agenda.ring 0 d (sym at)) in
+      let there : slice_get tallies d ≡ Some has.0 =
+      subst (λ n. slice_get tallies n ≡ Some has.0)
+      (get_or_from_slice_get agenda.ring 0 d d (sym at)) has.1 in
+      let low : d < length graph.nodes =
+      omega (arith, is.count, slice_get_within tallies d has.0 there) in (
+        low,
+        part_at (λ (t : Tally). t.wanted) tallies d has.0 false there ∙ has.2,
+        sym (state_kept d low) ∙ is.steady.fresh d (sym at),
+      )
+
+  open_is : (s : State) → is_open s ≡ true → IsOpen s
+  open_is Blocked is = inl refl
+  open_is Ready is = inr (inl refl)
+  open_is (Building lease) is = inr (inr (lease, refl))
+  open_is Done is = absurd (false≢true is)
+  open_is Reused is = absurd (false≢true is)
+  open_is (Failed reason) is = absurd (false≢true is)
+  open_is (Refused cause) is = absurd (false≢true is)
+
+  is_open_of : (s : State) → IsOpen s → is_open s ≡ true
+  is_open_of s (inl is) = ap is_open is
+  is_open_of s (inr (inl is)) = ap is_open is
+  is_open_of s (inr (inr (lease, is))) = ap is_open is
+
+  both_true : (a b : Bool) → (a && b) ≡ true → (a ≡ true) × (b ≡ true)
+  both_true true b is = (refl, is)
+  both_true false b is = absurd (false≢true is)
+
+  -- what the number of unsettled ones says
+  pub settled_told : (settled : Bool) → settled ≡ (agenda.unsettled == 0)
+      → IsTrue settled ↔ IsSettled course
+  settled_told settled settled_is = (forward, back)
+    where
+      forward : IsTrue settled → IsSettled course
+      forward holds d low wanted still =
+          let none : agenda.unsettled ≡ 0 = eqb-true agenda.unsettled 0 (sym settled_is ∙ holds) in
+          let within : d < length tallies = omega (arith, low, is.count) in
+          let tally : Tally = get_or tallies d unknown in
+          let w : tally.wanted ≡ true = wanted_told d unknown low ∙ wanted in
+          let o : is_open tally.state ≡ true = ap is_open (state_told d unknown low)
+          ∙ is_open_of (course_state course d) still in
+          let both : is_unsettled tally ≡ true = cc in
+          count_none is_unsettled tallies d tally (sym is.steady.told.listed.unsettled ∙ none)
+          (slice_get-get_or tallies d unknown within) both
+
+      back : IsSettled course → IsTrue settled
+      back settled =
+          let none : agenda.unsettled ≡ 0 = is.steady.told.listed.unsettled
+          ∙ none_counted is_unsettled tallies (λ d tally at both.
+          let within : d < length tallies = slice_get_within tallies d tally at in
+          let low : d < length graph.nodes = omega (arith, within, is.count) in
+          let read : get_or tallies d unknown ≡ tally =
+          get_or_from_slice_get tallies d tally unknown at in
+          let parts = both_true tally.wanted (is_open tally.state) both in
+          let wanted : slice_index_or course.wanted d false ≡ true =
+          sym (wanted_told d unknown low) ∙ ap (λ (t : Tally). t.wanted) read ∙ parts.0 in
+          let same : tally.state ≡ course_state course d =
+          ap (λ (t : Tally). t.state) (sym read) ∙ state_told d unknown low in
+          settled d low wanted (subst IsOpen same (open_is tally.state parts.1))) in
+          settled_is ∙ eq-eqb agenda.unsettled 0 none
+
+-- ---- what has begun
+
+pub is_building : (course : Course) (d lease : ℕ)
+    → slice_index_or course.phases d Idle ≡ Begun lease → course_state course d ≡ Building lease
+unfolding state table
+is_building course d lease is = rw is refl
+
+-- ---- a plan on which nothing has begun
+
+idle_push : (tallies : List Tally) (tally : Tally)
+    → ((e : ℕ) → get_or (phases_in tallies) e Idle ≡ Idle) → phase_in tally.state ≡ Idle
+    → (e : ℕ) → get_or (phases_in (tallies ++ tally ∷ [])) e Idle ≡ Idle
+idle_push [] tally idle new zero = new
+idle_push [] tally idle new (suc e) = refl
+idle_push (t ∷ tallies) tally idle new zero = idle 0
+idle_push (t ∷ tallies) tally idle new (suc e) =
+    idle_push tallies tally (λ f. idle (suc f)) new e
+
+-- The first so many tallies of a plan on which nothing has begun.
+pub record AreOpened (graph : Graph) (standings : List Standing) (wanted : List Bool) (d : ℕ)
+    (tallies : List Tally) : Type 0 where
+  pub count : length tallies ≡ d
+  pub stand : standings_in tallies ≡ take d standings
+  pub are_wanted : wanted_in tallies ≡ take d wanted
+  pub idle : (e : ℕ) → get_or (phases_in tallies) e Idle ≡ Idle
+  pub heard : HaveHeard (λ e. inputs_at graph.nodes (slice_get graph.nodes e)) tallies []
+
+pub opened_none : (graph : Graph) (standings : List Standing) (wanted : List Bool)
+    → AreOpened graph standings wanted 0 []
+opened_none graph standings wanted = record {
+  count = refl;
+  stand = refl;
+  are_wanted = refl;
+  idle = λ e. refl;
+  heard = record { each = λ d tally at. absurd cc };
+}
+
+pub opened_more : (graph : Graph) (standings : List Standing) (wanted : List Bool) (d : ℕ)
+    (tallies now : List Tally) (tally : Tally) (inputs : List ℕ) (no_standing : Standing)
+    (not_wanted : Bool) → IsSound graph
+    → d < length standings → d < length wanted → tally.standing ≡ get_or standings d no_standing
+    → tally.wanted ≡ get_or wanted d not_wanted
+    → inputs ≡ inputs_at graph.nodes (slice_get graph.nodes d)
+    → Hears inputs (kept (states_in tallies)) (λ place. 0) tally → phase_in tally.state ≡ Idle
+    → now ≡ tallies ++ tally ∷ [] → AreOpened graph standings wanted d tallies
+    → AreOpened graph standings wanted (d + 1) now
+opened_more graph standings wanted d tallies now tally inputs no_standing
+    not_wanted sound low within stands wants are hears idle pushed before =
+    subst (AreOpened graph standings wanted (d + 1)) (sym pushed) (record {
+      count = omega (arith, before.count, length_push tallies tally);
+      stand = map_push (λ (t : Tally). t.standing) tallies tally
+          ∙ ap (λ l. l ++ tally.standing ∷ []) before.stand
+          ∙ ap (λ s. take d standings ++ s ∷ []) stands
+          ∙ sym (take_more standings d no_standing low);
+      are_wanted = map_push (λ (t : Tally). t.wanted) tallies tally
+          ∙ ap (λ l. l ++ tally.wanted ∷ []) before.are_wanted
+          ∙ ap (λ w. take d wanted ++ w ∷ []) wants
+          ∙ sym (take_more wanted d not_wanted within);
+      idle = idle_push tallies tally before.idle idle;
+      heard = heard_more (λ e. inputs_at graph.nodes (slice_get graph.nodes e)) tallies tally
+          (inputs_first graph sound) before.heard
+          (subst (λ n. Hears (inputs_at graph.nodes (slice_get graph.nodes n))
+          (kept (states_in tallies)) (λ place. 0) tally) (sym before.count)
+          (subst (λ l. Hears l (kept (states_in tallies)) (λ place. 0) tally) are hears));
+    })
+
+pub opened_all : (graph : Graph) (standings : List Standing) (wanted : List Bool) (d : ℕ)
+    (tallies : List Tally) → IsSound graph → d ≡ length graph.nodes
+    → length standings ≡ length graph.nodes → length wanted ≡ length graph.nodes
+    → AreOpened graph standings wanted d tallies → AreOpening graph standings wanted tallies
+opened_all graph standings wanted d tallies sound all long wide before = record {
+  count = before.count ∙ all;
+  stand = before.stand ∙ take_all d standings (omega (arith, all, long));
+  are_wanted = before.are_wanted ∙ take_all d wanted (omega (arith, all, wide));
+  idle = before.idle;
+  first = inputs_first graph sound;
+  heard = before.heard;
+}
+
+-- the first course of a plan
+pub opening_course : (graph : Graph) (standings : List Standing) (wanted : List Bool)
+    (tallies : List Tally) (users : List (List Edge)) (agenda : Agenda)
+    → AreOpening graph standings wanted tallies
+    → AreUsers (λ d. inputs_at graph.nodes (slice_get graph.nodes d)) (length graph.nodes) users
+    → IsAgenda tallies agenda → IsFresh tallies agenda → agenda.work ≡ []
+    → IsCourse graph tallies users agenda
+opening_course graph standings wanted tallies users agenda opening are listed fresh none = record {
+  count = opening.count;
+  steady = record {
+    told = record {
+      first = opening.first;
+      edges = subst (λ n. AreUsers (λ d. inputs_at graph.nodes (slice_get graph.nodes d)) n users)
+          (sym opening.count) are;
+      heard = subst (λ l. HaveHeard (λ d. inputs_at graph.nodes (slice_get graph.nodes d)) tallies
+          (users_of_all users l)) (sym none) opening.heard;
+      listed = listed;
+    };
+    none = none;
+    fresh = fresh;
+  };
+}

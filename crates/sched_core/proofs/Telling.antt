@@ -1,0 +1,399 @@
+-- Users are told, one after the other.
+use Rattle.std.proofs.Common.{◌≡◌, ◌≢◌, ◌∙◌, ◌⊎◌, inl, inr, ⊎_elim, ℕ, zero, suc, ◌+◌, ◌<◌, ◌≤◌, ◌==◌, ◌&&◌, not, Bool, true, false, List, [], ◌∷◌, ◌++◌, length, map, drop, get_or, Option, Some, None, refl, sym, ap, subst, arith, if◌then◌else◌, eqb-true, eq-eqb}
+use Rattle.std.specs.Prelude.{All, Contains, slice_get, slice_set}
+use Rattle.std.specs.List.{slice_index_or}
+use Rattle.std.proofs.Math.ListN.{set}
+use Rattle.std.proofs.lemmas.Bool.{false≢true}
+use Rattle.std.proofs.lemmas.List.{append-nil, append_assoc, drop_all, drop_more, get_or-map, get_or-set_other, length-append, length-map, length-set, map-set, set-get_or}
+use Rattle.std.proofs.lemmas.List.Elements.{All-drop}
+use Rattle.std.proofs.lemmas.Option.{get_or_from_slice_get, none-some, slice_get-get_or, slice_get_within}
+use Rattle.nix_names.proofs.Lists.{Contains-from_get}
+use Rattle.sched_core.specs.Agendas.{Agenda, AreSameElse, IsAgenda, IsFresh, IsSpreading, IsSteady, alone_if, ends, is_open, noted, phases_in, settles, standings_in, tally_count, to_end, wanted_in}
+use Rattle.sched_core.specs.Coursing.{kept, phase_in}
+use Rattle.sched_core.specs.States.{Idle, is_good}
+use Rattle.sched_core.specs.Tallies.{CanHear, HaveHeard, Hears, IsSameElse, IsTally, Knows, News, Open, Good, Bad, Turns, are_news, news_by, news_of, states_in, to_tell}
+use Rattle.sched_core.specs.Users.{AreUsers, once_at, times, users_of, users_of_all}
+use Rattle.sched_core.specs.declared.reason.State.{State}
+use Rattle.sched_core.specs.declared.reason.State.TheVariants.{Done, Failed, Building, Reused, Refused, Ready, Blocked}
+use Rattle.sched_core.specs.declared.tally.Tally.{Tally}
+use Rattle.sched_core.specs.declared.users.Edge.{Edge}
+use Rattle.sched_core.proofs.Agendas.{noted_agenda, noted_measure, one, settles_most}
+use Rattle.sched_core.proofs.Hearing.{can_hear, heard_told, heard_turned}
+
+-- ---- edges
+
+times_has : (row : List Edge) (i : ℕ) (edge : Edge) → slice_get row i ≡ Some edge
+    → 0 < times edge.user edge.place row
+times_has [] i edge at = absurd cc
+times_has (x ∷ row) zero edge at =
+    let same : x ≡ edge = cc in
+    let user : (x.user == edge.user) ≡ true = eq-eqb x.user edge.user
+    (ap (λ (e : Edge). e.user) same) in
+    let place : (x.place == edge.place) ≡ true = eq-eqb x.place edge.place
+    (ap (λ (e : Edge). e.place) same) in
+    let counted : ◌≡◌ {A = ℕ}
+    (if (x.user == edge.user) && (x.place == edge.place) then 1 else 0) 1 =
+    rw (user, place) refl in
+    omega arith
+times_has (x ∷ row) (suc i) edge at = omega (arith, times_has row i edge at)
+
+once_is : (o : Option ℕ) (w : ℕ) → 0 < once_at o w → o ≡ Some w
+once_is None w has = absurd (omega (arith, has))
+once_is (Some n) w has = by (n == w) refl
+  where
+    by : (same : Bool) → (n == w) ≡ same → Some n ≡ Some w
+    by true is = ap Some (eqb-true n w is)
+    by false is =
+        let none : once_at (Some n) w ≡ 0 = ap (λ b. if b then 1 else 0) is in
+        absurd (omega (arith, has, none))
+
+-- the input stands where an edge to its user says
+edge_is : (inputs : ℕ → List ℕ) (users : List (List Edge)) (count w i : ℕ) (edge : Edge)
+    → AreUsers inputs count users → w < count → slice_get (users_of users w) i ≡ Some edge
+    → (edge.user < count) × (slice_get (inputs edge.user) edge.place ≡ Some w)
+edge_is inputs users count w i edge edges low at =
+    let user : edge.user < count =
+    subst (λ (e : Edge). e.user < count) (get_or_from_slice_get (users_of users w) i edge edge at)
+    (edges.within w i edge (slice_get_within (users_of users w) i edge at)) in (
+      user,
+      once_is (slice_get (inputs edge.user) edge.place) w
+          (subst (λ n. 0 < n) (edges.each w edge.user edge.place low user)
+          (times_has (users_of users w) i edge at)),
+    )
+
+users_of_more : (users : List (List Edge)) (xs ys : List ℕ)
+    → users_of_all users (xs ++ ys) ≡ users_of_all users xs ++ users_of_all users ys
+users_of_more users [] ys = refl
+users_of_more users (x ∷ xs) ys =
+    ap (λ l. users_of users x ++ l) (users_of_more users xs ys)
+    ∙ sym (append_assoc (users_of users x) (users_of_all users xs) (users_of_all users ys))
+
+users_alone : (users : List (List Edge)) (is : Bool) (u : ℕ)
+    → users_of_all users (alone_if is u) ≡ (if is then users_of users u else [])
+users_alone users true u = append-nil (users_of users u)
+users_alone users false u = refl
+
+-- what is news to users ends a derivation
+news_end : (s t : State) → are_news (news_of s) (news_of t) ≡ (is_open s && not (is_open t))
+news_end Blocked t = after t
+  where
+    after : (t : State) → are_news Open (news_of t) ≡ not (is_open t)
+    after Blocked = refl
+    after Ready = refl
+    after (Building lease) = refl
+    after Done = refl
+    after Reused = refl
+    after (Failed reason) = refl
+    after (Refused cause) = refl
+news_end Ready t = after t
+  where
+    after : (t : State) → are_news Open (news_of t) ≡ not (is_open t)
+    after Blocked = refl
+    after Ready = refl
+    after (Building lease) = refl
+    after Done = refl
+    after Reused = refl
+    after (Failed reason) = refl
+    after (Refused cause) = refl
+news_end (Building lease) t = after t
+  where
+    after : (t : State) → are_news Open (news_of t) ≡ not (is_open t)
+    after Blocked = refl
+    after Ready = refl
+    after (Building lease) = refl
+    after Done = refl
+    after Reused = refl
+    after (Failed reason) = refl
+    after (Refused cause) = refl
+news_end Done t = refl
+news_end Reused t = refl
+news_end (Failed reason) t = refl
+news_end (Refused cause) t = refl
+
+-- what is left to tell once a tally was noted
+left_noted : (users : List (List Edge)) (agenda : Agenda) (u : ℕ) (before after : Tally)
+    (left : List Edge)
+    → (left ++ users_of_all users agenda.work) ++ to_tell before.state after.state
+    (users_of users u) ≡ left ++ users_of_all users (noted agenda u before after).work
+left_noted users agenda u before after left =
+    append_assoc left (users_of_all users agenda.work)
+    (to_tell before.state after.state (users_of users u))
+    ∙ ap (λ l. left ++ l) (sym (users_of_more users agenda.work (alone_if (ends before after) u)
+    ∙ ap (λ l. users_of_all users agenda.work ++ l) (users_alone users (ends before after) u
+    ∙ ap (λ b. if b then users_of users u else []) (sym (news_end before.state after.state)))))
+
+-- ---- what telling leaves as it was
+
+pub same_refl : (tallies : List Tally) → AreSameElse tallies tallies
+same_refl tallies = record { standings = refl; wanted = refl; phases = refl }
+
+pub same_then : (a b c : List Tally) → AreSameElse a b → AreSameElse b c → AreSameElse a c
+same_then a b c first second = record {
+  standings = second.standings ∙ first.standings;
+  wanted = second.wanted ∙ first.wanted;
+  phases = second.phases ∙ first.phases;
+}
+
+set_stays : {X : Type 0} (xs : List X) (i : ℕ) (x : X) → slice_get xs i ≡ Some x → set xs i x ≡ xs
+set_stays [] i x at = refl
+set_stays (y ∷ xs) zero x at = let same : y ≡ x = cc in ap (λ z. z ∷ xs) (sym same)
+set_stays (y ∷ xs) (suc i) x at = ap (λ l. y ∷ l) (set_stays xs i x at)
+
+-- a part of tallies that a new tally has as the old one
+part_stays : {X : Type 0} (part : Tally → X) (tallies : List Tally) (u : ℕ) (before after : Tally)
+    → slice_get tallies u ≡ Some before → part after ≡ part before
+    → map part (set tallies u after) ≡ map part tallies
+part_stays part [] u before after at same = refl
+part_stays part (t ∷ tallies) zero before after at same =
+    let is : t ≡ before = cc in ap (λ z. z ∷ map part tallies) (same ∙ ap part (sym is))
+part_stays part (t ∷ tallies) (suc u) before after at same =
+    ap (λ l. part t ∷ l) (part_stays part tallies u before after at same)
+
+phases_are : (tallies : List Tally)
+    → phases_in tallies ≡ map (λ (t : Tally). phase_in t.state) tallies
+phases_are [] = refl
+phases_are (t ∷ tallies) = ap (λ l. phase_in t.state ∷ l) (phases_are tallies)
+
+pub same_set : (tallies : List Tally) (u : ℕ) (before after : Tally)
+    → slice_get tallies u ≡ Some before → IsSameElse before after
+    → AreSameElse tallies (set tallies u after)
+same_set tallies u before after at same = record {
+  standings = part_stays (λ (t : Tally). t.standing) tallies u before after at same.standing;
+  wanted = part_stays (λ (t : Tally). t.wanted) tallies u before after at same.wanted;
+  phases = phases_are (set tallies u after)
+      ∙ part_stays (λ (t : Tally). phase_in t.state) tallies u before after at same.phase
+      ∙ sym (phases_are tallies);
+}
+
+-- ---- one user is told
+
+news_good : (s : State) → (news_of s ≡ Open → ⊥) → news_by (is_good s) ≡ news_of s
+news_good Blocked told = absurd (told refl)
+news_good Ready told = absurd (told refl)
+news_good (Building lease) told = absurd (told refl)
+news_good Done told = refl
+news_good Reused told = refl
+news_good (Failed reason) told = refl
+news_good (Refused cause) told = refl
+
+module _ (inputs : ℕ → List ℕ) (users : List (List Edge)) (tallies : List Tally)
+    (agenda : Agenda) (w i : ℕ) (no_edge : Edge) (no_tally : Tally) (row : List Edge)
+    (low : w < length tallies) (row_is : row ≡ users_of users w) (here : i < length row)
+    (is : IsSpreading inputs users tallies agenda (drop i (users_of users w))) where
+  abbrev edge : Edge
+  edge = get_or row i no_edge
+
+  abbrev before : Tally
+  before = get_or tallies edge.user no_tally
+
+  its : (edge.user < length tallies) × (slice_get (inputs edge.user) edge.place ≡ Some w)
+  its = edge_is inputs users (length tallies) w i edge is.edges low
+      (subst (λ l. slice_get l i ≡ Some edge) row_is (slice_get-get_or row i no_edge here))
+
+  pub user_within : edge.user < length tallies
+  user_within = its.0
+
+  at : slice_get tallies edge.user ≡ Some before
+  at = slice_get-get_or tallies edge.user no_tally user_within
+
+  abbrev rest : List Edge
+  rest = drop (i + 1) (users_of users w) ++ users_of_all users agenda.work
+
+  heard : HaveHeard inputs tallies (edge ∷ rest)
+  heard = subst (λ l. HaveHeard inputs tallies (l ++ users_of_all users agenda.work))
+      (ap (drop i) (sym row_is) ∙ drop_more row i no_edge here
+      ∙ ap (λ l. edge ∷ drop (i + 1) l) row_is) is.heard
+
+  -- what `told` requires
+  pub can_tell : (ins : List ℕ) × (heard : List News) × CanHear ins heard before edge.place w
+  can_tell =
+      let can = can_hear inputs tallies edge w before rest at its.1 heard in
+      (inputs edge.user, can.0, can.1)
+
+  user_apart : w ≢ edge.user
+  user_apart same =
+      let less = is.first edge.user w
+      (Contains-from_get (inputs edge.user) edge.place w its.1) in
+      omega (arith, less, same)
+
+  has_news : news_of (kept (states_in tallies) w) ≡ Open → ⊥
+  has_news none = ⊎_elim
+      (λ heard_it. absurd (omega (
+        arith,
+        heard_it.1,
+        times_has (edge ∷ rest) 0 edge refl,
+      )))
+      (λ unheard. unheard.1 none)
+      ((heard.each edge.user before at).knows edge.place w its.1)
+
+  module _ (after : Tally) (turns : Turns before.state after.state)
+      (same : IsSameElse before after) where
+    -- the agenda, noted
+    pub told_agenda : IsAgenda (set tallies edge.user after)
+        (noted agenda edge.user before after)
+    told_agenda = noted_agenda tallies agenda edge.user before after at turns same.wanted is.listed
+
+    pub told_room : length (noted agenda edge.user before after).ring ≤ agenda.room
+    told_room = omega (arith, told_agenda.room)
+
+    pub told_space : length (noted agenda edge.user before after).work ≤ agenda.space
+    told_space = omega (arith, told_agenda.space)
+
+    pub told_settles : one (settles before after) ≤ agenda.unsettled
+    told_settles =
+        settles_most tallies agenda edge.user before after at turns same.wanted is.listed
+
+    pub told_good : kept (states_in (set tallies edge.user after)) w
+        ≡ kept (states_in tallies) w
+    told_good =
+        ap (λ l. kept l w) (map-set (λ (t : Tally). t.state) tallies edge.user after)
+        ∙ get_or-set_other (states_in tallies) edge.user w after.state Blocked user_apart
+
+    pub told_same : AreSameElse tallies (set tallies edge.user after)
+    told_same = same_set tallies edge.user before after at same
+
+    pub told_measure : to_end (set tallies edge.user after)
+        (noted agenda edge.user before after) ≡ to_end tallies agenda
+    told_measure = noted_measure tallies agenda edge.user before after at turns
+
+    pub told_user : (good : Bool) → good ≡ is_good (kept (states_in tallies) w)
+        → ((ins : List ℕ) (heard : List News) → CanHear ins heard before edge.place w
+        → IsTally ins (slice_set heard edge.place (news_by good)) after)
+        → IsSpreading inputs users (set tallies edge.user after)
+        (noted agenda edge.user before after) (drop (i + 1) (users_of users w))
+    told_user good good_is told = record {
+      first = is.first;
+      edges = subst (λ n. AreUsers inputs n users)
+          (sym (length-set tallies edge.user after)) is.edges;
+      heard = subst (HaveHeard inputs (set tallies edge.user after))
+          (left_noted users agenda edge.user before after (drop (i + 1) (users_of users w)))
+          (heard_told inputs (length tallies) users tallies edge w before after rest refl is.edges
+          at its.1 heard
+          (λ known can. subst
+          (λ news. IsTally (inputs edge.user) (slice_set known edge.place news) after)
+          (ap news_by good_is ∙ news_good (kept (states_in tallies) w) has_news)
+          (told (inputs edge.user) known can)) turns);
+      listed = told_agenda;
+    }
+
+-- ---- the next whose users are to be told
+
+first_work : (xs : List ℕ) (w : ℕ) → slice_get xs 0 ≡ Some w → xs ≡ w ∷ drop 1 xs
+first_work [] w at = absurd cc
+first_work (x ∷ xs) w at = let same : x ≡ w = cc in ap (λ y. y ∷ xs) same
+
+no_work : (xs : List ℕ) → slice_get xs 0 ≡ None → xs ≡ []
+no_work [] at = refl
+no_work (x ∷ xs) at = absurd cc
+
+pub work_within : (tallies : List Tally) (agenda : Agenda) (w : ℕ)
+    → slice_get agenda.work 0 ≡ Some w → IsAgenda tallies agenda → w < length tallies
+work_within tallies agenda w at is =
+    subst (λ n. n < length tallies) (get_or_from_slice_get agenda.work 0 w 0 at)
+    (is.work 0 0 (slice_get_within agenda.work 0 w at))
+
+pub work_taken : (inputs : ℕ → List ℕ) (users : List (List Edge)) (tallies : List Tally)
+    (agenda : Agenda) (w : ℕ) → slice_get agenda.work 0 ≡ Some w
+    → IsSpreading inputs users tallies agenda []
+    → IsSpreading inputs users tallies (record agenda { work = drop 1 agenda.work })
+    (users_of users w)
+work_taken inputs users tallies agenda w at is = record {
+  first = is.first;
+  edges = is.edges;
+  heard = subst (λ l. HaveHeard inputs tallies (users_of_all users l)) (first_work agenda.work w at)
+      is.heard;
+  listed = record {
+    ready = is.listed.ready;
+    ring = is.listed.ring;
+    room = is.listed.room;
+    work = All-drop (λ d. d < length tallies) 1 agenda.work is.listed.work;
+    space = omega (arith, is.listed.space, ap length (first_work agenda.work w at));
+    unsettled = is.listed.unsettled;
+  };
+}
+
+pub work_falls : (tallies : List Tally) (agenda : Agenda) (w : ℕ)
+    → slice_get agenda.work 0 ≡ Some w
+    → to_end tallies (record agenda { work = drop 1 agenda.work }) < to_end tallies agenda
+work_falls tallies agenda w at = omega (arith, ap length (first_work agenda.work w at))
+
+pub work_none : (agenda : Agenda) → slice_get agenda.work 0 ≡ None → agenda.work ≡ []
+work_none agenda at = no_work agenda.work at
+
+pub work_stays : (agenda now : Agenda) → slice_get agenda.work 0 ≡ None
+    → now ≡ record agenda { work = drop 1 agenda.work } → now ≡ agenda
+work_stays agenda now at is =
+    is ∙ ap (λ l. record agenda { work = l })
+    (ap (drop 1) (no_work agenda.work at) ∙ sym (no_work agenda.work at))
+
+-- ---- an event
+
+-- what is known of a derivation's state by the tallies
+pub state_read : (tallies : List Tally) (d : ℕ) (none : Tally) → d < length tallies
+    → kept (states_in tallies) d ≡ (get_or tallies d none).state
+state_read tallies d none low = get_or-map (λ (t : Tally). t.state) tallies d none Blocked low
+
+module _ (tallies : List Tally) (agenda : Agenda) (d : ℕ) (none : Tally) (state : State)
+    (low : d < length tallies) (turns : Turns (kept (states_in tallies) d) state) where
+  abbrev old : Tally
+  old = get_or tallies d none
+
+  abbrev now : Tally
+  now = record old { state = state }
+
+  old_at : slice_get tallies d ≡ Some old
+  old_at = slice_get-get_or tallies d none low
+
+  turned : Turns old.state state
+  turned = subst (λ s. Turns s state) (state_read tallies d none low) turns
+
+  module _ (listed : IsAgenda tallies agenda) where
+    pub turned_agenda : IsAgenda (set tallies d now) (noted agenda d old now)
+    turned_agenda = noted_agenda tallies agenda d old now old_at turned refl listed
+
+    pub turned_room : length (noted agenda d old now).ring ≤ agenda.room
+    turned_room = omega (arith, turned_agenda.room)
+
+    pub turned_space : length (noted agenda d old now).work ≤ agenda.space
+    turned_space = omega (arith, turned_agenda.space)
+
+    pub turned_settles : one (settles old now) ≤ agenda.unsettled
+    turned_settles = settles_most tallies agenda d old now old_at turned refl listed
+
+  pub turned_standings : standings_in (set tallies d now) ≡ standings_in tallies
+  turned_standings = part_stays (λ (t : Tally). t.standing) tallies d old now old_at refl
+
+  pub turned_wanted : wanted_in (set tallies d now) ≡ wanted_in tallies
+  turned_wanted = part_stays (λ (t : Tally). t.wanted) tallies d old now old_at refl
+
+  pub turned_phases : phases_in (set tallies d now) ≡ set (phases_in tallies) d (phase_in state)
+  turned_phases = ap (map phase_in) (map-set (λ (t : Tally). t.state) tallies d now)
+      ∙ map-set phase_in (states_in tallies) d state
+
+  pub turned_spreading : (inputs : ℕ → List ℕ) (users : List (List Edge))
+      → (phase_in state ≡ Idle → ⊥) → IsSpreading inputs users tallies agenda []
+      → IsSpreading inputs users (set tallies d now) (noted agenda d old now) []
+  turned_spreading inputs users begun is = record {
+    first = is.first;
+    edges = subst (λ n. AreUsers inputs n users) (sym (length-set tallies d now)) is.edges;
+    heard = subst (HaveHeard inputs (set tallies d now)) (left_noted users agenda d old now [])
+        (heard_turned inputs (length tallies) users tallies d old state
+        (users_of_all users agenda.work) refl is.edges old_at turned begun is.heard);
+    listed = turned_agenda is.listed;
+  }
+
+-- all users were told, and what has begun was taken off the ring's front
+pub steady_after : (inputs : ℕ → List ℕ) (users : List (List Edge)) (tallies : List Tally)
+    (agenda later : Agenda) → IsSpreading inputs users tallies agenda [] → agenda.work ≡ []
+    → IsAgenda tallies later → IsFresh tallies later → later.work ≡ agenda.work
+    → IsSteady inputs users tallies later
+steady_after inputs users tallies agenda later is none listed fresh same = record {
+  told = record {
+    first = is.first;
+    edges = is.edges;
+    heard = subst (λ l. HaveHeard inputs tallies (users_of_all users l)) (sym same) is.heard;
+    listed = listed;
+  };
+  none = same ∙ none;
+  fresh = fresh;
+}

@@ -1,0 +1,15 @@
+use Rattle.std.proofs.Common.{◌≡◌, ◌∙◌, Some, sym, subst, drop}
+use Rattle.std.specs.Prelude.{slice_get}
+use Rattle.sched_core.specs.Agendas.{Agenda, IsAgenda, is_ready}
+use Rattle.sched_core.proofs.Agendas.{ring_falls_at}
+use Rattle.sched_core.proofs.agenda.Agenda.freshen.Goals as goal
+
+pub loop-d-preserved : goal.loop-d-preserved
+loop-d-preserved c =
+    let falls = ring_falls_at c.args.tallies.now _ c.in-Some.field-0.now _
+    (sym c.in-Some.ensures) (sym c.is_ready.ensures ∙ c.if-is_ready.false)
+    c.loop-d.invariant.is in
+    record {
+      is = rw c.pop_front.ensures.items falls;
+      work = c.loop-d.invariant.work;
+    }

@@ -1,0 +1,10 @@
+use Rattle.std.proofs.Common.{subst, sym}
+use Rattle.sched_core.specs.Tallies.{Turns, turns_done}
+use Rattle.sched_core.specs.declared.reason.State.TheVariants.{Done}
+use Rattle.sched_core.proofs.Tallied.{is_building}
+use Rattle.sched_core.proofs.course.Course.done.Goals as goal
+
+pub note-requires-clause-turns : goal.note-requires-clause-turns
+note-requires-clause-turns c = subst (λ s. Turns s Done)
+    (sym (is_building c.args.self.now c.args.d c.requires.1.0 c.requires.1.1))
+    (turns_done c.requires.1.0)

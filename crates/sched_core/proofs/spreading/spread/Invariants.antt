@@ -1,0 +1,13 @@
+use Rattle.std.proofs.Common.{ℕ, List, []}
+use Rattle.sched_core.specs.Agendas.{AreSameElse, IsSpreading, to_end}
+use Rattle.sched_core.proofs.spreading.spread.Given as goal
+
+abbrev pub invariant-loop-input : goal.invariant-loop-input
+invariant-loop-input l = record {
+  told : (inputs : ℕ → List ℕ) → IsSpreading inputs l.users l.fn.tallies l.fn.agenda []
+      → IsSpreading inputs l.users l.tallies l.agenda [];
+  same : AreSameElse l.fn.tallies l.tallies;
+}
+
+abbrev pub decreases-loop-input : goal.decreases-loop-input
+decreases-loop-input l = to_end l.tallies l.agenda

@@ -1,0 +1,20 @@
+use Rattle.std.proofs.Common.{◌≡◌, ℕ, List, drop, length}
+use Rattle.sched_core.specs.Agendas.{AreSameElse, IsSpreading, to_end}
+use Rattle.sched_core.specs.Coursing.{kept}
+use Rattle.sched_core.specs.States.{is_good}
+use Rattle.sched_core.specs.Tallies.{states_in}
+use Rattle.sched_core.specs.Users.{users_of}
+use Rattle.sched_core.proofs.spreading.tell.Given as goal
+
+abbrev pub invariant-loop-edge : goal.invariant-loop-edge
+invariant-loop-edge l = record {
+  items : l.edge-items ≡ users_of l.users l.input;
+  count : length l.tallies ≡ length l.fn.tallies;
+  good : l.good ≡ is_good (kept (states_in l.tallies) l.input);
+  told : (inputs : ℕ → List ℕ)
+      → IsSpreading inputs l.users l.fn.tallies l.fn.agenda (users_of l.users l.input)
+      → IsSpreading inputs l.users l.tallies l.agenda
+      (drop l.edge-index (users_of l.users l.input));
+  same : AreSameElse l.fn.tallies l.tallies;
+  measure : to_end l.tallies l.agenda ≡ to_end l.fn.tallies l.fn.agenda;
+}

@@ -1,0 +1,79 @@
+use Rattle.std.proofs.Common.{◌≡◌, ◌∙◌, ℕ, List, [], false, sym, subst, get_or, set}
+use Rattle.sched_core.specs.Agendas.{Agenda, IsAgenda, IsSpreading, noted}
+use Rattle.sched_core.specs.declared.reason.State.{State}
+use Rattle.sched_core.specs.declared.reason.State.TheVariants.{Done}
+use Rattle.sched_core.specs.declared.standing.Standing.TheVariants.{AllValid}
+use Rattle.sched_core.specs.declared.tally.Tally.{Tally}
+use Rattle.sched_core.proofs.Telling.{steady_after, turned_phases, turned_room, turned_settles, turned_space, turned_spreading, turned_standings, turned_wanted}
+use Rattle.sched_core.proofs.spreading.turn.Goals as goal
+
+-- what is read past the end of the tallies
+abbrev no_tally : Tally
+no_tally = record { standing = AllValid; wanted = false; state = Done; waits = 0; first = 0 }
+
+abbrev old : List Tally → ℕ → Tally
+old tallies d = get_or tallies d no_tally
+
+abbrev now : List Tally → ℕ → State → Tally
+now tallies d state = record (old tallies d) { state = state }
+
+pub note-requires-clause-room : goal.note-requires-clause-room
+note-requires-clause-room c =
+    turned_room c.args.tallies.now c.args.agenda.now c.args.d no_tally c.args.state
+    c.requires.within c.requires.turns c.requires.steady.1.told.listed
+
+pub note-requires-clause-space : goal.note-requires-clause-space
+note-requires-clause-space c =
+    turned_space c.args.tallies.now c.args.agenda.now c.args.d no_tally c.args.state
+    c.requires.within c.requires.turns c.requires.steady.1.told.listed
+
+pub note-requires-clause-unsettled : goal.note-requires-clause-unsettled
+note-requires-clause-unsettled c =
+    turned_settles c.args.tallies.now c.args.agenda.now c.args.d no_tally c.args.state
+    c.requires.within c.requires.turns c.requires.steady.1.told.listed
+
+pub spread-requires : goal.spread-requires
+spread-requires c =
+    (c.requires.steady.0, subst (λ (a : Agenda). IsSpreading c.requires.steady.0 c.args.users.now
+    (set c.args.tallies.now c.args.d (now c.args.tallies.now c.args.d c.args.state)) a [])
+    (sym c.note.ensures)
+    (turned_spreading c.args.tallies.now c.args.agenda.now c.args.d no_tally c.args.state
+    c.requires.within c.requires.turns c.requires.steady.0 c.args.users.now c.requires.begun
+    c.requires.steady.1.told))
+
+pub freshen-requires : goal.freshen-requires
+freshen-requires c =
+    (c.spread.ensures.told c.requires.steady.0
+    (subst (λ (a : Agenda). IsSpreading c.requires.steady.0 c.args.users.now
+    (set c.args.tallies.now c.args.d (now c.args.tallies.now c.args.d c.args.state)) a [])
+    (sym c.note.ensures)
+    (turned_spreading c.args.tallies.now c.args.agenda.now c.args.d no_tally c.args.state
+    c.requires.within c.requires.turns c.requires.steady.0 c.args.users.now c.requires.begun
+    c.requires.steady.1.told))).listed
+
+pub returns-clause-steady : goal.returns-clause-steady
+returns-clause-steady c inputs steady =
+    steady_after inputs c.args.users.now c.spread.new.tallies c.spread.new.agenda
+    c.freshen.new.self
+    (c.spread.ensures.told inputs
+    (subst (λ (a : Agenda). IsSpreading inputs c.args.users.now
+    (set c.args.tallies.now c.args.d (now c.args.tallies.now c.args.d c.args.state)) a [])
+    (sym c.note.ensures)
+    (turned_spreading c.args.tallies.now c.args.agenda.now c.args.d no_tally c.args.state
+    c.requires.within c.requires.turns inputs c.args.users.now c.requires.begun steady.told)))
+    c.spread.ensures.none c.freshen.ensures.is c.freshen.ensures.fresh c.freshen.ensures.work
+
+pub returns-clause-standings : goal.returns-clause-standings
+returns-clause-standings c = c.spread.ensures.same.standings
+    ∙ turned_standings c.args.tallies.now c.args.agenda.now c.args.d no_tally c.args.state
+    c.requires.within c.requires.turns
+
+pub returns-clause-wanted : goal.returns-clause-wanted
+returns-clause-wanted c = c.spread.ensures.same.wanted
+    ∙ turned_wanted c.args.tallies.now c.args.agenda.now c.args.d no_tally c.args.state
+    c.requires.within c.requires.turns
+
+pub returns-clause-phases : goal.returns-clause-phases
+returns-clause-phases c = c.spread.ensures.same.phases
+    ∙ turned_phases c.args.tallies.now c.args.agenda.now c.args.d no_tally c.args.state
+    c.requires.within c.requires.turns

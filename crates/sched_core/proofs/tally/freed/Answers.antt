@@ -1,0 +1,20 @@
+use Rattle.std.proofs.Common.{sym, subst, refl}
+use Rattle.sched_core.specs.Tallies.{Turns, turns_freed, turns_stays}
+use Rattle.sched_core.specs.declared.reason.State.TheVariants.{Ready, Blocked}
+use Rattle.sched_core.proofs.ToldStates.{not_freed}
+use Rattle.sched_core.proofs.tally.freed.Goals as goal
+
+pub returns-then-all-clause-turns : goal.returns-then-all-clause-turns
+returns-then-all-clause-turns c = subst (λ s. Turns s Ready) (sym c.in-Blocked.is) turns_freed
+
+pub returns-else-all-clause-turns : goal.returns-else-all-clause-turns
+returns-else-all-clause-turns c =
+    subst (λ s. Turns s Blocked) (sym c.in-Blocked.is) (turns_stays Blocked)
+
+pub returns-in_default : goal.returns-in_default
+returns-in_default c = record {
+  is = λ standing first is.
+      not_freed c.args.state standing first c.args.all c.in_default.not-Blocked is;
+  phase = refl;
+  turns = turns_stays c.args.state;
+}

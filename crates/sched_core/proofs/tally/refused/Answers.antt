@@ -1,0 +1,33 @@
+use Rattle.std.proofs.Common.{refl, sym, subst, ⊎_elim, false}
+use Rattle.sched_core.specs.Tallies.{Turns, turns_named, turns_refused, turns_stays}
+use Rattle.sched_core.specs.States.{by_first}
+use Rattle.sched_core.specs.declared.reason.Refusal.TheVariants.{InputNotRealised}
+use Rattle.sched_core.specs.declared.reason.State.TheVariants.{Refused}
+use Rattle.sched_core.proofs.ToldStates.{hindered_stays, not_refused}
+use Rattle.sched_core.proofs.tally.refused.Goals as goal
+
+pub returns-in-Blocked-clause-turns : goal.returns-in-Blocked-clause-turns
+returns-in-Blocked-clause-turns c = ⊎_elim
+    (λ blocked. subst (λ s. Turns s (Refused (InputNotRealised c.args.input))) (sym blocked)
+    (turns_refused (InputNotRealised c.args.input)))
+    (λ named. subst (λ s. Turns s (Refused (InputNotRealised c.args.input))) (sym named.1)
+    (turns_named named.0 (InputNotRealised c.args.input)))
+    c.in-Blocked.is
+
+pub returns-in_default-state : goal.returns-in_default-state
+returns-in_default-state c = record {
+  is = λ first is.
+      not_refused c.args.state c.args.standing first c.args.input c.in-Free.is
+      c.in_default-state.not-Blocked c.in_default-state.not-Refused is;
+  phase = refl;
+  turns = turns_stays c.args.state;
+}
+
+pub returns-in_default : goal.returns-in_default
+returns-in_default c = record {
+  is = λ first is.
+      hindered_stays c.args.state c.args.standing (by_first first false)
+      (Refused (InputNotRealised c.args.input)) c.in_default.not-Free is;
+  phase = refl;
+  turns = turns_stays c.args.state;
+}

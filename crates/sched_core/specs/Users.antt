@@ -1,0 +1,32 @@
+-- *Reverse edges*: from each derivation of a plan to those that have it as an input (this product's
+-- own).
+use Rattle.std.specs.Prelude.{◌≡◌, ◌<◌, ◌+◌, ◌==◌, ◌&&◌, ℕ, zero, suc, Option, Some, None, List, [], ◌∷◌, ◌++◌, All, length, slice_get, if◌then◌else◌}
+use Rattle.std.specs.List.{slice_index_or}
+use Rattle.sched_core.specs.declared.users.Edge.{Edge}
+
+-- how often the edge to this user, in whose text the input stands at this place, is in a list
+abbrev pub times : (user place : ℕ) → List Edge → ℕ
+times user place [] = 0
+times user place (edge ∷ edges) =
+    (if (edge.user == user) && (edge.place == place) then 1 else 0) + times user place edges
+
+-- 1 where there is a number and it is this one
+abbrev pub once_at : Option ℕ → ℕ → ℕ
+once_at (Some number) input = if number == input then 1 else 0
+once_at None input = 0
+
+-- the edges to the users of an input
+abbrev pub users_of : List (List Edge) → ℕ → List Edge
+users_of users input = slice_index_or users input []
+
+-- the edges to the users of some inputs, one after the other
+abbrev pub users_of_all : List (List Edge) → List ℕ → List Edge
+users_of_all users [] = []
+users_of_all users (input ∷ inputs) = users_of users input ++ users_of_all users inputs
+
+-- Of each derivation, the edges to its users: once for each place at which it is an input of one.
+pub record AreUsers (inputs : ℕ → List ℕ) (count : ℕ) (users : List (List Edge)) : Type 0 where
+  pub rows : length users ≡ count
+  pub each : (input user place : ℕ) → input < count → user < count
+      → times user place (users_of users input) ≡ once_at (slice_get (inputs user) place) input
+  pub within : (input : ℕ) → All (λ (edge : Edge). edge.user < count) (users_of users input)

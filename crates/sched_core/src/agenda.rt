@@ -1,0 +1,152 @@
+//! What is still to be done of a plan: which derivations can be begun, and of which the users are
+//! still to be told.
+ghost use Rattle.std.specs.Prelude.{◌≡◌, ◌≤◌, ◌==◌, [], IfErr, IfOk, Option, if◌then◌else◌, length, slice_get, drop};
+ghost use Rattle.sched_core.specs.Agendas.{IsAgenda, IsFresh, is_blocked, is_open, is_ready, noted, settles};
+
+use crate::reason::State;
+use crate::tally::Tally;
+use circular_buffer::HeapCircularBuffer;
+use std::alloc::{AllocError, Global};
+use std::marker::Model;
+
+// What is still to be done of a plan. In each list is room for all that may come.
+#[derive(Debug, Drop)]
+pub(crate) struct Agenda {
+    // Wanted derivations that are Ready, and behind the first of them some that were and have begun.
+    ring: HeapCircularBuffer<usize>,
+    // Those whose users are still to be told.
+    work: HeapCircularBuffer<usize>,
+    // How many wanted ones have something before them.
+    unsettled: usize,
+    // How many states were worked out, and edges to users followed.
+    steps: u64,
+}
+
+impl Model for Agenda {
+    ghost use Rattle.sched_core.specs.Agendas.{Agenda};
+
+    ghost Value = { Agenda };
+
+    ghost view = { λ a. record {
+      ring = a.ring.items;
+      room = a.ring.capacity;
+      work = a.work.items;
+      space = a.work.capacity;
+      unsettled = a.unsettled;
+    } };
+}
+
+impl Agenda {
+    // What is to be done where the derivations have these tallies. Takes memory for all that may
+    // come.
+    pub(crate) fn open(alloc: Global, tallies: &[Tally]) -> Result<Agenda, AllocError>
+        ensures is { IfOk result (λ agenda. IsAgenda tallies.now agenda) }
+        ensures fresh { IfOk result (λ agenda. IsFresh tallies.now agenda) }
+        ensures none { IfOk result (λ agenda. agenda.work ≡ []) }
+    {
+        let mut ring = HeapCircularBuffer::with_capacity(alloc, tallies.len())?;
+        let work = HeapCircularBuffer::with_capacity(alloc, tallies.len())?;
+        let mut unsettled = 0;
+        for (d, tally) in tallies.iter().enumerate() {
+            if tally.wanted && is_open(tally.state) {
+                unsettled += 1;
+                if is_ready(tally.state) {
+                    ring.push_back(d);
+                }
+            }
+        }
+        Ok(Agenda {
+            ring,
+            work,
+            unsettled,
+            steps: 0,
+        })
+    }
+
+    // The first that can be begun, or has begun.
+    pub(crate) fn first(&self) -> Option<usize>
+        ensures { result ≡ slice_get self.now.ring 0 }
+    {
+        self.ring.front().copied()
+    }
+
+    // Whether no wanted derivation has anything before it.
+    pub(crate) fn is_settled(&self) -> bool
+        ensures { result ≡ (self.now.unsettled == 0) }
+    {
+        self.unsettled == 0
+    }
+
+    // How many states were worked out, and edges to users followed.
+    pub(crate) fn steps(&self) -> u64 {
+        self.steps
+    }
+
+    // Counts an edge that is followed.
+    pub(crate) fn follow(&mut self)
+        ensures { self.new ≡ self.old }
+    {
+        self.steps = self.steps.wrapping_add(1);
+    }
+
+    // Notes that the tally of a derivation changed so. Takes no memory.
+    pub(crate) fn note(&mut self, d: usize, before: Tally, after: Tally)
+        requires room { length (noted self.old d before after).ring ≤ self.old.room }
+        requires space { length (noted self.old d before after).work ≤ self.old.space }
+        requires unsettled { (if settles before after then 1 else 0) ≤ self.old.unsettled }
+        ensures { self.new ≡ noted self.old d before after }
+    {
+        self.steps = self.steps.wrapping_add(1);
+        if after.wanted && is_blocked(before.state) && is_ready(after.state) {
+            self.ring.push_back(d);
+        }
+        if is_open(before.state) && !is_open(after.state) {
+            self.work.push_back(d);
+            if after.wanted {
+                self.unsettled -= 1;
+            }
+        }
+    }
+
+    // Takes the first of those whose users are to be told.
+    pub(crate) fn take(&mut self) -> Option<usize>
+        ensures value { result ≡ slice_get self.old.work 0 }
+        ensures rest { self.new ≡ record self.old { work = drop 1 self.old.work } }
+    {
+        self.work.pop_front()
+    }
+
+    // Takes those off the front that have begun.
+    pub(crate) fn freshen(&mut self, tallies: &[Tally])
+        requires { IsAgenda tallies.now self.old }
+        ensures is { IsAgenda tallies.now self.new }
+        ensures fresh { IsFresh tallies.now self.new }
+        ensures work { self.new.work ≡ self.old.work }
+    {
+        while let Some(&d) = self.ring.front() {
+            if is_ready(tallies[d].state) {
+                return;
+            }
+            self.ring.pop_front();
+        }
+    }
+}
+
+fn is_ready(state: State) -> bool
+    ensures { result ≡ is_ready state }
+{
+    matches!(state, State::Ready)
+}
+
+fn is_blocked(state: State) -> bool
+    ensures { result ≡ is_blocked state }
+{
+    matches!(state, State::Blocked)
+}
+
+// Whether a derivation in this state still has something before it.
+fn is_open(state: State) -> bool
+    ensures { result ≡ is_open state }
+{
+    matches!(state, State::Blocked | State::Ready | State::Building(_))
+}
