@@ -22,7 +22,7 @@ pub mod SeedParts
 pub mod Seeds
 pub mod StateLaws
 pub mod Tabled
-pub mod UserRows
+pub mod UserSpans
 pub mod Verdicts
 pub mod Walks
 pub mod Wanting
