@@ -5,6 +5,8 @@ pub mod Cycles
 pub mod DoneEntries
 pub mod Dones
 pub mod Ending
+pub mod ExaminedRecords
+pub mod Followed
 pub mod Hearing
 pub mod Histories
 pub mod JobParts
@@ -28,10 +30,8 @@ pub mod Tabled
 pub mod Tallied
 pub mod Telling
 pub mod ToldStates
-pub mod UserRows
+pub mod UserSpans
 pub mod Verdicts
 pub mod Walks
 pub mod Wanting
 pub mod Wordings
-pub mod ExaminedRecords
-pub mod Followed

@@ -17,7 +17,7 @@ pub mod SameJobs
 pub mod Seeding
 pub mod States
 pub mod Tallies
-pub mod UserRows
+pub mod UserSpans
 pub mod Users
 pub mod VerdictLaws
 pub mod Verdicts

@@ -54,6 +54,8 @@ mod standings;
 mod states;
 mod tally;
 mod users;
+#[cfg(test)]
+mod users_tests;
 mod verdict;
 #[cfg(test)]
 mod verdict_tests;

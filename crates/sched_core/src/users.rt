@@ -1,14 +1,16 @@
 //! Reverse edges: from each derivation of a plan to those that have it as an input.
-ghost use Rattle.std.specs.Prelude.{◌≡◌, ◌<◌, All, IfErr, IfOk, OnOk, [], length, slice_get};
+ghost use Rattle.std.specs.Prelude.{◌≡◌, ◌<◌, ◌+◌, ◌^◌, ℕ, All, IfErr, IfOk, length, slice_get, slice_index};
+ghost use Rattle.std.specs.List.{sum};
 ghost use Rattle.sched_core.specs.Runs.{inputs_at};
-ghost use Rattle.sched_core.specs.UserRows.{AddsUser, row_at};
+ghost use Rattle.sched_core.specs.UserSpans.{AddsUser, HaveRoom, often, parts, uses};
 ghost use Rattle.sched_core.specs.Users.{AreUsers, users_of};
 ghost use Rattle.sched_core.specs.declared.fault.BookFault.TheVariants.{NoMemory};
+ghost use Rattle.sched_core.specs.declared.users.Span.{Span};
 
 use crate::fault::BookFault;
 use crate::states::inputs_of;
 use drv_graph::Plan;
-use std::alloc::{AllocError, AllocFailed, Global};
+use std::alloc::{AllocError, Global};
 use std::marker::Model;
 
 // The edge to a user of an input, which stands in the user's text at this place.
@@ -18,35 +20,50 @@ pub(crate) struct Edge {
     pub(crate) place: usize,
 }
 
-// Of each derivation, the edges to its users.
+// Of each derivation, the edges to its users: those of one stand side by side.
 #[derive(Debug, Drop)]
 pub(crate) struct Users {
-    rows: Vec<Vec<Edge>>,
+    spans: Vec<Span>,
+    edges: Vec<Edge>,
+}
+
+// Where edges stand: from one place up to another.
+#[derive(Clone, Copy, Debug)]
+struct Span {
+    start: usize,
+    end: usize,
 }
 
 impl Model for Users {
-    ghost use Rattle.std.specs.Prelude.{List, map};
+    ghost use Rattle.std.specs.Prelude.{List};
+    ghost use Rattle.sched_core.specs.UserSpans.{HaveRoom, parts};
     ghost use Rattle.sched_core.specs.declared.users.Edge.{Edge};
 
     ghost Value = { List (List Edge) };
 
-    ghost view = { λ u. map (λ row. row.items) u.rows.items };
+    ghost use Rattle.std.specs.Prelude.{length};
+
+    ghost view = { λ u. parts u.spans.items u.edges.items };
+
+    ghost invariant = { λ u. HaveRoom u.spans.items (length u.edges.items) (λ input. 0) };
 }
 
 impl Users {
-    // The reverse edges of a plan. `NoMemory`, the only fault, where memory is refused. Costs a step
-    // for each derivation and each pair of one and an input of it.
+    // The reverse edges of a plan. `NoMemory`, the only fault, where memory is refused. Costs a few
+    // steps for each derivation and each pair of one and an input of it.
     pub(crate) fn open(alloc: Global, plan: &Plan) -> Result<Users, BookFault>
         ensures ok { IfOk result (λ users.
             AreUsers (λ d. inputs_at plan.now.nodes (slice_get plan.now.nodes d))
             (length plan.now.nodes) users) }
         ensures err { IfErr result (λ fault. fault ≡ NoMemory) }
     {
-        let mut rows = no_edges(alloc, plan.len())?;
+        let counts = counts_of(alloc, plan)?;
+        let (mut spans, places) = empty_spans(alloc, &counts)?;
+        let mut edges = vec![in alloc; Edge { user: 0, place: 0 }; places]?;
         for d in 0..plan.len() {
-            add_edges(d, inputs_of(plan, d), &mut rows)?;
+            add_edges(d, inputs_of(plan, d), &mut spans, &mut edges);
         }
-        Ok(Users { rows })
+        Ok(Users { spans, edges })
     }
 
     // The edges to the users of this derivation.
@@ -54,35 +71,84 @@ impl Users {
         requires { input < length self.now }
         ensures { result.now ≡ users_of self.now input }
     {
-        &self.rows[input]
+        let span = self.spans[input];
+        &self.edges[span.start..span.end]
     }
 }
 
-// Lists without edges, so many.
-fn no_edges(alloc: Global, count: usize) -> Result<Vec<Vec<Edge>>, AllocError>
-    ensures count { IfOk result (λ rows. length rows.items ≡ count) }
-    ensures none { IfOk result (λ rows. (d : _) → row_at rows.items d ≡ []) }
+// Of each derivation of a plan, how often it is an input.
+fn counts_of(alloc: Global, plan: &Plan) -> Result<Vec<usize>, BookFault>
+    ensures size { IfOk result (λ counts. length counts.items ≡ length plan.now.nodes) }
+    ensures few { IfOk result (λ counts. sum counts.items < 2 ^ 64) }
+    ensures each { IfOk result (λ counts. (n : ℕ) → n < length plan.now.nodes
+        → slice_index counts.items n
+        ≡ uses (λ d. inputs_at plan.now.nodes (slice_get plan.now.nodes d))
+        (length plan.now.nodes) n) }
+    ensures err { IfErr result (λ fault. fault ≡ NoMemory) }
 {
-    let mut rows = Vec::with_capacity(alloc, count)?;
-    for _ in 0..count {
-        rows.push(Vec::new(alloc))?;
+    let mut counts = vec![in alloc; 0; plan.len()]?;
+    let mut total: usize = 0;
+    for user in 0..plan.len() {
+        let inputs = inputs_of(plan, user);
+        total = total.checked_add(inputs.len()).ok_or(BookFault::NoMemory)?;
+        count_inputs(inputs, &mut counts);
     }
-    Ok(rows)
+    Ok(counts)
 }
 
-// Adds the edges of a user with these inputs.
-fn add_edges(
-    user: usize,
-    inputs: &[usize],
-    rows: &mut Vec<Vec<Edge>>,
-) -> Result<(), AllocFailed<Edge>>
-    requires { All (λ input. input < length rows.old.items) inputs.now }
-    ensures count { length rows.new.items ≡ length rows.old.items }
-    ensures adds { OnOk result (AddsUser user inputs.now (length rows.old.items)
-        (row_at rows.old.items) (row_at rows.new.items)) }
+// Counts each of some inputs once more.
+fn count_inputs(inputs: &[usize], counts: &mut [usize])
+    requires within { All (λ input. input < length counts.old) inputs.now }
+    requires few { sum counts.old + length inputs.now < 2 ^ 64 }
+    ensures size { length counts.new ≡ length counts.old }
+    ensures total { sum counts.new ≡ sum counts.old + length inputs.now }
+    ensures each { (n : ℕ) → n < length counts.old
+        → slice_index counts.new n ≡ slice_index counts.old n + often n inputs.now }
+{
+    for &input in inputs {
+        counts[input] += 1;
+    }
+}
+
+// Empty spans with room for so many edges each, and for how many in all.
+fn empty_spans(alloc: Global, counts: &[usize]) -> Result<(Vec<Span>, usize), AllocError>
+    requires { sum counts.now < 2 ^ 64 }
+    ensures size { IfOk result (λ laid. length laid.0.items ≡ length counts.now) }
+    ensures empty { IfOk result (λ laid. All (λ (span : Span). span.start ≡ span.end)
+        laid.0.items) }
+    ensures room { IfOk result (λ laid. HaveRoom laid.0.items laid.1
+        (λ n. slice_index counts.now n)) }
+{
+    let mut spans = Vec::with_capacity(alloc, counts.len())?;
+    let mut places: usize = 0;
+    for &count in counts {
+        spans.push(Span {
+            start: places,
+            end: places,
+        })?;
+        places += count;
+    }
+    Ok((spans, places))
+}
+
+// Adds the edges of a user with these inputs, each at the end of its input's span.
+fn add_edges(user: usize, inputs: &[usize], spans: &mut [Span], edges: &mut [Edge])
+    requires within { All (λ input. input < length spans.old) inputs.now }
+    requires room { HaveRoom spans.old (length edges.old) (λ n. often n inputs.now) }
+    ensures spans { length spans.new ≡ length spans.old }
+    ensures edges { length edges.new ≡ length edges.old }
+    ensures room { (left : ℕ → ℕ)
+        → HaveRoom spans.old (length edges.old) (λ n. often n inputs.now + left n)
+        → HaveRoom spans.new (length edges.new) left }
+    ensures adds { AddsUser user inputs.now (length spans.old)
+        (users_of (parts spans.old edges.old)) (users_of (parts spans.new edges.new)) }
 {
     for (place, &input) in inputs.iter().enumerate() {
-        rows[input].push(Edge { user, place })?;
+        let span = spans[input];
+        edges[span.end] = Edge { user, place };
+        spans[input] = Span {
+            end: span.end + 1,
+            ..span
+        };
     }
-    Ok(())
 }

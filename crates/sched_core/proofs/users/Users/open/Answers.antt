@@ -1,13 +1,111 @@
-use Rattle.std.proofs.Common.{arith, map}
-use Rattle.std.proofs.lemmas.List.{length-map}
-use Rattle.std.specs.Prelude.{length, slice_get}
+use Rattle.std.proofs.Common.{◌≡◌, ◌∙◌, ◌<◌, ◌+◌, ◌-◌, ℕ, List, ap, arith, get_or, length, subst, sym}
+use Rattle.std.specs.Prelude.{slice_get}
+use Rattle.std.proofs.lemmas.List.{take_at}
 use Rattle.sched_core.specs.Runs.{inputs_at}
-use Rattle.sched_core.proofs.UserRows.{first_all, first_more, first_none}
+use Rattle.sched_core.specs.UserSpans.{AddsUser, HaveRoom, often, parts, uses}
+use Rattle.sched_core.specs.Users.{users_of}
+use Rattle.sched_core.specs.declared.users.Edge.{Edge}
+use Rattle.sched_core.specs.declared.users.Span.{Span}
+use Rattle.sched_core.proofs.UserSpans.{AreOfFirst, first_more, first_none, parts_none, room_less, room_others, room_own}
 use Rattle.sched_core.proofs.users.Users.open.Goals as goal
 
-pub returns-clause-ok : goal.returns-clause-ok
-returns-clause-ok c =
-    first_all (λ d. inputs_at c.args.plan.now.nodes (slice_get c.args.plan.now.nodes d))
-    (length c.args.plan.now.nodes) c.loop-d.d _
-    (omega (arith, length-map c.loop-d.rows.items (λ row. row.items), c.loop-d.invariant.count))
-    (omega (arith, c.loop-d-test.false, c.len-d-end.ensures.value)) c.loop-d.invariant.first
+pub loop-d-init : goal.loop-d-init
+loop-d-init c =
+    let nodes = c.args.plan.now.nodes in
+    let inputs = λ (d : ℕ). inputs_at nodes (slice_get nodes d) in
+    let spans = c.in_ok-spans.spans.items in
+    let edges = c.in_ok-edges.edges.items in
+    let counts = c.in_ok-counts.counts.items in
+    let count : length spans ≡ length nodes = c.in_ok-spans.ensures.size
+    ∙ ap length c.deref.ensures.value ∙ c.in_ok-counts.ensures.size in
+    let places : c.in_ok-spans.places ≡ length edges =
+    omega (arith, c.in_ok-edges.ensures.len, c.in_ok-edges.edges.ok.0) in
+    record {
+      count = count;
+      room = subst (λ size. HaveRoom spans size
+          (λ n. uses inputs (length nodes) n - uses inputs 0 n)) places
+          (room_less spans c.in_ok-spans.places _
+          (λ n. uses inputs (length nodes) n - uses inputs 0 n) c.in_ok-spans.ensures.room
+          (λ n within. omega (
+            arith,
+            c.in_ok-counts.ensures.each n (omega (arith, within, count)),
+            ap (λ l. get_or l n 0) c.deref.ensures.value,
+          )));
+      first = first_none inputs (length nodes) (users_of (parts spans edges))
+          (λ d low. parts_none spans edges c.in_ok-spans.ensures.empty d
+          (omega (arith, low, count)));
+    }
+
+pub add_edges-requires-clause-room : goal.add_edges-requires-clause-room
+add_edges-requires-clause-room c =
+    let nodes = c.args.plan.now.nodes in
+    let inputs = λ (d : ℕ). inputs_at nodes (slice_get nodes d) in
+    let low : c.loop-d.d < length nodes =
+    omega (arith, c.loop-d-test.true, c.len-d-end.ensures.value) in
+    subst (λ l. HaveRoom l (length c.deref_mut-in-loop-d.result.now)
+    (λ n. often n c.inputs_of.result.now)) (sym c.deref_mut.ensures.value)
+    (subst (λ l. HaveRoom c.loop-d.spans.items (length l)
+    (λ n. often n c.inputs_of.result.now)) (sym c.deref_mut-in-loop-d.ensures.value)
+    (room_own inputs (length nodes) c.loop-d.d c.loop-d.spans.items (length c.loop-d.edges.items)
+    low c.loop-d.invariant.room c.inputs_of.result.now c.inputs_of.ensures.numbers))
+
+-- what is so of spans and edges is so of the same written back
+both : (P : List Span → List Edge → Type 0) (spans there : List Span) (edges others : List Edge)
+    → spans ≡ there → edges ≡ others → P spans edges → P there others
+both P spans there edges others same also is =
+    subst (P there) also (subst (λ l. P l edges) same is)
+
+pub loop-d-preserved : goal.loop-d-preserved
+loop-d-preserved c =
+    let nodes = c.args.plan.now.nodes in
+    let inputs = λ (d : ℕ). inputs_at nodes (slice_get nodes d) in
+    let d = c.loop-d.d in
+    let numbers = c.inputs_of.result.now in
+    let own : numbers ≡ inputs d = c.inputs_of.ensures.numbers in
+    let low : d < length nodes = omega (arith, c.loop-d-test.true, c.len-d-end.ensures.value) in
+    let spans = c.deref_mut.result.now in
+    let edges = c.deref_mut-in-loop-d.result.now in
+    let spans_lent : spans ≡ c.loop-d.spans.items = c.deref_mut.ensures.value in
+    let edges_lent : edges ≡ c.loop-d.edges.items = c.deref_mut-in-loop-d.ensures.value in
+    let new_spans = c.add_edges.new.spans in
+    let new_edges = c.add_edges.new.edges in
+    let spans_size : length new_spans ≡ c.loop-d.spans.len = c.add_edges.ensures.spans
+    ∙ ap length spans_lent ∙ sym c.loop-d.spans.ok.0 in
+    let edges_size : length new_edges ≡ c.loop-d.edges.len = c.add_edges.ensures.edges
+    ∙ ap length edges_lent ∙ sym c.loop-d.edges.ok.0 in
+    let spans_back = sym (take_at new_spans _ c.loop-d.spans.len spans_size) in
+    let edges_back = sym (take_at new_edges _ c.loop-d.edges.len edges_size) in
+    let size : length spans ≡ length nodes = ap length spans_lent ∙ c.loop-d.invariant.count in
+    let room : HaveRoom spans (length edges) (λ n. often n numbers
+    + (uses inputs (length nodes) n - uses inputs (d + 1) n)) =
+    both (λ l es. HaveRoom l (length es) (λ n. often n numbers
+    + (uses inputs (length nodes) n - uses inputs (d + 1) n)))
+    _ spans _ edges (sym spans_lent) (sym edges_lent)
+    (room_others inputs (length nodes) d c.loop-d.spans.items (length c.loop-d.edges.items) low
+    c.loop-d.invariant.room numbers own) in
+    let first : AreOfFirst inputs (length nodes) d (users_of (parts spans edges)) =
+    both (λ l es. AreOfFirst inputs (length nodes) d (users_of (parts l es)))
+    _ spans _ edges (sym spans_lent) (sym edges_lent) c.loop-d.invariant.first in
+    let adds : AddsUser d (inputs d) (length nodes) (users_of (parts spans edges))
+    (users_of (parts new_spans new_edges)) =
+    subst (λ l. AddsUser d l (length nodes) (users_of (parts spans edges))
+    (users_of (parts new_spans new_edges))) own
+    (subst (λ n. AddsUser d numbers n (users_of (parts spans edges))
+    (users_of (parts new_spans new_edges))) size c.add_edges.ensures.adds) in
+    record {
+      count = ap length (sym spans_back) ∙ c.add_edges.ensures.spans ∙ size;
+      room = both (λ l es. HaveRoom l (length es)
+          (λ n. uses inputs (length nodes) n - uses inputs (d + 1) n))
+          new_spans _ new_edges _ spans_back edges_back
+          (c.add_edges.ensures.room
+          (λ n. uses inputs (length nodes) n - uses inputs (d + 1) n) room);
+      first = both (λ l es. AreOfFirst inputs (length nodes) (d + 1) (users_of (parts l es)))
+          new_spans _ new_edges _ spans_back edges_back
+          (first_more inputs (length nodes) d (users_of (parts spans edges))
+          (users_of (parts new_spans new_edges)) low adds first);
+    }
+
+pub invariant_of-result : goal.invariant_of-result
+invariant_of-result c =
+    room_less c.loop-d.spans.items (length c.loop-d.edges.items) _ (λ n. 0) c.loop-d.invariant.room
+    (λ n within. omega arith)

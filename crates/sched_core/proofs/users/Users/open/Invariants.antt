@@ -1,14 +1,18 @@
--- The edges of the users so far are added.
-use Rattle.std.proofs.Common.{◌≡◌, length}
+-- The edges of the users so far are added, and the others have room.
+use Rattle.std.proofs.Common.{◌≡◌, ◌-◌, length}
 use Rattle.std.specs.Prelude.{slice_get}
 use Rattle.sched_core.specs.Runs.{inputs_at}
-use Rattle.sched_core.specs.UserRows.{row_at}
-use Rattle.sched_core.proofs.UserRows.{AreOfFirst}
+use Rattle.sched_core.specs.UserSpans.{HaveRoom, parts, uses}
+use Rattle.sched_core.specs.Users.{users_of}
+use Rattle.sched_core.proofs.UserSpans.{AreOfFirst}
 use Rattle.sched_core.proofs.users.Users.open.Given as goal
 
 abbrev pub invariant-loop-d : goal.invariant-loop-d
 invariant-loop-d l = record {
-  count : length l.rows.items ≡ length l.plan.nodes;
+  count : length l.spans.items ≡ length l.plan.nodes;
+  room : HaveRoom l.spans.items (length l.edges.items) (λ n.
+      uses (λ d. inputs_at l.plan.nodes (slice_get l.plan.nodes d)) (length l.plan.nodes) n
+      - uses (λ d. inputs_at l.plan.nodes (slice_get l.plan.nodes d)) l.d n);
   first : AreOfFirst (λ d. inputs_at l.plan.nodes (slice_get l.plan.nodes d))
-      (length l.plan.nodes) l.d (row_at l.rows.items);
+      (length l.plan.nodes) l.d (users_of (parts l.spans.items l.edges.items));
 }

@@ -1,0 +1,471 @@
+-- How the reverse edges of a plan are gathered, a user at a time.
+use Rattle.std.proofs.Common.{◌≡◌, ◌∙◌, ◌⊎◌, inl, inr, ⊎_elim, ℕ, zero, suc, ◌+◌, ◌<◌, ◌≤◌, Bool, cond, eqb, ltb, List, [], ◌∷◌, ◌++◌, length, get_or, sym, ap, subst, arith, ◌-◌, add-one, drop, take, ◌&&◌}
+use Rattle.std.specs.Prelude.{All, slice_get}
+use Rattle.std.proofs.Math.ListN.{set}
+use Rattle.std.proofs.lemmas.Bool.{cases_eq, cases_lt, eq-eqb, ne_eqb}
+use Rattle.std.proofs.lemmas.Bool.Decides.{nat_tests}
+use Rattle.std.proofs.lemmas.List.Elements.{All-push, All-nil}
+use Rattle.std.proofs.lemmas.List.{drop_more, drop-set-add, drop-set-lt, get_or-map, get_or-set_other, get_or-set_same, get_or_append_left, get_or_past, get_or_push, length-drop, length-set, length_push, take-set-le, take_more_set}
+use Rattle.nix_names.proofs.Lists.{taken_more}
+use Rattle.sched_core.specs.Users.{AreUsers, once_at, times, users_of}
+use Rattle.sched_core.specs.UserSpans.{AddsUser, HaveRoom, often, part, parts, span_at, uses}
+use Rattle.sched_core.specs.declared.users.Edge.{Edge}
+use Rattle.sched_core.specs.declared.users.Span.{Span}
+
+-- ---- one more edge
+
+times_push : (user place : ℕ) (edges : List Edge) (edge : Edge)
+    → times user place (edges ++ edge ∷ [])
+    ≡ times user place edges + cond (eqb edge.user user && eqb edge.place place) 1 0
+times_push user place [] edge = omega arith
+times_push user place (e ∷ edges) edge = omega (arith, times_push user place edges edge)
+
+-- numbers that differ
+apart : (k place : ℕ) (b : Bool) → (k ≡ place → ⊥)
+    → ◌≡◌ {A = ℕ} (cond (eqb k place && b) 1 0) 0
+apart k place b differ = ap (λ t. cond {A = ℕ} (t && b) 1 0) (ne_eqb k place differ)
+
+next_same : (k place : ℕ) → eqb (suc k) (suc place) ≡ eqb k place
+next_same k place = ⊎_elim
+    (λ same. eq-eqb (suc k) (suc place) (ap suc same) ∙ sym (eq-eqb k place same))
+    (λ differ. ne_eqb (suc k) (suc place) (λ e. differ (omega (arith, e)))
+    ∙ sym (ne_eqb k place differ))
+    (cases_eq k place)
+
+once_push : (xs : List ℕ) (x place input : ℕ) → once_at (slice_get (xs ++ x ∷ []) place) input
+    ≡ once_at (slice_get xs place) input + cond (eqb (length xs) place && eqb x input) 1 0
+once_push [] x zero input = omega arith
+once_push [] x (suc place) input =
+    omega (arith, apart 0 (suc place) (eqb x input) (λ e. omega (arith, e)))
+once_push (y ∷ xs) x zero input =
+    omega (arith, apart (suc (length xs)) 0 (eqb x input) (λ e. omega (arith, e)))
+once_push (y ∷ xs) x (suc place) input =
+    omega (
+      arith,
+      once_push xs x place input,
+      ap (λ t. cond {A = ℕ} (t && eqb x input) 1 0) (next_same (length xs) place),
+    )
+
+-- ---- the edges of one user
+
+pub adds_none : (user count : ℕ) (rows : ℕ → List Edge) → AddsUser user [] count rows rows
+adds_none user count rows = record {
+  each = λ input other place low. grind (arith, nat_tests);
+  within = λ input bound low less all. all;
+}
+
+pub adds_more : (user place : ℕ) (seen : List ℕ) (i count : ℕ) (old mid new : ℕ → List Edge)
+    → place ≡ length seen → new i ≡ mid i ++ record { user = user; place = place } ∷ []
+    → ((d : ℕ) → d < count → (d ≡ i → ⊥) → new d ≡ mid d)
+    → AddsUser user seen count old mid → AddsUser user (seen ++ i ∷ []) count old new
+adds_more user k seen i count old mid new size at others prior = record {
+  each = λ input other place low. each input other place low (cases_eq input i);
+  within = λ input bound low less all. within input bound low less all (cases_eq input i);
+}
+  where
+    each : (input other place : ℕ) → input < count → (input ≡ i) ⊎ (input ≡ i → ⊥)
+        → times other place (new input) ≡ times other place (old input)
+        + cond (eqb other user) (once_at (slice_get (seen ++ i ∷ []) place) input) 0
+    each input other place low (inl same) =
+        let here : new input ≡ mid input ++ record { user = user; place = k } ∷ [] =
+        subst (λ d. new d ≡ mid d ++ record { user = user; place = k } ∷ []) (sym same) at
+        in
+        let more = ap (times other place) here ∙ times_push other place (mid input)
+        (record { user = user; place = k }) in
+        let was = prior.each input other place low in
+        let once = once_push seen i place input in
+        grind (arith, nat_tests, size, more, was, once)
+    each input other place low (inr apart) =
+        let stays = ap (times other place) (others input low apart) in
+        let was = prior.each input other place low in
+        let once = once_push seen i place input in
+        grind (arith, nat_tests, stays, was, once)
+
+    within : (input bound : ℕ) → input < count → user < bound
+        → All (λ (edge : Edge). edge.user < bound) (old input) → (input ≡ i) ⊎ (input ≡ i → ⊥)
+        → All (λ (edge : Edge). edge.user < bound) (new input)
+    within input bound low less all (inl same) =
+        let here : new input ≡ mid input ++ record { user = user; place = k } ∷ [] =
+        subst (λ d. new d ≡ mid d ++ record { user = user; place = k } ∷ []) (sym same) at
+        in
+        subst (All (λ (edge : Edge). edge.user < bound)) (sym here)
+        (All-push (λ (edge : Edge). edge.user < bound) (mid input)
+        (record { user = user; place = k }) (prior.within input bound low less all) less)
+    within input bound low less all (inr apart) =
+        subst (All (λ (edge : Edge). edge.user < bound)) (sym (others input low apart))
+        (prior.within input bound low less all)
+
+-- ---- the edges of the first users
+
+-- The edges to the first users, so many, by input.
+pub record AreOfFirst (inputs : ℕ → List ℕ) (count done : ℕ) (rows : ℕ → List Edge) : Type 0 where
+  pub each : (input user place : ℕ) → input < count
+      → times user place (rows input)
+      ≡ cond (ltb user done) (once_at (slice_get (inputs user) place) input) 0
+  pub within : (input : ℕ) → input < count → All (λ (edge : Edge). edge.user < count) (rows input)
+
+pub first_none : (inputs : ℕ → List ℕ) (count : ℕ) (rows : ℕ → List Edge)
+    → ((d : ℕ) → d < count → rows d ≡ []) → AreOfFirst inputs count 0 rows
+first_none inputs count rows none = record {
+  each = λ input user place low. ap (times user place) (none input low) ∙ grind (arith, nat_tests);
+  within = λ input low. subst (All (λ (edge : Edge). edge.user < count)) (sym (none input low))
+      (All-nil (λ (edge : Edge). edge.user < count));
+}
+
+pub first_more : (inputs : ℕ → List ℕ) (count d : ℕ) (old new : ℕ → List Edge) → d < count
+    → AddsUser d (inputs d) count old new → AreOfFirst inputs count d old
+    → AreOfFirst inputs count (d + 1) new
+first_more inputs count d old new low adds before = record {
+  each = λ input user place less. each input user place less (cases_eq user d);
+  within = λ input less. adds.within input count less low (before.within input less);
+}
+  where
+    each : (input user place : ℕ) → input < count → (user ≡ d) ⊎ (user ≡ d → ⊥)
+        → times user place (new input)
+        ≡ cond (ltb user (d + 1)) (once_at (slice_get (inputs user) place) input) 0
+    each input user place less (inl same) =
+        let more = adds.each input user place less in
+        let was = before.each input user place less in
+        let own = ap (λ n. once_at (slice_get (inputs n) place) input) same in
+        grind (arith, nat_tests, more, was, own)
+    each input user place less (inr apart) =
+        let more = adds.each input user place less in
+        let was = before.each input user place less in
+        grind (arith, nat_tests, more, was)
+
+pub first_all : (inputs : ℕ → List ℕ) (count done : ℕ) (rows : List (List Edge))
+    → length rows ≡ count → count ≤ done → AreOfFirst inputs count done (users_of rows)
+    → AreUsers inputs count rows
+first_all inputs count done rows size all first = record {
+  rows = size;
+  each = λ input user place low less.
+      let is = first.each input user place low in
+      grind (arith, nat_tests, is);
+  within = λ input. ⊎_elim (λ low. first.within input low)
+      (λ past. subst (All (λ (edge : Edge). edge.user < count))
+      (sym (get_or_past rows input [] (omega (arith, past, size))))
+      (All-nil (λ (edge : Edge). edge.user < count)))
+      (cases_lt input count);
+}
+
+-- ---- how many users there are
+
+pub often_push : (n : ℕ) (xs : List ℕ) (x : ℕ) → often n (xs ++ x ∷ [])
+    ≡ often n xs + cond (eqb x n) 1 0
+often_push n [] x = omega arith
+often_push n (y ∷ xs) x = omega (arith, often_push n xs x)
+
+-- what is left after one more input has one less of it, and as many of each other
+pub often_here : (inputs : List ℕ) (k i : ℕ) → k < length inputs → i ≡ get_or inputs k i
+    → often i (drop k inputs) ≡ often i (drop (k + 1) inputs) + 1
+often_here inputs k i low is =
+    let first = ap (often i) (drop_more inputs k i low) in
+    let one : ◌≡◌ {A = ℕ} (cond (eqb (get_or inputs k i) i) 1 0) 1 =
+    ap (λ t. cond {A = ℕ} t 1 0) (eq-eqb (get_or inputs k i) i (sym is)) in
+    omega (arith, first, one)
+
+pub often_other : (inputs : List ℕ) (k i n : ℕ) → k < length inputs → i ≡ get_or inputs k i
+    → (n ≡ i → ⊥) → often n (drop k inputs) ≡ often n (drop (k + 1) inputs)
+often_other inputs k i n low is differ =
+    let first = ap (often n) (drop_more inputs k i low) in
+    let none : ◌≡◌ {A = ℕ} (cond (eqb (get_or inputs k i) n) 1 0) 0 =
+    ap (λ t. cond {A = ℕ} t 1 0)
+    (ne_eqb (get_or inputs k i) n (λ e. differ (sym e ∙ sym is))) in
+    omega (arith, first, none)
+
+-- the counts after one more input
+pub counted : (inputs : List ℕ) (k i : ℕ) (before counts : List ℕ) → k < length inputs
+    → i ≡ get_or inputs k i → i < length counts
+    → ((n : ℕ) → n < length before → get_or counts n 0
+    ≡ get_or before n 0 + often n (take k inputs))
+    → (n : ℕ) → n < length before → get_or (set counts i (get_or counts i 0 + 1)) n 0
+    ≡ get_or before n 0 + often n (take (k + 1) inputs)
+counted inputs k i before counts low is within each n less =
+    let more = ap (often n) (taken_more inputs k i low is) ∙ often_push n (take k inputs) i in
+    let was = each n less in
+    ⊎_elim
+    (λ (same : n ≡ i).
+    let here = ap (λ m. get_or (set counts i (get_or counts i 0 + 1)) m 0) same
+    ∙ get_or-set_same counts i (get_or counts i 0 + 1) 0 within in
+    let one : ◌≡◌ {A = ℕ} (cond (eqb i n) 1 0) 1 =
+    ap (λ t. cond {A = ℕ} t 1 0) (eq-eqb i n (sym same)) in
+    let there = ap (λ m. get_or counts m 0) same in
+    omega (arith, more, was, here, one, there))
+    (λ differ.
+    let here = get_or-set_other counts i n (get_or counts i 0 + 1) 0 differ in
+    let none : ◌≡◌ {A = ℕ} (cond (eqb i n) 1 0) 0 =
+    ap (λ t. cond {A = ℕ} t 1 0) (ne_eqb i n (λ e. differ (sym e))) in
+    omega (arith, more, was, here, none))
+    (cases_eq n i)
+
+-- more users, no fewer uses
+pub uses_grow : (inputs : ℕ → List ℕ) (n few count : ℕ) → few ≤ count
+    → uses inputs few n ≤ uses inputs count n
+uses_grow inputs n few zero less =
+    let none : few ≡ 0 = omega (arith, less) in
+    omega (arith, ap (λ c. uses inputs c n) none)
+uses_grow inputs n few (suc count) less = ⊎_elim
+    (λ same. omega (arith, ap (λ c. uses inputs c n) same))
+    (λ differ. omega (
+      arith,
+      uses_grow inputs n few count (⊎_elim (λ below. omega (arith, below))
+          (λ above. absurd (differ (omega (arith, above, less)))) (cases_lt few (suc count))),
+    ))
+    (cases_eq few (suc count))
+
+-- ---- spans
+
+pub room_less : (spans : List Span) (places : ℕ) (more less : ℕ → ℕ) → HaveRoom spans places more
+    → ((n : ℕ) → n < length spans → less n ≤ more n) → HaveRoom spans places less
+room_less spans places more less room fewer = record {
+  rise = room.rise;
+  apart = λ n m below within.
+      omega (arith, room.apart n m below within, fewer n (omega (arith, below, within)));
+  fit = λ n within. omega (arith, room.fit n within, fewer n within);
+}
+
+-- a span with one more
+abbrev pub longer : Span → Span
+longer span = record { start = span.start; end = span.end + 1 }
+
+start_kept : (spans : List Span) (i n : ℕ) → i < length spans
+    → (span_at (set spans i (longer (span_at spans i))) n).start ≡ (span_at spans n).start
+start_kept spans i n within = ⊎_elim
+    (λ (same : n ≡ i). ap (λ m. (span_at (set spans i (longer (span_at spans i))) m).start) same
+    ∙ ap (λ (s : Span). s.start) (get_or-set_same spans i (longer (span_at spans i)) _ within)
+    ∙ ap (λ m. (span_at spans m).start) (sym same))
+    (λ differ. ap (λ (s : Span). s.start)
+    (get_or-set_other spans i n (longer (span_at spans i)) _ differ))
+    (cases_eq n i)
+
+end_kept : (spans : List Span) (i n : ℕ) → (n ≡ i → ⊥)
+    → (span_at (set spans i (longer (span_at spans i))) n).end ≡ (span_at spans n).end
+end_kept spans i n differ = ap (λ (s : Span). s.end)
+    (get_or-set_other spans i n (longer (span_at spans i)) _ differ)
+
+end_grown : (spans : List Span) (i : ℕ) → i < length spans
+    → (span_at (set spans i (longer (span_at spans i))) i).end ≡ (span_at spans i).end + 1
+end_grown spans i within = ap (λ (s : Span). s.end)
+    (get_or-set_same spans i (longer (span_at spans i)) _ within)
+
+pub room_next : (spans : List Span) (i places : ℕ) (more left : ℕ → ℕ) → i < length spans
+    → more i ≡ left i + 1 → ((n : ℕ) → (n ≡ i → ⊥) → more n ≡ left n)
+    → HaveRoom spans places more
+    → HaveRoom (set spans i (longer (span_at spans i))) places left
+room_next spans i places more left low here others room = record {
+  rise = λ n within. omega (
+    arith,
+    start_kept spans i n low,
+    ends n,
+    room.rise n (omega (arith, within, size)),
+  );
+  apart = λ n m below within. omega (
+    arith,
+    start_kept spans i m low,
+    ends n,
+    room.apart n m below (omega (arith, within, size)),
+  );
+  fit = λ n within. omega (arith, ends n, room.fit n (omega (arith, within, size)));
+}
+  where
+    size : length (set spans i (longer (span_at spans i))) ≡ length spans
+    size = length-set spans i (longer (span_at spans i))
+
+    ends : (n : ℕ)
+        → ((span_at (set spans i (longer (span_at spans i))) n).end + left n
+        ≡ (span_at spans n).end + more n)
+        × ((span_at spans n).end
+        ≤ (span_at (set spans i (longer (span_at spans i))) n).end)
+    ends n = ⊎_elim
+        (λ (same : n ≡ i). subst
+        (λ m. ((span_at (set spans i (longer (span_at spans i))) m).end + left m
+        ≡ (span_at spans m).end + more m)
+        × ((span_at spans m).end
+        ≤ (span_at (set spans i (longer (span_at spans i))) m).end)) (sym same)
+        (omega (arith, end_grown spans i low, here), omega (arith, end_grown spans i low)))
+        (λ differ. (
+          omega (arith, end_kept spans i n differ, others n differ),
+          omega (arith, end_kept spans i n differ),
+        ))
+        (cases_eq n i)
+
+-- there is a place for the next edge
+pub next_place : (inputs : List ℕ) (k i : ℕ) (spans : List Span) (places : ℕ) → k < length inputs
+    → i ≡ get_or inputs k i → i < length spans
+    → HaveRoom spans places (λ n. often n (drop k inputs) + 0) → (span_at spans i).end < places
+next_place inputs k i spans places low is within room =
+    omega (arith, room.fit i within, often_here inputs k i low is)
+
+pub room_taken : (inputs : List ℕ) (k i : ℕ) (spans : List Span) (places : ℕ) (left : ℕ → ℕ)
+    → k < length inputs → i ≡ get_or inputs k i → i < length spans
+    → HaveRoom spans places (λ n. often n (drop k inputs) + left n)
+    → HaveRoom (set spans i (longer (span_at spans i))) places
+    (λ n. often n (drop (k + 1) inputs) + left n)
+room_taken inputs k i spans places left low is within room =
+    room_next spans i places (λ n. often n (drop k inputs) + left n)
+    (λ n. often n (drop (k + 1) inputs) + left n) within
+    (omega (arith, often_here inputs k i low is))
+    (λ n differ. omega (arith, often_other inputs k i n low is differ)) room
+
+-- what has room for the edges of the users that are left has it for those of the next
+module _ (inputs : ℕ → List ℕ) (count d : ℕ) (spans : List Span) (places : ℕ) (low : d < count)
+    (room : HaveRoom spans places (λ n. uses inputs count n - uses inputs d n)) where
+  next_uses : (n : ℕ) → uses inputs (d + 1) n ≡ uses inputs d n + often n (inputs d)
+  next_uses n = ap (λ c. uses inputs c n) (add-one d)
+
+  pub room_own : (numbers : List ℕ) → numbers ≡ inputs d
+      → HaveRoom spans places (λ n. often n numbers)
+  room_own numbers same = room_less spans places (λ n. uses inputs count n - uses inputs d n)
+      (λ n. often n numbers) room
+      (λ n within. omega (
+        arith,
+        next_uses n,
+        uses_grow inputs n (d + 1) count (omega (arith, low)),
+        ap (often n) same,
+      ))
+
+  pub room_others : (numbers : List ℕ) → numbers ≡ inputs d
+      → HaveRoom spans places
+      (λ n. often n numbers + (uses inputs count n - uses inputs (d + 1) n))
+  room_others numbers same = room_less spans places
+      (λ n. uses inputs count n - uses inputs d n)
+      (λ n. often n numbers + (uses inputs count n - uses inputs (d + 1) n)) room
+      (λ n within. omega (
+        arith,
+        next_uses n,
+        uses_grow inputs n (d + 1) count (omega (arith, low)),
+        ap (often n) same,
+      ))
+
+-- an empty span behind the others, and room for its edges
+pub room_pushed : (spans : List Span) (places : ℕ) (more : ℕ → ℕ) → HaveRoom spans places more
+    → HaveRoom (spans ++ record { start = places; end = places } ∷ [])
+    (places + more (length spans)) more
+room_pushed spans places more room = record {
+  rise = λ n within. ⊎_elim
+      (λ (low : n < length spans). omega (arith, first n low, room.rise n low))
+      (λ past. omega (arith, last n (omega (arith, past, within, size))))
+      (cases_lt n (length spans));
+  apart = λ n m below within.
+      let low : n < length spans = omega (arith, below, within, size) in
+      ⊎_elim
+      (λ (less : m < length spans).
+      omega (arith, first n low, first m less, room.apart n m below less))
+      (λ past. omega (
+        arith,
+        first n low,
+        last m (omega (arith, past, within, size)),
+        room.fit n low,
+      ))
+      (cases_lt m (length spans));
+  fit = λ n within. ⊎_elim
+      (λ (low : n < length spans). omega (arith, first n low, room.fit n low))
+      (λ past.
+      let is : n ≡ length spans = omega (arith, past, within, size) in
+      omega (arith, last n is, ap more is))
+      (cases_lt n (length spans));
+}
+  where
+    pushed : List Span
+    pushed = spans ++ record { start = places; end = places } ∷ []
+
+    size : length (spans ++ record { start = places; end = places } ∷ []) ≡ length spans + 1
+    size = length_push spans (record { start = places; end = places })
+
+    first : (n : ℕ) → n < length spans
+        → ((span_at (spans ++ record { start = places; end = places } ∷ []) n).start
+        ≡ (span_at spans n).start)
+        × ((span_at (spans ++ record { start = places; end = places } ∷ []) n).end
+        ≡ (span_at spans n).end)
+    first n low =
+        let same = get_or_append_left spans (record { start = places; end = places } ∷ [])
+        (record { start = 0; end = 0 }) n low in
+        (ap (λ (s : Span). s.start) same, ap (λ (s : Span). s.end) same)
+
+    last : (n : ℕ) → n ≡ length spans
+        → ((span_at (spans ++ record { start = places; end = places } ∷ []) n).start ≡ places)
+        × ((span_at (spans ++ record { start = places; end = places } ∷ []) n).end ≡ places)
+    last n is =
+        let same = get_or_push spans (record { start = places; end = places })
+        (record { start = 0; end = 0 }) n (sym is) in
+        (ap (λ (s : Span). s.start) same, ap (λ (s : Span). s.end) same)
+
+-- ---- the edges in spans
+
+part_pushed : (edges : List Edge) (span : Span) (edge : Edge) → span.start ≤ span.end
+    → span.end < length edges
+    → part (set edges span.end edge) (longer span) ≡ part edges span ++ edge ∷ []
+part_pushed edges span edge rise within =
+    let n = span.end - span.start in
+    let at : span.end ≡ span.start + n = omega (arith, rise) in
+    let count : span.end + 1 - span.start ≡ n + 1 = omega (arith, rise) in
+    let room : n < length (drop span.start edges) =
+    omega (arith, length-drop span.start edges, rise, within) in
+    ap (λ k. take k (drop span.start (set edges span.end edge))) count
+    ∙ ap (λ e. take (n + 1) (drop span.start (set edges e edge))) at
+    ∙ ap (take (n + 1)) (drop-set-add span.start edges n edge)
+    ∙ take_more_set (drop span.start edges) n edge room
+
+part_kept : (edges : List Edge) (at : ℕ) (edge : Edge) (span : Span) → span.start ≤ span.end
+    → (at < span.start) ⊎ (span.end ≤ at) → part (set edges at edge) span ≡ part edges span
+part_kept edges at edge span rise (inl before) =
+    ap (take (span.end - span.start)) (drop-set-lt span.start edges at edge before)
+part_kept edges at edge span rise (inr past) =
+    let n = at - span.start in
+    let is : at ≡ span.start + n = omega (arith, rise, past) in
+    ap (λ e. take (span.end - span.start) (drop span.start (set edges e edge))) is
+    ∙ ap (take (span.end - span.start)) (drop-set-add span.start edges n edge)
+    ∙ take-set-le (span.end - span.start) (drop span.start edges) n edge
+    (omega (arith, rise, past))
+
+pub parts_at : (spans : List Span) (edges : List Edge) (n : ℕ) → n < length spans
+    → users_of (parts spans edges) n ≡ part edges (span_at spans n)
+parts_at spans edges n low =
+    get_or-map (part edges) spans n (record { start = 0; end = 0 }) [] low
+
+-- spans without edges
+pub parts_none : (spans : List Span) (edges : List Edge)
+    → All (λ (span : Span). span.start ≡ span.end) spans
+    → (n : ℕ) → n < length spans → users_of (parts spans edges) n ≡ []
+parts_none spans edges empty n low =
+    let none : (span_at spans n).end - (span_at spans n).start ≡ 0 =
+    omega (arith, empty n (record { start = 0; end = 0 }) low) in
+    parts_at spans edges n low
+    ∙ ap (λ k. take k (drop (span_at spans n).start edges)) none
+
+module _ (spans : List Span) (edges : List Edge) (i : ℕ) (edge : Edge) (more : ℕ → ℕ)
+    (low : i < length spans) (room : HaveRoom spans (length edges) more) (some : 0 < more i) where
+  -- a span with one more edge at its end, and the others
+  pub edge_added : users_of (parts (set spans i (longer (span_at spans i)))
+      (set edges (span_at spans i).end edge)) i
+      ≡ users_of (parts spans edges) i ++ edge ∷ []
+  edge_added =
+      parts_at (set spans i (longer (span_at spans i))) (set edges (span_at spans i).end edge) i
+      (omega (arith, low, length-set spans i (longer (span_at spans i))))
+      ∙ ap (part (set edges (span_at spans i).end edge))
+      (get_or-set_same spans i (longer (span_at spans i)) (record { start = 0; end = 0 }) low)
+      ∙ part_pushed edges (span_at spans i) edge (room.rise i low)
+      (omega (arith, room.fit i low, some))
+      ∙ ap (λ l. l ++ edge ∷ []) (sym (parts_at spans edges i low))
+
+  pub others_stay : (n : ℕ) → n < length spans → (n ≡ i → ⊥)
+      → users_of (parts (set spans i (longer (span_at spans i)))
+      (set edges (span_at spans i).end edge)) n
+      ≡ users_of (parts spans edges) n
+  others_stay n less differ =
+      parts_at (set spans i (longer (span_at spans i))) (set edges (span_at spans i).end edge) n
+      (omega (arith, less, length-set spans i (longer (span_at spans i))))
+      ∙ ap (part (set edges (span_at spans i).end edge))
+      (get_or-set_other spans i n (longer (span_at spans i)) (record { start = 0; end = 0 })
+      differ)
+      ∙ part_kept edges (span_at spans i).end edge (span_at spans n) (room.rise n less)
+      (⊎_elim
+      (λ (below : n < i). inr (omega (arith, room.apart n i below low, room.rise i low)))
+      (λ past. inl (omega (
+        arith,
+        room.apart i n (⊎_elim (λ below. below)
+            (λ back. absurd (differ (omega (arith, past, back)))) (cases_lt i n)) less,
+        some,
+      )))
+      (cases_lt n i))
+      ∙ sym (parts_at spans edges n less)

@@ -1,0 +1,33 @@
+use Rattle.std.proofs.Common.{◌≡◌, ◌∙◌, ◌+◌, ◌∷◌, [], ◌++◌, ap, arith, get_or, length, refl, subst, sym}
+use Rattle.std.specs.Prelude.{All}
+use Rattle.std.proofs.lemmas.List.{length_push}
+use Rattle.std.proofs.lemmas.List.Elements.{All-push}
+use Rattle.std.proofs.lemmas.List.Sums.{sum_by_more}
+use Rattle.sched_core.specs.UserSpans.{HaveRoom}
+use Rattle.sched_core.specs.declared.users.Span.{Span}
+use Rattle.sched_core.proofs.UserSpans.{room_pushed}
+use Rattle.sched_core.proofs.users.empty_spans.Goals as goal
+
+pub loop-count-preserved : goal.loop-count-preserved
+loop-count-preserved c =
+    let counts = c.args.counts.now in
+    let k = c.loop-count.count-index in
+    let spans = c.loop-count.spans.items in
+    let places = c.loop-count.places in
+    let pushed = c.in_ok-push.ensures.items in
+    record {
+      size = ap length pushed ∙ length_push spans _ ∙ ap (λ n. n + 1) c.loop-count.invariant.size;
+      places = omega (
+        arith,
+        sum_by_more (λ x. x) counts k 0 c.loop-count-test.true,
+        c.loop-count.invariant.places,
+      );
+      empty = subst (All (λ (span : Span). span.start ≡ span.end)) (sym pushed)
+          (All-push (λ (span : Span). span.start ≡ span.end) spans _ c.loop-count.invariant.empty
+          refl);
+      room = subst (λ l. HaveRoom l (places + get_or counts k 0) (λ n. get_or counts n 0))
+          (sym pushed)
+          (subst (λ n. HaveRoom (spans ++ record { start = places; end = places } ∷ [])
+          (places + get_or counts n 0) (λ n. get_or counts n 0)) c.loop-count.invariant.size
+          (room_pushed spans places (λ n. get_or counts n 0) c.loop-count.invariant.room));
+    }

@@ -1,0 +1,14 @@
+-- The spans so far lie one behind the other, up to so many places.
+use Rattle.std.proofs.Common.{◌≡◌, get_or, length, sum, take}
+use Rattle.std.specs.Prelude.{All}
+use Rattle.sched_core.specs.UserSpans.{HaveRoom}
+use Rattle.sched_core.specs.declared.users.Span.{Span}
+use Rattle.sched_core.proofs.users.empty_spans.Given as goal
+
+abbrev pub invariant-loop-count : goal.invariant-loop-count
+invariant-loop-count l = record {
+  size : length l.spans.items ≡ l.count-index;
+  places : l.places ≡ sum (take l.count-index l.counts);
+  empty : All (λ (span : Span). span.start ≡ span.end) l.spans.items;
+  room : HaveRoom l.spans.items l.places (λ n. get_or l.counts n 0);
+}

@@ -1,0 +1,45 @@
+-- How the reverse edges of a plan are gathered, a user at a time (this product's own).
+use Rattle.std.specs.Prelude.{◌≡◌, ◌<◌, ◌≤◌, ◌+◌, ◌-◌, ◌==◌, ℕ, zero, suc, List, [], ◌∷◌, All, drop, length, map, slice_get, take, if◌then◌else◌}
+use Rattle.std.specs.List.{slice_index_or}
+use Rattle.sched_core.specs.Users.{once_at, times}
+use Rattle.sched_core.specs.declared.users.Edge.{Edge}
+use Rattle.sched_core.specs.declared.users.Span.{Span}
+
+-- how often a number is in a list
+abbrev pub often : ℕ → List ℕ → ℕ
+often n [] = 0
+often n (x ∷ xs) = (if x == n then 1 else 0) + often n xs
+
+-- how often it is an input of the first derivations, so many
+abbrev pub uses : (inputs : ℕ → List ℕ) → (count : ℕ) → ℕ → ℕ
+uses inputs zero n = 0
+uses inputs (suc count) n = uses inputs count n + often n (inputs count)
+
+-- the edges in a span
+abbrev pub part : List Edge → Span → List Edge
+part edges span = take (span.end - span.start) (drop span.start edges)
+
+-- the edges in each of some spans
+abbrev pub parts : List Span → List Edge → List (List Edge)
+parts spans edges = map (part edges) spans
+
+abbrev pub span_at : List Span → ℕ → Span
+span_at spans n = slice_index_or spans n (record { start = 0; end = 0 })
+
+-- Spans lie one behind the other among so many places, each with room for so many edges more.
+pub record HaveRoom (spans : List Span) (places : ℕ) (more : ℕ → ℕ) : Type 0 where
+  pub rise : (n : ℕ) → n < length spans → (span_at spans n).start ≤ (span_at spans n).end
+  pub apart : (n m : ℕ) → n < m → m < length spans
+      → (span_at spans n).end + more n ≤ (span_at spans m).start
+  pub fit : (n : ℕ) → n < length spans → (span_at spans n).end + more n ≤ places
+
+-- Edges by input, of so many derivations, and the same with those of one more user, whose inputs
+-- these are.
+pub record AddsUser (user : ℕ) (inputs : List ℕ) (count : ℕ) (old new : ℕ → List Edge)
+    : Type 0 where
+  pub each : (input other place : ℕ) → input < count
+      → times other place (new input) ≡ times other place (old input)
+      + (if other == user then once_at (slice_get inputs place) input else 0)
+  pub within : (input bound : ℕ) → input < count → user < bound
+      → All (λ (edge : Edge). edge.user < bound) (old input)
+      → All (λ (edge : Edge). edge.user < bound) (new input)
