@@ -1,5 +1,5 @@
 -- Rows to which the rows of more paths are added.
-use Rattle.std.proofs.Common.{◌≡◌, ℕ, ◌<◌, Bool, true, false, cond, List, [], ◌∷◌, ◌++◌, length, map, nat_eq, refl, sym, ap, subst, ◌∙◌, append_assoc, append-nil, All, Contains}
+use Rattle.std.proofs.Common.{◌≡◌, ℕ, ◌<◌, Bool, true, false, cond, List, [], ◌∷◌, ◌++◌, length, map, nat_eq, refl, sym, ap, subst, ◌∙◌, append_assoc, append-nil, All, Contains, rules}
 use Rattle.std.specs.List.{IsDistinct, list_any}
 use Rattle.std.proofs.lemmas.Bool.Decides.{Decides-eqb}
 use Rattle.std.proofs.lemmas.List.{map-append}
@@ -21,18 +21,8 @@ pub record Inserted (row : ℕ) (old new : List ℕ) : Type 0 where
 inserted_by : (row : ℕ) (old : List ℕ) (is_there : Bool)
     → Contains (cond is_there old (old ++ row ∷ [])) row
     → Inserted row old (cond is_there old (old ++ row ∷ []))
-inserted_by row old true has = record {
-  added = [];
-  parts = sym (append-nil old);
-  only = All-nil (λ r. r ≡ row);
-  there = has;
-}
-inserted_by row old false has = record {
-  added = row ∷ [];
-  parts = refl;
-  only = All-cons (λ r. r ≡ row) row [] refl (All-nil (λ r. r ≡ row));
-  there = has;
-}
+inserted_by row old true has = search (rules, All-nil)
+inserted_by row old false has = search (rules, All-cons, All-nil)
 
 pub inserted : (row : ℕ) (old new : List ℕ) → new ≡ insert_key nat_eq old row → Inserted row old new
 inserted row old new is =
@@ -52,8 +42,7 @@ paths_kept registrations old added new parts path has =
 
 asked_more : (paths : List (List ℕ)) (path : List ℕ) (some : List (List ℕ))
     → All (Contains paths) some → All (Contains (paths ++ path ∷ [])) some
-asked_more paths path some asked = All-weaker (Contains paths) (Contains (paths ++ path ∷ []))
-    (λ p has. Contains-append_left paths (path ∷ []) p has) some asked
+asked_more paths path some asked = search (rules, All-weaker, Contains-append_left)
 
 -- a path that is not valid adds none
 pub adds_no_row : (registrations : List Registration) (old : List ℕ) (paths : List (List ℕ))

@@ -1,5 +1,5 @@
 -- The registration that is to blame, and how that is told.
-use Rattle.std.proofs.Common.{◌≡◌, ℕ, ◌<◌, List, ◌++◌, length, take, get_or, refl, sym, subst, ap, ◌∙◌}
+use Rattle.std.proofs.Common.{◌≡◌, ℕ, ◌<◌, List, ◌++◌, length, take, get_or, refl, sym, subst, ap, ◌∙◌, rules}
 use Rattle.std.specs.Prelude.{All, Contains, Err, MatchOption, Option, Result, Some, None, ⊤, slice_get}
 use Rattle.std.proofs.lemmas.Option.{slice_get-get_or, slice_get_within}
 use Rattle.valid_table.specs.Adding.{AreClosed, AreNew, IsObstacle, IsTaking}
@@ -34,8 +34,7 @@ unclosed_at known some i r references place all lt is same first =
 -- who has it is to blame, where all paths are new
 pub blamed_for_reference : (known some : List Registration) (blame : Blame) → AreNew known some
     → IsUnclosedAt known some blame → IsBlamed known some blame
-blamed_for_reference known some blame new (r, place, path, at, told, read, first) =
-    (r, at, subst (IsBlamedFor known some r) (sym told) (path, read, new, first))
+blamed_for_reference known some blame new (r, place, path, at, told, read, first) = search rules
 
 -- what is answered where all paths are new
 pub blamed_or_closed :
@@ -79,5 +78,4 @@ pub taking_no_memory :
     result ≡ Err NoMemory →
     same →
     IsTaking known some taken same result
-taking_no_memory known some taken same result new closed is kept =
-    subst (IsTaking known some taken same) (sym is) (new, closed, kept)
+taking_no_memory known some taken same result new closed is kept = search rules

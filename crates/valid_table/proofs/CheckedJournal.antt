@@ -1,5 +1,5 @@
 -- Entries whose lines are right, and the first wrong line of entries.
-use Rattle.std.proofs.Common.{◌≡◌, ◌∙◌, ℕ, ◌+◌, ◌<◌, ◌≤◌, ◌⊎◌, inl, inr, ⊎_elim, List, [], ◌∷◌, ◌++◌, length, map, flat_map, take, drop, get_or, refl, sym, ap, subst, arith, length-append}
+use Rattle.std.proofs.Common.{◌≡◌, ◌∙◌, ℕ, ◌+◌, ◌<◌, ◌≤◌, ◌⊎◌, inl, inr, ⊎_elim, List, [], ◌∷◌, ◌++◌, length, map, flat_map, take, drop, get_or, refl, sym, ap, subst, arith, length-append, rules}
 use Rattle.std.specs.Prelude.{All, Contains, Err, Result}
 use Rattle.std.proofs.lemmas.List.{append-nil, append_assoc, take_all, take_more}
 use Rattle.std.proofs.lemmas.List.Concat.{flat_map-append}
@@ -36,8 +36,7 @@ right_push :
     AreRight earlier entries →
     All (IsRightBehind (earlier ++ registered entries) entry) (entry_lines entry) →
     AreRight earlier (entries ++ entry ∷ [])
-right_push earlier [] entry right more =
-    (subst (λ rs. All (IsRightBehind rs entry) (entry_lines entry)) (append-nil earlier) more, tt)
+right_push earlier [] entry right more = search (rules, append-nil)
 right_push earlier (first ∷ entries) entry right more = (
   right.0,
   right_push (earlier ++ registered_by first) entries entry right.1
@@ -50,9 +49,7 @@ pub right_at :
     (earlier : List Registration) (before : List Entry) (entry : Entry) (after : List Entry) →
     AreRight earlier (before ++ entry ∷ after) →
     All (IsRightBehind (earlier ++ registered before) entry) (entry_lines entry)
-right_at earlier [] entry after right =
-    subst (λ rs. All (IsRightBehind rs entry) (entry_lines entry)) (sym (append-nil earlier))
-    right.0
+right_at earlier [] entry after right = search (rules, append-nil)
 right_at earlier (first ∷ before) entry after right =
     subst (λ rs. All (IsRightBehind rs entry) (entry_lines entry))
     (append_assoc earlier (registered_by first) (registered before))
@@ -104,8 +101,8 @@ split_two :
     ((mid : List X) × (b ≡ a ++ x ∷ mid))
     ⊎ (((a ≡ b) × (x ≡ y)) ⊎ ((mid : List X) × (a ≡ b ++ y ∷ mid)))
 split_two [] x xs [] y ys same = inr (inl (refl, cc))
-split_two [] x xs (z ∷ b) y ys same = let first : x ≡ z = cc in inl (b, ap (λ w. w ∷ b) (sym first))
-split_two (z ∷ a) x xs [] y ys same = let first : z ≡ y = cc in inr (inr (a, ap (λ w. w ∷ a) first))
+split_two [] x xs (z ∷ b) y ys same = search rules
+split_two (z ∷ a) x xs [] y ys same = search rules
 split_two (z ∷ a) x xs (w ∷ b) y ys same =
     let first : z ≡ w = cc in
     let rest : a ++ x ∷ xs ≡ b ++ y ∷ ys = cc in
@@ -125,11 +122,7 @@ entry_lines-append a b = ap length (flat_map-append entry_lines a b)
 -- the lines of one more entry
 lines_push : (entries : List Entry) (entry : Entry) → length (lines (entries ++ entry ∷ []))
     ≡ length (lines entries) + length (entry_lines entry)
-lines_push entries entry = omega (
-  arith,
-  entry_lines-append entries (entry ∷ []),
-  ap length (append-nil (entry_lines entry)),
-)
+lines_push entries entry = search (rules, entry_lines-append, append-nil)
 
 -- entries with another behind them, and more, have at least its lines more
 lines_behind : (entries : List Entry) (entry : Entry) (more : List Entry) → length (lines entries)
@@ -144,8 +137,7 @@ lines_behind entries entry more =
 -- one more of the first entries
 take_push : (entries : List Entry) (i : ℕ) (entry : Entry) → i < length entries → entry
     ≡ get_or entries i entry → take (i + 1) entries ≡ take i entries ++ entry ∷ []
-take_push entries i entry lt is = take_more entries i entry lt
-    ∙ ap (λ e. take i entries ++ e ∷ []) (sym is)
+take_push entries i entry lt is = search (rules, take_more)
 
 -- Line m of a journal is wrong.
 pub record IsWrongAt (entries : List Entry) (m : ℕ) : Type 0 where
@@ -158,30 +150,9 @@ pub record IsWrongAt (entries : List Entry) (m : ℕ) : Type 0 where
 -- a line with a fault is wrong
 pub wrong_line : (entries : List Entry) (m : ℕ) → IsNotClosedAt entries m ⊎ IsTwiceAt entries m
     → IsWrongAt entries m
-wrong_line entries m (inl (before, entry, path, stands, open_there)) =
-    record {
-      before = before;
-      entry = entry;
-      line = Reference path;
-      stands = stands;
-      wrong = open_there;
-    }
-wrong_line entries m (inr (before, entry, path, digest, inl stands, valid)) =
-    record {
-      before = before;
-      entry = entry;
-      line = Added path digest;
-      stands = stands;
-      wrong = λ right. right valid;
-    }
-wrong_line entries m (inr (before, entry, path, digest, inr stands, valid)) =
-    record {
-      before = before;
-      entry = entry;
-      line = Output path digest;
-      stands = stands;
-      wrong = λ right. right valid;
-    }
+wrong_line entries m (inl (before, entry, path, stands, open_there)) = search rules
+wrong_line entries m (inr (before, entry, path, digest, inl stands, valid)) = search rules
+wrong_line entries m (inr (before, entry, path, digest, inr stands, valid)) = search rules
 
 -- a wrong line isn't among right ones
 pub not_among : (known all : List (List ℕ)) (before : List Line) (line : Line) (after : List Line)
@@ -272,15 +243,7 @@ stands_there :
     (entry_lines e) line place →
     n ≡ length (lines pre) + place + 1 →
     StandsAt entries pre e line n
-stands_there entries pre e rest line place n parts up number =
-    record {
-      after = rest;
-      parts = parts;
-      first = up.before;
-      last = up.after;
-      is_line = up.parts;
-      number = omega (arith, up.is_place);
-    }
+stands_there entries pre e rest line place n parts up number = search rules
 
 -- a line that registers a known path
 twice_at : (entries before : List Entry) (entry : Entry) (line : Line) (n : ℕ)
@@ -320,9 +283,7 @@ pub check_behind :
     IsEntryCheck (paths_of known) (paths_of (known ++ registered_by entry)) (entry_lines entry)
     first result →
     IsCheckBehind pre entry first result
-check_behind pre entry known first result same check =
-    subst (λ rs. IsEntryCheck (paths_of rs) (paths_of (rs ++ registered_by entry))
-    (entry_lines entry) first result) same check
+check_behind pre entry known first result same check = search rules
 
 -- the first fault of entries
 pub first_fault :
@@ -403,5 +364,4 @@ known_more entries i entry known next lt is same added =
 -- where all entries are right, they are closed
 pub closed_behind : (entries : List Entry) (i : ℕ) → length entries ≤ i
     → AreRight [] (take i entries) → IsClosed entries
-closed_behind entries i long right = right_closed [] entries
-    (subst (AreRight []) (take_all i entries long) right)
+closed_behind entries i long right = search (rules, right_closed, take_all)

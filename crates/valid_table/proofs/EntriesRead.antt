@@ -1,5 +1,5 @@
 -- The entries of a journal, read one after another.
-use Rattle.std.proofs.Common.{◌≡◌, true, ℕ, List, [], ◌∷◌, ◌++◌, length, ◌==◌, inl, refl, sym, ap, ◌∙◌, codes}
+use Rattle.std.proofs.Common.{◌≡◌, true, ℕ, List, [], ◌∷◌, ◌++◌, length, ◌==◌, inl, refl, sym, ap, ◌∙◌, codes, rules}
 use Rattle.std.specs.List.{flat_map}
 use Rattle.std.proofs.lemmas.Bool.{eqb-true}
 use Rattle.std.proofs.lemmas.List.{append-nil, nil_from_length}
@@ -27,12 +27,7 @@ version_read dir bytes entries rest begins none = rw none (record {
 -- the text of entries, and of one more
 text_more : (entries : List Entry) (entry : Entry) (rest : List ℕ) → lines_text (lines entries)
     ++ (lines_text (entry_lines entry) ++ rest) ≡ lines_text (lines (entries ++ entry ∷ [])) ++ rest
-text_more entries entry rest =
-    text_and (lines entries) (entry_lines entry) rest
-    ∙ ap (λ (ls : List Line). lines_text (Version ∷ ls) ++ rest)
-    (sym (flat_map-append entry_lines entries (entry ∷ [])
-    ∙ ap (λ (ls : List Line). flat_map entry_lines entries ++ ls)
-    (append-nil (entry_lines entry))))
+text_more entries entry rest = search (rules, text_and, flat_map-append, append-nil)
 
 -- one more entry
 pub entries_more : (dir bytes : List ℕ) (entries more : List Entry) (rest behind : List ℕ)

@@ -1,5 +1,5 @@
 -- Which bytes are a path, and which are a line's path and digest up to its newline.
-use Rattle.std.proofs.Common.{false, ◌≡◌, ◌≢◌, ◌⊎◌, ℕ, List, ◌∷◌, ◌++◌, Option, Some, None, inl, inr, sym, ap, ◌∙◌, subst}
+use Rattle.std.proofs.Common.{false, ◌≡◌, ◌≢◌, ◌⊎◌, ℕ, List, ◌∷◌, ◌++◌, Option, Some, None, inl, inr, sym, ap, ◌∙◌, subst, rules}
 use Rattle.std.proofs.lemmas.Bool.{false≢true}
 use Rattle.nix_names.specs.Names.{IsStoreDir, is_drv_name}
 use Rattle.nix_names.specs.StorePaths.{IsPathOf, name_of, path_fault}
@@ -42,9 +42,7 @@ other_path_line dir bytes line behind path rest of_dir none parts other is =
 -- without a space there are no fields
 pub no_space : (dir bytes path : List ℕ) (digest : Option (List ℕ)) (rest : List ℕ) → Lacks 32 bytes
     → IsFieldsLine dir bytes path digest rest → ⊥
-no_space dir bytes path digest rest none is =
-    lacks_not 32 path (digest_text digest ++ (10 ∷ rest))
-    (subst (Lacks 32) (is.parts ∙ fields_apart path digest rest) none)
+no_space dir bytes path digest rest none is = search (rules, lacks_not, fields_apart)
 
 -- the path of the fields is what stands before the first space
 pub behind_space : (dir bytes text fields path : List ℕ) (digest : Option (List ℕ)) (rest : List ℕ)

@@ -1,5 +1,5 @@
 -- Two rising lists, merged.
-use Rattle.std.proofs.Common.{◌≡◌, ◌∙◌, ◌⊎◌, ◌↔◌, ◌-◌, ◌<◌, ℕ, List, [], ◌∷◌, ◌++◌, length, take, drop, get_or, refl, sym, ap, subst, inl, inr, ⊎_elim, append-nil, append_assoc, arith}
+use Rattle.std.proofs.Common.{◌≡◌, ◌∙◌, ◌⊎◌, ◌↔◌, ◌-◌, ◌<◌, ℕ, List, [], ◌∷◌, ◌++◌, length, take, drop, get_or, refl, sym, ap, subst, inl, inr, ⊎_elim, append-nil, append_assoc, arith, rules}
 use Rattle.std.specs.Prelude.{Contains}
 use Rattle.std.specs.Cmp.Lexicographic.{slice_cmp, texts_ties}
 use Rattle.std.specs.Ordering.{is_eq, nat_cmp, ordering_reverse}
@@ -28,47 +28,19 @@ pub least_left :
     (path : List ℕ) (more right : List (List ℕ)) →
     (IsRising right → IsRising (path ∷ right)) →
     IsLeast (path ∷ more) right path more right
-least_left path more right rises = record {
-  head = inl refl;
-  left_rises = λ r. r;
-  right_rises = rises;
-  each = λ p. (
-    ⊎_elim inl (λ there. inr (Contains-later path right p there)),
-    ⊎_elim inl (λ there. ⊎_elim (λ head. inl (at_head path more more p head)) inr
-        (head_cases path right p there)),
-  );
-  shorter = omega arith;
-}
+least_left path more right rises = search (rules, Contains-later, at_head, head_cases)
 
 -- the right list's head is the least, or the left list is empty
 pub least_right :
     (path : List ℕ) (left others : List (List ℕ)) →
     (IsRising left → IsRising (path ∷ left)) →
     IsLeast left (path ∷ others) path left others
-least_right path left others rises = record {
-  head = inr refl;
-  left_rises = rises;
-  right_rises = λ r. r;
-  each = λ p. (
-    ⊎_elim (λ there. inl (Contains-later path left p there)) inr,
-    ⊎_elim (λ there. ⊎_elim (λ head. inr (at_head path others others p head)) inl
-        (head_cases path left p there)) inr,
-  );
-  shorter = omega arith;
-}
+least_right path left others rises = search (rules, Contains-later, at_head, head_cases)
 
 -- both heads are the least
 pub least_both : (path other : List ℕ) (more others : List (List ℕ)) → path ≡ other
     → IsLeast (path ∷ more) (other ∷ others) path more others
-least_both path other more others same =
-    subst (λ x. IsLeast (path ∷ more) (x ∷ others) path more others) same
-    (record {
-      head = inl refl;
-      left_rises = λ r. r;
-      right_rises = λ r. r;
-      each = λ p. (λ there. there, λ there. there);
-      shorter = omega arith;
-    })
+least_both path other more others same = search rules
 
 -- the left head is less
 pub least_less :
@@ -113,9 +85,7 @@ least_equal left right path other more others first second equal =
 pub first_and_rest : (xs : List (List ℕ)) (x : List ℕ) → 0 < length xs → x ≡ get_or xs 0 x → xs ≡ x
     ∷ take (length xs - 1) (drop 1 xs)
 first_and_rest [] x some is = absurd (omega arith)
-first_and_rest (y ∷ ys) x some is =
-    ap (λ z. z ∷ ys) (sym is) ∙ ap (λ l. x ∷ l)
-    (sym (take_all (length (y ∷ ys) - 1) ys (omega arith)))
+first_and_rest (y ∷ ys) x some is = search (rules, take_all)
 
 -- a rising list goes on in another way behind one of its paths
 rising_join : (done : List (List ℕ)) (path : List ℕ) (xs ys : List (List ℕ))
@@ -134,11 +104,7 @@ pub record IsMerged (left right done more others : List (List ℕ)) : Type 0 whe
 -- nothing is merged at first
 pub merged_none : (left right : List (List ℕ)) → IsRising left → IsRising right
     → IsMerged left right [] left right
-merged_none left right rises rises' = record {
-  left_rises = rises;
-  right_rises = rises';
-  each = λ p. (λ there. there, λ there. there);
-}
+merged_none left right rises rises' = search rules
 
 -- a path in one of two lists, behind others
 behind_either : (done xs ys us vs : List (List ℕ)) (p : List ℕ)

@@ -1,5 +1,5 @@
 -- The rows of a table, and the registrations that they are.
-use Rattle.std.proofs.Common.{◌≡◌, ◌∙◌, ℕ, zero, suc, ◌+◌, ◌<◌, List, [], ◌∷◌, ◌++◌, length, take, drop, get_or, refl, sym, ap, subst, arith, nat_eq, Bor, Bool, Result, Ok, Err, true≢false}
+use Rattle.std.proofs.Common.{◌≡◌, ◌∙◌, ℕ, zero, suc, ◌+◌, ◌<◌, List, [], ◌∷◌, ◌++◌, length, take, drop, get_or, refl, sym, ap, subst, arith, nat_eq, Bor, Bool, Result, Ok, Err, true≢false, rules}
 use Rattle.std.specs.Prelude.{◌↔◌, Contains, IsOk, IsTrue, OnOk, Option, Some, None, MatchOption, is_some}
 use Rattle.std.specs.Cmp.Lexicographic.{pointwise, nat_list_eq_equiv}
 use Rattle.std.specs.List.{IsDistinct}
@@ -25,8 +25,7 @@ use Rattle.nix_names.proofs.Lists.{parts_at}
 registers_row : (rows : List (List ℕ × PathInfo)) (path : List ℕ) (info : PathInfo)
     → Contains rows (path, info) → Registers (registrations_of rows) path info
 registers_row [] path info (k, lt, is) = absurd (omega arith)
-registers_row (row ∷ rows) path info (zero, lt, is) =
-    (0, omega arith, ap (λ (r : List ℕ × PathInfo). record { path = r.0; info = r.1 }) is)
+registers_row (row ∷ rows) path info (zero, lt, is) = search rules
 registers_row (row ∷ rows) path info (suc k, lt, is) =
     let (n, below, same) = registers_row rows path info (k, omega arith, is)
     in (suc n, omega arith, same)
@@ -103,19 +102,12 @@ pub row_pushed :
     new ≡ insert_entry (pointwise nat_eq) rows.entries r.path r.info →
     registrations_of new ≡ registrations_of rows.entries ++ r ∷ []
 row_pushed rows r new fresh added =
-    let none = not_found rows.entries r.path
-    (λ there.
-    fresh (subst (λ ks. Contains ks r.path) (sym (paths_are_keys rows.entries)) there)) in
-    ap registrations_of (added ∙ insert_entry-new (pointwise nat_eq) rows r.path r.info none)
-    ∙ map_push (λ (row : List ℕ × PathInfo). record { path = row.0; info = row.1 }) rows.entries
-    (r.path, r.info)
+    search (rules, not_found, paths_are_keys, insert_entry-new, map_push)
 
 -- the path of a registration behind others is not valid by them, where no path is registered twice
 pub next_new : (known later : List Registration) (r : Registration) → IsOnce (known ++ r ∷ later)
     → IsNotValid known r.path
-next_new known later r once =
-    once_apart (paths_of known) (paths_of later) r.path
-    (subst (IsDistinct (pointwise nat_eq)) (paths_of-append known (r ∷ later)) once)
+next_new known later r once = search (rules, once_apart, paths_of-append)
 
 -- what holds where there is a value holds where there is one
 pub on_ok : {T E P : Type 0} (result : Result T E) → IsOk result → OnOk result P → P

@@ -1,5 +1,5 @@
 -- The text of a journal has no wrong version, and no wrong line.
-use Rattle.std.proofs.Common.{◌≢◌, ◌+◌, ◌++◌, ℕ, List, [], ◌∷◌, length, take, drop, get_or, inl, inr, refl, ap, sym, subst, ◌∙◌, arith, codes, nat_eq}
+use Rattle.std.proofs.Common.{◌≢◌, ◌+◌, ◌++◌, ℕ, List, [], ◌∷◌, length, take, drop, get_or, inl, inr, refl, ap, sym, subst, ◌∙◌, arith, codes, nat_eq, rules}
 use Rattle.std.specs.Prelude.{◌⊎◌, All}
 use Rattle.std.specs.Cmp.Lexicographic.{pointwise}
 use Rattle.std.specs.List.{IsDistinct, flat_map}
@@ -83,5 +83,4 @@ right_not_wrong entries m right w =
 -- no line of a journal is at fault
 pub no_fault : (entries : List Entry) (m : ℕ) → IsJournal entries → IsNotClosedAt entries m
     ⊎ IsTwiceAt entries m → ⊥
-no_fault entries m is fault = right_not_wrong entries m (journal_right [] entries is.closed is.once)
-    (wrong_line entries m fault)
+no_fault entries m is fault = search (rules, right_not_wrong, journal_right, wrong_line)
