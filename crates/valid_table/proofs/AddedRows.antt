@@ -1,5 +1,6 @@
 -- Rows to which the rows of more paths are added.
-use Rattle.std.proofs.Common.{◌≡◌, ℕ, ◌<◌, Bool, true, false, cond, List, [], ◌∷◌, ◌++◌, length, map, nat_eq, refl, sym, ap, subst, ◌∙◌, append_assoc, append-nil, All, Contains, rules}
+use Rattle.std.proofs.lemmas.Grind.{common_steps}
+use Rattle.std.proofs.Common.{◌≡◌, ℕ, ◌<◌, Bool, true, false, cond, List, [], ◌∷◌, ◌++◌, length, map, nat_eq, refl, sym, ap, subst, ◌∙◌, append_assoc, append-nil, All, Contains, rules, arith}
 use Rattle.std.specs.List.{IsDistinct, list_any}
 use Rattle.std.proofs.lemmas.Bool.Decides.{Decides-eqb}
 use Rattle.std.proofs.lemmas.List.{map-append}
@@ -35,10 +36,7 @@ pub paths_kept : (registrations : List Registration) (old added new : List ℕ) 
     → (path : List ℕ) → Contains (paths_at registrations old) path
     → Contains (paths_at registrations new) path
 paths_kept registrations old added new parts path has =
-    subst (λ (paths : List (List ℕ)). Contains paths path)
-    (sym (ap (map (path_at registrations)) parts
-    ∙ map-append (path_at registrations) old added))
-    (Contains-append_left (paths_at registrations old) (paths_at registrations added) path has)
+    grind (arith, common_steps, map-append, Contains-append_left)
 
 asked_more : (paths : List (List ℕ)) (path : List ℕ) (some : List (List ℕ))
     → All (Contains paths) some → All (Contains (paths ++ path ∷ [])) some

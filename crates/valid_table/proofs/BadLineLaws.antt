@@ -41,8 +41,7 @@ line_newlines (b ∷ line) rest clear =
 lines_newlines : (n : ℕ) (bytes : List ℕ) → AreLines n bytes → count_by (is_byte 10) bytes ≡ n
 lines_newlines zero bytes none = ap (count_by (is_byte 10)) none
 lines_newlines (suc n) bytes (line, rest, clear, parts, more) =
-    ap (count_by (is_byte 10)) parts ∙ line_newlines line rest clear
-    ∙ ap suc (lines_newlines n rest more)
+    search (rules, line_newlines, (lines_newlines n rest more))
 
 -- the texts of lines that lead on are so many lines
 leads_are_lines : (dir : List ℕ) (Is : Place → Type 0) (lines : List Line) → IsStoreDir dir

@@ -1,4 +1,5 @@
 -- The lines of registrations, counted and checked.
+use Rattle.std.proofs.lemmas.Grind.{common_steps}
 use Rattle.std.proofs.Common.{◌≡◌, ◌∙◌, ℕ, ◌+◌, ◌<◌, ◌≤◌, List, [], ◌∷◌, ◌++◌, length, flat_map, take, drop, get_or, sym, ap, subst, arith, length-append}
 use Rattle.std.specs.Prelude.{All, Contains, Err, Ok}
 use Rattle.std.proofs.lemmas.List.{append-nil, length-map, length-take-le, take-append-drop, take_all, take_more}
@@ -28,12 +29,7 @@ pub line_count_more :
     r ≡ get_or rs i r →
     line_count (take (i + 1) rs) ≡ line_count (take i rs) + (1 + length r.info.references)
 line_count_more rs i r lt is =
-    let one : line_count (r ∷ []) ≡ 1 + length r.info.references =
-    ap length (append-nil (output_lines r)) ∙ omega (arith, length-map r.info.references Reference)
-    in
-    ap line_count (take_more rs i r lt ∙ ap (λ x. take i rs ++ x ∷ []) (sym is))
-    ∙ line_count-append (take i rs) (r ∷ [])
-    ∙ ap (λ n. line_count (take i rs) + n) one
+    grind (arith, common_steps, append-nil, length-map, take_more, line_count-append)
 
 -- the first registrations and the next one have no more lines than all
 pub line_count_fits :

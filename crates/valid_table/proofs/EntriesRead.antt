@@ -1,5 +1,6 @@
 -- The entries of a journal, read one after another.
-use Rattle.std.proofs.Common.{◌≡◌, true, ℕ, List, [], ◌∷◌, ◌++◌, length, ◌==◌, inl, refl, sym, ap, ◌∙◌, codes, rules}
+use Rattle.std.proofs.lemmas.Grind.{common_steps}
+use Rattle.std.proofs.Common.{◌≡◌, true, ℕ, List, [], ◌∷◌, ◌++◌, length, ◌==◌, inl, refl, sym, ap, ◌∙◌, codes, rules, arith}
 use Rattle.std.specs.List.{flat_map}
 use Rattle.std.proofs.lemmas.Bool.{eqb-true}
 use Rattle.std.proofs.lemmas.List.{append-nil, nil_from_length}
@@ -33,13 +34,8 @@ text_more entries entry rest = search (rules, text_and, flat_map-append, append-
 pub entries_more : (dir bytes : List ℕ) (entries more : List Entry) (rest behind : List ℕ)
     (entry : Entry) → SoFarEntries dir bytes entries rest → HasEntry dir rest entry behind → more
     ≡ entries ++ entry ∷ [] → SoFarEntries dir bytes more behind
-entries_more dir bytes entries more rest behind entry so_far h pushed = rw pushed (record {
-  parts = so_far.parts ∙ ap (λ t. lines_text (lines entries) ++ t) h.parts
-      ∙ text_more entries entry behind;
-  of_dir = All-push (IsEntryOf dir) entries entry so_far.of_dir h.of_dir;
-  leads = λ left goes_on.
-      so_far.leads left (λ from begins. lead dir rest entry behind from left h begins goes_on);
-})
+entries_more dir bytes entries more rest behind entry so_far h pushed =
+    grind (arith, common_steps, text_more, All-push, lead)
 
 -- where nothing is left, the bytes are the entries' text
 pub text_read : (dir bytes : List ℕ) (entries : List Entry) (rest : List ℕ)

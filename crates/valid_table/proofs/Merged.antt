@@ -23,63 +23,37 @@ head_cases : (x : List ℕ) (xs : List (List ℕ)) (p : List ℕ) → Contains (
     → Contains (x ∷ []) p ⊎ Contains xs p
 head_cases x xs p there = Contains-append_cases (x ∷ []) xs p there
 
--- the left list's head is the least, or the right list is empty
-pub least_left :
-    (path : List ℕ) (more right : List (List ℕ)) →
-    (IsRising right → IsRising (path ∷ right)) →
-    IsLeast (path ∷ more) right path more right
+-- the left list's head is the least
+least_left : (path : List ℕ) (more right : List (List ℕ)) → (IsRising right
+    → IsRising (path ∷ right)) → IsLeast (path ∷ more) right path more right
 least_left path more right rises = search (rules, Contains-later, at_head, head_cases)
 
--- the right list's head is the least, or the left list is empty
-pub least_right :
-    (path : List ℕ) (left others : List (List ℕ)) →
-    (IsRising left → IsRising (path ∷ left)) →
-    IsLeast left (path ∷ others) path left others
+-- the right list's head is the least
+least_right : (path : List ℕ) (left others : List (List ℕ)) → (IsRising left
+    → IsRising (path ∷ left)) → IsLeast left (path ∷ others) path left others
 least_right path left others rises = search (rules, Contains-later, at_head, head_cases)
 
--- both heads are the least
-pub least_both : (path other : List ℕ) (more others : List (List ℕ)) → path ≡ other
-    → IsLeast (path ∷ more) (other ∷ others) path more others
-least_both path other more others same = search rules
+-- two lists that aren't empty
+module _ (left right : List (List ℕ)) (path other : List ℕ) (more others : List (List ℕ))
+    (first : left ≡ path ∷ more) (second : right ≡ other ∷ others) where
+  -- the left head is less
+  pub least_less : slice_cmp nat_cmp path other ≡ Less → IsLeast left right path more right
+  least_less less = rw (first, second)
+      (least_left path more (other ∷ others) (λ rises. (less, rises)))
 
--- the left head is less
-pub least_less :
-    (left right : List (List ℕ)) (path other : List ℕ) (more others : List (List ℕ)) →
-    left ≡ path ∷ more →
-    right ≡ other ∷ others →
-    slice_cmp nat_cmp path other ≡ Less →
-    IsLeast left right path more right
-least_less left right path other more others first second less =
-    subst (λ l. IsLeast l right path more right) (sym first)
-    (least_left path more right
-    (subst (λ r. IsRising r → IsRising (path ∷ r)) (sym second) (λ rises. (less, rises))))
+  -- the right head is less
+  pub least_greater : slice_cmp nat_cmp path other ≡ Greater → IsLeast left right other left others
+  least_greater greater =
+      let less : slice_cmp nat_cmp other path ≡ Less = nat_list_cmp_total.antisymm other path
+      ∙ ap ordering_reverse greater in
+      rw (first, second) (least_right other (path ∷ more) others (λ rises. (less, rises)))
 
--- the right head is less
-pub least_greater :
-    (left right : List (List ℕ)) (path other : List ℕ) (more others : List (List ℕ)) →
-    left ≡ path ∷ more →
-    right ≡ other ∷ others →
-    slice_cmp nat_cmp path other ≡ Greater →
-    IsLeast left right other left others
-least_greater left right path other more others first second greater =
-    let less : slice_cmp nat_cmp other path ≡ Less = nat_list_cmp_total.antisymm other path
-    ∙ ap ordering_reverse greater in
-    subst (λ r. IsLeast left r other left others) (sym second)
-    (least_right other left others
-    (subst (λ l. IsRising l → IsRising (other ∷ l)) (sym first) (λ rises. (less, rises))))
-
--- the heads are the same
-pub least_equal :
-    (left right : List (List ℕ)) (path other : List ℕ) (more others : List (List ℕ)) →
-    left ≡ path ∷ more →
-    right ≡ other ∷ others →
-    slice_cmp nat_cmp path other ≡ Equal →
-    IsLeast left right path more others
-least_equal left right path other more others first second equal =
-    let same : path ≡ other = equal_from_eq path other (texts_ties path other ∙ ap is_eq equal) in
-    subst (λ l. IsLeast l right path more others) (sym first)
-    (subst (λ r. IsLeast (path ∷ more) r path more others) (sym second)
-    (least_both path other more others same))
+  -- the heads are the same
+  pub least_equal : slice_cmp nat_cmp path other ≡ Equal → IsLeast left right path more others
+  least_equal equal =
+      let same : path ≡ other = equal_from_eq path other (texts_ties path other ∙ ap is_eq equal)
+      in
+      rw (first, second, same) (search rules)
 
 -- a list that isn't empty is its first element and what is behind it
 pub first_and_rest : (xs : List (List ℕ)) (x : List ℕ) → 0 < length xs → x ≡ get_or xs 0 x → xs ≡ x
