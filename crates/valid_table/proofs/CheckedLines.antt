@@ -4,6 +4,7 @@ use Rattle.std.proofs.Common.{◌≡◌, ◌∙◌, ℕ, ◌+◌, ◌<◌, ◌�
 use Rattle.std.specs.Prelude.{All, Contains, Err, Ok}
 use Rattle.std.proofs.lemmas.List.{append-nil, length-map, length-take-le, take-append-drop, take_all, take_more}
 use Rattle.std.proofs.lemmas.List.Concat.{flat_map-append}
+use Rattle.std.proofs.lemmas.List.Folds.{length-flat_map-take}
 use Rattle.valid_table.specs.Checking.{IsLineCheck}
 use Rattle.valid_table.specs.Entering.{IsFirstUnknownAt}
 use Rattle.valid_table.specs.Texts.{Reference, output_lines}
@@ -38,10 +39,12 @@ pub line_count_fits :
     r ≡ get_or rs i r →
     line_count (take i rs) + (1 + length r.info.references) ≤ line_count rs
 line_count_fits rs i r lt is =
-    let whole : line_count rs ≡ line_count (take (i + 1) rs) + line_count (drop (i + 1) rs) =
-    ap line_count (sym (take-append-drop (i + 1) rs))
-    ∙ line_count-append (take (i + 1) rs) (drop (i + 1) rs) in
-    omega (arith, line_count_more rs i r lt is)
+    omega (
+      arith,
+      length-flat_map-take output_lines rs i r lt,
+      length-map r.info.references Reference,
+      ap (λ x. length (output_lines x)) is,
+    )
 
 -- the place of an unknown path is within the list
 pub unknown_within : (all paths : List (List ℕ)) (at : ℕ) → IsFirstUnknownAt all paths at → at

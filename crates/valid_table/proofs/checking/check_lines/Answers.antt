@@ -16,7 +16,7 @@ overflow_add-result-in-Some c =
     let fits = line_count_fits c.args.registrations.now c.loop-place.place
     c.index-registrations-place.result c.loop-place-test.true c.index-registrations-place.is in
     let within = unknown_within
-    (paths_of (registrations_of c.args.rows.now.entries ++ c.args.registrations.now))
+    _
     c.references-references.result.now c.in-Some.at c.in-Some.ensures in
     omega (
       arith,
@@ -27,7 +27,7 @@ overflow_add-result-in-Some c =
 
 pub returns-in-Some : goal.returns-in-Some
 returns-in-Some c =
-    open_here (paths_of (registrations_of c.args.rows.now.entries ++ c.args.registrations.now))
+    open_here _
     c.args.registrations.now c.args.new c.args.line c.loop-place.place
     c.index-registrations-place.result c.references-references.result.now c.in-Some.at
     c.loop-place.line c.loop-place.invariant.new c.if-place-new.false c.loop-place-test.true
@@ -46,7 +46,7 @@ loop-place-preserved c =
       new = let upto = c.loop-place.invariant.new in let other = c.if-place-new.false
           in omega arith;
       closed = closed_more
-          (paths_of (registrations_of c.args.rows.now.entries ++ c.args.registrations.now)) rs
+          _ rs
           c.loop-place.place c.index-registrations-place.result c.references-references.result.now
           c.loop-place.invariant.closed c.loop-place-test.true c.index-registrations-place.is
           c.references-references.ensures.value c.in_default.ensures;
