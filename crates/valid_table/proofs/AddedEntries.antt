@@ -1,5 +1,5 @@
 -- A journal with one more entry.
-use Rattle.std.proofs.Common.{◌∙◌, List, [], ◌∷◌, ◌++◌, sym, ap, subst, ◌≡◌, rules}
+use Rattle.std.proofs.Common.{List, [], ◌∷◌, ◌++◌, sym, subst, ◌≡◌, rules}
 use Rattle.std.specs.Prelude.{All}
 use Rattle.std.proofs.lemmas.List.{append-nil, append_assoc}
 use Rattle.std.proofs.lemmas.List.Elements.{All-push}

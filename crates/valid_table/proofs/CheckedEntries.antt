@@ -8,7 +8,7 @@ use Rattle.std.proofs.lemmas.Option.{MatchOption-at_some}
 use Rattle.valid_table.specs.Checking.{IsEntryCheck, IsLineCheck, IsRight, RegistersKnown, header}
 use Rattle.valid_table.specs.Entering.{AreUnknown, IsNewFront, IsUnknown}
 use Rattle.valid_table.specs.Entries.{paths_of, registered_by}
-use Rattle.valid_table.specs.Texts.{Line, Added, Deriver, Output, Reference, entry_lines, output_lines}
+use Rattle.valid_table.specs.Texts.{Line, Added, Deriver, Output, Reference, entry_lines}
 use Rattle.valid_table.specs.Valid.{references_of}
 use Rattle.valid_table.specs.declared.entry.Entry.{Entry}
 use Rattle.valid_table.specs.declared.entry.Entry.TheVariants.{Add, Done}

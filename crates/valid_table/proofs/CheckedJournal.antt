@@ -8,7 +8,7 @@ use Rattle.valid_table.specs.Checking.{IsEntryCheck, IsRight, IsRightUpTo, Refer
 use Rattle.valid_table.specs.Entries.{paths_of, registered, registered_by}
 use Rattle.valid_table.specs.LineFaults.{IsLeastFault, IsNotClosedAt, IsTwiceAt, StandsAt}
 use Rattle.valid_table.specs.Reading.{IsChecking}
-use Rattle.valid_table.specs.Texts.{Line, Version, Added, Deriver, Output, Reference, entry_lines, lines}
+use Rattle.valid_table.specs.Texts.{Line, Version, Added, Output, Reference, entry_lines, lines}
 use Rattle.valid_table.specs.Valid.{IsClosed, IsClosedBehind, references_of}
 use Rattle.valid_table.specs.declared.entry.Entry.{Entry}
 use Rattle.valid_table.specs.declared.entry.Registration.{Registration}

@@ -1,9 +1,9 @@
 -- Registrations whose paths and references are looked up among known ones.
-use Rattle.std.proofs.Common.{◌≡◌, ◌∙◌, ℕ, ◌+◌, ◌<◌, ◌≤◌, List, ◌∷◌, ◌++◌, inl, inr, length, take, drop, get_or, sym, ap, subst, arith}
+use Rattle.std.proofs.Common.{◌≡◌, ◌∙◌, ℕ, ◌+◌, ◌<◌, ◌≤◌, List, ◌∷◌, ◌++◌, length, take, drop, get_or, sym, ap, subst, arith}
 use Rattle.std.specs.Prelude.{All, Contains, IfSome, Some, slice_get}
 use Rattle.std.proofs.lemmas.List.{get_or_at, length-append, length-take-le, take_all}
 use Rattle.std.proofs.lemmas.List.Elements.{All-append, All-more}
-use Rattle.std.proofs.lemmas.Option.{MatchOption-at_some, get_or_from_slice_get, slice_get-get_or, slice_get_cases, slice_get_past}
+use Rattle.std.proofs.lemmas.Option.{MatchOption-at_some, slice_get-get_or, slice_get_past}
 use Rattle.nix_names.proofs.FirstElements.{first_at, first_within}
 use Rattle.valid_table.specs.Entering.{AreUnknown, IsFirstUnknownAt, IsNewFront, IsUnknown}
 use Rattle.valid_table.specs.Entries.{paths_of}

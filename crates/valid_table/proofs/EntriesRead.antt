@@ -1,7 +1,6 @@
 -- The entries of a journal, read one after another.
 use Rattle.std.proofs.lemmas.Grind.{common_steps}
-use Rattle.std.proofs.Common.{◌≡◌, true, ℕ, List, [], ◌∷◌, ◌++◌, length, ◌==◌, inl, refl, sym, ap, ◌∙◌, codes, rules, arith}
-use Rattle.std.specs.List.{flat_map}
+use Rattle.std.proofs.Common.{◌≡◌, true, ℕ, List, [], ◌∷◌, ◌++◌, length, ◌==◌, inl, ap, ◌∙◌, codes, rules, arith}
 use Rattle.std.proofs.lemmas.Bool.{eqb-true}
 use Rattle.std.proofs.lemmas.List.{append-nil, nil_from_length}
 use Rattle.std.proofs.lemmas.List.Concat.{flat_map-append}
@@ -9,7 +8,7 @@ use Rattle.std.proofs.lemmas.List.Elements.{All-nil, All-push}
 use Rattle.valid_table.specs.LineTexts.{lines_text}
 use Rattle.valid_table.specs.Readers.{HasEntry, SoFarEntries}
 use Rattle.valid_table.specs.Steps.{Start, Begun}
-use Rattle.valid_table.specs.Texts.{IsEntryOf, IsText, Line, Version, entry_lines, lines, text}
+use Rattle.valid_table.specs.Texts.{IsEntryOf, IsText, Version, entry_lines, lines, text}
 use Rattle.valid_table.specs.declared.entry.Entry.{Entry}
 use Rattle.valid_table.proofs.EntryLines.{lead}
 use Rattle.valid_table.proofs.Leading.{text_and}

@@ -1,11 +1,9 @@
 -- The lines of entries: where they lead, where they stop, and what they are.
-use Rattle.std.proofs.Common.{◌≡◌, drop, ◌≢◌, ℕ, List, [], ◌∷◌, ◌++◌, length, Some, None, inl, inr, refl, sym, ap, ◌∙◌, subst, arith, rules}
-use Rattle.std.specs.List.{flat_map}
+use Rattle.std.proofs.Common.{◌≡◌, ◌≢◌, ℕ, List, [], ◌∷◌, ◌++◌, length, Some, None, inl, inr, refl, ap, ◌∙◌, rules}
 use Rattle.std.proofs.lemmas.List.{append_assoc}
-use Rattle.valid_table.specs.LineTexts.{lines_text}
 use Rattle.valid_table.specs.Readers.{HasEntry, HasOutputs, HasToBegin, IsBadFields, IsDeriverLine, IsEnd, IsNoLine, StopsInRegistration}
 use Rattle.valid_table.specs.Steps.{Place, Start, Begun, Opened, Within, Ahead, Goes, MayBegin, MayStand, Stops}
-use Rattle.valid_table.specs.Texts.{Line, Added, Deriver, Output, Reference, entry_lines, line_text, output_lines}
+use Rattle.valid_table.specs.Texts.{Line, Added, Deriver, Output, Reference, entry_lines, line_text}
 use Rattle.valid_table.specs.declared.entry.Entry.{Entry}
 use Rattle.valid_table.specs.declared.entry.Entry.TheVariants.{Add, Done}
 use Rattle.valid_table.specs.declared.entry.Registration.{Registration}

@@ -1,5 +1,5 @@
 -- What reading a journal answers.
-use Rattle.std.proofs.Common.{◌≡◌, ◌+◌, ◌-◌, ◌≤◌, ℕ, suc, List, [], ◌∷◌, length, take, inl, inr, ap, subst, arith, rules}
+use Rattle.std.proofs.Common.{◌≡◌, ◌+◌, ◌-◌, ◌≤◌, ℕ, suc, List, [], ◌∷◌, length, take, subst, arith, rules}
 use Rattle.std.proofs.lemmas.List.{length-append}
 use Rattle.memchr.specs.Find.{is_byte, places}
 use Rattle.nix_names.specs.Names.{IsStoreDir}

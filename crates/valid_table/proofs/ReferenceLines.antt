@@ -1,10 +1,10 @@
 -- The lines of references: where they lead, and where they stop.
-use Rattle.std.proofs.Common.{◌≡◌, ℕ, List, [], ◌∷◌, ◌++◌, length, drop, map, Option, None, ◌-◌, sym, ap, ◌∙◌, subst, arith, rules}
+use Rattle.std.proofs.Common.{◌≡◌, ℕ, List, [], ◌∷◌, ◌++◌, length, map, Option, None, ◌-◌, ap, ◌∙◌, rules}
 use Rattle.std.specs.List.{last_or, slice_get}
 use Rattle.std.proofs.lemmas.List.{append_assoc, map-append}
 use Rattle.std.proofs.lemmas.List.Elements.{All-push}
 use Rattle.nix_names.specs.StorePaths.{IsPathOf}
-use Rattle.valid_table.specs.LineTexts.{lines_text, references_text}
+use Rattle.valid_table.specs.LineTexts.{references_text}
 use Rattle.valid_table.specs.Readers.{IsPathLine, SoFarReferences}
 use Rattle.valid_table.specs.Steps.{IsAbove, Goes, Stops, Within}
 use Rattle.valid_table.specs.Texts.{Line, Reference}

@@ -1,7 +1,6 @@
 -- The rows of a table, by their numbers, and the paths at them.
-use Rattle.std.proofs.Common.{◌≡◌, ℕ, ◌<◌, List, [], length, get_or, nat_eq, Option, Some, None, is_some, sym, ap, subst, ◌∙◌, arith, Contains, MatchOption, rules}
+use Rattle.std.proofs.Common.{◌≡◌, ℕ, ◌<◌, List, length, get_or, nat_eq, Option, Some, None, is_some, subst, ◌∙◌, Contains, MatchOption, rules}
 use Rattle.std.specs.Cmp.Lexicographic.{pointwise, nat_list_eq_equiv}
-use Rattle.std.specs.List.{IsDistinct}
 use Rattle.std.specs.Map.{keys_of}
 use Rattle.std.proofs.lemmas.Bool.{false≢true}
 use Rattle.std.proofs.lemmas.List.{get_or-map, get_or_default, length-map}
@@ -14,7 +13,7 @@ use Rattle.valid_table.specs.Closing.{IsRowOf}
 use Rattle.valid_table.specs.Entries.{paths_of}
 use Rattle.valid_table.specs.PathInfos.{PathInfo}
 use Rattle.valid_table.specs.Tables.{registrations_of}
-use Rattle.valid_table.specs.Valid.{IsOnce, IsValid}
+use Rattle.valid_table.specs.Valid.{IsValid}
 use Rattle.valid_table.specs.declared.entry.Registration.{Registration}
 
 -- the paths that rows register are their keys

@@ -1,8 +1,6 @@
 -- Registrations that are taken in behind known ones.
-use Rattle.std.proofs.Common.{◌≡◌, ◌⊎◌, ◌≤◌, ℕ, List, [], ◌∷◌, ◌++◌, length, nat_eq, refl, sym, subst, arith, rules}
+use Rattle.std.proofs.Common.{◌≡◌, ◌⊎◌, ◌≤◌, ℕ, List, [], ◌∷◌, ◌++◌, length, refl, sym, subst, arith, rules}
 use Rattle.std.specs.Prelude.{All, Contains}
-use Rattle.std.specs.Cmp.Lexicographic.{pointwise}
-use Rattle.std.specs.List.{IsDistinct}
 use Rattle.std.proofs.lemmas.List.Elements.{All-append, Contains-append_cases, Contains-append_right}
 use Rattle.nix_names.specs.Rising.{IsRising}
 use Rattle.nix_names.proofs.RisingLists.{distinct_from_rising}

@@ -1,6 +1,4 @@
-use Rattle.std.proofs.Common.{◌++◌, ap, arith, length, rules}
-use Rattle.valid_table.specs.Entries.{paths_of}
-use Rattle.valid_table.specs.Tables.{registrations_of}
+use Rattle.std.proofs.Common.{ap, arith, length, rules}
 use Rattle.valid_table.proofs.CheckedLines.{line_count_fits, line_count_more, open_here, right_behind, twice_here, unknown_within}
 use Rattle.valid_table.proofs.EnteredPaths.{closed_more}
 use Rattle.valid_table.proofs.checking.check_lines.Goals as goal

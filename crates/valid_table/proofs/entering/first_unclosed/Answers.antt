@@ -1,5 +1,4 @@
-use Rattle.std.proofs.Common.{◌++◌, rules}
-use Rattle.valid_table.specs.Entries.{paths_of}
+use Rattle.std.proofs.Common.{rules}
 use Rattle.valid_table.specs.Tables.{registrations_of}
 use Rattle.valid_table.proofs.Blamed.{unclosed_at}
 use Rattle.valid_table.proofs.EnteredPaths.{closed_all, closed_more}

@@ -2,7 +2,6 @@ use Rattle.std.proofs.Common.{◌++◌, ◌∙◌, subst, sym}
 use Rattle.std.specs.Prelude.{All}
 use Rattle.std.proofs.lemmas.Bool.{false≢true}
 use Rattle.std.proofs.lemmas.List.{take_all}
-use Rattle.valid_table.specs.Entries.{paths_of}
 use Rattle.valid_table.specs.Tables.{registrations_of}
 use Rattle.valid_table.specs.Valid.{IsValid}
 use Rattle.valid_table.proofs.EnteredPaths.{known_more, unknown_here}

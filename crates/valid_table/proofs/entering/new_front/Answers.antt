@@ -1,7 +1,5 @@
 use Rattle.std.proofs.Common.{◌∙◌, sym, rules}
 use Rattle.std.proofs.lemmas.Bool.{false≢true}
-use Rattle.valid_table.specs.Entries.{paths_of}
-use Rattle.valid_table.specs.Tables.{registrations_of}
 use Rattle.valid_table.proofs.EnteredPaths.{front_all, new_more}
 use Rattle.valid_table.proofs.entering.new_front.Goals as goal
 
