@@ -1,5 +1,5 @@
 -- A journal with one more entry.
-use Rattle.std.proofs.Common.{◌∙◌, List, [], ◌∷◌, ◌++◌, sym, ap, subst, ◌≡◌}
+use Rattle.std.proofs.Common.{List, [], ◌∷◌, ◌++◌, sym, subst, ◌≡◌, rules}
 use Rattle.std.specs.Prelude.{All}
 use Rattle.std.proofs.lemmas.List.{append-nil, append_assoc}
 use Rattle.std.proofs.lemmas.List.Elements.{All-push}
@@ -13,8 +13,7 @@ use Rattle.valid_table.proofs.JournalLists.{registered-append}
 -- what entries with one more behind them register
 pub registered_push : (entries : List Entry) (entry : Entry) → registered (entries ++ entry ∷ [])
     ≡ registered entries ++ registered_by entry
-registered_push entries entry = registered-append entries (entry ∷ [])
-    ∙ ap (λ l. registered entries ++ l) (append-nil (registered_by entry))
+registered_push entries entry = search (rules, registered-append, append-nil)
 
 -- closed entries stay so with one more whose references are valid
 closed_push :
@@ -43,8 +42,5 @@ pub journal_push :
     AreClosed (registered entries) (registered_by entry) →
     IsOnce (registered entries ++ registered_by entry) →
     IsJournal (entries ++ entry ∷ [])
-journal_push entries entry journal derived closed once = record {
-  closed = closed_push [] entries entry journal.closed closed;
-  once = subst IsOnce (sym (registered_push entries entry)) once;
-  derived = All-push HasDrvPath entries entry journal.derived derived;
-}
+journal_push entries entry journal derived closed once =
+    search (rules, closed_push, registered_push, All-push)

@@ -1,5 +1,6 @@
 -- Rows to which the rows of more paths are added.
-use Rattle.std.proofs.Common.{◌≡◌, ℕ, ◌<◌, Bool, true, false, cond, List, [], ◌∷◌, ◌++◌, length, map, nat_eq, refl, sym, ap, subst, ◌∙◌, append_assoc, append-nil, All, Contains}
+use Rattle.std.proofs.lemmas.Grind.{common_steps}
+use Rattle.std.proofs.Common.{◌≡◌, ℕ, ◌<◌, Bool, true, false, cond, List, [], ◌∷◌, ◌++◌, length, nat_eq, sym, ap, subst, ◌∙◌, append_assoc, All, Contains, rules, arith}
 use Rattle.std.specs.List.{IsDistinct, list_any}
 use Rattle.std.proofs.lemmas.Bool.Decides.{Decides-eqb}
 use Rattle.std.proofs.lemmas.List.{map-append}
@@ -7,7 +8,7 @@ use Rattle.std.proofs.lemmas.List.Elements.{All-append, All-cons, All-map, All-n
 use Rattle.indexmap.specs.IndexSet.{insert_key}
 use Rattle.indexmap.proofs.CallerLemmas.{Contains-insert_key}
 use Rattle.nix_names.proofs.Lists.{Contains-map}
-use Rattle.valid_table.specs.Closing.{AddsRows, AreRows, IsRowOf, path_at, paths_at}
+use Rattle.valid_table.specs.Closing.{AddsRows, IsRowOf, path_at, paths_at}
 use Rattle.valid_table.specs.Valid.{IsValid}
 use Rattle.valid_table.specs.declared.entry.Registration.{Registration}
 
@@ -21,18 +22,8 @@ pub record Inserted (row : ℕ) (old new : List ℕ) : Type 0 where
 inserted_by : (row : ℕ) (old : List ℕ) (is_there : Bool)
     → Contains (cond is_there old (old ++ row ∷ [])) row
     → Inserted row old (cond is_there old (old ++ row ∷ []))
-inserted_by row old true has = record {
-  added = [];
-  parts = sym (append-nil old);
-  only = All-nil (λ r. r ≡ row);
-  there = has;
-}
-inserted_by row old false has = record {
-  added = row ∷ [];
-  parts = refl;
-  only = All-cons (λ r. r ≡ row) row [] refl (All-nil (λ r. r ≡ row));
-  there = has;
-}
+inserted_by row old true has = search (rules, All-nil)
+inserted_by row old false has = search (rules, All-cons, All-nil)
 
 pub inserted : (row : ℕ) (old new : List ℕ) → new ≡ insert_key nat_eq old row → Inserted row old new
 inserted row old new is =
@@ -45,15 +36,11 @@ pub paths_kept : (registrations : List Registration) (old added new : List ℕ) 
     → (path : List ℕ) → Contains (paths_at registrations old) path
     → Contains (paths_at registrations new) path
 paths_kept registrations old added new parts path has =
-    subst (λ (paths : List (List ℕ)). Contains paths path)
-    (sym (ap (map (path_at registrations)) parts
-    ∙ map-append (path_at registrations) old added))
-    (Contains-append_left (paths_at registrations old) (paths_at registrations added) path has)
+    grind (arith, common_steps, map-append, Contains-append_left)
 
 asked_more : (paths : List (List ℕ)) (path : List ℕ) (some : List (List ℕ))
     → All (Contains paths) some → All (Contains (paths ++ path ∷ [])) some
-asked_more paths path some asked = All-weaker (Contains paths) (Contains (paths ++ path ∷ []))
-    (λ p has. Contains-append_left paths (path ∷ []) p has) some asked
+asked_more paths path some asked = search (rules, All-weaker, Contains-append_left)
 
 -- a path that is not valid adds none
 pub adds_no_row : (registrations : List Registration) (old : List ℕ) (paths : List (List ℕ))

@@ -1,5 +1,5 @@
 -- The first bad line: the first one from which no line leads on, and so the only one.
-use Rattle.std.proofs.Common.{◌≡◌, ◌≢◌, ◌<◌, ◌≤◌, ◌+◌, ◌-◌, ℕ, zero, suc, List, [], ◌∷◌, ◌++◌, ◌⊎◌, inl, inr, length, take, drop, refl, ap, sym, subst, ◌∙◌, arith, None, count_by, replicate, Bool, false, cond, All}
+use Rattle.std.proofs.Common.{◌≡◌, ◌≢◌, ◌<◌, ◌≤◌, ◌+◌, ◌-◌, ℕ, zero, suc, List, [], ◌∷◌, ◌++◌, ◌⊎◌, inl, inr, length, take, drop, refl, ap, sym, subst, ◌∙◌, arith, None, count_by, replicate, Bool, false, cond, All, rules}
 use Rattle.std.specs.Prelude.{codes}
 use Rattle.std.proofs.lemmas.Bool.{cases_lt, ne_eqb}
 use Rattle.std.proofs.lemmas.List.{append-nil, append_assoc, length-append, length-take-le, take-append-drop, take_at}
@@ -41,8 +41,7 @@ line_newlines (b ∷ line) rest clear =
 lines_newlines : (n : ℕ) (bytes : List ℕ) → AreLines n bytes → count_by (is_byte 10) bytes ≡ n
 lines_newlines zero bytes none = ap (count_by (is_byte 10)) none
 lines_newlines (suc n) bytes (line, rest, clear, parts, more) =
-    ap (count_by (is_byte 10)) parts ∙ line_newlines line rest clear
-    ∙ ap suc (lines_newlines n rest more)
+    search (rules, line_newlines, (lines_newlines n rest more))
 
 -- the texts of lines that lead on are so many lines
 leads_are_lines : (dir : List ℕ) (Is : Place → Type 0) (lines : List Line) → IsStoreDir dir
@@ -55,15 +54,7 @@ pub stops_count : (dir bytes : List ℕ) (left : ℕ) → IsStoreDir dir
     → (h : Stops dir Start bytes left) → length
     (places (is_byte 10) (take (length bytes - left) bytes)) ≡ length h.lines
 stops_count dir bytes left is_dir h =
-    let bad = h.is_left in
-    let cut : take (length bytes - left) bytes ≡ lines_text h.lines =
-    ap (take (length bytes - left)) h.parts ∙ take_at (lines_text h.lines) h.bad
-    (length bytes - left)
-    (omega (arith, ap length h.parts, length-append (lines_text h.lines) h.bad)) in
-    length-places (is_byte 10) (take (length bytes - left) bytes)
-    ∙ lines_newlines (length h.lines) _
-    (subst (AreLines (length h.lines)) (sym cut)
-    (leads_are_lines dir (IsStuck dir h.bad) h.lines is_dir h.leads))
+    search (rules, take_at, length-append, length-places, lines_newlines, leads_are_lines)
 
 -- ---- lines that lead on stand
 
@@ -130,8 +121,7 @@ cut_lines : (dir : List ℕ) → Lacks 10 dir → (n : ℕ) (come : List Line) (
     → All (IsLineOf dir) come → AreLines n front → lines_text come ≡ front ++ after
     → (a : List Line) × (b : List Line) × (come ≡ a ++ b) × (length a ≡ n) × (front ≡ lines_text a)
     × (after ≡ lines_text b)
-cut_lines dir clear zero come front after each none parts =
-    ([], come, refl, refl, none, sym (parts ∙ ap (λ (bytes : List ℕ). bytes ++ after) none))
+cut_lines dir clear zero come front after each none parts = search rules
 cut_lines dir clear (suc n) [] front after each (first, more, plain, is, lines) parts =
     absurd (omega (
       arith,
@@ -158,7 +148,7 @@ cut_lines dir clear (suc n) (line ∷ come) front after each (first, more, plain
 -- what comes behind a place comes in bytes that go on alike
 ahead_as : (place : Place) (after rest : List ℕ) → Ahead place after → EndsAs after rest
     → Ahead place rest
-ahead_as Opened after rest ahead (inl none) = absurd (omega (arith, ap length (sym none ∙ ahead.1)))
+ahead_as Opened after rest ahead (inl none) = search rules
 ahead_as Opened after rest ahead (inr both) = both.1
 ahead_as place after rest ahead next = tt
 

@@ -1,9 +1,9 @@
 -- The registration that is to blame, and how that is told.
-use Rattle.std.proofs.Common.{◌≡◌, ℕ, ◌<◌, List, ◌++◌, length, take, get_or, refl, sym, subst, ap, ◌∙◌}
+use Rattle.std.proofs.Common.{◌≡◌, ℕ, ◌<◌, List, ◌++◌, length, take, get_or, refl, sym, subst, ap, ◌∙◌, rules}
 use Rattle.std.specs.Prelude.{All, Contains, Err, MatchOption, Option, Result, Some, None, ⊤, slice_get}
-use Rattle.std.proofs.lemmas.Option.{slice_get-get_or, slice_get_within}
-use Rattle.valid_table.specs.Adding.{AreClosed, AreNew, IsObstacle, IsTaking}
-use Rattle.valid_table.specs.Blames.{IsBlamed, IsBlamedFor, IsFaultOf, IsObstacleOf, IsUnclosedAt}
+use Rattle.std.proofs.lemmas.Option.{slice_get-get_or}
+use Rattle.valid_table.specs.Adding.{AreClosed, AreNew, IsTaking}
+use Rattle.valid_table.specs.Blames.{IsBlamed, IsBlamedFor, IsFaultOf, IsUnclosedAt}
 use Rattle.valid_table.specs.Entering.{IsFirstUnknownAt}
 use Rattle.valid_table.specs.Entries.{paths_of}
 use Rattle.valid_table.specs.Valid.{references_of}
@@ -11,7 +11,6 @@ use Rattle.valid_table.specs.declared.entry.Registration.{Registration}
 use Rattle.valid_table.specs.declared.fault.TableFault.{TableFault}
 use Rattle.valid_table.specs.declared.fault.TableFault.TheVariants.{NoMemory, Unclosed, AlreadyValid}
 use Rattle.valid_table.specs.declared.obstacle.Blame.{Blame}
-use Rattle.valid_table.specs.declared.obstacle.Obstacle.{Obstacle}
 use Rattle.valid_table.specs.declared.obstacle.Obstacle.TheVariants as obstacle
 use Rattle.valid_table.proofs.EnteredPaths.{unclosed_here}
 use Rattle.nix_names.proofs.Lists.{same_element}
@@ -34,8 +33,7 @@ unclosed_at known some i r references place all lt is same first =
 -- who has it is to blame, where all paths are new
 pub blamed_for_reference : (known some : List Registration) (blame : Blame) → AreNew known some
     → IsUnclosedAt known some blame → IsBlamed known some blame
-blamed_for_reference known some blame new (r, place, path, at, told, read, first) =
-    (r, at, subst (IsBlamedFor known some r) (sym told) (path, read, new, first))
+blamed_for_reference known some blame new (r, place, path, at, told, read, first) = search rules
 
 -- what is answered where all paths are new
 pub blamed_or_closed :
@@ -79,5 +77,4 @@ pub taking_no_memory :
     result ≡ Err NoMemory →
     same →
     IsTaking known some taken same result
-taking_no_memory known some taken same result new closed is kept =
-    subst (IsTaking known some taken same) (sym is) (new, closed, kept)
+taking_no_memory known some taken same result new closed is kept = search rules

@@ -1,5 +1,5 @@
 -- The lines of an entry, checked by what it registers.
-use Rattle.std.proofs.Common.{◌≡◌, ◌∙◌, ℕ, suc, ◌+◌, ◌<◌, List, [], ◌∷◌, ◌++◌, length, map, flat_map, take, drop, refl, sym, ap, subst, arith, length-append}
+use Rattle.std.proofs.Common.{◌≡◌, ◌∙◌, ℕ, suc, ◌+◌, ◌<◌, List, [], ◌∷◌, ◌++◌, length, map, flat_map, take, drop, refl, sym, ap, subst, arith, length-append, rules}
 use Rattle.std.specs.Prelude.{All, Contains, Err, Ok, Option, Result, Some, slice_get}
 use Rattle.std.proofs.lemmas.List.{append-nil, append_assoc, length-map, map-append, take-map, take-take, take_at}
 use Rattle.std.proofs.lemmas.List.Concat.{flat_map-append, length-flat_map}
@@ -8,7 +8,7 @@ use Rattle.std.proofs.lemmas.Option.{MatchOption-at_some}
 use Rattle.valid_table.specs.Checking.{IsEntryCheck, IsLineCheck, IsRight, RegistersKnown, header}
 use Rattle.valid_table.specs.Entering.{AreUnknown, IsNewFront, IsUnknown}
 use Rattle.valid_table.specs.Entries.{paths_of, registered_by}
-use Rattle.valid_table.specs.Texts.{Line, Added, Deriver, Output, Reference, entry_lines, output_lines}
+use Rattle.valid_table.specs.Texts.{Line, Added, Deriver, Output, Reference, entry_lines}
 use Rattle.valid_table.specs.Valid.{references_of}
 use Rattle.valid_table.specs.declared.entry.Entry.{Entry}
 use Rattle.valid_table.specs.declared.entry.Entry.TheVariants.{Add, Done}
@@ -44,11 +44,7 @@ entry_lines_are (Done deriver outputs) = refl
 -- how many lines of an entry stand before those of a registration
 up_to_count : (entry : Entry) (before : List Registration)
     → length (header entry ++ lines_of entry before) ≡ length (header entry) + line_count before
-up_to_count entry before = omega (
-  arith,
-  length-append (header entry) (lines_of entry before),
-  length-flat_map (own_lines entry) before ∙ sym (length-flat_map output_lines before),
-)
+up_to_count entry before = search (rules, length-flat_map)
 
 -- an entry's lines, split at those of a registration
 split_lines :
@@ -57,10 +53,7 @@ split_lines :
     entry_lines entry ≡ (header entry ++ lines_of entry before)
     ++ (own_lines entry r ++ lines_of entry after)
 split_lines entry before r after parts =
-    entry_lines_are entry
-    ∙ ap (λ rs. header entry ++ lines_of entry rs) parts
-    ∙ ap (λ l. header entry ++ l) (flat_map-append (own_lines entry) before (r ∷ after))
-    ∙ sym (append_assoc (header entry) (lines_of entry before) (lines_of entry (r ∷ after)))
+    search (rules, entry_lines_are, flat_map-append, append_assoc)
 
 -- the line of a known path registers it
 start_known : (known : List (List ℕ)) (entry : Entry) (path : List ℕ) (digest : Option (List ℕ))
@@ -102,9 +95,7 @@ module _ (known all : List (List ℕ)) where
   own_right : (entry : Entry) (r : Registration) (references : List (List ℕ))
       → IsUnknown known r.path → All (Contains all) references
       → All Right (starts entry r.path r.info.digest ∷ map Reference references)
-  own_right entry r references new valid =
-      All-cons Right (starts entry r.path r.info.digest) (map Reference references)
-      (start_right entry r.path r.info.digest new) (All-map Right Reference references valid)
+  own_right entry r references new valid = search (rules, All-cons, start_right, All-map)
 
   -- the lines of registrations with new paths and known references are right
   lines_right : (entry : Entry) (rs : List Registration) → AreUnknown known (paths_of rs)
@@ -123,9 +114,7 @@ module _ (known all : List (List ℕ)) where
   pub up_to : (entry : Entry) (before : List Registration) → AreUnknown known (paths_of before)
       → All (Contains all) (references_of before)
       → All Right (header entry ++ lines_of entry before)
-  up_to entry before new closed =
-      All-append Right (header entry) (lines_of entry before) (header_right entry)
-      (lines_right entry before new closed)
+  up_to entry before new closed = search (rules, All-append, header_right, lines_right)
 
   -- what the lines of what an entry registers answer, its own do
   entry_checked :
@@ -208,5 +197,4 @@ pub own_checked :
     IsEntryCheck (paths_of known) (paths_of (known ++ registered_by entry)) (entry_lines entry)
     first result
 own_checked known entry rs new first at result own number front check =
-    entry_checked (paths_of known) (paths_of (known ++ registered_by entry)) entry new first result
-    (rw (← own) front) (rw (← own, ← number) check)
+    search (rules, entry_checked)

@@ -1,23 +1,22 @@
 -- Entries whose lines are right, and the first wrong line of entries.
-use Rattle.std.proofs.Common.{◌≡◌, ◌∙◌, ℕ, ◌+◌, ◌<◌, ◌≤◌, ◌⊎◌, inl, inr, ⊎_elim, List, [], ◌∷◌, ◌++◌, length, map, flat_map, take, drop, get_or, refl, sym, ap, subst, arith, length-append}
+use Rattle.std.proofs.Common.{◌≡◌, ◌∙◌, ℕ, ◌+◌, ◌<◌, ◌≤◌, ◌⊎◌, inl, inr, ⊎_elim, List, [], ◌∷◌, ◌++◌, length, map, flat_map, take, drop, get_or, refl, sym, ap, subst, arith, length-append, rules}
 use Rattle.std.specs.Prelude.{All, Contains, Err, Result}
-use Rattle.std.proofs.lemmas.List.{append-nil, append_assoc, take_all, take_more}
+use Rattle.std.proofs.lemmas.List.{append-nil, append_assoc, flat_map_more, take_all}
 use Rattle.std.proofs.lemmas.List.Concat.{flat_map-append}
-use Rattle.std.proofs.lemmas.List.Elements.{All-append, All-cons, All-head, All-nil, All-tail}
+use Rattle.std.proofs.lemmas.List.Elements.{All-append, All-contains, All-cons, All-head, All-nil, All-tail}
 use Rattle.valid_table.specs.Checking.{IsEntryCheck, IsRight, IsRightUpTo, RefersToOther, RegistersKnown, header}
 use Rattle.valid_table.specs.Entries.{paths_of, registered, registered_by}
 use Rattle.valid_table.specs.LineFaults.{IsLeastFault, IsNotClosedAt, IsTwiceAt, StandsAt}
 use Rattle.valid_table.specs.Reading.{IsChecking}
-use Rattle.valid_table.specs.Texts.{Line, Version, Added, Deriver, Output, Reference, entry_lines, lines}
+use Rattle.valid_table.specs.Texts.{Line, Version, Added, Output, Reference, entry_lines, lines}
 use Rattle.valid_table.specs.Valid.{IsClosed, IsClosedBehind, references_of}
 use Rattle.valid_table.specs.declared.entry.Entry.{Entry}
 use Rattle.valid_table.specs.declared.entry.Registration.{Registration}
 use Rattle.valid_table.specs.declared.fault.TableFault.{TableFault}
 use Rattle.valid_table.specs.declared.fault.TableFault.TheVariants.{NoMemory, NotClosed, Twice}
-use Rattle.valid_table.proofs.AddedEntries.{registered_push}
 use Rattle.valid_table.proofs.CheckedEntries.{entry_lines_are, lines_of}
 use Rattle.valid_table.proofs.PathLists.{All-right}
-use Rattle.nix_names.proofs.Lists.{All-left, parts_at}
+use Rattle.nix_names.proofs.Lists.{All-left, Contains-middle, parts_at, taken_more}
 
 -- a line of an entry behind earlier registrations is right
 abbrev pub IsRightBehind : List Registration → Entry → Line → Type 0
@@ -36,8 +35,7 @@ right_push :
     AreRight earlier entries →
     All (IsRightBehind (earlier ++ registered entries) entry) (entry_lines entry) →
     AreRight earlier (entries ++ entry ∷ [])
-right_push earlier [] entry right more =
-    (subst (λ rs. All (IsRightBehind rs entry) (entry_lines entry)) (append-nil earlier) more, tt)
+right_push earlier [] entry right more = search (rules, append-nil)
 right_push earlier (first ∷ entries) entry right more = (
   right.0,
   right_push (earlier ++ registered_by first) entries entry right.1
@@ -50,23 +48,16 @@ pub right_at :
     (earlier : List Registration) (before : List Entry) (entry : Entry) (after : List Entry) →
     AreRight earlier (before ++ entry ∷ after) →
     All (IsRightBehind (earlier ++ registered before) entry) (entry_lines entry)
-right_at earlier [] entry after right =
-    subst (λ rs. All (IsRightBehind rs entry) (entry_lines entry)) (sym (append-nil earlier))
-    right.0
+right_at earlier [] entry after right = search (rules, append-nil)
 right_at earlier (first ∷ before) entry after right =
-    subst (λ rs. All (IsRightBehind rs entry) (entry_lines entry))
-    (append_assoc earlier (registered_by first) (registered before))
-    (right_at (earlier ++ registered_by first) before entry after right.1)
+    search (rules, append_assoc, (right_at (earlier ++ registered_by first) before entry after right.1))
 
 -- the references of right lines are valid
 references_valid : (known all references : List (List ℕ))
     → All (IsRight known all) (map Reference references) → All (Contains all) references
 references_valid known all [] right = All-nil (Contains all)
 references_valid known all (path ∷ references) right =
-    All-cons (Contains all) path references
-    (All-head (IsRight known all) (Reference path) _ right)
-    (references_valid known all references
-    (All-tail (IsRight known all) (Reference path) (map Reference references) right))
+    search (rules, All-cons, All-head, All-tail, (references_valid known all references (All-tail (IsRight known all) (Reference path) (map Reference references) right)))
 
 -- so the references of registrations whose lines are right are known
 references_valid_of :
@@ -104,8 +95,8 @@ split_two :
     ((mid : List X) × (b ≡ a ++ x ∷ mid))
     ⊎ (((a ≡ b) × (x ≡ y)) ⊎ ((mid : List X) × (a ≡ b ++ y ∷ mid)))
 split_two [] x xs [] y ys same = inr (inl (refl, cc))
-split_two [] x xs (z ∷ b) y ys same = let first : x ≡ z = cc in inl (b, ap (λ w. w ∷ b) (sym first))
-split_two (z ∷ a) x xs [] y ys same = let first : z ≡ y = cc in inr (inr (a, ap (λ w. w ∷ a) first))
+split_two [] x xs (z ∷ b) y ys same = search rules
+split_two (z ∷ a) x xs [] y ys same = search rules
 split_two (z ∷ a) x xs (w ∷ b) y ys same =
     let first : z ≡ w = cc in
     let rest : a ++ x ∷ xs ≡ b ++ y ∷ ys = cc in
@@ -116,36 +107,16 @@ split_two (z ∷ a) x xs (w ∷ b) y ys same =
     (λ h. inr (inr (h.0, ap (λ l. z ∷ l) h.1 ∙ ap (λ v. v ∷ (b ++ y ∷ h.0)) first))))
     (split_two a x xs b y ys rest)
 
--- the lines of two lists of entries
-entry_lines-append : (a b : List Entry) → length (flat_map entry_lines (a ++ b))
-    ≡ length (flat_map entry_lines a) + length (flat_map entry_lines b)
-entry_lines-append a b = ap length (flat_map-append entry_lines a b)
-    ∙ length-append (flat_map entry_lines a) (flat_map entry_lines b)
-
--- the lines of one more entry
-lines_push : (entries : List Entry) (entry : Entry) → length (lines (entries ++ entry ∷ []))
-    ≡ length (lines entries) + length (entry_lines entry)
-lines_push entries entry = omega (
-  arith,
-  entry_lines-append entries (entry ∷ []),
-  ap length (append-nil (entry_lines entry)),
-)
-
 -- entries with another behind them, and more, have at least its lines more
 lines_behind : (entries : List Entry) (entry : Entry) (more : List Entry) → length (lines entries)
     + length (entry_lines entry) ≤ length (lines (entries ++ entry ∷ more))
 lines_behind entries entry more =
     omega (
       arith,
-      entry_lines-append entries (entry ∷ more),
+      ap length (flat_map-append entry_lines entries (entry ∷ more)),
+      length-append (flat_map entry_lines entries) (flat_map entry_lines (entry ∷ more)),
       length-append (entry_lines entry) (flat_map entry_lines more),
     )
-
--- one more of the first entries
-take_push : (entries : List Entry) (i : ℕ) (entry : Entry) → i < length entries → entry
-    ≡ get_or entries i entry → take (i + 1) entries ≡ take i entries ++ entry ∷ []
-take_push entries i entry lt is = take_more entries i entry lt
-    ∙ ap (λ e. take i entries ++ e ∷ []) (sym is)
 
 -- Line m of a journal is wrong.
 pub record IsWrongAt (entries : List Entry) (m : ℕ) : Type 0 where
@@ -158,37 +129,26 @@ pub record IsWrongAt (entries : List Entry) (m : ℕ) : Type 0 where
 -- a line with a fault is wrong
 pub wrong_line : (entries : List Entry) (m : ℕ) → IsNotClosedAt entries m ⊎ IsTwiceAt entries m
     → IsWrongAt entries m
-wrong_line entries m (inl (before, entry, path, stands, open_there)) =
-    record {
-      before = before;
-      entry = entry;
-      line = Reference path;
-      stands = stands;
-      wrong = open_there;
-    }
-wrong_line entries m (inr (before, entry, path, digest, inl stands, valid)) =
-    record {
-      before = before;
-      entry = entry;
-      line = Added path digest;
-      stands = stands;
-      wrong = λ right. right valid;
-    }
-wrong_line entries m (inr (before, entry, path, digest, inr stands, valid)) =
-    record {
-      before = before;
-      entry = entry;
-      line = Output path digest;
-      stands = stands;
-      wrong = λ right. right valid;
-    }
+wrong_line entries m (inl (before, entry, path, stands, open_there)) = search rules
+wrong_line entries m (inr (before, entry, path, digest, inl stands, valid)) = search rules
+wrong_line entries m (inr (before, entry, path, digest, inr stands, valid)) = search rules
 
 -- a wrong line isn't among right ones
-pub not_among : (known all : List (List ℕ)) (before : List Line) (line : Line) (after : List Line)
+not_among : (known all : List (List ℕ)) (before : List Line) (line : Line) (after : List Line)
     → All (IsRight known all) (before ++ line ∷ after) → IsRight known all line
 not_among known all before line after right =
-    All-head (IsRight known all) line after
-    (All-right (IsRight known all) before (line ∷ after) right)
+    All-contains (IsRight known all) (before ++ line ∷ after) line right
+    (Contains-middle before after line)
+
+-- so its entry isn't among right ones
+pub none_wrong : (entries : List Entry) (m : ℕ) (w : IsWrongAt entries m) (after : List Entry)
+    → AreRight [] (w.before ++ w.entry ∷ after) → ⊥
+none_wrong entries m w after right =
+    let s = w.stands in
+    w.wrong
+    (not_among _ _ s.first w.line s.last
+    (subst (All (IsRightBehind (registered w.before) w.entry)) s.is_line
+    (right_at [] w.before w.entry after right)))
 
 -- in the entry whose first lines are right, a wrong line stands behind these
 least_within :
@@ -229,12 +189,7 @@ least_wrong entries pre e rest first line last m parts right split first_right w
     let s = w.stands in
     let number = s.number in
     ⊎_elim
-    (λ h.
-    let all = right_at [] w.before w.entry h.0 (subst (AreRight []) h.1 right) in
-    absurd (w.wrong
-    (not_among (paths_of (registered w.before))
-    (paths_of (registered w.before ++ registered_by w.entry)) s.first w.line s.last
-    (subst (All (IsRightBehind (registered w.before) w.entry)) s.is_line all))))
+    (λ h. absurd (none_wrong entries m w h.0 (subst (AreRight []) h.1 right)))
     (⊎_elim
     (λ h. omega (
       arith,
@@ -264,35 +219,15 @@ least_fault entries pre e rest line place n parts right up number m fault =
       up.is_place,
     )
 
--- where that line stands
-stands_there :
-    (entries pre : List Entry) (e : Entry) (rest : List Entry) (line : Line) (place n : ℕ) →
-    entries ≡ pre ++ e ∷ rest →
-    IsRightUpTo (paths_of (registered pre)) (paths_of (registered pre ++ registered_by e))
-    (entry_lines e) line place →
-    n ≡ length (lines pre) + place + 1 →
-    StandsAt entries pre e line n
-stands_there entries pre e rest line place n parts up number =
-    record {
-      after = rest;
-      parts = parts;
-      first = up.before;
-      last = up.after;
-      is_line = up.parts;
-      number = omega (arith, up.is_place);
-    }
-
 -- a line that registers a known path
 twice_at : (entries before : List Entry) (entry : Entry) (line : Line) (n : ℕ)
     → StandsAt entries before entry line n → RegistersKnown (paths_of (registered before)) line
     → IsTwiceAt entries n
-twice_at entries before entry Version n stands known = absurd known
 twice_at entries before entry (Added path digest) n stands known =
     (before, entry, path, digest, inl stands, known)
-twice_at entries before entry (Deriver path) n stands known = absurd known
 twice_at entries before entry (Output path digest) n stands known =
     (before, entry, path, digest, inr stands, known)
-twice_at entries before entry (Reference path) n stands known = absurd known
+twice_at entries before entry line n stands known = absurd known
 
 -- a line that refers to another path
 open_at :
@@ -300,11 +235,8 @@ open_at :
     StandsAt entries before entry line n →
     RefersToOther (paths_of (registered before ++ registered_by entry)) line →
     IsNotClosedAt entries n
-open_at entries before entry Version n stands other = absurd other
-open_at entries before entry (Added path digest) n stands other = absurd other
-open_at entries before entry (Deriver path) n stands other = absurd other
-open_at entries before entry (Output path digest) n stands other = absurd other
 open_at entries before entry (Reference path) n stands other = (before, entry, path, stands, other)
+open_at entries before entry line n stands other = absurd other
 
 -- what an entry behind others is checked against
 abbrev pub IsCheckBehind : List Entry → Entry → ℕ → Result ℕ TableFault → Type 0
@@ -320,88 +252,77 @@ pub check_behind :
     IsEntryCheck (paths_of known) (paths_of (known ++ registered_by entry)) (entry_lines entry)
     first result →
     IsCheckBehind pre entry first result
-check_behind pre entry known first result same check =
-    subst (λ rs. IsEntryCheck (paths_of rs) (paths_of (rs ++ registered_by entry))
-    (entry_lines entry) first result) same check
+check_behind pre entry known first result same check = search rules
 
--- the first fault of entries
-pub first_fault :
-    (entries : List Entry) (i : ℕ) (entry : Entry) (first : ℕ) (fault : TableFault) →
-    i < length entries →
-    entry ≡ get_or entries i entry →
-    AreRight [] (take i entries) →
-    first ≡ length (lines (take i entries)) + 1 →
-    IsCheckBehind (take i entries) entry first (Err fault) →
-    IsChecking entries (Err fault)
-first_fault entries i entry first (Twice n) lt is right number (line, place, up, known, counted) =
-    let parts = parts_at entries i entry lt is in
-    let at : n ≡ length (lines (take i entries)) + place + 1 = omega arith in (
-      twice_at entries (take i entries) entry line n
-          (stands_there entries (take i entries) entry (drop (i + 1) entries) line place n parts up
-          at) known,
-      least_fault entries (take i entries) entry (drop (i + 1) entries) line place n parts right up
-          at,
-    )
-first_fault entries i entry first (NotClosed n) lt is right number
-    (line, place, up, other, counted) =
-    let parts = parts_at entries i entry lt is in
-    let at : n ≡ length (lines (take i entries)) + place + 1 = omega arith in (
-      open_at entries (take i entries) entry line n
-          (stands_there entries (take i entries) entry (drop (i + 1) entries) line place n parts up
-          at) other,
-      least_fault entries (take i entries) entry (drop (i + 1) entries) line place n parts right up
-          at,
-    )
-first_fault entries i entry first NoMemory lt is right number check = tt
-first_fault entries i entry first other lt is right number check = check
+-- one of some entries, and those before it
+module _ (entries : List Entry) (i : ℕ) (entry : Entry) (lt : i < length entries)
+    (is : entry ≡ get_or entries i entry) where
+  -- a line up to which all are right stands there
+  stands_there : (line : Line) (place n : ℕ)
+      → IsRightUpTo (paths_of (registered (take i entries)))
+      (paths_of (registered (take i entries) ++ registered_by entry)) (entry_lines entry) line place
+      → n ≡ length (lines (take i entries)) + place + 1
+      → StandsAt entries (take i entries) entry line n
+  stands_there line place n up number = record {
+    after = drop (i + 1) entries;
+    parts = parts_at entries i entry lt is;
+    first = up.before;
+    last = up.after;
+    is_line = up.parts;
+    number = omega (arith, up.is_place);
+  }
 
--- the lines of the first entries and the next one are no more than all
-pub lines_fit :
-    (entries : List Entry) (i : ℕ) (entry : Entry) →
-    i < length entries →
-    entry ≡ get_or entries i entry →
-    length (lines (take i entries)) + length (entry_lines entry) ≤ length (lines entries)
-lines_fit entries i entry lt is =
-    let long = lines_behind (take i entries) entry (drop (i + 1) entries) in
-    omega (arith, ap (λ es. length (lines es)) (parts_at entries i entry lt is))
+  -- the first fault of entries
+  pub first_fault : (first : ℕ) (fault : TableFault) → AreRight [] (take i entries)
+      → first ≡ length (lines (take i entries)) + 1
+      → IsCheckBehind (take i entries) entry first (Err fault) → IsChecking entries (Err fault)
+  first_fault first (Twice n) right number (line, place, up, known, counted) =
+      let at : n ≡ length (lines (take i entries)) + place + 1 = omega arith in (
+        twice_at entries (take i entries) entry line n (stands_there line place n up at) known,
+        least_fault entries (take i entries) entry (drop (i + 1) entries) line place n
+            (parts_at entries i entry lt is) right up at,
+      )
+  first_fault first (NotClosed n) right number (line, place, up, other, counted) =
+      let at : n ≡ length (lines (take i entries)) + place + 1 = omega arith in (
+        open_at entries (take i entries) entry line n (stands_there line place n up at) other,
+        least_fault entries (take i entries) entry (drop (i + 1) entries) line place n
+            (parts_at entries i entry lt is) right up at,
+      )
+  first_fault first NoMemory right number check = tt
+  first_fault first other right number check = check
 
--- one more of the first entries is right
-pub right_more :
-    (entries : List Entry) (i : ℕ) (entry : Entry) →
-    i < length entries →
-    entry ≡ get_or entries i entry →
-    AreRight [] (take i entries) →
-    All (IsRightBehind (registered (take i entries)) entry) (entry_lines entry) →
-    AreRight [] (take (i + 1) entries)
-right_more entries i entry lt is right more =
-    subst (AreRight []) (sym (take_push entries i entry lt is))
-    (right_push [] (take i entries) entry right more)
+  -- its lines and those before it are no more than all
+  pub lines_fit : length (lines (take i entries)) + length (entry_lines entry)
+      ≤ length (lines entries)
+  lines_fit =
+      let long = lines_behind (take i entries) entry (drop (i + 1) entries) in
+      omega (arith, ap (λ es. length (lines es)) (parts_at entries i entry lt is))
 
--- its lines are counted
-pub lines_more :
-    (entries : List Entry) (i : ℕ) (entry : Entry) →
-    i < length entries →
-    entry ≡ get_or entries i entry →
-    length (lines (take (i + 1) entries)) ≡ length (lines (take i entries))
-    + length (entry_lines entry)
-lines_more entries i entry lt is = ap (λ es. length (lines es)) (take_push entries i entry lt is)
-    ∙ lines_push (take i entries) entry
+  -- with it those before it are right
+  pub right_more : AreRight [] (take i entries)
+      → All (IsRightBehind (registered (take i entries)) entry) (entry_lines entry)
+      → AreRight [] (take (i + 1) entries)
+  right_more right more = subst (AreRight []) (sym (taken_more entries i entry lt is))
+      (right_push [] (take i entries) entry right more)
 
--- and what it registers is known
-pub known_more :
-    (entries : List Entry) (i : ℕ) (entry : Entry) (known next : List Registration) →
-    i < length entries →
-    entry ≡ get_or entries i entry →
-    known ≡ registered (take i entries) →
-    next ≡ known ++ registered_by entry →
-    next ≡ registered (take (i + 1) entries)
-known_more entries i entry known next lt is same added =
-    added
-    ∙ ap (λ l. l ++ registered_by entry) same
-    ∙ sym (ap registered (take_push entries i entry lt is) ∙ registered_push (take i entries) entry)
+  -- its lines are counted
+  pub lines_more : length (lines (take (i + 1) entries)) ≡ length (lines (take i entries))
+      + length (entry_lines entry)
+  lines_more =
+      ap (λ es. length (lines es)) (taken_more entries i entry lt is)
+      ∙ ap (λ ls. length (Version ∷ ls)) (sym (flat_map_more entry_lines [] (take i entries) entry))
+      ∙ length-append (lines (take i entries)) (entry_lines entry)
+
+  -- and what it registers is known
+  pub known_more : (known next : List Registration) → known ≡ registered (take i entries)
+      → next ≡ known ++ registered_by entry → next ≡ registered (take (i + 1) entries)
+  known_more known next same added =
+      added
+      ∙ ap (λ l. l ++ registered_by entry) same
+      ∙ flat_map_more registered_by [] (take i entries) entry
+      ∙ sym (ap registered (taken_more entries i entry lt is))
 
 -- where all entries are right, they are closed
 pub closed_behind : (entries : List Entry) (i : ℕ) → length entries ≤ i
     → AreRight [] (take i entries) → IsClosed entries
-closed_behind entries i long right = right_closed [] entries
-    (subst (AreRight []) (take_all i entries long) right)
+closed_behind entries i long right = search (rules, right_closed, take_all)

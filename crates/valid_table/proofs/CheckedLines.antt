@@ -1,8 +1,10 @@
 -- The lines of registrations, counted and checked.
-use Rattle.std.proofs.Common.{◌≡◌, ◌∙◌, ℕ, ◌+◌, ◌<◌, ◌≤◌, List, [], ◌∷◌, ◌++◌, length, flat_map, take, drop, get_or, sym, ap, subst, arith, length-append}
+use Rattle.std.proofs.lemmas.Grind.{common_steps}
+use Rattle.std.proofs.Common.{◌≡◌, ◌∙◌, ℕ, ◌+◌, ◌<◌, ◌≤◌, List, ◌∷◌, ◌++◌, length, flat_map, take, drop, get_or, ap, subst, arith, length-append}
 use Rattle.std.specs.Prelude.{All, Contains, Err, Ok}
-use Rattle.std.proofs.lemmas.List.{append-nil, length-map, length-take-le, take-append-drop, take_all, take_more}
+use Rattle.std.proofs.lemmas.List.{append-nil, length-map, length-take-le, take_all, take_more}
 use Rattle.std.proofs.lemmas.List.Concat.{flat_map-append}
+use Rattle.std.proofs.lemmas.List.Folds.{length-flat_map-take}
 use Rattle.valid_table.specs.Checking.{IsLineCheck}
 use Rattle.valid_table.specs.Entering.{IsFirstUnknownAt}
 use Rattle.valid_table.specs.Texts.{Reference, output_lines}
@@ -28,12 +30,7 @@ pub line_count_more :
     r ≡ get_or rs i r →
     line_count (take (i + 1) rs) ≡ line_count (take i rs) + (1 + length r.info.references)
 line_count_more rs i r lt is =
-    let one : line_count (r ∷ []) ≡ 1 + length r.info.references =
-    ap length (append-nil (output_lines r)) ∙ omega (arith, length-map r.info.references Reference)
-    in
-    ap line_count (take_more rs i r lt ∙ ap (λ x. take i rs ++ x ∷ []) (sym is))
-    ∙ line_count-append (take i rs) (r ∷ [])
-    ∙ ap (λ n. line_count (take i rs) + n) one
+    grind (arith, common_steps, append-nil, length-map, take_more, line_count-append)
 
 -- the first registrations and the next one have no more lines than all
 pub line_count_fits :
@@ -42,10 +39,12 @@ pub line_count_fits :
     r ≡ get_or rs i r →
     line_count (take i rs) + (1 + length r.info.references) ≤ line_count rs
 line_count_fits rs i r lt is =
-    let whole : line_count rs ≡ line_count (take (i + 1) rs) + line_count (drop (i + 1) rs) =
-    ap line_count (sym (take-append-drop (i + 1) rs))
-    ∙ line_count-append (take (i + 1) rs) (drop (i + 1) rs) in
-    omega (arith, line_count_more rs i r lt is)
+    omega (
+      arith,
+      length-flat_map-take output_lines rs i r lt,
+      length-map r.info.references Reference,
+      ap (λ x. length (output_lines x)) is,
+    )
 
 -- the place of an unknown path is within the list
 pub unknown_within : (all paths : List (List ℕ)) (at : ℕ) → IsFirstUnknownAt all paths at → at

@@ -1,5 +1,5 @@
 -- Closures stay the same when a closed list of entries goes on, and are told by their paths.
-use Rattle.std.proofs.Common.{◌≡◌, ◌<◌, ℕ, List, [], ◌∷◌, ◌++◌, None, get_or, length, sym, subst, ◌∙◌, All, Contains, ⊎_elim, arith}
+use Rattle.std.proofs.Common.{◌≡◌, ◌<◌, ℕ, List, [], ◌∷◌, ◌++◌, None, get_or, length, sym, subst, ◌∙◌, All, Contains, ⊎_elim, arith, rules}
 use Rattle.std.specs.Prelude.{flat_map}
 use Rattle.std.proofs.lemmas.Grind.{flat_map-append}
 use Rattle.std.proofs.lemmas.List.{get_or-map, get_or_default}
@@ -29,9 +29,7 @@ Contains-flat_map f (z ∷ zs) x y has one =
 -- a reference of what is registered is one of the references
 refers_in : (registrations : List Registration) (path next : List ℕ)
     → RefersTo registrations path next → Contains (references_of registrations) next
-refers_in registrations path next refers = Contains-flat_map
-    (λ (r : Registration). r.info.references) registrations
-    (record { path = path; info = refers.0 }) next refers.1 refers.2
+refers_in registrations path next refers = search (rules, Contains-flat_map)
 
 -- a valid path has a record
 pub registers_from_valid : (registrations : List Registration) (path : List ℕ)

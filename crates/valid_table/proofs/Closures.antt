@@ -1,5 +1,5 @@
 -- The rows that were found are those of the closure.
-use Rattle.std.proofs.Common.{◌≡◌, ℕ, List, [], length, sym, subst, All, Contains, Result, Ok, Err, IfOk, IfErr}
+use Rattle.std.proofs.Common.{◌≡◌, ℕ, List, [], length, sym, subst, All, Contains, Result, Ok, Err, IfOk, IfErr, rules}
 use Rattle.std.specs.Global.{Vec}
 use Rattle.std.proofs.Math.Seq.{take-length}
 use Rattle.std.proofs.lemmas.List.Elements.{All-contains}
@@ -64,10 +64,6 @@ pub closing_answered : (registrations : List Registration) (roots : List (List �
     → IfOk answer (λ paths. HaveSame paths.items (paths_at registrations found))
     → IfErr answer (λ fault. fault ≡ NoMemory) → IsClosing registrations roots answer
 closing_answered registrations roots start found (Ok paths) valid begins followed rising same
-    refused = (
-      valid,
-      closure_found registrations roots start found paths.items valid begins followed rising
-          same,
-    )
+    refused = search (rules, closure_found)
 closing_answered registrations roots start found (Err fault) valid begins followed rising same
-    refused = subst (λ (f : TableFault). IsClosing registrations roots (Err f)) (sym refused) tt
+    refused = search rules

@@ -1,5 +1,5 @@
 -- Which bytes are a digest's text: they decode, and what they decode to encodes to them again.
-use Rattle.std.proofs.Common.{◌≡◌, ◌≢◌, ℕ, List, Option, Some, None, Ok, Err, codes}
+use Rattle.std.proofs.Common.{◌≡◌, ◌≢◌, ℕ, List, Option, Some, None, Ok, Err, codes, rules}
 use Rattle.hex.specs.Hex.{decode_sized, encode_lower}
 use Rattle.hex.specs.declared.error.FromHexError.{FromHexError}
 use Rattle.valid_table.specs.Texts.{IsDigest, digest_text}
@@ -17,5 +17,4 @@ pub other_digits : (text found : List ℕ) → text ≢ codes "-" → decode_siz
     → text ≢ encode_lower found → (digest : Option (List ℕ)) → IsDigest digest
     → text ≢ digest_text digest
 other_digits text found no_dash ok other None is same = no_dash same
-other_digits text found no_dash ok other (Some digest) is same = let again =
-    rw (← same) at (digits_decode digest is) in other (cc)
+other_digits text found no_dash ok other (Some digest) is same = search (rules, digits_decode)

@@ -1,9 +1,9 @@
 -- Registrations whose paths and references are looked up among known ones.
-use Rattle.std.proofs.Common.{◌≡◌, ◌∙◌, ℕ, ◌+◌, ◌<◌, ◌≤◌, List, ◌∷◌, ◌++◌, inl, inr, length, take, drop, get_or, sym, ap, subst, arith}
+use Rattle.std.proofs.Common.{◌≡◌, ◌∙◌, ℕ, ◌+◌, ◌<◌, ◌≤◌, List, ◌∷◌, ◌++◌, length, take, drop, get_or, sym, ap, subst, arith}
 use Rattle.std.specs.Prelude.{All, Contains, IfSome, Some, slice_get}
 use Rattle.std.proofs.lemmas.List.{get_or_at, length-append, length-take-le, take_all}
 use Rattle.std.proofs.lemmas.List.Elements.{All-append, All-more}
-use Rattle.std.proofs.lemmas.Option.{MatchOption-at_some, get_or_from_slice_get, slice_get-get_or, slice_get_cases, slice_get_past}
+use Rattle.std.proofs.lemmas.Option.{MatchOption-at_some, slice_get-get_or, slice_get_past}
 use Rattle.nix_names.proofs.FirstElements.{first_at, first_within}
 use Rattle.valid_table.specs.Entering.{AreUnknown, IsFirstUnknownAt, IsNewFront, IsUnknown}
 use Rattle.valid_table.specs.Entries.{paths_of}
@@ -12,7 +12,7 @@ use Rattle.valid_table.specs.declared.entry.Registration.{Registration}
 use Rattle.valid_table.proofs.JournalLists.{references_of_at, references_of_more}
 use Rattle.valid_table.proofs.RowNumbers.{path_count, path_read}
 use Rattle.nix_names.specs.Firsts.{IsFirst}
-use Rattle.nix_names.proofs.Lists.{parts_at}
+use Rattle.nix_names.proofs.Lists.{element_at, get_mapped, parts_at}
 
 -- the path of the registration at a place
 pub path_at : (rs : List Registration) (i : ℕ) (r : Registration) (d : List ℕ) → i < length rs → r
@@ -131,34 +131,20 @@ closed_all known rs n long all = subst (λ l. All (Contains known) (references_o
     (take_all n rs long) all
 
 -- the path of the registration behind the new ones is the first that is known
-first_known :
-    (known : List (List ℕ)) (rs : List Registration) (count : ℕ) (r : Registration) →
-    IsNewFront known (paths_of rs) count →
-    count < length rs →
-    slice_get rs count ≡ Some r →
-    IsFirst (IsUnknown known) (Contains known) (paths_of rs) r.path
-first_known known rs count r front lt read =
-    let paths = paths_of rs in
-    let path = r.path in
-    let at : get_or paths count path ≡ path =
-    path_at rs count r path lt (sym (get_or_from_slice_get rs count r r read)) in
-    let within : count < length paths = omega (arith, path_count rs) in
-    let some : slice_get paths count ≡ Some path = slice_get-get_or paths count path within
-    ∙ ap Some at in
-    first_at (IsUnknown known) (Contains known) paths count path some front.new
-    (MatchOption-at_some (Unit {0}) (Contains known) path some front.next)
-
--- the path behind the new ones is known
 pub known_behind :
     (known : List (List ℕ)) (rs : List Registration) (count : ℕ) →
     IsNewFront known (paths_of rs) count →
     count < length rs →
     (r : Registration) × (slice_get rs count ≡ Some r)
     × IsFirst (IsUnknown known) (Contains known) (paths_of rs) r.path
-known_behind known rs count front lt = elim (slice_get_cases rs count).1 [
-  | inl (r, within, read, at) ↦ (r, read, first_known known rs count r front lt read)
-  | inr (long, none) ↦ absurd (omega arith)
-]
+known_behind known rs count front lt =
+    let (r, read) = element_at rs count lt in
+    let some = get_mapped (λ (x : Registration). x.path) rs count r read in (
+      r,
+      read,
+      first_at (IsUnknown known) (Contains known) (paths_of rs) count r.path some front.new
+          (MatchOption-at_some (Unit {0}) (Contains known) r.path some front.next),
+    )
 
 -- where none is behind the new ones, all are new
 pub all_new : (known : List (List ℕ)) (rs : List Registration) (count : ℕ)

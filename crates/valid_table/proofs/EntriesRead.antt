@@ -1,6 +1,6 @@
 -- The entries of a journal, read one after another.
-use Rattle.std.proofs.Common.{◌≡◌, true, ℕ, List, [], ◌∷◌, ◌++◌, length, ◌==◌, inl, refl, sym, ap, ◌∙◌, codes}
-use Rattle.std.specs.List.{flat_map}
+use Rattle.std.proofs.lemmas.Grind.{common_steps}
+use Rattle.std.proofs.Common.{◌≡◌, true, ℕ, List, [], ◌∷◌, ◌++◌, length, ◌==◌, inl, ap, ◌∙◌, codes, rules, arith}
 use Rattle.std.proofs.lemmas.Bool.{eqb-true}
 use Rattle.std.proofs.lemmas.List.{append-nil, nil_from_length}
 use Rattle.std.proofs.lemmas.List.Concat.{flat_map-append}
@@ -8,7 +8,7 @@ use Rattle.std.proofs.lemmas.List.Elements.{All-nil, All-push}
 use Rattle.valid_table.specs.LineTexts.{lines_text}
 use Rattle.valid_table.specs.Readers.{HasEntry, SoFarEntries}
 use Rattle.valid_table.specs.Steps.{Start, Begun}
-use Rattle.valid_table.specs.Texts.{IsEntryOf, IsText, Line, Version, entry_lines, lines, text}
+use Rattle.valid_table.specs.Texts.{IsEntryOf, IsText, Version, entry_lines, lines, text}
 use Rattle.valid_table.specs.declared.entry.Entry.{Entry}
 use Rattle.valid_table.proofs.EntryLines.{lead}
 use Rattle.valid_table.proofs.Leading.{text_and}
@@ -27,24 +27,14 @@ version_read dir bytes entries rest begins none = rw none (record {
 -- the text of entries, and of one more
 text_more : (entries : List Entry) (entry : Entry) (rest : List ℕ) → lines_text (lines entries)
     ++ (lines_text (entry_lines entry) ++ rest) ≡ lines_text (lines (entries ++ entry ∷ [])) ++ rest
-text_more entries entry rest =
-    text_and (lines entries) (entry_lines entry) rest
-    ∙ ap (λ (ls : List Line). lines_text (Version ∷ ls) ++ rest)
-    (sym (flat_map-append entry_lines entries (entry ∷ [])
-    ∙ ap (λ (ls : List Line). flat_map entry_lines entries ++ ls)
-    (append-nil (entry_lines entry))))
+text_more entries entry rest = search (rules, text_and, flat_map-append, append-nil)
 
 -- one more entry
 pub entries_more : (dir bytes : List ℕ) (entries more : List Entry) (rest behind : List ℕ)
     (entry : Entry) → SoFarEntries dir bytes entries rest → HasEntry dir rest entry behind → more
     ≡ entries ++ entry ∷ [] → SoFarEntries dir bytes more behind
-entries_more dir bytes entries more rest behind entry so_far h pushed = rw pushed (record {
-  parts = so_far.parts ∙ ap (λ t. lines_text (lines entries) ++ t) h.parts
-      ∙ text_more entries entry behind;
-  of_dir = All-push (IsEntryOf dir) entries entry so_far.of_dir h.of_dir;
-  leads = λ left goes_on.
-      so_far.leads left (λ from begins. lead dir rest entry behind from left h begins goes_on);
-})
+entries_more dir bytes entries more rest behind entry so_far h pushed =
+    grind (arith, common_steps, text_more, All-push, lead)
 
 -- where nothing is left, the bytes are the entries' text
 pub text_read : (dir bytes : List ℕ) (entries : List Entry) (rest : List ℕ)

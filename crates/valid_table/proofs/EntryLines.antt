@@ -1,11 +1,9 @@
 -- The lines of entries: where they lead, where they stop, and what they are.
-use Rattle.std.proofs.Common.{◌≡◌, drop, ◌≢◌, ℕ, List, [], ◌∷◌, ◌++◌, length, Some, None, inl, inr, refl, sym, ap, ◌∙◌, subst, arith}
-use Rattle.std.specs.List.{flat_map}
+use Rattle.std.proofs.Common.{◌≡◌, ◌≢◌, ℕ, List, [], ◌∷◌, ◌++◌, length, Some, None, inl, inr, refl, ap, ◌∙◌, rules}
 use Rattle.std.proofs.lemmas.List.{append_assoc}
-use Rattle.valid_table.specs.LineTexts.{lines_text}
 use Rattle.valid_table.specs.Readers.{HasEntry, HasOutputs, HasToBegin, IsBadFields, IsDeriverLine, IsEnd, IsNoLine, StopsInRegistration}
 use Rattle.valid_table.specs.Steps.{Place, Start, Begun, Opened, Within, Ahead, Goes, MayBegin, MayStand, Stops}
-use Rattle.valid_table.specs.Texts.{Line, Added, Deriver, Output, Reference, entry_lines, line_text, output_lines}
+use Rattle.valid_table.specs.Texts.{Line, Added, Deriver, Output, Reference, entry_lines, line_text}
 use Rattle.valid_table.specs.declared.entry.Entry.{Entry}
 use Rattle.valid_table.specs.declared.entry.Entry.TheVariants.{Add, Done}
 use Rattle.valid_table.specs.declared.entry.Registration.{Registration}
@@ -50,24 +48,13 @@ lead dir bytes entry rest from left h begins goes_on =
 bad_added : (dir : List ℕ) (from : Place) (bytes : List ℕ) (left : ℕ)
     → (h : IsBadFields dir 65 None bytes left) → (line : Line) (rest : List ℕ)
     → Goes dir from bytes line rest → ⊥
-bad_added dir from bytes left h (Added path digest) rest goes =
-    let is = line_of dir from (Added path digest) goes.may in
-    h.bad path digest rest tt
-    (record {
-      of_dir = is.0;
-      is_digest = is.1;
-      parts = ap (drop 2) (sym h.begins ∙ goes.parts);
-    })
-bad_added dir from bytes left h line rest goes =
-    absurd (omega (arith, ap first (sym h.begins ∙ goes.parts)))
+bad_added dir from bytes left h (Added path digest) rest goes = search (rules, line_of)
+bad_added dir from bytes left h line rest goes = search (rules, first)
 
 -- reading an added path stops where its line, or one of its references, is bad
 pub added_stops : (dir : List ℕ) (from : Place) (bytes : List ℕ) (left : ℕ)
     → StopsInRegistration dir 65 None bytes left → HasToBegin from bytes → Stops dir from bytes left
-added_stops dir from bytes left (inl h) begins =
-    subst (Stops dir from bytes) h.is_left
-    (stop_here dir from bytes 65 (32 ∷ h.fields) h.begins (nothing_ahead from bytes begins)
-    (bad_added dir from bytes left h))
+added_stops dir from bytes left (inl h) begins = search (rules, stop_here, nothing_ahead, bad_added)
 added_stops dir from bytes left (inr h) begins =
     stop_behind dir from bytes (Added h.path h.digest) h.rest left
     (h.begins ∙ ap (λ (f : List ℕ). 65 ∷ 32 ∷ f) h.line.parts)
@@ -79,34 +66,19 @@ bad_deriver : (dir : List ℕ) (from : Place) (bytes fields : List ℕ) → byte
     → ((path rest : List ℕ) → IsDeriverLine dir fields path rest → ⊥)
     → (line : Line) (rest : List ℕ) → Goes dir from bytes line rest → ⊥
 bad_deriver dir from bytes fields begun none (Deriver path) rest goes =
-    let is = line_of dir from (Deriver path) goes.may in
-    none path rest
-    (record {
-      line =
-          record {
-            of_dir = is.0;
-            parts = ap (drop 2) (sym begun ∙ goes.parts)
-                ∙ append_assoc path (10 ∷ []) rest;
-          };
-      named = is.1;
-      ahead = goes.ahead;
-    })
-bad_deriver dir from bytes fields begun none line rest goes =
-    absurd (omega (arith, ap first (sym begun ∙ goes.parts)))
+    search (rules, line_of, append_assoc)
+bad_deriver dir from bytes fields begun none line rest goes = search (rules, first)
 
 pub deriver_stops : (dir : List ℕ) (from : Place) (bytes fields : List ℕ) → bytes ≡ 68 ∷ 32 ∷ fields
     → ((path rest : List ℕ) → IsDeriverLine dir fields path rest → ⊥) → HasToBegin from bytes
     → Stops dir from bytes (length bytes)
 deriver_stops dir from bytes fields begun none begins =
-    stop_here dir from bytes 68 (32 ∷ fields) begun (nothing_ahead from bytes begins)
-    (bad_deriver dir from bytes fields begun none)
+    search (rules, stop_here, nothing_ahead, bad_deriver)
 
 -- a deriver's line, from its path on
 deriver_text : (dir bytes fields path rest : List ℕ) → bytes ≡ 68 ∷ 32 ∷ fields
     → IsDeriverLine dir fields path rest → bytes ≡ line_text (Deriver path) ++ rest
-deriver_text dir bytes fields path rest begun line =
-    begun ∙ ap (λ (f : List ℕ). 68 ∷ 32 ∷ f) (line.line.parts
-    ∙ sym (append_assoc path (10 ∷ []) rest))
+deriver_text dir bytes fields path rest begun line = search (rules, append_assoc)
 
 -- behind a deriver's line the lines stop where its outputs do
 pub done_stops : (dir : List ℕ) (from : Place) (bytes fields path rest : List ℕ) (left : ℕ) → bytes
@@ -138,19 +110,12 @@ pub no_entry : (dir : List ℕ) (from : Place) (bytes : List ℕ) → bytes ≢ 
     → IsNoLine 68 bytes → HasToBegin from bytes → Stops dir from bytes (length bytes)
 no_entry dir from [] some added derived begins = absurd (some refl)
 no_entry dir from (c ∷ more) some added derived begins =
-    stop_here dir from (c ∷ more) c more refl (nothing_ahead from (c ∷ more) begins)
-    (nothing_begins dir from (c ∷ more) added derived begins)
+    search (rules, stop_here, nothing_ahead, nothing_begins)
 
 -- ---- entries that were read
 
 pub done_found : (dir bytes fields deriver behind rest : List ℕ) (read shown : List Registration)
     → bytes ≡ 68 ∷ 32 ∷ fields → IsDeriverLine dir fields deriver behind
     → HasOutputs dir behind read rest → shown ≡ read → HasEntry dir bytes (Done deriver shown) rest
-done_found dir bytes fields deriver behind rest read shown begun line h same = rw same (record {
-  parts = deriver_text dir bytes fields deriver behind begun line
-      ∙ ap (λ b. line_text (Deriver deriver) ++ b) h.so_far.parts
-      ∙ sym (append_assoc (line_text (Deriver deriver)) (lines_text (flat_map output_lines read))
-      rest);
-  of_dir = (line.line.of_dir, line.named, h.some, h.so_far.rising, h.so_far.of_dir);
-  ends = (h.no_output, h.no_reference);
-})
+done_found dir bytes fields deriver behind rest read shown begun line h same =
+    search (rules, deriver_text, append_assoc)

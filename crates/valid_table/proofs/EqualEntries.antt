@@ -1,5 +1,5 @@
 -- Entries and their parts that are equal by `==` are the same.
-use Rattle.std.proofs.Common.{◌≡◌, Decides, List, ℕ, refl, sym, ap, nat_eq, true≢false}
+use Rattle.std.proofs.Common.{◌≡◌, Decides, List, ℕ, refl, sym, ap, nat_eq, true≢false, rules}
 use Rattle.std.specs.Prelude.{None, Option, Some}
 use Rattle.std.specs.Cmp.Lexicographic.{bytes_decides, pointwise, pointwise_decides}
 use Rattle.std.specs.Option.{option_eq}
@@ -15,11 +15,7 @@ digests_decide : (a b : Option (List ℕ)) → Decides (option_eq (pointwise nat
 digests_decide None None = (λ h. refl, λ e. refl)
 digests_decide None (Some y) = (λ h. absurd (true≢false (sym h)), λ e. cc)
 digests_decide (Some x) None = (λ h. absurd (true≢false (sym h)), λ e. cc)
-digests_decide (Some x) (Some y) = (
-  λ h. ap Some ((bytes_decides x y).0 h),
-  λ e. let same : x ≡ y = cc
-      in (bytes_decides x y).1 same,
-)
+digests_decide (Some x) (Some y) = search rules
 
 -- records that are equal by `==` are the same, and the other way
 records_decide : (a b : PathInfo) → Decides (same_record a b) (a ≡ b)
@@ -33,18 +29,11 @@ records_decide a b =
 
 -- so are registrations
 registrations_decide : (a b : Registration) → Decides (same_registration a b) (a ≡ b)
-registrations_decide a b =
-    both_parts (pointwise nat_eq a.path b.path) (same_record a.info b.info)
-    (bytes_decides a.path b.path) (records_decide a.info b.info)
-    (λ p q j. record { path = p j; info = q j })
-    (λ e. ap (λ (r : Registration). r.path) e)
-    (λ e. ap (λ (r : Registration). r.info) e)
+registrations_decide a b = search (rules, both_parts, records_decide)
 
 -- so are entries
 entries_decide : (a b : Entry) → Decides (same_entry a b) (a ≡ b)
-entries_decide (Add a) (Add b) =
-    let d = registrations_decide a b in
-    (λ h. ap Add (d.0 h), λ e. let same : a ≡ b = cc in d.1 same)
+entries_decide (Add a) (Add b) = search (rules, registrations_decide)
 entries_decide (Add a) (Done deriver outputs) = (λ h. absurd (true≢false (sym h)), λ e. cc)
 entries_decide (Done deriver outputs) (Add b) = (λ h. absurd (true≢false (sym h)), λ e. cc)
 entries_decide (Done deriver outputs) (Done other others) =

@@ -1,11 +1,11 @@
 -- Rows that are followed, one after the other, to the rows of their references.
-use Rattle.std.proofs.Common.{◌≡◌, ℕ, ◌+◌, ◌<◌, ◌≤◌, List, [], ◌∷◌, ◌++◌, length, take, map, get_or, Some, refl, sym, ap, subst, ◌∙◌, arith, All, Contains}
+use Rattle.std.proofs.Common.{◌≡◌, ℕ, ◌+◌, ◌<◌, ◌≤◌, List, [], ◌∷◌, ◌++◌, length, take, map, get_or, Some, refl, sym, ap, subst, ◌∙◌, arith, All, Contains, rules}
 use Rattle.std.specs.List.{slice_get}
 use Rattle.std.proofs.Math.Seq.{take-length}
 use Rattle.std.specs.Map.{values_of}
 use Rattle.std.proofs.lemmas.Bool.Decides.{Decides-eqb}
 use Rattle.std.proofs.lemmas.List.{get_or-map, get_or_default, map-append, take-append-le, take_all}
-use Rattle.std.proofs.lemmas.List.Elements.{All-append, All-contains, All-contains_itself, All-get_or, All-map, All-nil, All-push, All-tail, All-weaker, Contains-get_or}
+use Rattle.std.proofs.lemmas.List.Elements.{All-append, All-contains, All-contains_itself, All-get_or, All-map, All-nil, All-push, All-weaker, Contains-get_or}
 use Rattle.std.proofs.lemmas.Map.Steps.{length-le_from_distinct_below}
 use Rattle.std.proofs.lemmas.Map.Views.{Contains-from_any}
 use Rattle.std.proofs.lemmas.Option.{get_or_from_slice_get}
@@ -32,8 +32,7 @@ few_rows registrations rows are =
 -- a row among some is one of those registered
 pub row_below : (registrations : List Registration) (rows : List ℕ) (i : ℕ)
     → AreRows registrations rows → i < length rows → get_or rows i 0 < length registrations
-row_below registrations rows i are within = All-get_or (λ r. r < length registrations) rows i 0
-    within are.below
+row_below registrations rows i are within = search (rules, All-get_or)
 
 -- a path has one record
 pub one_info : (registrations : List Registration) → IsOnce registrations
@@ -92,23 +91,13 @@ row_is_valid registrations row below = valid_from_row registrations (path_at reg
 rows_are_valid : (registrations : List Registration) (rows : List ℕ)
     → All (λ r. r < length registrations) rows
     → All (IsValid registrations) (paths_at registrations rows)
-rows_are_valid registrations rows below = All-map (IsValid registrations) (path_at registrations)
-    rows (All-weaker (λ r. r < length registrations)
-    (λ r. IsValid registrations (path_at registrations r)) (row_is_valid registrations) rows below)
+rows_are_valid registrations rows below = search (rules, All-map, All-weaker, row_is_valid)
 
 -- before any row is followed
 pub followed_none : (registrations : List Registration) (start : List ℕ)
     → AreRows registrations start → IsFollowed registrations start start 0
 followed_none registrations start rows =
-    let paths = paths_at registrations start in
-    record {
-      rows = rows;
-      kept = All-contains_itself paths;
-      reached = λ k d below. reached_itself registrations paths (get_or paths k d)
-          (Contains-get_or paths k d below)
-          (rows_are_valid registrations start rows.below k d below);
-      followed = All-nil (HasReferences registrations paths);
-    }
+    search (rules, All-contains_itself, reached_itself, Contains-get_or, rows_are_valid, All-nil)
 
 -- one more row is followed
 pub followed_more : (registrations : List Registration) → IsOnce registrations

@@ -1,5 +1,5 @@
 -- The lists of entries and registrations that a journal has.
-use Rattle.std.proofs.Common.{◌≡◌, ◌∙◌, ℕ, ◌+◌, ◌<◌, List, [], ◌∷◌, ◌++◌, length, take, drop, get_or, sym, ap, subst}
+use Rattle.std.proofs.Common.{◌≡◌, ◌∙◌, ℕ, ◌+◌, ◌<◌, List, [], ◌∷◌, ◌++◌, length, take, drop, get_or, sym, ap, subst, rules}
 use Rattle.std.specs.Prelude.{All, Contains}
 use Rattle.std.proofs.lemmas.List.{append-nil, append_assoc, map-append, take_more}
 use Rattle.std.proofs.lemmas.List.Concat.{flat_map-append}
@@ -34,8 +34,7 @@ still_valid some more path valid =
 -- each reference of registrations is valid, and so behind more of them
 pub valid_more : (some more : List Registration) (paths : List (List ℕ)) → All (IsValid some) paths
     → All (IsValid (some ++ more)) paths
-valid_more some more paths valid = All-weaker (IsValid some) (IsValid (some ++ more))
-    (still_valid some more) paths valid
+valid_more some more paths valid = search (rules, All-weaker, still_valid)
 
 -- in closed entries behind registrations whose references are valid, each reference is valid
 closed_valid : (earlier : List Registration) (entries : List Entry) → AreReferencesValid earlier

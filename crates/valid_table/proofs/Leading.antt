@@ -1,5 +1,5 @@
 -- Lines that lead from place to place, told apart by their bytes.
-use Rattle.std.proofs.Common.{◌≡◌, ℕ, suc, List, [], ◌∷◌, ◌++◌, ◌⊎◌, inl, inr, length, drop, refl, ap, sym, subst, ◌∙◌, arith, All, Some}
+use Rattle.std.proofs.Common.{◌≡◌, ℕ, suc, List, [], ◌∷◌, ◌++◌, ◌⊎◌, inl, inr, length, refl, ap, sym, subst, ◌∙◌, arith, All, Some, rules}
 use Rattle.std.proofs.lemmas.List.{append-nil, append_assoc, length-append}
 use Rattle.std.proofs.lemmas.List.Concat.{flat_map-append}
 use Rattle.std.proofs.lemmas.List.Elements.{All-cons, All-nil, All-head, All-tail}
@@ -55,8 +55,7 @@ pub ahead_of : (dir : List ℕ) (Is : Place → Type 0) (place : Place) (lines :
     (rest : List ℕ) → ((to : Place) → Is to → Ahead to rest) → LeadsTo dir Is place lines
     → Ahead place (lines_text lines ++ rest)
 ahead_of dir Is place [] rest weaker leads = weaker place leads
-ahead_of dir Is Opened (Output path digest ∷ lines) rest weaker leads =
-    (drop 2 (lines_text (Output path digest ∷ lines) ++ rest), refl)
+ahead_of dir Is Opened (Output path digest ∷ lines) rest weaker leads = search rules
 ahead_of dir Is Opened (line ∷ lines) rest weaker leads = absurd leads.0
 ahead_of dir Is place (line ∷ lines) rest weaker leads = tt
 
@@ -88,17 +87,12 @@ lines_of dir Is from (line ∷ more) leads =
 -- lines, their bytes and others are the lines with one more, and theirs
 pub text_push : (a : List Line) (line : Line) (rest : List ℕ) → lines_text a
     ++ (line_text line ++ rest) ≡ lines_text (a ++ line ∷ []) ++ rest
-text_push a line rest =
-    sym (append_assoc (lines_text a) (line_text line) rest)
-    ∙ ap (λ (t : List ℕ). t ++ rest)
-    (sym (flat_map-append line_text a (line ∷ [])
-    ∙ ap (λ (t : List ℕ). lines_text a ++ t) (append-nil (line_text line))))
+text_push a line rest = search (rules, append_assoc, flat_map-append, append-nil)
 
 -- lines with what stands behind them, and those before others
 pub text_and : (a b : List Line) (rest : List ℕ) → lines_text a ++ (lines_text b ++ rest)
     ≡ lines_text (a ++ b) ++ rest
-text_and a b rest = sym (append_assoc (lines_text a) (lines_text b) rest)
-    ∙ ap (λ (t : List ℕ). t ++ rest) (sym (flat_map-append line_text a b))
+text_and a b rest = search (rules, append_assoc, flat_map-append)
 
 -- some lines, with bytes behind them, are others with more lines
 abbrev pub GoOn : List Line → List Line → List ℕ → List ℕ → Type 0

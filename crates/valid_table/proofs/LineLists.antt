@@ -1,5 +1,5 @@
 -- The lists of lines that make a journal: just those of entries.
-use Rattle.std.proofs.Common.{◌≡◌, ◌≢◌, ℕ, List, [], ◌∷◌, ◌++◌, inl, inr, refl, ap, sym, subst, ◌∙◌, All, Option, Some, None, map}
+use Rattle.std.proofs.Common.{◌≡◌, ◌≢◌, ℕ, List, [], ◌∷◌, ◌++◌, inl, inr, refl, ap, sym, subst, ◌∙◌, All, Option, Some, None, map, rules}
 use Rattle.std.specs.List.{flat_map, last_or}
 use Rattle.std.proofs.lemmas.List.{append_assoc}
 use Rattle.std.proofs.lemmas.List.Elements.{All-cons, All-nil, All-head, All-tail}
@@ -28,10 +28,7 @@ pub references_back : (dir : List ℕ) (Of : Place → List Line → Type 0) →
     → Of (Within output before) (map Reference references ++ more)
 references_back dir Of back output before [] more of_dir above of = of
 references_back dir Of back output before (path ∷ paths) more of_dir above of =
-    back (Within output before) (Reference path) (map Reference paths ++ more)
-    (All-head (IsPathOf dir) path paths of_dir, above.0)
-    (references_back dir Of back output (Some path) paths more
-    (All-tail (IsPathOf dir) path paths of_dir) above.1 of)
+    search (rules, All-head, All-tail, (references_back dir Of back output (Some path) paths more (All-tail (IsPathOf dir) path paths of_dir) above.1 of))
 
 -- the place where an output may stand: behind a deriver, or within the lines of an output before it
 abbrev pub place_at : Option (List ℕ) → Option (List ℕ) → Place
@@ -178,16 +175,7 @@ none_behind (Some before) = tt
 entries_come : (dir : List ℕ) (place : Place) (come : List Line) (entries : List Entry)
     → MayCome place [] [] → All (IsEntryOf dir) entries → come ≡ flat_map entry_lines entries
     → Comes dir place come
-entries_come dir place come entries may each are = record {
-  references = [];
-  outputs = [];
-  entries = entries;
-  are = are;
-  paths_of_dir = All-nil (IsPathOf dir);
-  outputs_of_dir = All-nil (IsOf dir);
-  entries_of_dir = each;
-  may = may;
-}
+entries_come dir place come entries may each are = search (rules, All-nil)
 
 -- what a path registers with a digest and the references that come
 abbrev registration : {dir : List ℕ} {place : Place} {come : List Line} (path : List ℕ)
@@ -199,13 +187,7 @@ registration path digest c =
 registration_of : {dir : List ℕ} {output : Option (List ℕ)} {come : List Line} (path : List ℕ)
     (digest : Option (List ℕ)) (c : Comes dir (Within output None) come) → IsPathOf dir path
     → IsDigest digest → IsOf dir (registration path digest c)
-registration_of path digest c is_path is_digest =
-    record {
-      path = is_path;
-      digest = is_digest;
-      references = c.paths_of_dir;
-      rising = rising_of_above c.references c.may.0;
-    }
+registration_of path digest c is_path is_digest = search (rules, rising_of_above)
 
 -- one more added path
 one_added : (dir : List ℕ) (place : Place) (path : List ℕ) (digest : Option (List ℕ))
@@ -239,20 +221,8 @@ one_output : (dir : List ℕ) (place : Place) (path : List ℕ) (digest : Option
     → (c : Comes dir (Within (Some path) None) come)
     → MayCome place [] (registration path digest c ∷ c.outputs)
     → Comes dir place (Output path digest ∷ come)
-one_output dir place path digest come is_path is_digest c may = record {
-  references = [];
-  outputs = registration path digest c ∷ c.outputs;
-  entries = c.entries;
-  are = ap (λ (tail : List Line). Output path digest ∷ tail)
-      (c.are ∙ sym
-      (append_assoc (map Reference c.references) (flat_map output_lines c.outputs)
-      (flat_map entry_lines c.entries)));
-  paths_of_dir = All-nil (IsPathOf dir);
-  outputs_of_dir = All-cons (IsOf dir) (registration path digest c) c.outputs
-      (registration_of path digest c is_path is_digest) c.outputs_of_dir;
-  entries_of_dir = c.entries_of_dir;
-  may = may;
-}
+one_output dir place path digest come is_path is_digest c may =
+    search (rules, append_assoc, All-nil, All-cons, registration_of)
 
 -- one more reference
 one_reference : (dir : List ℕ) (output last : Option (List ℕ)) (path : List ℕ) (come : List Line)
@@ -285,7 +255,7 @@ comes_back dir Begun (Deriver path) come may c = one_done dir Begun path come (r
 comes_back dir Opened (Output path digest) come may c =
     one_output dir Opened path digest come may.0 may.1 c (refl, λ none. cc none, (tt, c.may.1))
 comes_back dir (Within output last) (Added path digest) come may c =
-    one_added dir (Within output last) path digest come (tt, none_behind output) may c
+    search (rules, one_added, none_behind)
 comes_back dir (Within output last) (Deriver path) come may c =
     one_done dir (Within output last) path come (tt, none_behind output) may c
 comes_back dir (Within (Some before) last) (Output path digest) come may c =
@@ -312,8 +282,7 @@ ends_come dir place (line ∷ come) ends = comes_back dir place line come ends.0
 pub text_of_lines : (dir : List ℕ) (come : List Line) → Ends dir Start come → (entries : List Entry)
     × IsText dir entries (lines_text come)
 unfolding text
-text_of_lines dir [] ends =
-    ([], record { of_dir = All-nil (IsEntryOf dir); bytes_are = inr (refl, refl) })
+text_of_lines dir [] ends = search (rules, All-nil)
 text_of_lines dir (Version ∷ come) ends =
     let c : Comes dir Begun come = ends_come dir Begun come ends.1 in
     let are : come ≡ flat_map entry_lines c.entries = c.are

@@ -1,5 +1,5 @@
 -- Which bytes are a path, and which are a line's path and digest up to its newline.
-use Rattle.std.proofs.Common.{false, ◌≡◌, ◌≢◌, ◌⊎◌, ℕ, List, ◌∷◌, ◌++◌, Option, Some, None, inl, inr, sym, ap, ◌∙◌, subst}
+use Rattle.std.proofs.Common.{false, ◌≡◌, ◌≢◌, ◌⊎◌, ℕ, List, ◌∷◌, ◌++◌, Option, Some, None, inl, inr, sym, ap, ◌∙◌, subst, rules}
 use Rattle.std.proofs.lemmas.Bool.{false≢true}
 use Rattle.nix_names.specs.Names.{IsStoreDir, is_drv_name}
 use Rattle.nix_names.specs.StorePaths.{IsPathOf, name_of, path_fault}
@@ -24,66 +24,47 @@ pub no_path_line : (dir bytes path rest : List ℕ) → Lacks 10 bytes → IsPat
     → ⊥
 no_path_line dir bytes path rest none is = lacks_not 10 path rest (subst (Lacks 10) is.parts none)
 
--- the path of a line is what stands before the first newline
-pub same_path_line : (dir bytes line behind path rest : List ℕ) → IsStoreDir dir → Lacks 10 line
-    → bytes ≡ line ++ 10 ∷ behind → IsPathLine dir bytes path rest → (path ≡ line) × (rest ≡ behind)
-same_path_line dir bytes line behind path rest of_dir none parts is =
-    same_cut 10 path line rest behind
-    (path_lacks 10 newline dir path (dir_lacks 10 newline dir of_dir) is.of_dir) none
-    (sym is.parts ∙ parts)
-
--- where that is no path, there is no line with a path
+-- where what stands before the first newline is no path, there is no line with a path
 pub other_path_line : (dir bytes line behind path rest : List ℕ) → IsStoreDir dir → Lacks 10 line
     → bytes ≡ line ++ 10 ∷ behind → (IsPathOf dir line → ⊥) → IsPathLine dir bytes path rest → ⊥
 other_path_line dir bytes line behind path rest of_dir none parts other is =
-    other (subst (IsPathOf dir)
-    (same_path_line dir bytes line behind path rest of_dir none parts is).0 is.of_dir)
+    let same = same_cut 10 path line rest behind
+    (path_lacks 10 newline dir path (dir_lacks 10 newline dir of_dir) is.of_dir) none
+    (sym is.parts ∙ parts) in
+    other (subst (IsPathOf dir) same.0 is.of_dir)
 
 -- without a space there are no fields
 pub no_space : (dir bytes path : List ℕ) (digest : Option (List ℕ)) (rest : List ℕ) → Lacks 32 bytes
     → IsFieldsLine dir bytes path digest rest → ⊥
-no_space dir bytes path digest rest none is =
-    lacks_not 32 path (digest_text digest ++ (10 ∷ rest))
-    (subst (Lacks 32) (is.parts ∙ fields_apart path digest rest) none)
+no_space dir bytes path digest rest none is = search (rules, lacks_not, fields_apart)
 
--- the path of the fields is what stands before the first space
-pub behind_space : (dir bytes text fields path : List ℕ) (digest : Option (List ℕ)) (rest : List ℕ)
-    → IsStoreDir dir → Lacks 32 text → bytes ≡ text ++ 32 ∷ fields
-    → IsFieldsLine dir bytes path digest rest → (path ≡ text)
-    × (digest_text digest ++ (10 ∷ rest) ≡ fields)
-behind_space dir bytes text fields path digest rest of_dir none parts is =
-    same_cut 32 path text (digest_text digest ++ (10 ∷ rest)) fields
-    (path_lacks 32 space dir path (dir_lacks 32 space dir of_dir) is.of_dir) none
-    (sym (fields_apart path digest rest) ∙ sym is.parts ∙ parts)
+-- fields, and what stands before the first space and behind it
+module _ (dir bytes text fields : List ℕ) (of_dir : IsStoreDir dir) (none : Lacks 32 text)
+    (parts : bytes ≡ text ++ 32 ∷ fields) (path : List ℕ) (digest : Option (List ℕ))
+    (rest : List ℕ) (is : IsFieldsLine dir bytes path digest rest) where
+  -- the path of the fields is what stands before the space
+  behind_space : (path ≡ text) × (digest_text digest ++ (10 ∷ rest) ≡ fields)
+  behind_space =
+      same_cut 32 path text (digest_text digest ++ (10 ∷ rest)) fields
+      (path_lacks 32 space dir path (dir_lacks 32 space dir of_dir) is.of_dir) none
+      (sym (fields_apart path digest rest) ∙ sym is.parts ∙ parts)
 
--- where no newline stands behind that space, there are no fields
-pub no_newline : (dir bytes text fields path : List ℕ) (digest : Option (List ℕ)) (rest : List ℕ)
-    → IsStoreDir dir → Lacks 32 text → bytes ≡ text ++ 32 ∷ fields → Lacks 10 fields
-    → IsFieldsLine dir bytes path digest rest → ⊥
-no_newline dir bytes text fields path digest rest of_dir none parts lacks is =
-    lacks_not 10 (digest_text digest) rest
-    (subst (Lacks 10)
-    (sym (behind_space dir bytes text fields path digest rest of_dir none parts is).1) lacks)
+  -- a newline stands behind the space
+  pub no_newline : Lacks 10 fields → ⊥
+  no_newline lacks = lacks_not 10 (digest_text digest) rest
+      (subst (Lacks 10) (sym behind_space.1) lacks)
 
--- where no digest's text stands up to that newline, or no path up to that space, there are no
--- fields
-pub other_digest : (dir bytes text fields line behind path : List ℕ) (digest : Option (List ℕ))
-    (rest : List ℕ) → IsStoreDir dir → Lacks 32 text → bytes ≡ text ++ 32 ∷ fields → Lacks 10 line
-    → fields ≡ line ++ 10 ∷ behind → ((d : Option (List ℕ)) → IsDigest d → line ≢ digest_text d)
-    → IsFieldsLine dir bytes path digest rest → ⊥
-other_digest dir bytes text fields line behind path digest rest of_dir none parts lacks ends other
-    is =
-    let cut = behind_space dir bytes text fields path digest rest of_dir none parts is in
-    other digest is.is_digest
-    (sym (same_cut 10 (digest_text digest) line rest behind (digest_lacks digest is.is_digest)
-    lacks (cut.1 ∙ ends)).0)
+  -- a digest's text stands up to that newline
+  pub other_digest : (line behind : List ℕ) → Lacks 10 line → fields ≡ line ++ 10 ∷ behind
+      → ((d : Option (List ℕ)) → IsDigest d → line ≢ digest_text d) → ⊥
+  other_digest line behind lacks ends other =
+      other digest is.is_digest
+      (sym (same_cut 10 (digest_text digest) line rest behind (digest_lacks digest is.is_digest)
+      lacks (behind_space.1 ∙ ends)).0)
 
-pub other_path : (dir bytes text fields path : List ℕ) (digest : Option (List ℕ)) (rest : List ℕ)
-    → IsStoreDir dir → Lacks 32 text → bytes ≡ text ++ 32 ∷ fields → (IsPathOf dir text → ⊥)
-    → IsFieldsLine dir bytes path digest rest → ⊥
-other_path dir bytes text fields path digest rest of_dir none parts other is =
-    other (subst (IsPathOf dir)
-    (behind_space dir bytes text fields path digest rest of_dir none parts is).0 is.of_dir)
+  -- and a path before the space
+  pub other_path : (IsPathOf dir text → ⊥) → ⊥
+  other_path other = other (subst (IsPathOf dir) behind_space.0 is.of_dir)
 
 -- a line with another path than a `.drv` one is no deriver's
 pub not_drv : (dir bytes path behind name other rest : List ℕ) → IsPathLine dir bytes path behind

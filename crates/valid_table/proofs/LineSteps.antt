@@ -1,5 +1,5 @@
 -- Single lines, as steps from one place to the next.
-use Rattle.std.proofs.Common.{◌≡◌, ℕ, List, [], ◌∷◌, ◌++◌, length, get_or, refl, sym, ap, ◌∙◌, subst}
+use Rattle.std.proofs.Common.{◌≡◌, ℕ, List, [], ◌∷◌, ◌++◌, length, get_or, sym, ap, ◌∙◌, rules}
 use Rattle.std.proofs.lemmas.List.{append-nil, append_assoc}
 use Rattle.valid_table.specs.LineTexts.{lines_text}
 use Rattle.valid_table.specs.Readers.{StopsWhere}
@@ -17,14 +17,7 @@ first bytes = get_or bytes 0 0
 pub stop_here : (dir : List ℕ) (place : Place) (bad : List ℕ) (c : ℕ) (more : List ℕ) → bad ≡ c
     ∷ more → Ahead place bad → ((line : Line) (rest : List ℕ) → Goes dir place bad line rest → ⊥)
     → Stops dir place bad (length bad)
-stop_here dir place bad c more begins ahead stuck = record {
-  lines = [];
-  bad = bad;
-  parts = refl;
-  leads = record { ahead = ahead; stuck = stuck };
-  is_left = refl;
-  some = λ none. cc (begins, none);
-}
+stop_here dir place bad c more begins ahead stuck = search rules
 
 -- one line, and where the lines behind it stop
 pub stop_behind : (dir : List ℕ) (from : Place) (bytes : List ℕ) (line : Line) (more : List ℕ)
@@ -46,17 +39,13 @@ StopsIn dir rest left from lines = Stops dir from (lines_text lines ++ rest) lef
 
 -- they stop where those behind the first one do
 pub stops_back : (dir rest : List ℕ) (left : ℕ) → IsBackward dir (StopsIn dir rest left)
-stops_back dir rest left from line more may h =
-    stop_behind dir from (lines_text (line ∷ more) ++ rest) line (lines_text more ++ rest) left
-    (append_assoc (line_text line) (lines_text more) rest) may h
+stops_back dir rest left from line more may h = search (rules, stop_behind, append_assoc)
 
 -- the same bytes stop with the same left
 pub stops_in : (dir : List ℕ) (from : Place) (lines : List Line) (bytes rest : List ℕ) (left : ℕ)
     → bytes ≡ lines_text lines ++ rest → StopsIn dir rest left from (lines ++ [])
     → Stops dir from bytes left
-stops_in dir from lines bytes rest left parts h =
-    subst (λ b. Stops dir from b left) (ap (λ ls. lines_text ls ++ rest) (append-nil lines)
-    ∙ sym parts) h
+stops_in dir from lines bytes rest left parts h = search (rules, append-nil)
 
 -- what follows from where a reader stopped
 pub stops_where : (P Q : ℕ → Type 0) → ((left : ℕ) → P left → Q left) → (stop : Stop)

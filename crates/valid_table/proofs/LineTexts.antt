@@ -1,6 +1,6 @@
 -- The bytes of a journal's lines: each ends in its only newline, and two lines are told apart by
 -- their bytes.
-use Rattle.std.proofs.Common.{◌≡◌, ◌≢◌, ◌==◌, ℕ, not, List, [], ◌∷◌, ◌++◌, length, get_or, drop, refl, ap, sym, ◌∙◌, arith, All, Option, Some, None}
+use Rattle.std.proofs.Common.{◌≡◌, ◌≢◌, ◌==◌, ℕ, not, List, [], ◌∷◌, ◌++◌, length, get_or, drop, refl, ap, sym, ◌∙◌, arith, All, Option, Some, None, rules}
 use Rattle.std.specs.Prelude.{codes, flat_map}
 use Rattle.std.proofs.lemmas.List.{append_assoc, append_cancel_left}
 use Rattle.std.proofs.lemmas.List.Elements.{All-append, All-cons, All-head, All-tail}
@@ -19,9 +19,7 @@ use Rattle.nix_names.proofs.HexDigits.{one_digest}
 -- a path, a space, a digest and a newline, and what is behind them
 pub fields_apart : (path : List ℕ) (digest : Option (List ℕ)) (rest : List ℕ)
     → fields_text path digest ++ rest ≡ path ++ (32 ∷ (digest_text digest ++ (10 ∷ rest)))
-fields_apart path digest rest =
-    append_assoc path (32 ∷ (digest_text digest ++ (10 ∷ []))) rest
-    ∙ ap (λ (more : List ℕ). path ++ (32 ∷ more)) (append_assoc (digest_text digest) (10 ∷ []) rest)
+fields_apart path digest rest = search (rules, append_assoc)
 
 -- a digest has one text
 same_digest : (a b : Option (List ℕ)) → IsDigest a → IsDigest b → digest_text a ≡ digest_text b → a
@@ -112,20 +110,15 @@ body (Reference path) = codes "R " ++ path
 -- a line and what follows it
 pub line_and : (line : Line) (rest : List ℕ) → line_text line ++ rest ≡ body line ++ 10 ∷ rest
 line_and Version rest = refl
-line_and (Added path digest) rest = ap (λ (tail : List ℕ). codes "A " ++ tail)
-    (fields_apart path digest rest ∙ sym (append_assoc path (32 ∷ digest_text digest) (10 ∷ rest)))
-line_and (Deriver path) rest = ap (λ (tail : List ℕ). codes "D " ++ tail)
-    (append_assoc path (10 ∷ []) rest)
-line_and (Output path digest) rest = ap (λ (tail : List ℕ). codes "O " ++ tail)
-    (fields_apart path digest rest ∙ sym (append_assoc path (32 ∷ digest_text digest) (10 ∷ rest)))
-line_and (Reference path) rest = ap (λ (tail : List ℕ). codes "R " ++ tail)
-    (append_assoc path (10 ∷ []) rest)
+line_and (Added path digest) rest = search (rules, fields_apart, append_assoc)
+line_and (Deriver path) rest = search (rules, append_assoc)
+line_and (Output path digest) rest = search (rules, fields_apart, append_assoc)
+line_and (Reference path) rest = search (rules, append_assoc)
 
 -- a letter and a space before bytes without newlines
 lettered : (letter : ℕ) (bytes : List ℕ) → letter ≢ 10 → Lacks 10 bytes
     → Lacks 10 (letter ∷ 32 ∷ bytes)
-lettered letter bytes other clear = All-cons (λ b. b ≢ 10) letter (32 ∷ bytes) other
-    (All-cons (λ b. b ≢ 10) 32 bytes (λ e. absurd (omega arith)) clear)
+lettered letter bytes other clear = search (rules, All-cons)
 
 -- a path and its digest have no newline
 record_lacks : (dir path : List ℕ) (digest : Option (List ℕ)) → Lacks 10 dir → IsPathOf dir path

@@ -1,5 +1,5 @@
 -- Two rising lists, merged.
-use Rattle.std.proofs.Common.{◌≡◌, ◌∙◌, ◌⊎◌, ◌↔◌, ◌-◌, ◌<◌, ℕ, List, [], ◌∷◌, ◌++◌, length, take, drop, get_or, refl, sym, ap, subst, inl, inr, ⊎_elim, append-nil, append_assoc, arith}
+use Rattle.std.proofs.Common.{◌≡◌, ◌∙◌, ◌⊎◌, ◌↔◌, ◌-◌, ◌<◌, ℕ, List, [], ◌∷◌, ◌++◌, length, take, drop, get_or, sym, ap, subst, inl, inr, ⊎_elim, append-nil, append_assoc, arith, rules}
 use Rattle.std.specs.Prelude.{Contains}
 use Rattle.std.specs.Cmp.Lexicographic.{slice_cmp, texts_ties}
 use Rattle.std.specs.Ordering.{is_eq, nat_cmp, ordering_reverse}
@@ -23,99 +23,43 @@ head_cases : (x : List ℕ) (xs : List (List ℕ)) (p : List ℕ) → Contains (
     → Contains (x ∷ []) p ⊎ Contains xs p
 head_cases x xs p there = Contains-append_cases (x ∷ []) xs p there
 
--- the left list's head is the least, or the right list is empty
-pub least_left :
-    (path : List ℕ) (more right : List (List ℕ)) →
-    (IsRising right → IsRising (path ∷ right)) →
-    IsLeast (path ∷ more) right path more right
-least_left path more right rises = record {
-  head = inl refl;
-  left_rises = λ r. r;
-  right_rises = rises;
-  each = λ p. (
-    ⊎_elim inl (λ there. inr (Contains-later path right p there)),
-    ⊎_elim inl (λ there. ⊎_elim (λ head. inl (at_head path more more p head)) inr
-        (head_cases path right p there)),
-  );
-  shorter = omega arith;
-}
+-- the left list's head is the least
+least_left : (path : List ℕ) (more right : List (List ℕ)) → (IsRising right
+    → IsRising (path ∷ right)) → IsLeast (path ∷ more) right path more right
+least_left path more right rises = search (rules, Contains-later, at_head, head_cases)
 
--- the right list's head is the least, or the left list is empty
-pub least_right :
-    (path : List ℕ) (left others : List (List ℕ)) →
-    (IsRising left → IsRising (path ∷ left)) →
-    IsLeast left (path ∷ others) path left others
-least_right path left others rises = record {
-  head = inr refl;
-  left_rises = rises;
-  right_rises = λ r. r;
-  each = λ p. (
-    ⊎_elim (λ there. inl (Contains-later path left p there)) inr,
-    ⊎_elim (λ there. ⊎_elim (λ head. inr (at_head path others others p head)) inl
-        (head_cases path left p there)) inr,
-  );
-  shorter = omega arith;
-}
+-- the right list's head is the least
+least_right : (path : List ℕ) (left others : List (List ℕ)) → (IsRising left
+    → IsRising (path ∷ left)) → IsLeast left (path ∷ others) path left others
+least_right path left others rises = search (rules, Contains-later, at_head, head_cases)
 
--- both heads are the least
-pub least_both : (path other : List ℕ) (more others : List (List ℕ)) → path ≡ other
-    → IsLeast (path ∷ more) (other ∷ others) path more others
-least_both path other more others same =
-    subst (λ x. IsLeast (path ∷ more) (x ∷ others) path more others) same
-    (record {
-      head = inl refl;
-      left_rises = λ r. r;
-      right_rises = λ r. r;
-      each = λ p. (λ there. there, λ there. there);
-      shorter = omega arith;
-    })
+-- two lists that aren't empty
+module _ (left right : List (List ℕ)) (path other : List ℕ) (more others : List (List ℕ))
+    (first : left ≡ path ∷ more) (second : right ≡ other ∷ others) where
+  -- the left head is less
+  pub least_less : slice_cmp nat_cmp path other ≡ Less → IsLeast left right path more right
+  least_less less = rw (first, second)
+      (least_left path more (other ∷ others) (λ rises. (less, rises)))
 
--- the left head is less
-pub least_less :
-    (left right : List (List ℕ)) (path other : List ℕ) (more others : List (List ℕ)) →
-    left ≡ path ∷ more →
-    right ≡ other ∷ others →
-    slice_cmp nat_cmp path other ≡ Less →
-    IsLeast left right path more right
-least_less left right path other more others first second less =
-    subst (λ l. IsLeast l right path more right) (sym first)
-    (least_left path more right
-    (subst (λ r. IsRising r → IsRising (path ∷ r)) (sym second) (λ rises. (less, rises))))
+  -- the right head is less
+  pub least_greater : slice_cmp nat_cmp path other ≡ Greater → IsLeast left right other left others
+  least_greater greater =
+      let less : slice_cmp nat_cmp other path ≡ Less = nat_list_cmp_total.antisymm other path
+      ∙ ap ordering_reverse greater in
+      rw (first, second) (least_right other (path ∷ more) others (λ rises. (less, rises)))
 
--- the right head is less
-pub least_greater :
-    (left right : List (List ℕ)) (path other : List ℕ) (more others : List (List ℕ)) →
-    left ≡ path ∷ more →
-    right ≡ other ∷ others →
-    slice_cmp nat_cmp path other ≡ Greater →
-    IsLeast left right other left others
-least_greater left right path other more others first second greater =
-    let less : slice_cmp nat_cmp other path ≡ Less = nat_list_cmp_total.antisymm other path
-    ∙ ap ordering_reverse greater in
-    subst (λ r. IsLeast left r other left others) (sym second)
-    (least_right other left others
-    (subst (λ l. IsRising l → IsRising (other ∷ l)) (sym first) (λ rises. (less, rises))))
-
--- the heads are the same
-pub least_equal :
-    (left right : List (List ℕ)) (path other : List ℕ) (more others : List (List ℕ)) →
-    left ≡ path ∷ more →
-    right ≡ other ∷ others →
-    slice_cmp nat_cmp path other ≡ Equal →
-    IsLeast left right path more others
-least_equal left right path other more others first second equal =
-    let same : path ≡ other = equal_from_eq path other (texts_ties path other ∙ ap is_eq equal) in
-    subst (λ l. IsLeast l right path more others) (sym first)
-    (subst (λ r. IsLeast (path ∷ more) r path more others) (sym second)
-    (least_both path other more others same))
+  -- the heads are the same
+  pub least_equal : slice_cmp nat_cmp path other ≡ Equal → IsLeast left right path more others
+  least_equal equal =
+      let same : path ≡ other = equal_from_eq path other (texts_ties path other ∙ ap is_eq equal)
+      in
+      rw (first, second, same) (search rules)
 
 -- a list that isn't empty is its first element and what is behind it
 pub first_and_rest : (xs : List (List ℕ)) (x : List ℕ) → 0 < length xs → x ≡ get_or xs 0 x → xs ≡ x
     ∷ take (length xs - 1) (drop 1 xs)
 first_and_rest [] x some is = absurd (omega arith)
-first_and_rest (y ∷ ys) x some is =
-    ap (λ z. z ∷ ys) (sym is) ∙ ap (λ l. x ∷ l)
-    (sym (take_all (length (y ∷ ys) - 1) ys (omega arith)))
+first_and_rest (y ∷ ys) x some is = search (rules, take_all)
 
 -- a rising list goes on in another way behind one of its paths
 rising_join : (done : List (List ℕ)) (path : List ℕ) (xs ys : List (List ℕ))
@@ -134,11 +78,7 @@ pub record IsMerged (left right done more others : List (List ℕ)) : Type 0 whe
 -- nothing is merged at first
 pub merged_none : (left right : List (List ℕ)) → IsRising left → IsRising right
     → IsMerged left right [] left right
-merged_none left right rises rises' = record {
-  left_rises = rises;
-  right_rises = rises';
-  each = λ p. (λ there. there, λ there. there);
-}
+merged_none left right rises rises' = search rules
 
 -- a path in one of two lists, behind others
 behind_either : (done xs ys us vs : List (List ℕ)) (p : List ℕ)

@@ -1,5 +1,5 @@
 -- Reading the same bytes gives one answer, want of memory apart.
-use Rattle.std.proofs.Common.{◌≡◌, ◌<◌, ◌≤◌, ◌⊎◌, ℕ, suc, List, ◌∷◌, ◌++◌, length, get_or, inl, inr, refl, ap, sym, subst, ◌∙◌, arith, Result, Ok, Err}
+use Rattle.std.proofs.Common.{◌≡◌, ◌<◌, ◌≤◌, ◌⊎◌, ℕ, suc, List, ◌∷◌, ◌++◌, length, get_or, inl, inr, refl, ap, sym, subst, ◌∙◌, arith, Result, Ok, Err, rules}
 use Rattle.std.specs.List.{flat_map}
 use Rattle.std.proofs.lemmas.List.{append_assoc, get_or_at, length-append}
 use Rattle.std.proofs.lemmas.List.Concat.{flat_map-append}
@@ -124,8 +124,7 @@ wrong_line dir bytes n (Err WrongVersion) is_dir within one bad h = absurd (one 
 wrong_line dir bytes n (Err (BadLine m)) is_dir within one bad h =
     inl (ap (λ (k : ℕ). Err (BadLine k)) (bad_line_is_one dir bytes n m is_dir bad h.2))
 wrong_line dir bytes n (Err NoMemory) is_dir within one bad h = inr (inr refl)
-wrong_line dir bytes n b is_dir within one bad h =
-    absurd (texts_have_no_bad_line dir bytes h.entries n is_dir h.is_text bad)
+wrong_line dir bytes n b is_dir within one bad h = search (rules, texts_have_no_bad_line)
 
 -- the text of entries
 read_as : (dir bytes : List ℕ) (a b : Result (List Entry) TableFault) → IsStoreDir dir
@@ -133,8 +132,7 @@ read_as : (dir bytes : List ℕ) (a b : Result (List Entry) TableFault) → IsSt
 read_as dir bytes a (Err TooLong) is_dir is h = absurd (omega (arith, is.within))
 read_as dir bytes a (Err WrongVersion) is_dir is h =
     absurd (not_other_version dir bytes is.entries is.is_text h.1)
-read_as dir bytes a (Err (BadLine n)) is_dir is h =
-    absurd (texts_have_no_bad_line dir bytes is.entries n is_dir is.is_text h.2)
+read_as dir bytes a (Err (BadLine n)) is_dir is h = search (rules, texts_have_no_bad_line)
 read_as dir bytes a (Err NoMemory) is_dir is h = inr (inr refl)
 read_as dir bytes a b is_dir is h =
     let same = text_has_one_list dir bytes is.entries h.entries is.is_text h.is_text in

@@ -1,5 +1,5 @@
 -- The lines of outputs: where they lead, where they stop, and what they are.
-use Rattle.std.proofs.Common.{◌≡◌, ℕ, List, [], ◌∷◌, ◌++◌, drop, Option, Some, None, inl, inr, sym, ap, ◌∙◌, subst, arith}
+use Rattle.std.proofs.Common.{◌≡◌, ℕ, List, [], ◌∷◌, ◌++◌, Option, Some, None, inl, inr, sym, ap, ◌∙◌, subst, rules}
 use Rattle.std.specs.List.{flat_map, last_or}
 use Rattle.std.proofs.lemmas.List.{append-nil, map-append}
 use Rattle.std.proofs.lemmas.List.Concat.{flat_map-append}
@@ -20,12 +20,7 @@ use Rattle.valid_table.proofs.RisingPaths.{above_of_rising, rising_more}
 text_more : (outputs : List Registration) (o : Registration) (behind : List ℕ)
     → lines_text (flat_map output_lines outputs) ++ (registration_text 79 o ++ behind)
     ≡ lines_text (flat_map output_lines (outputs ++ o ∷ [])) ++ behind
-text_more outputs o behind =
-    text_and (flat_map output_lines outputs) (output_lines o) behind
-    ∙ ap (λ (ls : List Line). lines_text ls ++ behind)
-    (sym (flat_map-append output_lines outputs (o ∷ [])
-    ∙ ap (λ (ls : List Line). flat_map output_lines outputs ++ ls)
-    (append-nil (output_lines o))))
+text_more outputs o behind = search (rules, text_and, flat_map-append, append-nil)
 
 -- ---- where an output stops
 
@@ -45,24 +40,14 @@ letter_ahead (Some output) last bytes fields begins = tt
 stuck : (dir : List ℕ) (before last : Option (List ℕ)) (bytes : List ℕ) (left : ℕ)
     → (h : IsBadFields dir 79 before bytes left) → (line : Line) (rest : List ℕ)
     → Goes dir (place_at before last) bytes line rest → ⊥
-stuck dir before last bytes left h (Output path digest) rest go =
-    let may = may_follow dir before last path digest go.may in
-    h.bad path digest rest may.2
-    (record {
-      of_dir = may.0;
-      is_digest = may.1;
-      parts = ap (drop 2) (sym h.begins ∙ go.parts);
-    })
-stuck dir before last bytes left h line rest go =
-    absurd (omega (arith, ap first (sym h.begins ∙ go.parts)))
+stuck dir before last bytes left h (Output path digest) rest go = search (rules, may_follow)
+stuck dir before last bytes left h line rest go = search (rules, first)
 
 -- reading an output stops where its line, or one of its references, is bad
 output_stops : (dir : List ℕ) (before last : Option (List ℕ)) (bytes : List ℕ) (left : ℕ)
     → StopsInRegistration dir 79 before bytes left → Stops dir (place_at before last) bytes left
 output_stops dir before last bytes left (inl h) =
-    subst (Stops dir (place_at before last) bytes) h.is_left
-    (stop_here dir (place_at before last) bytes 79 (32 ∷ h.fields) h.begins
-    (letter_ahead before last bytes h.fields h.begins) (stuck dir before last bytes left h))
+    search (rules, place_at, stop_here, letter_ahead, stuck)
 output_stops dir before last bytes left (inr h) =
     stop_behind dir (place_at before last) bytes (Output h.path h.digest) h.rest left
     (h.begins ∙ ap (λ (f : List ℕ). 79 ∷ 32 ∷ f) h.line.parts)

@@ -1,5 +1,5 @@
 -- What paths reach by references, and lists that have all of it.
-use Rattle.std.proofs.Common.{◌≡◌, ℕ, ◌<◌, List, [], ◌∷◌, ◌++◌, length, get_or, nat_eq, refl, sym, ap, subst, ◌∙◌, arith, All, Contains, inl, inr}
+use Rattle.std.proofs.Common.{◌≡◌, ℕ, ◌<◌, List, [], ◌∷◌, ◌++◌, length, get_or, nat_eq, refl, sym, ap, subst, ◌∙◌, arith, All, Contains, inl, inr, rules}
 use Rattle.std.specs.Cmp.Lexicographic.{pointwise, nat_list_eq_equiv}
 use Rattle.std.specs.List.{IsDistinct}
 use Rattle.std.proofs.lemmas.Bool.{cases_lt, false≢true}
@@ -29,10 +29,7 @@ valid_from_leads registrations from to (next ∷ steps) leads =
 leads_more : (registrations : List Registration) (from to next : List ℕ) (steps : List (List ℕ))
     → Leads registrations from to steps → RefersTo registrations to next
     → IsValid registrations next → Leads registrations from next (steps ++ next ∷ [])
-leads_more registrations from to next [] leads refers valid = (
-  subst (λ (path : List ℕ). RefersTo registrations path next) (sym leads.1) refers,
-  (valid, refl),
-)
+leads_more registrations from to next [] leads refers valid = search rules
 leads_more registrations from to next (step ∷ steps) leads refers valid =
     (leads.0, leads_more registrations step to next steps leads.1 refers valid)
 

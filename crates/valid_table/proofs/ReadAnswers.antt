@@ -1,5 +1,5 @@
 -- What reading a journal answers.
-use Rattle.std.proofs.Common.{◌≡◌, ◌+◌, ◌-◌, ◌≤◌, ℕ, suc, List, [], ◌∷◌, length, take, inl, inr, ap, subst, arith}
+use Rattle.std.proofs.Common.{◌≡◌, ◌+◌, ◌-◌, ◌≤◌, ℕ, suc, List, [], ◌∷◌, length, take, subst, arith, rules}
 use Rattle.std.proofs.lemmas.List.{length-append}
 use Rattle.memchr.specs.Find.{is_byte, places}
 use Rattle.nix_names.specs.Names.{IsStoreDir}
@@ -14,12 +14,7 @@ use Rattle.valid_table.proofs.LineTexts.{body, line_and}
 
 -- a line has a byte
 line_some : (line : Line) → 1 ≤ length (line_text line)
-line_some line = omega (
-  arith,
-  ap length (line_and line []),
-  length-append (line_text line) [],
-  length-append (body line) (10 ∷ []),
-)
+line_some line = search (rules, line_and, length-append, body)
 
 -- lines are at most as many as their bytes
 lines_fit : (some : List Line) → length some ≤ length (lines_text some)
@@ -34,11 +29,7 @@ lines_fit (line ∷ some) = omega (
 pub few_lines : (dir bytes : List ℕ) (entries : List Entry) → length bytes ≤ max_len
     → IsText dir entries bytes → length (lines entries) ≤ 67108865
 unfolding text
-few_lines dir bytes entries within is =
-    elim is.bytes_are [
-      | inl same ↦ let long = ap length same in omega (arith, lines_fit (lines entries))
-      | inr none ↦ rw none.0 (omega arith)
-    ]
+few_lines dir bytes entries within is = search (rules, lines_fit)
 
 -- the line behind the newlines before the place where lines stop is the first bad one
 pub bad_line_number : (dir bytes : List ℕ) (left n : ℕ) → IsStoreDir dir

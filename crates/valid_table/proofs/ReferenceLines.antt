@@ -1,10 +1,10 @@
 -- The lines of references: where they lead, and where they stop.
-use Rattle.std.proofs.Common.{◌≡◌, ℕ, List, [], ◌∷◌, ◌++◌, length, drop, map, Option, None, ◌-◌, sym, ap, ◌∙◌, subst, arith}
+use Rattle.std.proofs.Common.{◌≡◌, ℕ, List, [], ◌∷◌, ◌++◌, length, map, Option, None, ◌-◌, ap, ◌∙◌, rules}
 use Rattle.std.specs.List.{last_or, slice_get}
 use Rattle.std.proofs.lemmas.List.{append_assoc, map-append}
 use Rattle.std.proofs.lemmas.List.Elements.{All-push}
 use Rattle.nix_names.specs.StorePaths.{IsPathOf}
-use Rattle.valid_table.specs.LineTexts.{lines_text, references_text}
+use Rattle.valid_table.specs.LineTexts.{references_text}
 use Rattle.valid_table.specs.Readers.{IsPathLine, SoFarReferences}
 use Rattle.valid_table.specs.Steps.{IsAbove, Goes, Stops, Within}
 use Rattle.valid_table.specs.Texts.{Line, Reference}
@@ -31,23 +31,15 @@ stuck : (dir : List ℕ) (output before : Option (List ℕ)) (bytes fields : Lis
     → ((path rest : List ℕ) → IsAbove before path → IsPathLine dir fields path rest → ⊥)
     → (line : Line) (rest : List ℕ) → Goes dir (Within output before) bytes line rest → ⊥
 stuck dir output before bytes fields begins none (Reference path) rest goes =
-    none path rest goes.may.1
-    (record {
-      of_dir = goes.may.0;
-      parts = ap (drop 2) (sym begins ∙ goes.parts)
-          ∙ append_assoc path (10 ∷ []) rest;
-    })
-stuck dir output before bytes fields begins none line rest goes =
-    absurd (omega (arith, ap first (sym begins ∙ goes.parts)))
+    search (rules, append_assoc)
+stuck dir output before bytes fields begins none line rest goes = search (rules, first)
 
 -- a reference's line without a path stops
 pub bad_reference : (dir : List ℕ) (output before : Option (List ℕ)) (bytes fields : List ℕ) → bytes
     ≡ 82 ∷ 32 ∷ fields
     → ((path rest : List ℕ) → IsPathLine dir fields path rest → ⊥)
     → Stops dir (Within output before) bytes (length bytes)
-bad_reference dir output before bytes fields begins none =
-    stop_here dir (Within output before) bytes 82 (32 ∷ fields) begins tt
-    (stuck dir output before bytes fields begins (λ path rest above line. none path rest line))
+bad_reference dir output before bytes fields begins none = search (rules, stop_here, stuck)
 
 -- a reference's line with a path that isn't above the one before it stops
 pub low_reference : (dir : List ℕ) (output before : Option (List ℕ))
@@ -63,12 +55,7 @@ low_reference dir output before bytes fields path rest begins line low =
 -- the text of references, and one more line
 text_more : (references : List (List ℕ)) (path behind : List ℕ) → references_text references
     ++ (82 ∷ 32 ∷ (path ++ 10 ∷ behind)) ≡ references_text (references ++ path ∷ []) ++ behind
-text_more references path behind =
-    ap (λ (t : List ℕ). references_text references ++ (82 ∷ 32 ∷ t))
-    (sym (append_assoc path (10 ∷ []) behind))
-    ∙ text_push (map Reference references) (Reference path) behind
-    ∙ ap (λ (ls : List Line). lines_text ls ++ behind)
-    (sym (map-append Reference references (path ∷ [])))
+text_more references path behind = search (rules, append_assoc, text_push, map-append)
 
 -- one more reference
 pub references_more : (dir bytes : List ℕ) (references more : List (List ℕ))
@@ -88,11 +75,9 @@ references_more dir bytes references more rest fields path behind so_far begins 
 pub above_last : (paths shown : List (List ℕ)) (last : Option (List ℕ)) (path : List ℕ) → shown
     ≡ paths → last ≡ slice_get shown (length shown - 1) → IsAbove last path
     → IsAbove (last_or None paths) path
-above_last paths shown last path same at above =
-    subst (λ o. IsAbove o path) (at ∙ last_is shown ∙ ap (last_or None) same) above
+above_last paths shown last path same at above = search (rules, last_is)
 
 pub above_looked_up : (paths shown : List (List ℕ)) (last : Option (List ℕ)) (path : List ℕ) → shown
     ≡ paths → last ≡ slice_get shown (length shown - 1) → IsAbove (last_or None paths) path
     → IsAbove last path
-above_looked_up paths shown last path same at above =
-    subst (λ o. IsAbove o path) (sym (at ∙ last_is shown ∙ ap (last_or None) same)) above
+above_looked_up paths shown last path same at above = search (rules, last_is)

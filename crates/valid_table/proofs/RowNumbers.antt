@@ -1,7 +1,6 @@
 -- The rows of a table, by their numbers, and the paths at them.
-use Rattle.std.proofs.Common.{◌≡◌, ℕ, ◌<◌, List, [], length, get_or, nat_eq, Option, Some, None, is_some, sym, ap, subst, ◌∙◌, arith, Contains, MatchOption}
+use Rattle.std.proofs.Common.{◌≡◌, ℕ, ◌<◌, List, length, get_or, nat_eq, Option, Some, None, is_some, subst, ◌∙◌, Contains, MatchOption, rules}
 use Rattle.std.specs.Cmp.Lexicographic.{pointwise, nat_list_eq_equiv}
-use Rattle.std.specs.List.{IsDistinct}
 use Rattle.std.specs.Map.{keys_of}
 use Rattle.std.proofs.lemmas.Bool.{false≢true}
 use Rattle.std.proofs.lemmas.List.{get_or-map, get_or_default, length-map}
@@ -14,14 +13,13 @@ use Rattle.valid_table.specs.Closing.{IsRowOf}
 use Rattle.valid_table.specs.Entries.{paths_of}
 use Rattle.valid_table.specs.PathInfos.{PathInfo}
 use Rattle.valid_table.specs.Tables.{registrations_of}
-use Rattle.valid_table.specs.Valid.{IsOnce, IsValid}
+use Rattle.valid_table.specs.Valid.{IsValid}
 use Rattle.valid_table.specs.declared.entry.Registration.{Registration}
 
 -- the paths that rows register are their keys
 pub paths_are_keys : (rows : List (List ℕ × PathInfo)) → paths_of (registrations_of rows)
     ≡ keys_of rows
-paths_are_keys rows = map-map (λ (r : Registration). r.path)
-    (λ (row : List ℕ × PathInfo). record { path = row.0; info = row.1 }) rows
+paths_are_keys rows = search (rules, map-map)
 
 -- there are as many paths as rows
 pub path_count : (registrations : List Registration) → length (paths_of registrations)
@@ -35,9 +33,7 @@ path_read rs i r d lt = get_or-map (λ (x : Registration). x.path) rs i r d lt
 
 -- a row is a registration
 pub row_count : (rows : List (List ℕ × PathInfo)) → length (registrations_of rows) ≡ length rows
-row_count rows =
-    length-map rows (λ (row : List ℕ × PathInfo). let r : Registration =
-    record { path = row.0; info = row.1 } in r)
+row_count rows = search (rules, length-map)
 
 -- what a look-up by index answers is the row of the path, or that it is not valid
 pub row_found : {S : Type 0} (m : IndexMap (List ℕ) PathInfo S) (path : List ℕ) (row : Option ℕ)
@@ -51,21 +47,9 @@ row_found m path None is found =
     (paths_are_keys m.entries) valid in
     false≢true (found ∙ (hash_map_contains_key_iff nat_list_eq_equiv equal_from_eq m path).1 has)
 row_found m path (Some row) is found =
-    let at = position-Some (pointwise nat_eq path) (keys m) row [] (sym is) in
-    let here : path ≡ get_or (keys m) row [] = equal_from_eq path (get_or (keys m) row []) at.1 in (
-      omega (
-        arith,
-        at.0,
-        path_count (registrations_of m.entries),
-        ap length (paths_are_keys m.entries),
-      ),
-      ap (λ (ks : List (List ℕ)). get_or ks row []) (paths_are_keys m.entries) ∙ sym here,
-    )
+    search (rules, position-Some, equal_from_eq, path_count, paths_are_keys)
 
 -- a path with a row is valid
 pub valid_from_row : (registrations : List Registration) (path : List ℕ) (row : ℕ)
     → IsRowOf registrations path row → IsValid registrations path
-valid_from_row registrations path row of =
-    let below : row < length (paths_of registrations) =
-    omega (arith, of.0, path_count registrations)
-    in (row, below, get_or_default (paths_of registrations) row path [] below ∙ of.1)
+valid_from_row registrations path row of = search (rules, path_count, get_or_default)

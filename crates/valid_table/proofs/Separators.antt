@@ -1,6 +1,6 @@
 -- Newlines and spaces part a text in one way only, where what stands before them has none; paths
 -- and digests have none.
-use Rattle.std.proofs.Common.{◌≡◌, ◌≢◌, ℕ, Bool, true, false, List, [], ◌∷◌, ◌++◌, Option, Some, None, refl, sym, ap, ◌∙◌, subst, arith, IsTrue}
+use Rattle.std.proofs.Common.{◌≡◌, ◌≢◌, ℕ, Bool, true, false, List, [], ◌∷◌, ◌++◌, Option, Some, None, refl, sym, ap, ◌∙◌, subst, IsTrue, rules}
 use Rattle.std.specs.List.{All, AllPass, flat_map, list_all}
 use Rattle.std.proofs.lemmas.Bool.{and_parts, false≢true}
 use Rattle.std.proofs.lemmas.List.{append_assoc, append_cancel_left}
@@ -24,12 +24,8 @@ Lacks b xs = All (λ x. x ≢ b) xs
 pub same_cut : (b : ℕ) (xs ys x y : List ℕ) → Lacks b xs → Lacks b ys → xs ++ (b ∷ x) ≡ ys
     ++ (b ∷ y) → (xs ≡ ys) × (x ≡ y)
 same_cut b [] [] x y none other e = (refl, cc)
-same_cut b [] (c ∷ ys) x y none other e =
-    let same : c ≡ b = cc in
-    absurd (All-head (λ z. z ≢ b) c ys other same)
-same_cut b (a ∷ xs) [] x y none other e =
-    let same : a ≡ b = cc in
-    absurd (All-head (λ z. z ≢ b) a xs none same)
+same_cut b [] (c ∷ ys) x y none other e = search (rules, All-head)
+same_cut b (a ∷ xs) [] x y none other e = search (rules, All-head)
 same_cut b (a ∷ xs) (c ∷ ys) x y none other e =
     let rest : xs ++ (b ∷ x) ≡ ys ++ (b ∷ y) = cc in
     let same = same_cut b xs ys x y (All-tail (λ z. z ≢ b) a xs none)
@@ -44,9 +40,7 @@ lacks_not b (x ∷ xs) rest none = lacks_not b xs rest
 
 -- a byte that fails a test is none of those that pass
 pub apart : (test : ℕ → Bool) (b : ℕ) (xs : List ℕ) → test b ≡ false → AllPass test xs → Lacks b xs
-apart test b xs fails pass =
-    All-weaker (λ x. test x ≡ true) (λ x. x ≢ b)
-    (λ x passes same. false≢true (sym fails ∙ ap test (sym same) ∙ passes)) xs pass
+apart test b xs fails pass = search (rules, All-weaker, false≢true)
 
 pub passing : (test : ℕ → Bool) (b : ℕ) (xs : List ℕ) → test b ≡ false → list_all test xs ≡ true
     → Lacks b xs
@@ -63,21 +57,11 @@ pub record IsSeparator (b : ℕ) : Type 0 where
 
 pub newline : IsSeparator 10
 unfolding is_name_char
-newline = record {
-  no_name = refl;
-  no_digit = refl;
-  no_slash = λ e. absurd (omega arith);
-  no_dash = λ e. absurd (omega arith);
-}
+newline = search rules
 
 pub space : IsSeparator 32
 unfolding is_name_char
-space = record {
-  no_name = refl;
-  no_digit = refl;
-  no_slash = λ e. absurd (omega arith);
-  no_dash = λ e. absurd (omega arith);
-}
+space = search rules
 
 components_lack : (b : ℕ) → IsSeparator b → (parts : List (List ℕ))
     → All (λ part. IsTrue (is_component part)) parts → Lacks b (flat_map (λ part. 47 ∷ part) parts)
@@ -93,7 +77,7 @@ components_lack b is (part ∷ parts) each =
 
 -- a store folder has none
 pub dir_lacks : (b : ℕ) → IsSeparator b → (dir : List ℕ) → IsStoreDir dir → Lacks b dir
-dir_lacks b is dir h = subst (Lacks b) (sym h.parts) (components_lack b is h.components h.each)
+dir_lacks b is dir h = search (rules, components_lack)
 
 -- nor has what stands behind the folder in a path
 behind_dir : (b : ℕ) → IsSeparator b → (dir path : List ℕ) → IsPathOf dir path → (rest : List ℕ)
@@ -132,8 +116,7 @@ same_path b is dir p q x y one two e =
 
 -- a digest's text has no newline
 pub digest_lacks : (digest : Option (List ℕ)) → IsDigest digest → Lacks 10 (digest_text digest)
-digest_lacks None is = All-cons (λ z. z ≢ 10) 45 [] (λ e. absurd (omega arith))
-    (All-nil (λ z. z ≢ 10))
+digest_lacks None is = search (rules, All-cons, All-nil)
 digest_lacks (Some digest) is =
     apart is_hex_digit 10 (encode_lower digest) refl
     (decode_of-ok (encode_lower digest) digest

@@ -1,5 +1,6 @@
 -- The paths of rows, sorted: they rise strictly, since no path has two rows.
-use Rattle.std.proofs.Common.{◌≡◌, ℕ, ◌+◌, ◌<◌, false, List, [], ◌∷◌, ◌++◌, length, take, map, get_or, nat_eq, Some, sym, ap, subst, ◌∙◌, arith}
+use Rattle.std.proofs.lemmas.Grind.{common_steps}
+use Rattle.std.proofs.Common.{◌≡◌, ℕ, ◌+◌, ◌<◌, false, List, [], ◌∷◌, ◌++◌, length, take, get_or, nat_eq, Some, sym, ap, subst, ◌∙◌, arith}
 use Rattle.std.specs.Cmp.Lexicographic.{pointwise, slice_cmp, nat_list_eq_equiv}
 use Rattle.std.specs.List.{IsDistinct, slice_get}
 use Rattle.std.specs.List.Sorted.{IsPermutation, IsSorted}
@@ -77,8 +78,4 @@ pub paths_more : (registrations : List Registration) (rows : List ℕ) (i : ℕ)
     ≡ paths_at registrations (take i rows) → slice_get (paths_of registrations) (get_or rows i 0)
     ≡ Some path → pushed ≡ so_far ++ path ∷ [] → pushed ≡ paths_at registrations (take (i + 1) rows)
 paths_more registrations rows i path so_far pushed below before at is =
-    is ∙ ap (λ (paths : List (List ℕ)). paths ++ path ∷ []) before
-    ∙ ap (λ (p : List ℕ). paths_at registrations (take i rows) ++ p ∷ [])
-    (sym (get_or_from_slice_get (paths_of registrations) (get_or rows i 0) path [] at))
-    ∙ sym (ap (map (path_at registrations)) (take_more rows i 0 below)
-    ∙ map-append (path_at registrations) (take i rows) (get_or rows i 0 ∷ []))
+    grind (arith, common_steps, get_or_from_slice_get, take_more, map-append)

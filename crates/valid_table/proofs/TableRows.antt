@@ -1,17 +1,15 @@
 -- The rows of a table, and the registrations that they are.
-use Rattle.std.proofs.Common.{◌≡◌, ◌∙◌, ℕ, zero, suc, ◌+◌, ◌<◌, List, [], ◌∷◌, ◌++◌, length, take, drop, get_or, refl, sym, ap, subst, arith, nat_eq, Bor, Bool, Result, Ok, Err, true≢false}
+use Rattle.std.proofs.Common.{◌≡◌, ◌∙◌, ℕ, zero, suc, ◌+◌, ◌<◌, List, [], ◌∷◌, ◌++◌, length, take, drop, get_or, refl, sym, ap, subst, arith, nat_eq, Bor, Bool, Result, Ok, Err, true≢false, rules}
 use Rattle.std.specs.Prelude.{◌↔◌, Contains, IsOk, IsTrue, OnOk, Option, Some, None, MatchOption, is_some}
 use Rattle.std.specs.Cmp.Lexicographic.{pointwise, nat_list_eq_equiv}
-use Rattle.std.specs.List.{IsDistinct}
 use Rattle.std.specs.Map.{keys_of, lookup}
 use Rattle.std.specs.Option.{option_copied}
 use Rattle.std.proofs.lemmas.Bool.{false≢true}
-use Rattle.std.proofs.lemmas.List.{append_assoc, map_push, take_more}
+use Rattle.std.proofs.lemmas.List.{append_assoc, map_push}
 use Rattle.std.proofs.lemmas.Map.Views.{Contains-from_lookup, Contains-keys_from_lookup, IsSome-lookup_from_Contains, hash_map_contains_key_iff}
 use Rattle.indexmap.proofs.CallerLemmas.{insert_entry-new}
 use Rattle.indexmap.specs.IndexMap.{IndexMap, get_by, insert_entry}
 use Rattle.nix_names.proofs.RisingLists.{equal_from_eq}
-use Rattle.valid_table.specs.Entries.{paths_of}
 use Rattle.valid_table.specs.PathInfos.{PathInfo}
 use Rattle.valid_table.specs.Tables.{registrations_of}
 use Rattle.valid_table.specs.Valid.{IsNotValid, IsOnce, IsValid, Registers}
@@ -19,14 +17,13 @@ use Rattle.valid_table.specs.declared.entry.Registration.{Registration}
 use Rattle.valid_table.proofs.JournalLists.{paths_of-append}
 use Rattle.valid_table.proofs.PathLists.{once_apart}
 use Rattle.valid_table.proofs.RowNumbers.{paths_are_keys}
-use Rattle.nix_names.proofs.Lists.{parts_at}
+use Rattle.nix_names.proofs.Lists.{parts_at, taken_more}
 
 -- a row is among the registrations
 registers_row : (rows : List (List ℕ × PathInfo)) (path : List ℕ) (info : PathInfo)
     → Contains rows (path, info) → Registers (registrations_of rows) path info
 registers_row [] path info (k, lt, is) = absurd (omega arith)
-registers_row (row ∷ rows) path info (zero, lt, is) =
-    (0, omega arith, ap (λ (r : List ℕ × PathInfo). record { path = r.0; info = r.1 }) is)
+registers_row (row ∷ rows) path info (zero, lt, is) = search rules
 registers_row (row ∷ rows) path info (suc k, lt, is) =
     let (n, below, same) = registers_row rows path info (k, omega arith, is)
     in (suc n, omega arith, same)
@@ -55,34 +52,6 @@ not_found rows path apart = go (lookup (pointwise nat_eq path) rows) refl
     go (Some info) is =
         absurd (apart (Contains-keys_from_lookup equal_from_eq path rows (ap is_some is)))
 
--- one more row
-pub row_added :
-    {S : Type 0} (rows : IndexMap (List ℕ) PathInfo S) (before rs : List Registration) (i : ℕ)
-    (r : Registration) (new : List (List ℕ × PathInfo)) →
-    IsOnce (before ++ rs) →
-    registrations_of rows.entries ≡ before ++ take i rs →
-    i < length rs →
-    r ≡ get_or rs i r →
-    new ≡ insert_entry (pointwise nat_eq) rows.entries r.path r.info →
-    registrations_of new ≡ before ++ take (i + 1) rs
-row_added rows before rs i r new once is_so lt is added =
-    let front = before ++ take i rs in
-    let parts = ap paths_of (ap (λ l. before ++ l) (parts_at rs i r lt is)
-    ∙ sym (append_assoc before (take i rs) (r ∷ drop (i + 1) rs)))
-    ∙ paths_of-append front (r ∷ drop (i + 1) rs) in
-    let keys : keys_of rows.entries ≡ paths_of front = sym (paths_are_keys rows.entries)
-    ∙ ap paths_of is_so in
-    let apart = once_apart (paths_of front) (paths_of (drop (i + 1) rs)) r.path (rw parts at once)
-    in
-    let none = not_found rows.entries r.path
-    (λ there. apart (subst (λ ks. Contains ks r.path) keys there)) in
-    ap registrations_of (added ∙ insert_entry-new (pointwise nat_eq) rows r.path r.info none)
-    ∙ map_push (λ (row : List ℕ × PathInfo). record { path = row.0; info = row.1 }) rows.entries
-    (r.path, r.info)
-    ∙ ap (λ l. l ++ r ∷ []) is_so
-    ∙ append_assoc before (take i rs) (r ∷ [])
-    ∙ ap (λ l. before ++ l) (ap (λ x. take i rs ++ x ∷ []) is ∙ sym (take_more rs i r lt))
-
 -- whether a path is among the keys tells whether it is valid
 pub has_row_says :
     {S : Type 0} (rows : IndexMap (List ℕ) PathInfo S) (path : List ℕ) (found : Bool) →
@@ -103,19 +72,32 @@ pub row_pushed :
     new ≡ insert_entry (pointwise nat_eq) rows.entries r.path r.info →
     registrations_of new ≡ registrations_of rows.entries ++ r ∷ []
 row_pushed rows r new fresh added =
-    let none = not_found rows.entries r.path
-    (λ there.
-    fresh (subst (λ ks. Contains ks r.path) (sym (paths_are_keys rows.entries)) there)) in
-    ap registrations_of (added ∙ insert_entry-new (pointwise nat_eq) rows r.path r.info none)
-    ∙ map_push (λ (row : List ℕ × PathInfo). record { path = row.0; info = row.1 }) rows.entries
-    (r.path, r.info)
+    search (rules, not_found, paths_are_keys, insert_entry-new, map_push)
 
 -- the path of a registration behind others is not valid by them, where no path is registered twice
 pub next_new : (known later : List Registration) (r : Registration) → IsOnce (known ++ r ∷ later)
     → IsNotValid known r.path
-next_new known later r once =
-    once_apart (paths_of known) (paths_of later) r.path
-    (subst (IsDistinct (pointwise nat_eq)) (paths_of-append known (r ∷ later)) once)
+next_new known later r once = search (rules, once_apart, paths_of-append)
+
+-- one more row
+pub row_added :
+    {S : Type 0} (rows : IndexMap (List ℕ) PathInfo S) (before rs : List Registration) (i : ℕ)
+    (r : Registration) (new : List (List ℕ × PathInfo)) →
+    IsOnce (before ++ rs) →
+    registrations_of rows.entries ≡ before ++ take i rs →
+    i < length rs →
+    r ≡ get_or rs i r →
+    new ≡ insert_entry (pointwise nat_eq) rows.entries r.path r.info →
+    registrations_of new ≡ before ++ take (i + 1) rs
+row_added rows before rs i r new once is_so lt is added =
+    let front = before ++ take i rs in
+    let later = drop (i + 1) rs in
+    let whole : before ++ rs ≡ front ++ r ∷ later = ap (λ l. before ++ l) (parts_at rs i r lt is)
+    ∙ sym (append_assoc before (take i rs) (r ∷ later)) in
+    row_pushed rows r new (rw is_so (next_new front later r (subst IsOnce whole once))) added
+    ∙ ap (λ l. l ++ r ∷ []) is_so
+    ∙ append_assoc before (take i rs) (r ∷ [])
+    ∙ ap (λ l. before ++ l) (sym (taken_more rs i r lt is))
 
 -- what holds where there is a value holds where there is one
 pub on_ok : {T E P : Type 0} (result : Result T E) → IsOk result → OnOk result P → P

@@ -1,8 +1,6 @@
 -- Registrations that are taken in behind known ones.
-use Rattle.std.proofs.Common.{◌≡◌, ◌⊎◌, ◌≤◌, ℕ, List, [], ◌∷◌, ◌++◌, length, nat_eq, refl, sym, subst, arith}
+use Rattle.std.proofs.Common.{◌≡◌, ◌⊎◌, ◌≤◌, ℕ, List, [], ◌∷◌, ◌++◌, length, refl, sym, subst, arith, rules}
 use Rattle.std.specs.Prelude.{All, Contains}
-use Rattle.std.specs.Cmp.Lexicographic.{pointwise}
-use Rattle.std.specs.List.{IsDistinct}
 use Rattle.std.proofs.lemmas.List.Elements.{All-append, Contains-append_cases, Contains-append_right}
 use Rattle.nix_names.specs.Rising.{IsRising}
 use Rattle.nix_names.proofs.RisingLists.{distinct_from_rising}
@@ -17,9 +15,7 @@ use Rattle.valid_table.proofs.PathLists.{distinct_append}
 pub once_more : (known some : List Registration) → IsOnce known → IsRising (paths_of some)
     → AreNew known some → IsOnce (known ++ some)
 once_more known some once rising new =
-    subst (IsDistinct (pointwise nat_eq)) (sym (paths_of-append known some))
-    (distinct_append (paths_of known) (paths_of some) once
-    (distinct_from_rising (paths_of some) rising) new)
+    search (rules, paths_of-append, distinct_append, distinct_from_rising)
 
 -- closed registrations behind known ones whose references are valid: all references are
 pub valid_with_more : (known some : List Registration) → AreReferencesValid known

@@ -14,7 +14,7 @@ use Rattle.valid_table.specs.Valid.{IsClosedBehind, IsJournal, IsOnce}
 use Rattle.valid_table.specs.declared.entry.Entry.{Entry}
 use Rattle.valid_table.specs.declared.entry.Registration.{Registration}
 use Rattle.valid_table.proofs.CheckedEntries.{entry_lines_are, up_to}
-use Rattle.valid_table.proofs.CheckedJournal.{AreRight, IsRightBehind, IsWrongAt, not_among, right_at, wrong_line}
+use Rattle.valid_table.proofs.CheckedJournal.{AreRight, IsRightBehind, none_wrong, wrong_line}
 use Rattle.valid_table.proofs.JournalLists.{paths_of-append}
 use Rattle.valid_table.proofs.PathLists.{once_apart, once_front}
 use Rattle.valid_table.proofs.Separators.{Lacks}
@@ -71,17 +71,10 @@ journal_right earlier (entry ∷ entries) closed once =
       journal_right now entries closed.1 all,
     )
 
--- right entries have no wrong line
-right_not_wrong : (entries : List Entry) (m : ℕ) → AreRight [] entries → IsWrongAt entries m → ⊥
-right_not_wrong entries m right w =
-    let s = w.stands in
-    let here = right_at [] w.before w.entry s.after (subst (AreRight []) s.parts right) in
-    w.wrong (not_among (paths_of (registered w.before))
-    (paths_of (registered w.before ++ registered_by w.entry)) s.first w.line s.last
-    (subst (All (IsRightBehind (registered w.before) w.entry)) s.is_line here))
-
 -- no line of a journal is at fault
 pub no_fault : (entries : List Entry) (m : ℕ) → IsJournal entries → IsNotClosedAt entries m
     ⊎ IsTwiceAt entries m → ⊥
-no_fault entries m is fault = right_not_wrong entries m (journal_right [] entries is.closed is.once)
-    (wrong_line entries m fault)
+no_fault entries m is fault =
+    let w = wrong_line entries m fault in
+    none_wrong entries m w w.stands.after
+    (subst (AreRight []) w.stands.parts (journal_right [] entries is.closed is.once))

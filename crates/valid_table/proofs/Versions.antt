@@ -1,5 +1,5 @@
 -- Whether the first line is that of another version.
-use Rattle.std.proofs.Common.{◌≡◌, ◌≢◌, ℕ, List, [], ◌∷◌, ◌++◌, refl, sym, ap, ◌∙◌, subst, codes, IsTrue}
+use Rattle.std.proofs.Common.{◌≡◌, ◌≢◌, ℕ, List, [], ◌∷◌, ◌++◌, refl, sym, ap, ◌∙◌, subst, codes, IsTrue, rules}
 use Rattle.std.specs.Prelude.{◌↔◌}
 use Rattle.std.specs.Char.{is_ascii_digit}
 use Rattle.std.specs.List.{All}
@@ -43,7 +43,4 @@ by_number bytes version number rest begins line one = (
 -- where there is no newline, no version stands
 pub no_line : (bytes version : List ℕ) → bytes ≡ codes "realiser-journal " ++ version
     → Lacks 10 version → IsOtherVersion bytes → ⊥
-no_line bytes version begins none is =
-    let behind : version ≡ is.digits ++ (10 ∷ is.rest) =
-    append_cancel_left (codes "realiser-journal ") _ _ (sym begins ∙ is.parts) in
-    lacks_not 10 is.digits is.rest (subst (Lacks 10) behind none)
+no_line bytes version begins none is = search (rules, append_cancel_left, lacks_not)

@@ -26,7 +26,7 @@ loop-entry-preserved c =
     c.in_ok-line.ensures.checked in
     record {
       right = right_more entries i entry lt is c.loop-entry.invariant.right check.0;
-      rows = known_more entries i entry (registrations_of c.loop-entry.rows.entries) _ lt is
+      rows = known_more entries i entry lt is (registrations_of c.loop-entry.rows.entries) _
           c.loop-entry.invariant.rows c.in_ok-line.ensures.added;
       number = omega (
         arith,

@@ -1,6 +1,4 @@
-use Rattle.std.proofs.Common.{◌++◌, ap, arith, length, rules}
-use Rattle.valid_table.specs.Entries.{paths_of}
-use Rattle.valid_table.specs.Tables.{registrations_of}
+use Rattle.std.proofs.Common.{ap, arith, length, rules}
 use Rattle.valid_table.proofs.CheckedLines.{line_count_fits, line_count_more, open_here, right_behind, twice_here, unknown_within}
 use Rattle.valid_table.proofs.EnteredPaths.{closed_more}
 use Rattle.valid_table.proofs.checking.check_lines.Goals as goal
@@ -16,7 +14,7 @@ overflow_add-result-in-Some c =
     let fits = line_count_fits c.args.registrations.now c.loop-place.place
     c.index-registrations-place.result c.loop-place-test.true c.index-registrations-place.is in
     let within = unknown_within
-    (paths_of (registrations_of c.args.rows.now.entries ++ c.args.registrations.now))
+    _
     c.references-references.result.now c.in-Some.at c.in-Some.ensures in
     omega (
       arith,
@@ -27,7 +25,7 @@ overflow_add-result-in-Some c =
 
 pub returns-in-Some : goal.returns-in-Some
 returns-in-Some c =
-    open_here (paths_of (registrations_of c.args.rows.now.entries ++ c.args.registrations.now))
+    open_here _
     c.args.registrations.now c.args.new c.args.line c.loop-place.place
     c.index-registrations-place.result c.references-references.result.now c.in-Some.at
     c.loop-place.line c.loop-place.invariant.new c.if-place-new.false c.loop-place-test.true
@@ -46,7 +44,7 @@ loop-place-preserved c =
       new = let upto = c.loop-place.invariant.new in let other = c.if-place-new.false
           in omega arith;
       closed = closed_more
-          (paths_of (registrations_of c.args.rows.now.entries ++ c.args.registrations.now)) rs
+          _ rs
           c.loop-place.place c.index-registrations-place.result c.references-references.result.now
           c.loop-place.invariant.closed c.loop-place-test.true c.index-registrations-place.is
           c.references-references.ensures.value c.in_default.ensures;

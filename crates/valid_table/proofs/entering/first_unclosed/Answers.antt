@@ -1,5 +1,4 @@
-use Rattle.std.proofs.Common.{◌++◌, rules}
-use Rattle.valid_table.specs.Entries.{paths_of}
+use Rattle.std.proofs.Common.{rules}
 use Rattle.valid_table.specs.Tables.{registrations_of}
 use Rattle.valid_table.proofs.Blamed.{unclosed_at}
 use Rattle.valid_table.proofs.EnteredPaths.{closed_all, closed_more}
@@ -14,7 +13,7 @@ returns-in-Some c =
 
 pub loop-place-preserved : goal.loop-place-preserved
 loop-place-preserved c =
-    closed_more (paths_of (registrations_of c.args.rows.now.entries ++ c.args.registrations.now))
+    closed_more _
     c.args.registrations.now c.loop-place.place c.index-registrations-place.result
     c.references-references.result.now c.loop-place.invariant c.loop-place-test.true
     c.index-registrations-place.is c.references-references.ensures.value c.in_default.ensures

@@ -2,7 +2,6 @@ use Rattle.std.proofs.Common.{◌++◌, ◌∙◌, subst, sym}
 use Rattle.std.specs.Prelude.{All}
 use Rattle.std.proofs.lemmas.Bool.{false≢true}
 use Rattle.std.proofs.lemmas.List.{take_all}
-use Rattle.valid_table.specs.Entries.{paths_of}
 use Rattle.valid_table.specs.Tables.{registrations_of}
 use Rattle.valid_table.specs.Valid.{IsValid}
 use Rattle.valid_table.proofs.EnteredPaths.{known_more, unknown_here}
@@ -10,14 +9,14 @@ use Rattle.valid_table.proofs.entering.first_unknown.Goals as goal
 
 pub returns-then-not-is_known : goal.returns-then-not-is_known
 returns-then-not-is_known c =
-    unknown_here (paths_of (registrations_of c.args.rows.now.entries ++ c.args.registrations.now))
+    unknown_here _
     c.args.paths.now c.loop-place.place c.index-paths-place.result c.loop-place.invariant
     c.loop-place-test.true c.index-paths-place.is
     (λ there. false≢true (sym c.if-not-is_known.true ∙ c.is_known.ensures.1 there))
 
 pub loop-place-preserved : goal.loop-place-preserved
 loop-place-preserved c =
-    known_more (paths_of (registrations_of c.args.rows.now.entries ++ c.args.registrations.now))
+    known_more _
     c.args.paths.now c.loop-place.place c.index-paths-place.result c.loop-place.invariant
     c.loop-place-test.true c.index-paths-place.is
     (c.is_known.ensures.0 c.if-not-is_known.false)

@@ -1,13 +1,11 @@
 use Rattle.std.proofs.Common.{◌∙◌, sym, rules}
 use Rattle.std.proofs.lemmas.Bool.{false≢true}
-use Rattle.valid_table.specs.Entries.{paths_of}
-use Rattle.valid_table.specs.Tables.{registrations_of}
 use Rattle.valid_table.proofs.EnteredPaths.{front_all, new_more}
 use Rattle.valid_table.proofs.entering.new_front.Goals as goal
 
 pub loop-count-preserved : goal.loop-count-preserved
 loop-count-preserved c =
-    new_more (paths_of (registrations_of c.args.rows.now.entries)) c.args.registrations.now
+    new_more _ c.args.registrations.now
     c.loop-count.count c.index-registrations-count.result c.loop-count.invariant
     c.loop-count-test.true c.index-registrations-count.is
     (λ there. false≢true (sym c.if-has_row.false ∙ c.has_row.ensures.1 there))
