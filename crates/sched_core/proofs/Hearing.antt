@@ -7,10 +7,10 @@ use Rattle.std.proofs.lemmas.List.{get_or-set_other, get_or-set_same, get_or_app
 use Rattle.std.proofs.lemmas.Option.{get_or_from_slice_get, none-some, same_Some, slice_get-get_or, slice_get_within}
 use Rattle.nix_names.proofs.Lists.{Contains-from_get, element_at, get_mapped, get_push_cases, same_element}
 use Rattle.sched_core.specs.Coursing.{AreStatesOf, kept, phase_in}
-use Rattle.sched_core.specs.States.{Idle, InputsFirst, Rows, by_phase, by_standing, table}
+use Rattle.sched_core.specs.States.{Idle, InputsFirst, Rows, by_phase, by_standing, is_good, table}
 use Rattle.sched_core.proofs.KnownNews.{by_news_known}
 use Rattle.sched_core.proofs.StateLaws.{states_are_one}
-use Rattle.sched_core.specs.Tallies.{CanHear, HaveHeard, Hears, IsTally, Knows, News, Open, Good, Bad, Turns, turns_begun, turns_done, turns_failed, turns_freed, turns_named, turns_refused, turns_stays, are_news, by_news, news_of, states_in, to_tell}
+use Rattle.sched_core.specs.Tallies.{CanHear, HaveHeard, Hears, IsTally, Knows, News, Open, Good, Bad, Turns, turns_begun, turns_done, turns_failed, turns_freed, turns_named, turns_refused, turns_stays, are_news, by_news, news_by, news_of, states_in, to_tell}
 use Rattle.sched_core.specs.Users.{AreUsers, once_at, times, users_of}
 use Rattle.sched_core.specs.declared.reason.State.{State}
 use Rattle.sched_core.specs.declared.reason.State.TheVariants.{Blocked, Building, Done, Failed, Ready, Refused, Reused}
@@ -80,6 +80,16 @@ turns_news before after (turns_refused cause) = inr (refl, refl, λ e. cc)
 turns_news before after (turns_begun lease) = inl (refl, refl)
 turns_news before after (turns_done lease) = inr (refl, refl, λ e. cc)
 turns_news before after (turns_failed lease reason) = inr (refl, refl, λ e. cc)
+
+-- where there is news, it is good or bad
+good_or_bad : (s : State) → (news_of s ≡ Open → ⊥) → news_by (is_good s) ≡ news_of s
+good_or_bad Done known = refl
+good_or_bad (Failed reason) known = refl
+good_or_bad (Building lease) known = absurd (known refl)
+good_or_bad Reused known = refl
+good_or_bad (Refused cause) known = refl
+good_or_bad Ready known = absurd (known refl)
+good_or_bad Blocked known = absurd (known refl)
 
 -- what is left to tell of an input whose state may change so
 knows_turned : (before after : State) (known : News) (left here : ℕ) → Turns before after
@@ -290,6 +300,12 @@ module _ (inputs : ℕ → List ℕ) (tallies : List Tally) (edge : Edge) (w : �
       (λ heard. absurd (omega (arith, heard.1, times-first edge left)))
       (λ unheard. (unheard.0, omega (arith, unheard.2, times-first edge left)))
       (hears.knows edge.place w it)
+
+  -- there is news of the input
+  pub told_news_is : news_by (is_good (state w)) ≡ news_of (state w)
+  told_news_is = good_or_bad (state w)
+      (⊎_elim (λ heard. absurd (omega (arith, heard.1, times-first edge left)))
+      (λ unheard. unheard.1) (hears.knows edge.place w it))
 
   hearing : CanHear (inputs edge.user) hears.heard tally edge.place w
   hearing = record {
