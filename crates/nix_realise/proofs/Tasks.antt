@@ -39,7 +39,7 @@ first_stray dir words i d (NoPath blamed fault) within before h = record {
   before = map (λ w. w.now) (take i words);
   after = map (λ w. w.now) (drop (suc i) words);
   parts = rw h.0 (words_split words i d within);
-  paths = before;
+  others = before;
   is = rw h.0 h.1;
 }
 first_stray dir words i d NoMemory within before h = h

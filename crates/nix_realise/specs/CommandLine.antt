@@ -67,10 +67,10 @@ top_line =
       subs = [];
     }
 
-abbrev pub with_adding_lines : App → App
-with_adding_lines app = with_subcommand (with_subcommand app add_text_line.top) add_drv_line.top
-
 -- the whole command line
 abbrev pub command_line : App
 command_line =
-    with_subcommand (with_adding_lines (with_subcommand top_line check_line.top)) realise_line.top
+    with_subcommand
+    (with_subcommand
+    (with_subcommand (with_subcommand top_line check_line.top) add_text_line.top)
+    add_drv_line.top) realise_line.top

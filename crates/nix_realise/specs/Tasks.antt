@@ -1,8 +1,9 @@
 -- What `realise` makes of its request and of what its files gave: a plan and a journal, or the
 -- first of its faults.
-use Rattle.std.specs.Prelude.{◌≡◌, ℕ, List, ◌∷◌, ◌++◌, All, Some, None, Result, Ok, Err, map}
+use Rattle.std.specs.Prelude.{◌≡◌, ℕ, List, All, Some, None, Result, Ok, Err, map}
 use Rattle.std.specs.Borrow.{Bor}
 use Rattle.std.specs.Global.{Vec}
+use Rattle.nix_names.specs.Firsts.{IsFirst}
 use Rattle.nix_names.specs.Names.{IsStoreDir}
 use Rattle.nix_names.specs.StorePaths.{path_fault}
 use Rattle.nix_names.specs.declared.fault.NameFault.{NameFault}
@@ -23,14 +24,11 @@ use Rattle.nix_realise.specs.declared.task.Task.{Task}
 abbrev pub ArePaths : (dir : List ℕ) → (words : List (List ℕ)) → Type 0
 ArePaths dir words = All (λ word. path_fault dir word ≡ None) words
 
--- A word is the first that is no path of the folder, and has this fault.
-pub record IsFirstStray (dir : List ℕ) (words : List (List ℕ)) (word : List ℕ) (fault : NameFault)
-    : Type 0 where
-  pub before : List (List ℕ)
-  pub after : List (List ℕ)
-  pub parts : words ≡ before ++ word ∷ after
-  pub paths : ArePaths dir before
-  pub is : path_fault dir word ≡ Some fault
+-- a word is the first that is no path of the folder, and has this fault
+abbrev pub IsFirstStray : (dir : List ℕ) → (words : List (List ℕ)) → (word : List ℕ) → NameFault
+    → Type 0
+IsFirstStray dir words word fault =
+    IsFirst (λ w. path_fault dir w ≡ None) (λ w. path_fault dir w ≡ Some fault) words word
 
 -- What is answered for a word: the path that it spells.
 abbrev pub IsPathOf : (dir : List ℕ) → Bor (List ℕ) → Result (List ℕ) Stop → Type 0

@@ -10,11 +10,11 @@ pub trait Builders {
     /// What is made.
     type Builder: Build + Send + Drop;
 
-    /// A builder in this store folder.
+    /// A builder in this store folder. Want of memory is the only error.
     fn builder(&self, alloc: Global, store_dir: &str) -> Result<Self::Builder, AllocError>;
 }
 
-/// A builder for each worker that a request asks for.
+/// A builder for each worker that a request asks for. Want of memory is the only error.
 pub fn make_all<M: Builders>(
     alloc: Global,
     make: &M,

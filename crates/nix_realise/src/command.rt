@@ -1,10 +1,10 @@
 //! The command line that `clap` reads: its subcommands, and the words and options of each.
 ghost use Rattle.std.specs.Prelude.{◌≡◌, IfOk, false};
-ghost use Rattle.clap.specs.Words.{app_of, new_app, rule_of};
+ghost use Rattle.clap.specs.Words.{app_of, new_app, rule_of, with_subcommand};
 ghost use Rattle.nix_realise.specs.CommandLine.{add_drv_line, add_text_line, check_line};
 ghost use Rattle.nix_realise.specs.CommandLine.{command_line, drv_words, jobs_option};
 ghost use Rattle.nix_realise.specs.CommandLine.{journal_option, realise_line, store_dir_option};
-ghost use Rattle.nix_realise.specs.CommandLine.{system_option, top_line, with_adding_lines};
+ghost use Rattle.nix_realise.specs.CommandLine.{system_option, top_line};
 ghost use Rattle.nix_realise.specs.CommandLine.{required_word};
 
 use clap::{Arg, ArgAction, Command};
@@ -61,7 +61,8 @@ fn top<'a>(alloc: Global) -> Command<'a>
 
 // A command with the subcommands that add to a store, too.
 fn with_adding<'a>(alloc: Global, command: Command<'a>) -> Result<Command<'a>, AllocError>
-    ensures { IfOk result (λ more. app_of more ≡ with_adding_lines (app_of command.entry)) }
+    ensures { IfOk result (λ more. app_of more ≡ with_subcommand
+        (with_subcommand (app_of command.entry) add_text_line.top) add_drv_line.top) }
 {
     command
         .subcommand(add_text_command(alloc)?)?

@@ -46,6 +46,7 @@ pub struct ProcessBuild<'a, R, P> {
 
 impl<'a, R, P> ProcessBuild<'a, R, P> {
     /// Builds in this store folder, with the files and memory of a runtime and these processes.
+    /// Want of memory is the only error.
     pub fn new(
         alloc: Global,
         rt: &'a R,

@@ -1,6 +1,8 @@
 //! Runs of workers, with builders that do as they are told.
+ghost use Rattle.std.specs.Prelude.{◌≡◌, IfOk, []};
+ghost use Rattle.sched_core.specs.Books.{opened};
 
-use crate::{Build, RunFault, realise};
+use crate::{Build, Locked, RunFault, realise};
 use builders::{Deed, Does, Double, Gate};
 use drv_graph::Plan;
 use files::*;
@@ -278,6 +280,18 @@ fn fault_without_book(
     }
 }
 
+#[test]
+fn numbers_of_faults(rt: HostRuntime) {
+    for (fault, number) in [
+        (RunFault::NoWorkers, 70),
+        (RunFault::ThreadFault, 71),
+        (RunFault::NoMemory, 72),
+        (RunFault::ForeignPlan, 73),
+    ] {
+        assert_eq!(rt; fault.number(), number);
+    }
+}
+
 // No workers, and one more than there may be.
 #[test]
 fn wrong_number_of_workers(rt: HostRuntime) -> Result<(), Fail> {
@@ -323,6 +337,31 @@ fn gated<R: Threads + Wait + Sync>(
     let report = report(&book);
     book.close();
     report
+}
+
+// A book over a plan, in which nothing began.
+fn new_book(alloc: Global, plan: Plan) -> Result<Book<ListOutlet>, Fail>
+    ensures { IfOk result (λ book. book.history ≡ opened []) }
+{
+    let journal = Journal::new(alloc);
+    let outlet = ListOutlet::open(alloc, &journal)?;
+    let system = Vec::from_slice(alloc, SYSTEM)?;
+    Ok(Book::open(alloc, plan, journal, system, outlet)?)
+}
+
+// What is put behind a lock is the book that comes back, and nothing stopped it.
+#[test]
+fn book_behind_a_lock(rt: HostRuntime) -> Result<(), Fail> {
+    let plan = plan(rt.alloc(), &[APART])?;
+    let book = new_book(rt.alloc(), plan)?;
+    let locked: Locked<ListOutlet, Double> = Locked::new(book);
+    let (book, stop) = locked.into_parts();
+    let count = book.plan().len();
+    let began = book.events().len();
+    book.close();
+    assert_eq!(rt; (count, began), (1, 0));
+    assert!(rt; stop.is_none());
+    Ok(())
 }
 
 // Two builds, of which the first ends well only if the other begins meanwhile.
