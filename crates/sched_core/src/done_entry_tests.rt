@@ -62,8 +62,13 @@ fn record(alloc: Global, to: &[u8], digest: Option<[u8; 32]>) -> Result<Record, 
     if to.is_empty() {
         return Ok(Record::new(Vec::new(alloc), digest)?);
     }
-    let references = vec![in alloc; path(alloc, to)?]?;
-    Ok(Record::new(references, digest)?)
+    let to = path(alloc, to)?;
+    Ok(record_of(alloc, to, digest)?)
+}
+
+// A record of what refers to one path.
+fn record_of(alloc: Global, to: StorePath, digest: Option<[u8; 32]>) -> Result<Record, AllocError> {
+    Record::new(vec![in alloc; to]?, digest)
 }
 
 // Records of files with this digest, of which each refers to one of these, or to none.

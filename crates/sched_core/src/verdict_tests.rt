@@ -128,11 +128,10 @@ fn refers(record: Option<&Record>, texts: &[&[u8]]) -> bool {
 #[test]
 fn flat_fixed_outcomes(rt: HostRuntime) -> Result<(), Fail> {
     let alloc = rt.alloc();
-    assert_eq!(rt; fixed_verdict(alloc, Some(file(alloc, b"")?))?, None);
-    assert_eq!(rt;
-        fixed_verdict(alloc, Some(file(alloc, b"x")?))?,
-        Some(Reason::HashMismatch)
-    );
+    let rows: [(&[u8], Option<Reason>); 2] = [(b"", None), (b"x", Some(Reason::HashMismatch))];
+    for (bytes, reason) in rows {
+        assert_eq!(rt; fixed_verdict(alloc, Some(file(alloc, bytes)?))?, reason);
+    }
     Ok(())
 }
 

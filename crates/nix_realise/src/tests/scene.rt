@@ -69,9 +69,14 @@ fn outputs_of<R: Host>(rt: &R, file: &str) -> Result<Vec<String>, Fail> {
     let drv = read(rt.alloc(), &fs::read(rt, file)?)?;
     let mut outputs = Vec::new(rt.alloc());
     for output in drv.outputs() {
-        outputs.push(String::from_str(rt.alloc(), str::from_utf8(&output.path)?)?)?;
+        outputs.push(text_of(rt.alloc(), &output.path)?)?;
     }
     Ok(outputs)
+}
+
+// Bytes as a text.
+fn text_of(alloc: Global, bytes: &[u8]) -> Result<String, Fail> {
+    Ok(String::from_str(alloc, str::from_utf8(bytes)?)?)
 }
 
 /// Runs `realise` on a derivation.

@@ -167,11 +167,16 @@ fn report_and_entries(
     Ok((report(book)?, entries))
 }
 
+// The plan of a filled shelf.
+fn filled_plan(alloc: Global) -> Result<Plan, Fail> {
+    let shelf = filled_shelf(alloc, 200, 3)?;
+    plan(alloc, &shelf)
+}
+
 // One worker and eight end with one report, and register the same.
 #[test]
 fn one_worker_or_eight(rt: HostRuntime) -> Result<(), Fail> {
-    let shelf = filled_shelf(rt.alloc(), 200, 3)?;
-    let plan = plan(rt.alloc(), &shelf)?;
+    let plan = filled_plan(rt.alloc())?;
     let (alone, entries) = after(&rt, rt.alloc(), &plan, 1)?;
     let (together, others) = after(&rt, rt.alloc(), &plan, 8)?;
     assert_eq!(rt; lines(&alone, b"built "), 200);
