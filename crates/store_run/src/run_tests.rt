@@ -18,7 +18,10 @@ use valid_table::{Journal, ListOutlet};
 
 mod builders;
 mod bulk;
+mod failing;
 mod files;
+mod made;
+mod schedules;
 
 // A text, by its pieces.
 type Pieces = &'static [&'static [u8]];
@@ -205,6 +208,19 @@ fn report(book: &Book<ListOutlet>) -> Result<Vec<u8>, Fail> {
     Ok(book.report()?)
 }
 
+// The report of a run by these builders, over an empty journal.
+fn report_of<R: Threads + Wait + Sync, B: Build + Send + Drop>(
+    rt: &R,
+    alloc: Global,
+    plan: &Plan,
+    builders: Vec<B>,
+) -> Result<Vec<u8>, Fail> {
+    let book = realised(rt, alloc, plan, &Journal::new(alloc), builders)?;
+    let report = report(&book);
+    book.close();
+    report
+}
+
 // Whether a book ended as its row says.
 fn ended(alloc: Global, book: &Book<ListOutlet>, row: &Row) -> Result<bool, Fail> {
     let is_report = report(book)? == joined(alloc, row.report)?;
@@ -333,10 +349,7 @@ fn gated<R: Threads + Wait + Sync>(
 ) -> Result<Vec<u8>, Fail> {
     let begun = AtomicU64::new(0);
     let builders = gates(alloc, &begun, enough, workers)?;
-    let book = realised(rt, alloc, plan, &Journal::new(alloc), builders)?;
-    let report = report(&book);
-    book.close();
-    report
+    report_of(rt, alloc, plan, builders)
 }
 
 // A book over a plan, in which nothing began.

@@ -90,16 +90,16 @@ fn is_for(deed: &Deed, job: &Job) -> bool {
     }
 }
 
-// The answer of a builder that ended with a status and left nothing.
-fn left_nothing(alloc: Global, status: i32) -> Answer {
+/// The answer of a builder that ended with a status and left nothing.
+pub(crate) fn left_nothing(alloc: Global, status: i32) -> Answer {
     Answer {
         status: Some(status),
         trees: Vec::new(alloc),
     }
 }
 
-// The answer of a builder that left a file with these bytes at each output.
-fn left(alloc: Global, job: &Job, bytes: &[u8]) -> Result<Answer, Reason> {
+/// The answer of a builder that left a file with these bytes at each output.
+pub(crate) fn left(alloc: Global, job: &Job, bytes: &[u8]) -> Result<Answer, Reason> {
     Ok(Answer {
         status: Some(0),
         trees: files(alloc, job.outputs.len(), bytes)?,
