@@ -1,4 +1,5 @@
--- Paths whose records stand in another list of registrations too, with those of all that they reach.
+-- Paths whose records stand in another list of registrations too, with those of all that they
+-- reach.
 use Rattle.std.proofs.Common.{◌≡◌, inl, inr, ℕ, List, [], ◌∷◌, ◌++◌, refl, sym, subst, ⊎_elim}
 use Rattle.std.specs.Prelude.{Contains}
 use Rattle.std.proofs.lemmas.List.Elements.{Contains-append_left}

@@ -1,5 +1,5 @@
--- A derivation that came to a verdict in two histories came to the same, where its seeds are carried
--- both ways.
+-- A derivation that came to a verdict in two histories came to the same, where its seeds are
+-- carried both ways.
 use Rattle.std.proofs.Common.{◌≡◌, ◌∙◌, ◌↔◌, ℕ, List, [], ◌++◌, length, Result, Ok, Err, Some, sym, ap, subst}
 use Rattle.std.specs.Prelude.{Contains, slice_get}
 use Rattle.std.proofs.lemmas.List.{length-map}

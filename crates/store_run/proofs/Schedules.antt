@@ -19,7 +19,7 @@ use Rattle.sched_core.proofs.OneReport.{one_report}
 use Rattle.sched_core.proofs.Registering.{entries_are_journal}
 use Rattle.sched_core.proofs.Seeds.{opened_with}
 use Rattle.store_run.specs.OneThread.{IsOneThread}
-use Rattle.store_run.specs.Scheduling.{AnySchedule, IsWholeRun, OneReport}
+use Rattle.store_run.specs.Scheduling.{AnySchedule, HasOneOutcome, IsWholeRun, OneReport, RealisedIsWhole, WholeRunsAreAlike}
 use Rattle.store_run.proofs.Alike.{IsAtEnd, are_alike}
 use Rattle.store_run.proofs.Telling.{begun_is, broke_is, drv_paths, from_is, made_is}
 use Rattle.store_run.proofs.ToldRuns.{IsTold, told_begin, told_done, told_fail, told_from, told_opening}
@@ -74,6 +74,21 @@ module _ (may : Job → Result Answer Reason → Type 0) (run : Run) (history : 
   run_at_end : IsAtEnd may run history
   run_at_end = at_end (λ reason. reason ≡ OutOfMemory) may run whole.plan history run_told
       whole.legal whole.settled none_excused
+
+pub whole_runs_are_alike : (may : Job → Result Answer Reason → Type 0) → WholeRunsAreAlike may
+whole_runs_are_alike may run history other whole whole' opening =
+    are_alike may run whole.plan whole.outcome history other (run_at_end may run history whole)
+    (run_at_end may run other whole') opening
+
+pub realised_is_whole : (may : Job → Result Answer Reason → Type 0) → RealisedIsWhole may
+realised_is_whole may plan system opening count book sound outcome realised memory = record {
+  plan = subst IsSound (sym realised.left.over.plan_is) sound;
+  outcome = subst (HasOneOutcome may) (sym realised.left.over.plan_is) outcome;
+  legal = realised.left.legal;
+  settled = realised.settled;
+  answered = realised.left.answered;
+  memory = memory;
+}
 
 one_thread_at_end : (may : Job → Result Answer Reason → Type 0) (run : Run)
     → IsSound run.graph → (opening : List Entry) (other : History)

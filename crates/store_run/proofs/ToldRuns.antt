@@ -140,12 +140,12 @@ module _ (may : Job → Result Answer Reason → Type 0) (run : Run) where
       let here : (given ≡ OutOfMemory) ⊎ IsVerdictBehind may run history.entries d (Err given) =
       subst (λ n. (given ≡ OutOfMemory) ⊎ IsVerdictBehind may run history.entries n (Err given))
       number_is
-      (subst (λ (h : History). (given ≡ OutOfMemory) ⊎ IsVerdictBehind may run h.entries e (Err given))
-      same why) in
+      (subst (λ (h : History).
+      (given ≡ OutOfMemory) ⊎ IsVerdictBehind may run h.entries e (Err given)) same why) in
       record {
         before = subst (IsAnswered may run) same answered;
-        why = subst (λ (r : Reason). (r ≡ OutOfMemory) ⊎ IsVerdictBehind may run history.entries d (Err r))
-            reason_is here;
+        why = subst (λ (r : Reason).
+            (r ≡ OutOfMemory) ⊎ IsVerdictBehind may run history.entries d (Err r)) reason_is here;
       }
 
   -- a legal history that is answered is told
@@ -158,10 +158,11 @@ module _ (may : Job → Result Answer Reason → Type 0) (run : Run) where
       legal (record { within = within; wanted = wanted; ready = ready })
   told_from _ (legal_done history d lease node infos entry legal phase is_node allowed is_entry)
       answered =
-      let was = answered_by_done (ended history d lease entry) answered history d lease entry refl in
+      let was =
+      answered_by_done (ended history d lease entry) answered history d lease entry refl in
       told_done history d lease was.node was.infos entry (told_from history legal was.before) legal
       phase was.is_node was.came was.is_entry
   told_from _ (legal_fail history d lease reason legal phase) answered =
-      let was = answered_by_fail (failed history d lease reason) answered history d lease reason refl
-      in
+      let was =
+      answered_by_fail (failed history d lease reason) answered history d lease reason refl in
       told_fail history d lease reason (told_from history legal was.before) legal phase was.why

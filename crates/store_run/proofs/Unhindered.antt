@@ -29,7 +29,8 @@ state_aside run history d = by_standing (standing_in run history d)
     (by_inputs (state_in run history) (inputs_in run d))
 
 pub state_by : (run : Run) (history : History) → IsSound run.graph → (d : ℕ) (p : Phase)
-    → phase_of history.events d ≡ p → state_in run history d ≡ by_phase p (state_aside run history d)
+    → phase_of history.events d ≡ p
+    → state_in run history d ≡ by_phase p (state_aside run history d)
 unfolding table
 state_by run history sound d p is =
     states_agree (rows_of run history.opening history.events) d (inputs_first run.graph sound)
@@ -132,7 +133,8 @@ is_good_by run history sound d (good_ended at) =
     ap is_good (state_by run history sound d Ended at)
 is_good_by run history sound d (good_reused at stands) =
     ap is_good (state_by run history sound d Idle at
-    ∙ ap (λ (s : Standing). by_standing s (by_inputs (state_in run history) (inputs_in run d))) stands)
+    ∙ ap (λ (s : Standing). by_standing s (by_inputs (state_in run history) (inputs_in run d)))
+    stands)
 
 -- ---- two histories of one opening
 

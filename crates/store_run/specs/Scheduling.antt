@@ -1,12 +1,13 @@
--- *Any schedule*: whatever the number of workers and the order of their turns, a run that had memory
--- ends as one thread would (this product's own).
+-- *Any schedule*: whatever the number of workers and the order of their turns, a run that had
+-- memory ends as one thread would (this product's own).
 use Rattle.std.specs.Prelude.{◌≡◌, ◌↔◌, ◌<◌, ℕ, List, Result, Ok, Err, length}
 use Rattle.drv_graph.specs.Plans.{Graph}
 use Rattle.drv_graph.specs.SoundGraphs.{IsSound}
 use Rattle.valid_table.specs.Entries.{registered}
 use Rattle.valid_table.specs.PathInfos.{PathInfo}
 use Rattle.valid_table.specs.Valid.{Registers}
-use Rattle.sched_core.specs.Books.{IsRunSettled}
+use Rattle.valid_table.specs.declared.entry.Entry.{Entry}
+use Rattle.sched_core.specs.Books.{IsRunSettled, Ledger}
 use Rattle.sched_core.specs.Jobs.{IsJob}
 use Rattle.sched_core.specs.Legal.{IsLegal}
 use Rattle.sched_core.specs.Reports.{IsReportIn}
@@ -19,6 +20,7 @@ use Rattle.sched_core.specs.declared.reason.Reason.TheVariants.{OutOfMemory}
 use Rattle.sched_core.specs.declared.reason.State.TheVariants.{Failed}
 use Rattle.store_run.specs.Builders.{IsAnswered}
 use Rattle.store_run.specs.OneThread.{IsOneThread}
+use Rattle.store_run.specs.Realising.{IsRealised}
 
 -- *Verdict* on an outcome by permitted paths: the reason why there is no answer, or the verdict on
 -- the answer
@@ -40,8 +42,8 @@ abbrev pub HasMemory : Run → History → Type 0
 HasMemory run history = (d : ℕ) → d < length run.graph.nodes → IsWanted run history.opening d
     → state_in run history d ≡ Failed OutOfMemory → ⊥
 
--- Two histories of a run are alike: each derivation is in the same state, and each path has the same
--- records.
+-- Two histories of a run are alike: each derivation is in the same state, and each path has the
+-- same records.
 pub record AreAlike (run : Run) (history other : History) : Type 0 where
   pub states : (d : ℕ) → state_in run history d ≡ state_in run other d
   pub records : (path : List ℕ) (info : PathInfo)
@@ -58,6 +60,18 @@ pub record IsWholeRun (may : Job → Result Answer Reason → Type 0) (run : Run
   pub settled : IsRunSettled run history
   pub answered : IsAnswered may run history
   pub memory : HasMemory run history
+
+-- what `realise` leaves behind at Ok is such, over a loaded plan, where memory was not refused
+abbrev pub RealisedIsWhole : (may : Job → Result Answer Reason → Type 0) → Type 0
+RealisedIsWhole may = (plan : Graph) (system : List ℕ) (opening : List Entry) (count : ℕ)
+    (book : Ledger) → IsSound plan → HasOneOutcome may plan
+    → IsRealised may plan system opening count book → HasMemory book.run book.history
+    → IsWholeRun may book.run book.history
+
+-- two such runs over one opening are alike
+abbrev pub WholeRunsAreAlike : (may : Job → Result Answer Reason → Type 0) → Type 0
+WholeRunsAreAlike may = (run : Run) (history other : History) → IsWholeRun may run history
+    → IsWholeRun may run other → other.opening ≡ history.opening → AreAlike run history other
 
 -- *Any schedule*: what such a run leaves behind is alike with what one thread would leave behind
 abbrev pub AnySchedule : (may : Job → Result Answer Reason → Type 0) → Type 0
