@@ -1,3 +1,4 @@
 pub mod Adding
 pub mod Prefixes
+pub mod Shelves
 pub mod Showable

@@ -1,2 +1,5 @@
 pub mod Beginnings
+pub mod Handing
+pub mod Lines
+pub mod Shelves
 pub mod Shown
