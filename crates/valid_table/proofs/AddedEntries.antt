@@ -17,7 +17,7 @@ registered_push entries entry = registered-append entries (entry ∷ [])
     ∙ ap (λ l. registered entries ++ l) (append-nil (registered_by entry))
 
 -- closed entries stay so with one more whose references are valid
-closed_push :
+pub closed_push :
     (earlier : List Registration) (entries : List Entry) (entry : Entry) →
     IsClosedBehind earlier entries →
     All (IsValid ((earlier ++ registered entries) ++ registered_by entry))

@@ -1,4 +1,5 @@
 pub mod Adding
+pub mod Feeds
 pub mod Prefixes
 pub mod Shelves
 pub mod Showable

@@ -1,4 +1,6 @@
 pub mod Beginnings
+pub mod Feeding
+pub mod Feedings
 pub mod Handing
 pub mod Lines
 pub mod Shelves

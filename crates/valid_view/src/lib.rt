@@ -9,6 +9,7 @@
 //! | `line` | the writer's end, under the rule |
 #![tactic(auto)]
 
+mod feed;
 mod front;
 mod law;
 mod line;
