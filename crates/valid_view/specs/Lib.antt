@@ -1,4 +1,6 @@
+pub mod Answers
 pub mod Beginnings
+pub mod Faults
 pub mod Feeding
 pub mod Feedings
 pub mod Handing

@@ -6,16 +6,24 @@
 //! | `law` | the rule of the one list |
 //! | `front` | beginnings of the one list |
 //! | `shelf`, `rule` | what is shown, and the rule of it |
-//! | `line` | the writer's end, under the rule |
+//! | `line`, `feed` | the writer's end, under the rule, and what waits before it |
+//! | `reader`, `seen` | readers, and what they find |
+//! | `fault` | why a reader refused |
 #![tactic(auto)]
 
+mod fault;
 mod feed;
 mod front;
 mod law;
 mod line;
 mod name;
+mod reader;
 mod rule;
+mod seen;
 mod shelf;
 
+pub use fault::ViewFault;
 pub use front::Front;
 pub use name::{Name, Naming};
+pub use reader::ViewReader;
+pub use seen::Seen;
