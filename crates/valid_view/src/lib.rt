@@ -7,6 +7,7 @@
 //! | `front` | beginnings of the one list |
 //! | `shelf`, `rule` | what is shown, and the rule of it |
 //! | `line`, `feed` | the writer's end, under the rule, and what waits before it |
+//! | `writer`, `opening` | the writer, and how a view is opened |
 //! | `reader`, `seen` | readers, and what they find |
 //! | `fault` | why a reader refused |
 #![tactic(auto)]
@@ -17,13 +18,17 @@ mod front;
 mod law;
 mod line;
 mod name;
+mod opening;
 mod reader;
 mod rule;
 mod seen;
 mod shelf;
+mod writer;
 
 pub use fault::ViewFault;
 pub use front::Front;
 pub use name::{Name, Naming};
+pub use opening::open;
 pub use reader::ViewReader;
 pub use seen::Seen;
+pub use writer::ViewWriter;
