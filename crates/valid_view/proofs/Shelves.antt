@@ -38,9 +38,9 @@ grows book seat had x y shelf up views holds at = (
     shelf,
     λ j seen e. ⊎_elim
         (λ (t : (j ≡ seat) × (y.front.entries ≡ seen)). subst
-            (λ (l : List Entry). IsPrefix l y.front.entries) t.1 (prefix_self y.front.entries))
+        (λ (l : List Entry). IsPrefix l y.front.entries) t.1 (prefix_self y.front.entries))
         (λ (t : (j ≢ seat) × (get_elem? views j ≡ some seen)). prefix_trans seen x.front.entries
-            y.front.entries (holds.1 j seen t.1) up)
+        y.front.entries (holds.1 j seen t.1) up)
         (at_set views seat j y.front.entries seen e),
   ),
   (holds.0, holds.1 seat had at, refl),
@@ -97,8 +97,7 @@ pub shows : (book : Book) (seat : ℕ) (had : List Entry) (s next : Shelved) (op
     → TurnsAt (Holds book) seat had s next (SeesAll book)
 shows book seat had s next ops shelf follows is =
     grows book seat had s next
-    (subst (IsShelf book) (sym is) (shelf_all book s ops shelf follows))
-    (
+    (subst (IsShelf book) (sym is) (shelf_all book s ops shelf follows)) (
       entries_of ops,
       sym (entries_all book s ops follows) ∙ ap (λ (t : Shelved). t.front.entries) (sym is),
     )

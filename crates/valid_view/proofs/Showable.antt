@@ -32,8 +32,10 @@ pub showable_front : (entries more : List Entry) → IsShowable (entries ++ more
 showable_front entries more showable = record {
   closed = closed_front [] entries more showable.closed;
   once = once_front (paths_of (registered entries)) (paths_of (registered more))
-      (rw (← paths_of-append (registered entries) (registered more),
-      ← registered-append entries more) showable.once);
+      (rw (
+        ← paths_of-append (registered entries) (registered more),
+        ← registered-append entries more,
+      ) showable.once);
 }
 
 -- and so may a list with an entry more whose paths are new and whose references are valid

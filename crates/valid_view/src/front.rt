@@ -167,11 +167,7 @@ impl Beginning {
             return false;
         };
         let found = word.compare_exchange::<Add, Nothing>(
-            count,
-            next,
-            &mut seen,
-            &mut offer,
-            &mut pen,
+            count, next, &mut seen, &mut offer, &mut pen,
         );
         if found != count {
             return false;

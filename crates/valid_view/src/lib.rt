@@ -8,6 +8,7 @@
 //! | `shelf`, `rule` | what is shown, and the rule of it |
 //! | `line`, `feed` | the writer's end, under the rule, and what waits before it |
 //! | `writer`, `opening` | the writer, and how a view is opened |
+//! | `tells` | outlets that tell by beginnings of one list |
 //! | `reader`, `seen` | readers, and what they find |
 //! | `fault` | why a reader refused |
 #![tactic(auto)]
@@ -23,6 +24,7 @@ mod reader;
 mod rule;
 mod seen;
 mod shelf;
+mod tells;
 mod writer;
 
 pub use fault::ViewFault;
@@ -31,4 +33,8 @@ pub use name::{Name, Naming};
 pub use opening::open;
 pub use reader::ViewReader;
 pub use seen::Seen;
+pub use tells::Tells;
 pub use writer::ViewWriter;
+
+#[cfg(test)]
+mod tests;

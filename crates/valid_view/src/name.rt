@@ -21,6 +21,7 @@ impl Naming for Brand {
 }
 
 /// A list without entries that no type names yet. Takes no memory.
+#[derive(Drop)]
 pub struct Name {
     head: Word<Entry, u64, Law>,
     seen: Seen<Entry, u64, Law>,

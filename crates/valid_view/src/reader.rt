@@ -93,7 +93,10 @@ impl<J: Naming> ViewReader<J> {
 fn look<J: Naming>(
     reader: Reader<Shelf, Glimpse, Published<J>>,
     asked: (&Front<J>, &StorePath),
-) -> (Reader<Shelf, Glimpse, Published<J>>, Result<Seen, ViewFault>)
+) -> (
+    Reader<Shelf, Glimpse, Published<J>>,
+    Result<Seen, ViewFault>,
+)
     ensures later { IsPrefix (seat_view reader.place) (seat_view result.0.place) }
     ensures known { WhereSeen result.1
         (IsPrefix asked.entry.0.now (seat_view result.0.place)
@@ -113,7 +116,10 @@ fn look<J: Naming>(
 fn closure<J: Naming>(
     reader: Reader<Shelf, Glimpse, Published<J>>,
     asked: (&Front<J>, Global, &[StorePath]),
-) -> (Reader<Shelf, Glimpse, Published<J>>, Result<Vec<StorePath>, ViewFault>)
+) -> (
+    Reader<Shelf, Glimpse, Published<J>>,
+    Result<Vec<StorePath>, ViewFault>,
+)
     ensures later { IsPrefix (seat_view reader.place) (seat_view result.0.place) }
     ensures known { WhereSeen result.1
         (IsPrefix asked.entry.0.now (seat_view result.0.place)
