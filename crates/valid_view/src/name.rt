@@ -1,11 +1,10 @@
 //! Which list a view shows beginnings of.
-ghost use Rattle.std.specs.Prelude.{◌≡◌, [], ◌∷◌};
-ghost use Rattle.valid_view.specs.Beginnings.{head_of};
+ghost use Rattle.std.specs.Prelude.{◌≡◌, []};
 
 use crate::front::{Front, Head};
 use crate::law::Law;
 use logbook::{Seen, Start, Word};
-use std::marker::Brand;
+use std::marker::{Brand, Model};
 use valid_table::Entry;
 
 /// Which list it is. Writer and readers of one view, and all that they tell, have one name.
@@ -20,13 +19,24 @@ impl Naming for Brand {
     ghost book = { record { number = 0; log_name = 0; cells_name = 0 } };
 }
 
-/// A list without entries that no type names yet. Takes no memory.
+/// A list without entries that no type names yet. A contract sees which list it is. Takes no
+/// memory.
 #[derive(Drop)]
 pub struct Name {
     head: Word<Entry, u64, Law>,
     seen: Seen<Entry, u64, Law>,
-    pub ghost empty: { seen.log ≡ [] },
-    pub ghost head_is: { head ≡ head_of seen.book },
+}
+
+impl Model for Name {
+    ghost use Rattle.std.specs.Prelude.{◌≡◌, []};
+    ghost use Rattle.logbook.specs.Pages.{Book};
+    ghost use Rattle.valid_view.specs.Beginnings.{head_of};
+
+    ghost Value = { Book };
+
+    ghost view = { λ n. n.seen.book };
+
+    ghost invariant = { λ n. (n.seen.log ≡ []) × (n.head ≡ head_of n.seen.book) };
 }
 
 impl Name {
@@ -41,7 +51,7 @@ impl Name {
 
     // The list by its name: the right to make it longer, and its beginning without entries.
     pub(crate) fn open<J: Naming>(self) -> (Head<J>, Front<J>)
-        requires { self.seen.book ≡ J.book }
+        requires { self ≡ J.book }
         ensures { result.1 ≡ [] }
     {
         let Name { head, seen } = self;

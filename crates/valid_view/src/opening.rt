@@ -25,7 +25,7 @@ pub fn open<J: Naming, R: Wait + Drop>(
     journal: &Journal,
     readers: usize,
 ) -> Result<(ViewWriter<J, R>, Vec<ViewReader<J>>), OutletFault>
-    requires name { name.seen.book ≡ J.book }
+    requires name { name ≡ J.book }
     requires readers { (1 ≤ readers) × (readers ≤ 64) }
     ensures shown { IfOk result (λ view. view.0.shown ≡ journal.now.entries) }
     ensures pending { IfOk result (λ view. view.0.pending ≡ []) }

@@ -45,7 +45,14 @@ fn opening(alloc: Global) -> Result<Journal, Fail> {
     Ok(Journal::read(alloc, &dir, JOURNAL)?)
 }
 
-// Appends y, which refers to x, to what waits behind the journal.
+// The entry that adds y, which refers to x.
+fn added_y(alloc: Global) -> Result<Entry, Fail> {
+    let info = Record::new(vec![in alloc; path(alloc, X)?]?, None)?;
+    let path = path(alloc, Y)?;
+    Ok(Entry::Add(Registration { path, info }))
+}
+
+// Appends y to what waits behind the journal.
 fn append_y<J: Naming, R>(
     alloc: Global,
     journal: &Journal,
@@ -53,12 +60,8 @@ fn append_y<J: Naming, R>(
 ) -> Result<(), Fail>
     requires { writer.old.shown ++ writer.old.pending ≡ journal.now.entries }
 {
-    let info = Record::new(vec![in alloc; path(alloc, X)?]?, None)?;
-    let entry = Entry::Add(Registration {
-        path: path(alloc, Y)?,
-        info,
-    });
-    if journal.table().obstacle(&entry).is_some() {
+    let entry = added_y(alloc)?;
+    if let Some(_) = journal.table().obstacle(&entry) {
         return Err(Fail::from("y may come next"));
     }
     Ok(writer.append(entry)?)
@@ -69,7 +72,7 @@ fn asked_at_each_step<J: Naming + Send, R: Wait + Abort>(
     alloc: Global,
     name: Name,
 ) -> Result<(), Fail>
-    requires { name.seen.book ≡ J.book }
+    requires { name ≡ J.book }
 {
     let journal = opening(alloc)?;
     let x = path(alloc, X)?;
@@ -106,7 +109,7 @@ fn asked_for_closures<J: Naming + Send, R: Wait + Abort>(
     alloc: Global,
     name: Name,
 ) -> Result<(), Fail>
-    requires { name.seen.book ≡ J.book }
+    requires { name ≡ J.book }
 {
     let journal = opening(alloc)?;
     let (mut writer, mut readers) = open::<J, &R>(alloc, rt, name, &journal, 64)?;
@@ -146,7 +149,7 @@ fn raced<J: Naming + Send + Sync, R: Threads + Wait + Abort + Sync>(
     alloc: Global,
     name: Name,
 ) -> Result<(), Fail>
-    requires { name.seen.book ≡ J.book }
+    requires { name ≡ J.book }
 {
     let journal = opening(alloc)?;
     let y = path(alloc, Y)?;

@@ -2,4 +2,4 @@
 use Rattle.valid_view.proofs.tests.asked_beside_a_writer.Given as goal
 
 abbrev pub ghosts-raced : goal.ghosts-raced
-ghosts-raced g a = record { book = a.name.seen.book }
+ghosts-raced g a = record { book = a.name }

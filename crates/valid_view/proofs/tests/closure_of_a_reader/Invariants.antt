@@ -2,4 +2,4 @@
 use Rattle.valid_view.proofs.tests.closure_of_a_reader.Given as goal
 
 abbrev pub ghosts-asked_for_closures : goal.ghosts-asked_for_closures
-ghosts-asked_for_closures g a = record { book = a.name.seen.book }
+ghosts-asked_for_closures g a = record { book = a.name }
