@@ -1,5 +1,5 @@
 -- Steps that keep the rule of a view.
-use Rattle.std.proofs.Common.{◌≡◌, ◌≢◌, ◌∙◌, ℕ, List, [], ◌∷◌, ◌++◌, MatchResult, OnOk, Result, Ok, Err, fold, set, refl, sym, ap, subst, ⊎_elim, append_assoc}
+use Rattle.std.proofs.Common.{◌≡◌, ◌≢◌, ◌∙◌, ℕ, List, [], ◌∷◌, ◌++◌, MatchResult, OnOk, Result, Ok, Err, fold, refl, sym, ap, subst, ⊎_elim, append_assoc}
 use Rattle.std.proofs.lemmas.List.{append-nil}
 use lib.ListN.{get_elem?}
 use mathlib.Core.List.{IsPrefix}

@@ -1,5 +1,5 @@
 //! Entries on their way to be shown: into the one list, to the writer's end, to the readers.
-ghost use Rattle.std.specs.Prelude.{◌≡◌, ◌++◌, [], ◌∷◌, All, IfErr, IfOk, OnErr, OnOk};
+ghost use Rattle.std.specs.Prelude.{◌≡◌, ◌++◌, [], ◌∷◌, All, IfErr, OnErr, OnOk};
 ghost use Rattle.valid_table.specs.Adding.{IsNew, IsValidWith};
 ghost use Rattle.valid_table.specs.Entries.{registered_by};
 ghost use Rattle.valid_table.specs.Valid.{references_of};

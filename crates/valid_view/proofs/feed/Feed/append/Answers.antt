@@ -1,10 +1,6 @@
-use Rattle.std.proofs.Common.{◌≡◌, ◌++◌, List, ap, subst}
-use Rattle.std.specs.Prelude.{All}
+use Rattle.std.proofs.Common.{◌≡◌, ◌++◌, ap, subst}
 use Rattle.nix_names.specs.Rising.{IsRising}
-use Rattle.valid_table.specs.Adding.{IsNew, IsValidWith}
-use Rattle.valid_table.specs.Entries.{paths_of, registered_by}
-use Rattle.valid_table.specs.Valid.{references_of}
-use Rattle.valid_table.specs.declared.entry.Entry.{Entry}
+use Rattle.valid_table.specs.Entries.{paths_of}
 use Rattle.valid_view.specs.Feeding.{Fed, ops_of, pending_of}
 use Rattle.valid_view.specs.Handing.{entries_of}
 use Rattle.valid_view.proofs.Feeds.{feed_push}

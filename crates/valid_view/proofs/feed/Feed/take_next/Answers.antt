@@ -1,4 +1,4 @@
-use Rattle.std.proofs.Common.{ap, subst, ◌++◌}
+use Rattle.std.proofs.Common.{subst, ◌++◌}
 use Rattle.valid_view.specs.Shown.{IsShowable}
 use Rattle.valid_view.proofs.Feeds.{first_follows}
 use Rattle.valid_view.proofs.feed.Feed.take_next.Goals as goal

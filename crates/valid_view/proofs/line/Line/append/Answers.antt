@@ -1,5 +1,4 @@
-use Rattle.std.proofs.Common.{◌≡◌, ◌++◌, ◌∷◌, [], List, ap, drop}
-use Rattle.valid_table.specs.declared.entry.Entry.{Entry}
+use Rattle.std.proofs.Common.{◌≡◌, ap, drop}
 use Rattle.valid_view.specs.Handing.{entries_of}
 use Rattle.valid_view.specs.Lines.{Lined}
 use Rattle.valid_view.proofs.Shelves.{appended}
