@@ -5,5 +5,6 @@ pub mod Feeding
 pub mod Feedings
 pub mod Handing
 pub mod Lines
+pub mod SharedClosures
 pub mod Shelves
 pub mod Shown

@@ -11,12 +11,14 @@
 //! | `tells` | outlets that tell by beginnings of one list |
 //! | `reader`, `seen` | readers, and what they find |
 //! | `fault` | why a reader refused |
+//! | `laws` | laws over the definitions that contracts cite |
 #![tactic(auto)]
 
 mod fault;
 mod feed;
 mod front;
 mod law;
+pub mod laws;
 mod line;
 mod name;
 mod opening;
