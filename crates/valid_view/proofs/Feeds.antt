@@ -17,7 +17,8 @@ use Rattle.valid_view.proofs.Showable.{showable_front, showable_push}
 pub all_of : (shown handed held queue : List Entry)
     → shown ++ (handed ++ (held ++ queue)) ≡ ((shown ++ handed) ++ held) ++ queue
 all_of shown handed held queue =
-    sym (append_assoc shown handed (held ++ queue)) ∙ sym (append_assoc (shown ++ handed) held queue)
+    sym (append_assoc shown handed (held ++ queue))
+    ∙ sym (append_assoc (shown ++ handed) held queue)
 
 -- one more entry waits
 pub feed_push :

@@ -124,7 +124,8 @@ fn closure<J: Naming>(
     ensures known { WhereSeen result.1
         (IsPrefix asked.entry.0.now (seat_view result.0.place)
         × IsShowable (seat_view result.0.place)) }
-    ensures answer { IsViewClosing (registered (seat_view result.0.place)) asked.entry.2.now result.1 }
+    ensures answer { IsViewClosing (registered (seat_view result.0.place)) asked.entry.2.now
+        result.1 }
 {
     match enter(reader, asked.0) {
         Ok(reading) => {
