@@ -16,7 +16,7 @@ pub registered_push : (entries : List Entry) (entry : Entry) → registered (ent
 registered_push entries entry = search (rules, registered-append, append-nil)
 
 -- closed entries stay so with one more whose references are valid
-closed_push :
+pub closed_push :
     (earlier : List Registration) (entries : List Entry) (entry : Entry) →
     IsClosedBehind earlier entries →
     All (IsValid ((earlier ++ registered entries) ++ registered_by entry))

@@ -1,0 +1,51 @@
+-- What waits to be shown.
+use Rattle.std.proofs.Common.{◌≡◌, ◌∙◌, List, [], ◌∷◌, ◌++◌, append_assoc, ap, subst, sym}
+use Rattle.std.specs.Prelude.{All}
+use Rattle.logbook.specs.Pages.{Book}
+use Rattle.nix_names.specs.Rising.{IsRising}
+use Rattle.valid_table.specs.Adding.{IsNew, IsValidWith}
+use Rattle.valid_table.specs.Entries.{paths_of, registered_by}
+use Rattle.valid_table.specs.Valid.{references_of}
+use Rattle.valid_table.specs.declared.entry.Entry.{Entry}
+use Rattle.valid_view.specs.Feeding.{IsFeed}
+use Rattle.valid_view.specs.Handing.{entries_of}
+use Rattle.valid_view.specs.Shown.{IsShowable, MayFollow}
+use Rattle.valid_view.specs.declared.shelf.Op.{Op}
+use Rattle.valid_view.proofs.Showable.{showable_front, showable_push}
+
+-- what is shown and what waits is what is in the one list, and the queue
+pub all_of : (shown handed held queue : List Entry)
+    → shown ++ (handed ++ (held ++ queue)) ≡ ((shown ++ handed) ++ held) ++ queue
+all_of shown handed held queue =
+    sym (append_assoc shown handed (held ++ queue))
+    ∙ sym (append_assoc (shown ++ handed) held queue)
+
+-- one more entry waits
+pub feed_push :
+    (book : Book) (shown handed : List Entry) (held : List Op) (queue front : List Entry)
+    (entry : Entry) →
+    IsFeed book shown handed held queue front →
+    IsRising (paths_of (registered_by entry)) →
+    IsNew (shown ++ (handed ++ (entries_of held ++ queue))) entry →
+    All (IsValidWith (shown ++ (handed ++ (entries_of held ++ queue))) entry)
+    (references_of (registered_by entry)) →
+    IsFeed book shown handed held (queue ++ entry ∷ []) front
+feed_push book shown handed held queue front entry feed rising new closed =
+    let all : shown ++ (handed ++ (entries_of held ++ queue)) ≡ front ++ queue =
+    all_of shown handed (entries_of held) queue ∙ ap (λ l. l ++ queue) (sym feed.front_is) in
+    record {
+      follows = feed.follows;
+      front_is = feed.front_is;
+      showable = subst IsShowable (append_assoc front queue (entry ∷ []))
+          (showable_push (front ++ queue) entry feed.showable rising
+          (subst (λ (l : List Entry). IsNew l entry) all new)
+          (subst (λ (l : List Entry). All (IsValidWith l entry)
+          (references_of (registered_by entry))) all closed));
+    }
+
+-- the first entry of the queue may be the next one of the list
+pub first_follows : (front : List Entry) (entry : Entry) (queue : List Entry)
+    → IsShowable (front ++ (entry ∷ queue)) → MayFollow front entry
+first_follows front entry queue showable =
+    showable_front (front ++ entry ∷ []) queue
+    (subst IsShowable (sym (append_assoc front (entry ∷ []) queue)) showable)

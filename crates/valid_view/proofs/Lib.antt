@@ -1,0 +1,6 @@
+pub mod Adding
+pub mod Feeds
+pub mod Prefixes
+pub mod SharedClosures
+pub mod Shelves
+pub mod Showable

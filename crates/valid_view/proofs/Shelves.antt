@@ -1,0 +1,150 @@
+-- Steps that keep the rule of a view.
+use Rattle.std.proofs.Common.{◌≡◌, ◌≢◌, ◌∙◌, ℕ, List, [], ◌∷◌, ◌++◌, MatchResult, OnOk, Result, Ok, Err, fold, refl, sym, ap, subst, ⊎_elim, append_assoc}
+use Rattle.std.proofs.lemmas.List.{append-nil}
+use lib.ListN.{get_elem?}
+use mathlib.Core.List.{IsPrefix}
+use mathlib.Core.Option.{some}
+use Rattle.crossbeam_utils.specs.Register.{Admits, TurnsAt}
+use Rattle.atomic_table.proofs.Lists.{at_set, at_snoc}
+use Rattle.logbook.specs.Pages.{Book}
+use Rattle.valid_table.proofs.AddedEntries.{registered_push}
+use Rattle.valid_table.specs.Entries.{registered, registered_by}
+use Rattle.valid_table.specs.declared.entry.Entry.{Entry}
+use Rattle.valid_view.specs.Handing.{Follows, entries_of, with_op}
+use Rattle.valid_view.specs.Shelves.{Holds, IsShelf, SeesAll, Shelved}
+use Rattle.valid_view.specs.declared.shelf.Op.{Op}
+use Rattle.valid_view.proofs.Prefixes.{prefix_self, prefix_trans}
+
+-- who has seen nothing may come at any time
+pub admits : (book : Book) → Admits (Holds book) []
+admits book x views holds = (
+  holds.0,
+  λ seat seen at. ⊎_elim (holds.1 seat seen)
+      (λ (none : [] ≡ seen). subst (λ l. IsPrefix l x.front.entries) none (x.front.entries, refl))
+      (at_snoc views [] seen seat at),
+)
+
+-- a shelf alone keeps the rule, where nothing was seen
+pub alone : (book : Book) (x : Shelved) → IsShelf book x → Holds book x ([] ∷ [])
+alone book x shelf = admits book x [] (shelf, λ seat seen at. absurd (cc at))
+
+-- a step that goes on to a longer list keeps the rule
+pub grows : (book : Book) (seat : ℕ) (had : List Entry) (x y : Shelved) → IsShelf book y
+    → IsPrefix x.front.entries y.front.entries
+    → TurnsAt (Holds book) seat had x y (SeesAll book)
+grows book seat had x y shelf up views holds at = (
+  y.front.entries,
+  (
+    shelf,
+    λ j seen e. ⊎_elim
+        (λ (t : (j ≡ seat) × (y.front.entries ≡ seen)). subst
+        (λ (l : List Entry). IsPrefix l y.front.entries) t.1 (prefix_self y.front.entries))
+        (λ (t : (j ≢ seat) × (get_elem? views j ≡ some seen)). prefix_trans seen x.front.entries
+        y.front.entries (holds.1 j seen t.1) up)
+        (at_set views seat j y.front.entries seen e),
+  ),
+  (holds.0, holds.1 seat had at, refl),
+)
+
+-- and so does a step that changes nothing
+pub looks : (book : Book) (seat : ℕ) (had : List Entry) (x : Shelved)
+    → TurnsAt (Holds book) seat had x x (SeesAll book)
+looks book seat had x views holds at =
+    grows book seat had x x holds.0 (prefix_self x.front.entries) views holds at
+
+-- a shelf with what was handed over is one
+pub shelf_all : (book : Book) (s : Shelved) (ops : List Op) → IsShelf book s
+    → Follows book s.front.entries ops → IsShelf book (fold with_op s ops)
+shelf_all book s [] shelf follows = shelf
+shelf_all book s (op ∷ ops) shelf follows =
+    let table : s.registrations ++ registered_by op.entry ≡ registered op.front.entries =
+    ap (λ l. l ++ registered_by op.entry) shelf.table
+    ∙ (sym (registered_push s.front.entries op.entry) ∙ ap registered (sym follows.1)) in
+    shelf_all book (with_op s op) ops (record { named = follows.0; table = table })
+    (subst (λ (l : List Entry). Follows book l ops) (sym follows.1) follows.2)
+
+-- and its entries are those that it had, and then those
+pub entries_all : (book : Book) (s : Shelved) (ops : List Op) → Follows book s.front.entries ops
+    → (fold with_op s ops).front.entries ≡ s.front.entries ++ entries_of ops
+entries_all book s [] follows = sym (append-nil s.front.entries)
+entries_all book s (op ∷ ops) follows =
+    entries_all book (with_op s op) ops
+    (subst (λ (l : List Entry). Follows book l ops) (sym follows.1) follows.2)
+    ∙ (ap (λ l. l ++ entries_of ops) follows.1
+    ∙ append_assoc s.front.entries (op.entry ∷ []) (entries_of ops))
+
+-- one more is handed over
+pub follows_push : (book : Book) (entries : List Entry) (ops : List Op) (op : Op)
+    → Follows book entries ops → op.front.book ≡ book
+    → op.front.entries ≡ (entries ++ entries_of ops) ++ op.entry ∷ []
+    → Follows book entries (ops ++ op ∷ [])
+follows_push book entries [] op follows named next = (
+  named,
+  next ∙ ap (λ l. l ++ op.entry ∷ []) (append-nil entries),
+  tt,
+)
+follows_push book entries (first ∷ ops) op follows named next = (
+  follows.0,
+  follows.1,
+  follows_push book (entries ++ first.entry ∷ []) ops op follows.2 named
+      (next ∙ ap (λ l. l ++ op.entry ∷ [])
+      (sym (append_assoc entries (first.entry ∷ []) (entries_of ops)))),
+)
+
+-- what is shown once all was handed over, and how the step there keeps the rule
+pub shows : (book : Book) (seat : ℕ) (had : List Entry) (s next : Shelved) (ops : List Op)
+    → IsShelf book s → Follows book s.front.entries ops → next ≡ fold with_op s ops
+    → TurnsAt (Holds book) seat had s next (SeesAll book)
+shows book seat had s next ops shelf follows is =
+    grows book seat had s next
+    (subst (IsShelf book) (sym is) (shelf_all book s ops shelf follows)) (
+      entries_of ops,
+      sym (entries_all book s ops follows) ∙ ap (λ (t : Shelved). t.front.entries) (sym is),
+    )
+
+-- what the writer's end keeps
+abbrev pub IsLined : Book → Shelved → List Op → Type 0
+IsLined book s ops = IsShelf book s × Follows book s.front.entries ops
+
+-- it is kept where an entry was to be handed over
+pub appended :
+    {A : Type 0} (book : Book) (s s' : Shelved) (ops ops' : List Op) (op : Op)
+    (result : Result A Op) →
+    s' ≡ s →
+    MatchResult result (λ _. ops' ≡ ops ++ op ∷ []) (λ x. (x ≡ op) × (ops' ≡ ops)) →
+    IsLined book s ops →
+    op.front.book ≡ book →
+    op.front.entries ≡ (s.front.entries ++ entries_of ops) ++ op.entry ∷ [] →
+    IsLined book s' ops'
+appended book s s' ops ops' op (Ok a) same is lined named next =
+    rw (same, is) (lined.0, follows_push book s.front.entries ops op lined.1 named next)
+appended book s s' ops ops' op (Err x) same is lined named next = rw (same, is.1) lined
+
+-- what is told once the writer was to show all that was handed over
+abbrev pub Told : {A B : Type 0} → (s s' : Shelved) → (ops ops' : List Op) → Result A B → Type 0
+Told s s' ops ops' result =
+    MatchResult result (λ _. (s' ≡ fold with_op s ops) × (ops' ≡ []))
+    (λ _. (s' ≡ s) × (ops' ≡ ops))
+
+-- it is kept then
+pub shown_lined :
+    {A B : Type 0} (book : Book) (s s' : Shelved) (ops ops' : List Op) (result : Result A B) →
+    Told s s' ops ops' result →
+    IsLined book s ops →
+    IsLined book s' ops'
+shown_lined book s s' ops ops' (Ok a) is lined =
+    rw (is.0, is.1) (shelf_all book s ops lined.0 lined.1, tt)
+shown_lined book s s' ops ops' (Err b) is lined = rw (is.0, is.1) lined
+
+-- and where it did, all is shown
+pub shown_ok :
+    {A B : Type 0} (book : Book) (s s' : Shelved) (ops ops' : List Op) (result : Result A B) →
+    Told s s' ops ops' result →
+    IsLined book s ops →
+    OnOk result
+    ((s'.front.entries ≡ s.front.entries ++ entries_of ops) × (entries_of ops' ≡ []))
+shown_ok book s s' ops ops' (Ok a) is lined = (
+  ap (λ (t : Shelved). t.front.entries) is.0 ∙ entries_all book s ops lined.1,
+  ap entries_of is.1,
+)
+shown_ok book s s' ops ops' (Err b) is lined = tt

@@ -1,0 +1,5 @@
+use Rattle.valid_view.proofs.Shelves.{admits}
+use Rattle.valid_view.proofs.line.Line.reader.Goals as goal
+
+pub reader-requires : goal.reader-requires
+reader-requires g c = admits g.J.Naming.book

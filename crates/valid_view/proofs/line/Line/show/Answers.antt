@@ -1,0 +1,32 @@
+use Rattle.std.proofs.Common.{◌≡◌, ap, drop}
+use Rattle.valid_view.specs.Handing.{entries_of}
+use Rattle.valid_view.specs.Lines.{Lined}
+use Rattle.valid_view.proofs.Shelves.{shown_lined, shown_ok, shows}
+use Rattle.valid_view.proofs.line.Line.show.Goals as goal
+
+pub publish_as-writer-requires : goal.publish_as-writer-requires
+publish_as-writer-requires g c next is =
+    let w = c.self.inside.writer in
+    shows g.J.Naming.book _ _ w.desk.shown.value next (drop w.behind w.log.items)
+    c.self.invariant.0 c.self.invariant.1 is
+
+pub invariant_of-result : goal.invariant_of-result
+invariant_of-result g c =
+    let w = c.self.inside.writer in
+    let w' = c.publish_as-writer.result.0 in
+    shown_lined g.J.Naming.book w.desk.shown.value w'.desk.shown.value (drop w.behind w.log.items)
+    (drop w'.behind w'.log.items) c.publish_as-writer.result.1 c.publish_as-writer.ensures.values
+    c.self.invariant
+
+pub returns-clause-ok : goal.returns-clause-ok
+returns-clause-ok g c =
+    let w = c.self.inside.writer in
+    let w' = c.publish_as-writer.result.0 in
+    let shown : w.desk.shown.value.front.entries ≡ c.args.self.shown =
+    ap (λ (l : Lined). l.shown) c.self.view_is in
+    let handed : entries_of (drop w.behind w.log.items) ≡ c.args.self.handed =
+    ap (λ (l : Lined). l.handed) c.self.view_is in
+    rw (← shown, ← handed)
+    (shown_ok g.J.Naming.book w.desk.shown.value w'.desk.shown.value (drop w.behind w.log.items)
+    (drop w'.behind w'.log.items) c.publish_as-writer.result.1 c.publish_as-writer.ensures.values
+    c.self.invariant)

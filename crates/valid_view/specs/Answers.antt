@@ -1,0 +1,43 @@
+-- What a reader of a view knows and is answered.
+use Rattle.std.specs.Prelude.{◌≡◌, ℕ, List, All, Result, Ok, Err}
+use Rattle.std.specs.Global.{Vec}
+use Rattle.nix_names.specs.Firsts.{IsFirst}
+use Rattle.valid_table.specs.Closure.{IsClosure}
+use Rattle.valid_table.specs.PathInfos.{PathInfo}
+use Rattle.valid_table.specs.Valid.{IsNotValid, IsValid, Registers}
+use Rattle.valid_table.specs.declared.entry.Entry.{Entry}
+use Rattle.valid_table.specs.declared.entry.Registration.{Registration}
+use Rattle.valid_view.specs.declared.fault.ViewFault.{ViewFault}
+use Rattle.valid_view.specs.declared.fault.ViewFault.TheVariants.{NoMemory, NotValid, NoView}
+use Rattle.valid_view.specs.declared.seen.Seen.{Seen}
+use Rattle.valid_view.specs.declared.seen.Seen.TheVariants.{Absent, Valid}
+
+-- The list that a reader saw shown when it last looked, and the longest that it was told of.
+pub record Knowing : Type 0 where
+  pub seen : List Entry
+  pub told : List Entry
+
+-- an answer was given by what was seen: neither memory nor the view was missing
+abbrev pub WhereSeen : {A : Type 0} → Result A ViewFault → Type 0 → Type 0
+WhereSeen (Ok answer) fact = fact
+WhereSeen (Err (NotValid path)) fact = fact
+WhereSeen (Err NoMemory) fact = Unit {0}
+WhereSeen (Err NoView) fact = Unit {0}
+
+-- what a question for one path answers: *Valid*
+abbrev pub IsLook : List Registration → List ℕ → Result Seen ViewFault → Type 0
+IsLook registrations path (Ok Absent) = IsNotValid registrations path
+IsLook registrations path (Ok (Valid digest)) =
+    (info : PathInfo) × Registers registrations path info × (digest ≡ info.digest)
+IsLook registrations path (Err NoView) = Unit {0}
+IsLook registrations path (Err other) = ⊥
+
+-- what a question for the closure of some roots answers: *Closure*
+abbrev pub IsViewClosing : List Registration → List (List ℕ) → Result (Vec (List ℕ)) ViewFault
+    → Type 0
+IsViewClosing registrations roots (Ok all) = All (IsValid registrations) roots
+    × IsClosure registrations roots all.items
+IsViewClosing registrations roots (Err (NotValid path)) =
+    IsFirst (IsValid registrations) (IsNotValid registrations) roots path
+IsViewClosing registrations roots (Err NoMemory) = Unit {0}
+IsViewClosing registrations roots (Err NoView) = Unit {0}

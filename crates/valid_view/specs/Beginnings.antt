@@ -1,0 +1,26 @@
+-- The one list of entries of which every shown list is a beginning, and what a step on it tells.
+use Rattle.std.specs.Prelude.{ℕ, ◌≡◌, ◌==◌, true, List, [], ◌∷◌, ◌++◌, length, MatchBool}
+use Rattle.logbook.specs.Pages.{Book, Cell, Named, Step, View}
+use Rattle.valid_table.specs.declared.entry.Entry.{Entry}
+use Rattle.valid_view.specs.Shown.{IsShowable}
+
+-- A beginning of the one list, and which list that is.
+pub record Begun : Type 0 where
+  pub book : Book
+  pub entries : List Entry
+
+-- The first word is the list's length, and the list may be shown. A book has two words, of which
+-- this one leaves the second at 0.
+pub record IsKept (cells : List Cell) (entries : List Entry) : Type 0 where
+  pub words : cells ≡ (length entries, true) ∷ (0, true) ∷ []
+  pub showable : IsShowable entries
+
+-- the word of a list
+abbrev pub head_of : Book → Named
+head_of book = record { tracked = true; key = 0; book = book }
+
+-- the entry was added to all that had been seen, or the list was longer
+abbrev pub Adds : Step Entry → View Entry ℕ → ℕ → View Entry ℕ → Type 0
+Adds step before found after =
+    MatchBool (found == step.old)
+    ((after.0 ≡ before.0 ++ step.ask ∷ []) × IsShowable after.0) (length after.0 ≡ found)

@@ -1,0 +1,36 @@
+-- The rule of a view: what is shown is the table of a beginning of the one list, and each reader's
+-- list is a beginning of that.
+use Rattle.std.specs.Prelude.{ℕ, ◌≡◌, List}
+use lib.ListN.{get_elem?}
+use mathlib.Core.List.{IsPrefix}
+use mathlib.Core.Option.{some}
+use Rattle.logbook.specs.Pages.{Book}
+use Rattle.valid_table.specs.Entries.{registered}
+use Rattle.valid_table.specs.declared.entry.Entry.{Entry}
+use Rattle.valid_table.specs.declared.entry.Registration.{Registration}
+use Rattle.valid_view.specs.Beginnings.{Begun}
+
+-- What a view shows: what was registered, and the entries by which it was.
+pub record Shelved : Type 0 where
+  pub registrations : List Registration
+  pub front : Begun
+
+-- What is shown is what a beginning of the list with this name registers.
+pub record IsShelf (book : Book) (x : Shelved) : Type 0 where
+  pub named : x.front.book ≡ book
+  pub table : x.registrations ≡ registered x.front.entries
+
+-- each list that was seen begins the shown one
+abbrev pub Keeps : List Entry → List (List Entry) → Type 0
+Keeps entries views =
+    (seat : ℕ) (seen : List Entry) → get_elem? views seat ≡ some seen → IsPrefix seen entries
+
+-- the rule, of what is shown and of the list that each reader, and the writer, has seen
+abbrev pub Holds : Book → Shelved → List (List Entry) → Type 0
+Holds book x views = IsShelf book x × Keeps x.front.entries views
+
+-- What a step tells, be it that a reader enters or that the writer publishes: the list that is
+-- shown afterwards is seen, and that which was seen before begins the one that was shown.
+abbrev pub SeesAll : Book → List Entry → (before after : Shelved) → List Entry → Type 0
+SeesAll book had before after has =
+    IsShelf book before × IsPrefix had before.front.entries × (has ≡ after.front.entries)

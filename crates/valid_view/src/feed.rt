@@ -1,0 +1,187 @@
+//! Entries on their way to be shown: into the one list, to the writer's end, to the readers.
+ghost use Rattle.std.specs.Prelude.{◌≡◌, ◌++◌, [], ◌∷◌, All, IfErr, OnErr, OnOk};
+ghost use Rattle.valid_table.specs.Adding.{IsNew, IsValidWith};
+ghost use Rattle.valid_table.specs.Entries.{registered_by};
+ghost use Rattle.valid_table.specs.Valid.{references_of};
+ghost use Rattle.valid_view.specs.Feeding.{pending_of};
+ghost use Rattle.valid_view.specs.Feedings.{Takes};
+
+use crate::front::{Front, Head};
+use crate::line::Line;
+use crate::name::Naming;
+use crate::shelf::Op;
+use core::mem::replace_with;
+use std::alloc::AllocError;
+use std::collections::VecDeque;
+use std::marker::Model;
+use std::sync::Wait;
+use valid_table::{Entry, OutletFault};
+
+// The writer's end, and what waits before it.
+pub(crate) struct Feed<J: Naming> {
+    line: Line<J>,
+    // All that is in the one list.
+    front: Front<J>,
+    // The last entry of that list, where it was not handed over yet.
+    held: Option<Op>,
+    // Entries that are not in the list yet.
+    queue: VecDeque<Entry>,
+    head: Head<J>,
+}
+
+impl<J: Naming> Model for Feed<J> {
+    ghost use Rattle.valid_view.specs.Feeding.{Fed, IsFeed, ops_of};
+    ghost use Rattle.valid_view.specs.Handing.{entries_of};
+
+    ghost Value = { Fed };
+
+    ghost view = { λ f. record {
+      shown = f.line.shown;
+      handed = f.line.handed;
+      held = entries_of (ops_of f.held);
+      queue = f.queue.items;
+    } };
+
+    ghost invariant = { λ f. IsFeed J.book f.line.shown f.line.handed (ops_of f.held)
+        f.queue.items f.front };
+}
+
+impl<J: Naming> Feed<J> {
+    // The writer's end, where all that is in the list is shown.
+    pub(crate) fn over(
+        line: Line<J>,
+        front: Front<J>,
+        head: Head<J>,
+        queue: VecDeque<Entry>,
+    ) -> Feed<J>
+        requires all { line.shown ≡ front }
+        requires handed { line.handed ≡ [] }
+        requires queue { queue.items ≡ [] }
+        ensures shown { result.shown ≡ line.shown }
+        ensures pending { pending_of result ≡ [] }
+    {
+        // Its contract says that the list may be shown.
+        let _ = front.len();
+        Feed {
+            line,
+            front,
+            held: None,
+            queue,
+            head,
+        }
+    }
+
+    // What names the list that is shown.
+    pub(crate) fn front(&self) -> Front<J>
+        ensures { result ≡ self.now.shown }
+    {
+        self.line.front()
+    }
+
+    // Puts an entry behind those that wait.
+    pub(crate) fn append(&mut self, entry: Entry) -> Result<(), OutletFault>
+        requires new { IsNew (self.old.shown ++ pending_of self.old) entry }
+        requires closed { All (IsValidWith (self.old.shown ++ pending_of self.old) entry)
+            (references_of (registered_by entry)) }
+        ensures same { self.new.shown ≡ self.old.shown }
+        ensures ok { OnOk result (pending_of self.new ≡ pending_of self.old ++ entry ∷ []) }
+        ensures err { OnErr result (pending_of self.new ≡ pending_of self.old) }
+        ensures memory { IfErr result (λ e. e ≡ OutletFault.NoMemory) }
+    {
+        // Its contract says that the registrations rise.
+        let _ = entry.registrations();
+        self.queue.push_back(entry)?;
+        Ok(())
+    }
+
+    // Shows all that waits.
+    pub(crate) fn publish<R: Wait>(&mut self, rt: &R) -> Result<(), OutletFault>
+        ensures ok { OnOk result
+            ((self.new.shown ≡ self.old.shown ++ pending_of self.old)
+            × (pending_of self.new ≡ [])) }
+        ensures err { OnErr result
+            ((self.new.shown ≡ self.old.shown)
+            × (pending_of self.new ≡ pending_of self.old)) }
+    {
+        self.hand_over()?;
+        self.show(rt)?;
+        Ok(())
+    }
+
+    // Ends the view.
+    pub(crate) fn close<R: Wait>(self, rt: &R) {
+        let Feed {
+            line,
+            front: _front,
+            held: _held,
+            queue: _queue,
+            head: _head,
+        } = self;
+        line.close(rt);
+    }
+
+    // Shows what was handed over.
+    fn show<R: Wait>(&mut self, rt: &R) -> Result<(), AllocError>
+        ensures held { self.new.held ≡ self.old.held }
+        ensures queue { self.new.queue ≡ self.old.queue }
+        ensures ok { OnOk result
+            ((self.new.shown ≡ self.old.shown ++ self.old.handed) × (self.new.handed ≡ [])) }
+        ensures err { OnErr result
+            ((self.new.shown ≡ self.old.shown) × (self.new.handed ≡ self.old.handed)) }
+    {
+        replace_with(&mut self.line, rt, Line::show)
+    }
+
+    // Hands over all that waits. What was handed over before a fault stays so.
+    fn hand_over(&mut self) -> Result<(), OutletFault>
+        ensures shown { self.new.shown ≡ self.old.shown }
+        ensures pending { pending_of self.new ≡ pending_of self.old }
+        ensures ok { OnOk result ((self.new.held ≡ []) × (self.new.queue ≡ [])) }
+    {
+        self.hand_held()?;
+        while self.take_next()? {
+            self.hand_held()?;
+        }
+        Ok(())
+    }
+
+    // Hands over what is held.
+    fn hand_held(&mut self) -> Result<(), OutletFault>
+        ensures shown { self.new.shown ≡ self.old.shown }
+        ensures queue { self.new.queue ≡ self.old.queue }
+        ensures pending { self.new.handed ++ self.new.held ≡ self.old.handed ++ self.old.held }
+        ensures ok { OnOk result (self.new.held ≡ []) }
+    {
+        let Some(op) = self.held.take() else {
+            return Ok(());
+        };
+        if let Err(op) = self.line.append(op) {
+            self.held = Some(op);
+            return Err(OutletFault::NoMemory);
+        }
+        Ok(())
+    }
+
+    // Puts the queue's first entry into the list, if there is one, and holds it.
+    fn take_next(&mut self) -> Result<bool, OutletFault>
+        requires { self.old.held ≡ [] }
+        ensures shown { self.new.shown ≡ self.old.shown }
+        ensures handed { self.new.handed ≡ self.old.handed }
+        ensures taken { Takes self.old.queue self.new.held self.new.queue result }
+    {
+        let Some(entry) = self.queue.pop_front() else {
+            return Ok(false);
+        };
+        let mut front = self.front.again();
+        if !front.add(&self.head, &entry) {
+            self.queue.push_front_reserved(entry);
+            return Err(OutletFault::NoView);
+        }
+        self.held = Some(Op {
+            entry,
+            front: front.bare(),
+        });
+        self.front = front;
+        Ok(true)
+    }
+}

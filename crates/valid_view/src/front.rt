@@ -1,0 +1,194 @@
+//! Beginnings of the one list of which every shown list is a beginning.
+ghost use Rattle.std.specs.Prelude.{◌≡◌, ◌++◌, ◌∷◌, [], length, MatchBool};
+ghost use mathlib.Core.List.{IsPrefix};
+ghost use Rattle.valid_view.specs.Beginnings.{head_of};
+ghost use Rattle.valid_view.specs.Shown.{IsShowable, MayFollow};
+
+use crate::law::{Add, Law, Nothing};
+use crate::name::Naming;
+use logbook::{Offer, Seen, Word};
+use std::marker::{Model, PhantomData};
+use valid_table::Entry;
+
+// The word that is the list's length.
+#[derive(Drop)]
+pub(crate) struct Head<J: Naming> {
+    word: Word<Entry, u64, Law>,
+    of: PhantomData<J>,
+    ghost head_is: { word ≡ head_of J.book },
+}
+
+impl<J: Naming> Head<J> {
+    // The word of the list with this name.
+    pub(crate) fn over(word: Word<Entry, u64, Law>) -> Head<J>
+        requires { word ≡ head_of J.book }
+    {
+        Head {
+            word,
+            of: PhantomData,
+        }
+    }
+}
+
+/// A beginning of the list with this name. A contract sees its entries. Takes no memory, and has
+/// the size of one number.
+#[derive(Drop)]
+pub struct Front<J: Naming> {
+    all: Beginning,
+    of: PhantomData<J>,
+}
+
+impl<J: Naming> Model for Front<J> {
+    ghost use Rattle.std.specs.Prelude.{◌≡◌, List};
+    ghost use Rattle.valid_table.specs.declared.entry.Entry.{Entry};
+
+    ghost Value = { List Entry };
+
+    ghost view = { λ f. f.all.entries };
+
+    ghost invariant = { λ f. f.all.book ≡ J.book };
+}
+
+impl<J: Naming> Front<J> {
+    // The beginning without entries.
+    pub(crate) fn first(seen: Seen<Entry, u64, Law>) -> Front<J>
+        requires book { seen.book ≡ J.book }
+        requires empty { seen.log ≡ [] }
+        ensures { result ≡ [] }
+    {
+        Front::over(Beginning { count: 0, seen })
+    }
+
+    // The beginning of the list with this name.
+    pub(crate) fn over(all: Beginning) -> Front<J>
+        requires { all.book ≡ J.book }
+        ensures { result ≡ all.entries }
+    {
+        Front {
+            all,
+            of: PhantomData,
+        }
+    }
+
+    // The same without the name.
+    pub(crate) fn bare(&self) -> Beginning
+        ensures book { result.book ≡ J.book }
+        ensures entries { result.entries ≡ self.now }
+    {
+        self.all.again()
+    }
+
+    /// How many entries it has.
+    pub fn len(&self) -> u64
+        ensures length { result ≡ length self.now }
+        ensures showable { IsShowable self.now }
+    {
+        self.all.len()
+    }
+
+    /// The same again.
+    pub fn again(&self) -> Front<J>
+        ensures { result ≡ self.now }
+    {
+        Front::over(self.all.again())
+    }
+
+    /// The longer of two, which the other begins.
+    pub fn longer(&self, other: &Front<J>) -> Front<J>
+        ensures this { IsPrefix self.now result }
+        ensures that { IsPrefix other.now result }
+    {
+        Front::over(self.all.longer(&other.all))
+    }
+
+    // Adds an entry to the list and says whether it did; it did not where the list is longer, and
+    // then nothing changes.
+    pub(crate) fn add(&mut self, head: &Head<J>, entry: &Entry) -> bool
+        requires { MayFollow self.old entry.now }
+        ensures { MatchBool result (self.new ≡ self.old ++ entry.now ∷ []) (self.new ≡ self.old) }
+    {
+        self.all.add(&head.word, entry)
+    }
+}
+
+// A beginning of a list, where the list is no part of the type.
+#[derive(Drop)]
+pub(crate) struct Beginning {
+    count: u64,
+    seen: Seen<Entry, u64, Law>,
+}
+
+impl Model for Beginning {
+    ghost use Rattle.std.specs.Prelude.{◌≡◌, length};
+    ghost use Rattle.valid_view.specs.Beginnings.{Begun};
+    ghost use Rattle.valid_view.specs.Shown.{IsShowable};
+
+    ghost Value = { Begun };
+
+    ghost view = { λ b. record { book = b.seen.book; entries = b.seen.log } };
+
+    ghost invariant = { λ b. (b.count ≡ length b.seen.log) × IsShowable b.seen.log };
+}
+
+impl Beginning {
+    // The same again.
+    pub(crate) fn again(&self) -> Beginning
+        ensures { result ≡ self.now }
+    {
+        Beginning {
+            count: self.count,
+            seen: self.seen.again(),
+        }
+    }
+
+    // How many entries it has.
+    pub(crate) fn len(&self) -> u64
+        ensures length { result ≡ length self.now.entries }
+        ensures showable { IsShowable self.now.entries }
+    {
+        self.count
+    }
+
+    // Adds an entry to the list and says whether it did; it did not where the list is longer, and
+    // then nothing changes.
+    fn add(&mut self, word: &Word<Entry, u64, Law>, entry: &Entry) -> bool
+        requires word { word.now ≡ head_of self.old.book }
+        requires showable { MayFollow self.old.entries entry.now }
+        ensures book { self.new.book ≡ self.old.book }
+        ensures entries { MatchBool result
+            (self.new.entries ≡ self.old.entries ++ entry.now ∷ [])
+            (self.new.entries ≡ self.old.entries) }
+    {
+        let mut seen = self.seen.again();
+        let mut offer: Offer<Entry, u64, Law, Nothing> = seen.plain::<Nothing, Entry, Add>(entry);
+        let mut pen = seen.no_pen();
+        let count = self.count;
+        let Some(next) = count.checked_add(1) else {
+            return false;
+        };
+        let found = word.compare_exchange::<Add, Nothing>(
+            count, next, &mut seen, &mut offer, &mut pen,
+        );
+        if found != count {
+            return false;
+        }
+        *self = Beginning { count: next, seen };
+        true
+    }
+
+    // The longer of two beginnings of one list, which the other begins.
+    pub(crate) fn longer(&self, other: &Beginning) -> Beginning
+        requires { other.now.book ≡ self.now.book }
+        ensures book { result.book ≡ self.now.book }
+        ensures this { IsPrefix self.now.entries result.entries }
+        ensures that { IsPrefix other.now.entries result.entries }
+    {
+        let mut both = self.seen.again();
+        both.learn(&other.seen);
+        if self.count < other.count {
+            other.again()
+        } else {
+            self.again()
+        }
+    }
+}

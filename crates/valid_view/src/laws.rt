@@ -1,0 +1,10 @@
+//! Laws over the definitions that contracts cite, each on the contract of a function that does
+//! nothing.
+ghost use Rattle.valid_view.specs.SharedClosures.{ClosureIsShared};
+
+/// Of paths that are valid in a list of entries, the closure is the same in each two lists that
+/// begin with it and may be shown: in what a reader saw, and in a journal that goes on from what
+/// the reader was told of.
+pub fn closure_is_shared()
+    ensures { ClosureIsShared }
+{}

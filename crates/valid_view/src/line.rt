@@ -1,0 +1,101 @@
+//! The writer's end of a view, under the rule.
+ghost use Rattle.std.specs.Prelude.{◌≡◌, ◌<◌, ◌≤◌, ◌++◌, [], ◌∷◌, MatchResult, IfOk, OnErr, OnOk};
+ghost use Rattle.valid_view.specs.Shelves.{IsShelf};
+
+use crate::front::Front;
+use crate::name::Naming;
+use crate::rule::{Glimpse, Published, Sees};
+use crate::shelf::{Op, Shelf};
+use left_right::reader::Reader;
+use left_right::writer::Writer;
+use std::alloc::{AllocError, Global};
+use std::marker::Model;
+use std::sync::Wait;
+use valid_table::Entry;
+
+// The writer. A contract sees the entries that are shown, and those that were handed over and not
+// shown yet.
+pub(crate) struct Line<J: Naming> {
+    writer: Writer<Shelf, Op, Glimpse, Published<J>>,
+}
+
+impl<J: Naming> Model for Line<J> {
+    ghost use Rattle.std.specs.Prelude.{drop};
+    ghost use Rattle.valid_view.specs.Handing.{Follows, entries_of};
+    ghost use Rattle.valid_view.specs.Lines.{Lined};
+    ghost use Rattle.valid_view.specs.Shelves.{IsShelf};
+
+    ghost Value = { Lined };
+
+    ghost view = { λ l. record {
+      shown = l.writer.desk.shown.value.front.entries;
+      handed = entries_of (drop l.writer.behind l.writer.log.items);
+    } };
+
+    ghost invariant = { λ l. IsShelf J.book l.writer.desk.shown.value
+        × Follows J.book l.writer.desk.shown.value.front.entries
+        (drop l.writer.behind l.writer.log.items) };
+}
+
+impl<J: Naming> Line<J> {
+    // The writer of two alike shelves. `AllocError` where there is no memory for so many readers.
+    pub(crate) fn open(
+        alloc: Global,
+        first: Shelf,
+        second: Shelf,
+        readers: usize,
+    ) -> Result<Line<J>, AllocError>
+        requires readers { (0 < readers) × (readers ≤ 64) }
+        requires alike { first ≡ second }
+        requires shelf { IsShelf J.book first }
+        ensures shown { IfOk result (λ line. line.shown ≡ first.front.entries) }
+        ensures handed { IfOk result (λ line. line.handed ≡ []) }
+    {
+        let writer = Writer::new(alloc, first, second, readers)?;
+        Ok(Line { writer })
+    }
+
+    // A new reader, which has seen nothing. `AllocError` where each place is in use.
+    pub(crate) fn reader(&self) -> Result<Reader<Shelf, Glimpse, Published<J>>, AllocError> {
+        self.writer.factory().reader()
+    }
+
+    // What names the list that is shown.
+    pub(crate) fn front(&self) -> Front<J>
+        ensures { result ≡ self.now.shown }
+    {
+        Front::over(self.writer.published().front.again())
+    }
+
+    // Hands over the next entry. It comes back where memory is refused.
+    pub(crate) fn append(&mut self, op: Op) -> Result<(), Op>
+        requires named { op.front.book ≡ J.book }
+        requires next { op.front.entries
+            ≡ (self.old.shown ++ self.old.handed) ++ op.entry ∷ [] }
+        ensures shown { self.new.shown ≡ self.old.shown }
+        ensures handed { MatchResult result
+            (λ _. self.new.handed ≡ self.old.handed ++ op.entry ∷ [])
+            (λ back. (back ≡ op) × (self.new.handed ≡ self.old.handed)) }
+    {
+        self.writer.append(op)
+    }
+
+    // Shows all that was handed over. May wait for readers. `AllocError` where memory is refused;
+    // then nothing changes.
+    pub(crate) fn show<R: Wait>(self, rt: &R) -> (Line<J>, Result<(), AllocError>)
+        ensures ok { OnOk result.1
+            ((result.0.shown ≡ self.shown ++ self.handed) × (result.0.handed ≡ [])) }
+        ensures err { OnErr result.1
+            ((result.0.shown ≡ self.shown) × (result.0.handed ≡ self.handed)) }
+    {
+        let Line { writer } = self;
+        let (writer, shown) = writer.publish_as::<Sees<J>, R>(rt);
+        (Line { writer }, shown)
+    }
+
+    // Ends the view. May wait for readers.
+    pub(crate) fn close<R: Wait>(self, rt: &R) {
+        let Line { writer } = self;
+        writer.take(rt);
+    }
+}

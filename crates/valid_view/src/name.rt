@@ -1,0 +1,60 @@
+//! Which list a view shows beginnings of.
+ghost use Rattle.std.specs.Prelude.{◌≡◌, []};
+
+use crate::front::{Front, Head};
+use crate::law::Law;
+use logbook::{Seen, Start, Word};
+use std::marker::{Brand, Model};
+use valid_table::Entry;
+
+/// Which list it is. Writer and readers of one view, and all that they tell, have one name.
+pub trait Naming {
+    ghost use Rattle.logbook.specs.Pages.{Book};
+
+    // The list, as the proofs know it.
+    ghost book: { Book };
+}
+
+impl Naming for Brand {
+    ghost book = { record { number = 0; log_name = 0; cells_name = 0 } };
+}
+
+/// A list without entries that no type names yet. A contract sees which list it is. Takes no
+/// memory.
+#[derive(Drop)]
+pub struct Name {
+    head: Word<Entry, u64, Law>,
+    seen: Seen<Entry, u64, Law>,
+}
+
+impl Model for Name {
+    ghost use Rattle.std.specs.Prelude.{◌≡◌, []};
+    ghost use Rattle.logbook.specs.Pages.{Book};
+    ghost use Rattle.valid_view.specs.Beginnings.{head_of};
+
+    ghost Value = { Book };
+
+    ghost view = { λ n. n.seen.book };
+
+    ghost invariant = { λ n. (n.seen.log ≡ []) × (n.head ≡ head_of n.seen.book) };
+}
+
+impl Name {
+    /// A new list.
+    pub fn new() -> Name {
+        let (seen, mut first, _second) = Seen::open(Start::alone(), 0, 0);
+        Name {
+            head: Word::tracked(0, &mut first),
+            seen,
+        }
+    }
+
+    // The list by its name: the right to make it longer, and its beginning without entries.
+    pub(crate) fn open<J: Naming>(self) -> (Head<J>, Front<J>)
+        requires { self ≡ J.book }
+        ensures { result.1 ≡ [] }
+    {
+        let Name { head, seen } = self;
+        (Head::over(head), Front::first(seen))
+    }
+}

@@ -1,0 +1,46 @@
+//! What a view shows: a table, with the entries that it is of.
+use crate::front::Beginning;
+use left_right::Absorb;
+use std::alloc::AllocError;
+use std::marker::Model;
+use valid_table::{Entry, Table};
+
+// An entry that comes next, with the beginning of the list that ends with it.
+#[derive(Drop)]
+pub(crate) struct Op {
+    pub entry: Entry,
+    pub front: Beginning,
+}
+
+// A table, and the beginning of the list of which it is.
+#[derive(Drop)]
+pub(crate) struct Shelf {
+    pub table: Table,
+    pub front: Beginning,
+}
+
+impl Model for Shelf {
+    ghost use Rattle.valid_view.specs.Shelves.{Shelved};
+
+    ghost Value = { Shelved };
+
+    ghost view = { λ s. record { registrations = s.table.registrations; front = s.front } };
+}
+
+impl Absorb<Op> for Shelf {
+    ghost use Rattle.valid_view.specs.Handing.{with_op};
+
+    type State = Shelf;
+
+    ghost state = { λ s. s };
+
+    ghost applied = { with_op };
+
+    fn absorb_first(&mut self, operation: &Op, _other: &Shelf) -> Result<(), AllocError> {
+        if self.table.register(&operation.entry).is_err() {
+            return Err(AllocError);
+        }
+        self.front = operation.front.again();
+        Ok(())
+    }
+}

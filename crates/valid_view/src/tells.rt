@@ -1,0 +1,23 @@
+//! Outlets that tell by beginnings of one list.
+ghost use Rattle.std.specs.Prelude.{◌≡◌, List};
+ghost use Rattle.valid_table.specs.declared.entry.Entry.{Entry};
+
+use crate::front::Front;
+use crate::name::Naming;
+use crate::writer::ViewWriter;
+use std::sync::Wait;
+use valid_table::Outlet;
+
+/// An outlet whose readers have this name: what it tells is a beginning of that list. Code that
+/// takes turns at a lock is generic by it.
+pub trait Tells<J: Naming>: Outlet {
+    /// What was told, as a reader learns it.
+    fn front(told: Self::Told) -> Front<J>
+        ensures { (entries : List Entry) → Self.names told entries → result ≡ entries };
+}
+
+impl<J: Naming + Send, R: Wait + Drop> Tells<J> for ViewWriter<J, R> {
+    fn front(told: Front<J>) -> Front<J> {
+        told
+    }
+}

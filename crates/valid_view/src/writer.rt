@@ -1,0 +1,92 @@
+//! The writer of a view: an outlet whose list readers see without a lock.
+ghost use Rattle.std.specs.Prelude.{◌≡◌, ◌++◌, [], ◌∷◌, All, IfErr, OnErr, OnOk};
+ghost use Rattle.valid_table.specs.Adding.{IsNew, IsValidWith};
+ghost use Rattle.valid_table.specs.Entries.{registered_by};
+ghost use Rattle.valid_table.specs.Valid.{references_of};
+ghost use Rattle.valid_view.specs.Feeding.{pending_of};
+
+use crate::feed::Feed;
+use crate::front::Front;
+use crate::name::Naming;
+use std::marker::Model;
+use std::sync::Wait;
+use valid_table::{Entry, Outlet, OutletFault};
+
+/// The writer of the view with this name. A contract sees the entries that are shown, and those
+/// that wait. It keeps the handle by which `publish` and `close` wait for readers, and can't be
+/// dropped: `close` ends it.
+pub struct ViewWriter<J: Naming, R> {
+    feed: Feed<J>,
+    rt: R,
+}
+
+impl<J: Naming, R> Model for ViewWriter<J, R> {
+    ghost use Rattle.valid_table.specs.Outlets.{Outgoing};
+    ghost use Rattle.valid_view.specs.Feeding.{pending_of};
+
+    ghost Value = { Outgoing };
+
+    ghost view = { λ w. record { shown = w.feed.shown; pending = pending_of w.feed } };
+}
+
+impl<J: Naming, R> ViewWriter<J, R> {
+    // The writer over what feeds the view.
+    pub(crate) fn over(feed: Feed<J>, rt: R) -> ViewWriter<J, R>
+        ensures shown { result.shown ≡ feed.shown }
+        ensures pending { result.pending ≡ pending_of feed }
+    {
+        ViewWriter { feed, rt }
+    }
+
+    /// Appends an entry to those that wait. Its paths must be new, and each of its references must
+    /// be registered before or by the entry itself. `NoMemory`, the only fault, changes nothing.
+    /// Waits for nobody.
+    pub fn append(&mut self, entry: Entry) -> Result<(), OutletFault>
+        requires new { IsNew (self.old.shown ++ self.old.pending) entry }
+        requires closed { All (IsValidWith (self.old.shown ++ self.old.pending) entry)
+            (references_of (registered_by entry)) }
+        ensures same { self.new.shown ≡ self.old.shown }
+        ensures ok { OnOk result (self.new.pending ≡ self.old.pending ++ entry ∷ []) }
+        ensures err { OnErr result (self.new.pending ≡ self.old.pending) }
+        ensures memory { IfErr result (λ e. e ≡ OutletFault.NoMemory) }
+    {
+        self.feed.append(entry)
+    }
+
+    /// What names the list that is shown. Waits for nobody, and takes no memory.
+    pub fn tell(&self) -> Front<J>
+        ensures { result ≡ self.now.shown }
+    {
+        self.feed.front()
+    }
+}
+
+impl<J: Naming + Send, R: Wait + Drop> Outlet for ViewWriter<J, R> {
+    type Told = Front<J>;
+
+    ghost shown = { λ w. w.shown };
+
+    ghost pending = { λ w. w.pending };
+
+    ghost names = { λ told entries. told ≡ entries };
+
+    fn append(&mut self, entry: Entry) -> Result<(), OutletFault> {
+        self.feed.append(entry)
+    }
+
+    /// Shows what waits: each reader that asks afterwards sees it. Waits for readers that still
+    /// read what was shown before the last publication. `NoMemory` where memory is refused.
+    fn publish(&mut self) -> Result<(), OutletFault> {
+        self.feed.publish(&self.rt)
+    }
+
+    fn tell(&self) -> Front<J> {
+        self.feed.front()
+    }
+
+    /// Ends the view: readers are answered `NoView` from now on. Waits for those that still read.
+    fn close(self) {
+        let ViewWriter { feed, rt } = self;
+        feed.close(&rt);
+    }
+}
