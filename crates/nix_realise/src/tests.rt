@@ -4,6 +4,7 @@ mod drvs;
 mod files;
 mod journals;
 mod lines;
+mod many;
 mod progress;
 mod realisations;
 mod realising;
