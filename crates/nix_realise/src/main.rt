@@ -19,6 +19,7 @@
 //! | `task` | what `realise` is over: a plan and a journal |
 //! | `settled` | what a book says at the end of a run |
 //! | `builders`, `realise` | the builders of a run; the subcommand `realise` |
+//! | `progress` | the line of progress, which tells what the builders of a run are doing |
 //! | `printing`, `run` | what is printed; one run of the program |
 #![tactic(auto)]
 
@@ -41,6 +42,7 @@ mod journal_file;
 mod options;
 mod printing;
 mod process_build;
+mod progress;
 mod realise;
 mod run;
 mod settled;
@@ -55,9 +57,10 @@ mod words;
 
 use builders::Builders;
 use process_build::ByProcesses;
+use progress::{Progress, Watching};
 use run::{print_no_memory, refuse_words, run};
 use std::alloc::{AllocError, Global};
-use std::io::{BufWriter, ErrorKind, Write};
+use std::io::{BufWriter, ErrorKind, IsTerminal, Write};
 use std::process::ExitCode;
 use std::rt::{Env, Files};
 use std::sync::Wait;
@@ -67,11 +70,27 @@ use std::{env, io};
 fn main(rt: HostRuntime) -> ExitCode {
     let make = ByProcesses::new(&rt, &rt);
     let mut err = rt.stderr();
-    let status = match BufWriter::new(rt.alloc(), io::writer(&rt)) {
-        Ok(mut out) => run_arguments(&rt, &make, &mut out, &mut err),
-        Err(_) => print_no_memory(&mut err),
+    let status = if err.is_terminal() {
+        let progress = Progress::new(err);
+        run_streams(&rt, &Watching::new(&rt, &make, &progress), &mut err)
+    } else {
+        run_streams(&rt, &make, &mut err)
     };
     ExitCode::from(status)
+}
+
+// Runs the program on the arguments and the standard output of the process.
+fn run_streams<R, M, E>(rt: &R, make: &M, err: &mut E) -> u8
+where
+    R: Env + Files + Print + Threads + Wait + Sync + AllocGlobal,
+    M: Builders,
+    E: Write,
+    ensures { IsStatus result }
+{
+    match BufWriter::new(rt.alloc(), io::writer(rt)) {
+        Ok(mut out) => run_arguments(rt, make, &mut out, err),
+        Err(_) => print_no_memory(err),
+    }
 }
 
 // Runs the program on the arguments of the process.

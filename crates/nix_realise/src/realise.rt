@@ -38,7 +38,7 @@ where
     let journal = read_journal(rt, request.store_dir, request.journal);
     let mut source = FolderSource::new(rt);
     let task = task_of(rt.alloc(), &mut source, request, journal)?;
-    let builders = make_all(rt.alloc(), make, request)?;
+    let builders = make_all(rt.alloc(), make, request, task.plan.len())?;
     run_task(rt, request, &task, builders, out)
 }
 

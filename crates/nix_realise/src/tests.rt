@@ -4,6 +4,8 @@ mod drvs;
 mod files;
 mod journals;
 mod lines;
+mod many;
+mod progress;
 mod realisations;
 mod realising;
 mod runs;
@@ -52,7 +54,7 @@ impl Build for Idle {
 impl Builders for Idle {
     type Builder = Idle;
 
-    fn builder(&self, _alloc: Global, _store_dir: &str) -> Result<Idle, AllocError> {
+    fn builder(&self, _alloc: Global, _store_dir: &str, _count: usize) -> Result<Idle, AllocError> {
         Ok(Idle)
     }
 }

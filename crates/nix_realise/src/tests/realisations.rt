@@ -255,9 +255,9 @@ fn put_last<R: Host>(rt: &R, store: &Store, b: &Drv, c: &Drv) -> Result<Drv, Fai
     )
 }
 
-// The derivations of a diamond: `b` and `c` use `a`, `d` uses both; these scripts build `b` and
-// `c`.
-fn diamond<R: Host>(rt: &R, store: &Store, script: &str) -> Result<[Drv; 4], Fail> {
+/// The derivations of a diamond: `b` and `c` use `a`, `d` uses both; these scripts build `b` and
+/// `c`.
+pub fn diamond<R: Host>(rt: &R, store: &Store, script: &str) -> Result<[Drv; 4], Fail> {
     let a = put_drv(rt, store, "a", LINUX, "echo > $out")?;
     let b = put_user(rt, store, "b", &a, script)?;
     let (c, d) = rest_of(rt, store, &a, &b, script)?;

@@ -1,7 +1,8 @@
 //! What is removed before a builder runs and after it.
 use super::Site;
 use sched_core::Reason;
-use std::os::unix::fs::symlink;
+use std::fs::Permissions;
+use std::os::unix::fs::{PermissionsExt, symlink};
 use std::test::Fail;
 use std::{fs, process};
 
@@ -85,6 +86,41 @@ fn build_folder(rt: HostRuntime) -> Result<(), Fail> {
             made.err()
         );
     }
+    site.close(&rt)?;
+    Ok(())
+}
+
+// Whether a job is built in an empty folder, which is gone at the end.
+fn is_built(rt: &HostRuntime, site: &Site) -> Result<bool, Fail> {
+    let made = site.file(rt, "test -z \"$(ls -A)\" && echo made > $out")?;
+    Ok(made == Some(b"made\n".to_vec(rt.alloc())?) && !site.has(rt, ".build-0")?)
+}
+
+// Whether a file in the place of the build folder is replaced.
+fn replaces_file(rt: &HostRuntime, site: &Site) -> Result<bool, Fail> {
+    fs::write(rt, site.at(rt.alloc(), ".build-0")?.as_str(), "left")?;
+    is_built(rt, site)
+}
+
+// Whether an earlier run's build folder, in which a folder must not be written, is replaced.
+fn replaces_folder(rt: &HostRuntime, site: &Site) -> Result<bool, Fail> {
+    let locked = site.at(rt.alloc(), ".build-0/locked")?;
+    fs::create_dir_all(rt, locked.as_str())?;
+    fs::write(
+        rt,
+        site.at(rt.alloc(), ".build-0/locked/file")?.as_str(),
+        "left",
+    )?;
+    fs::set_permissions(rt, locked.as_str(), Permissions::from_mode(0o500))?;
+    is_built(rt, site)
+}
+
+// What an earlier run left in the place of the build folder is removed.
+#[test]
+fn left_build_folders(rt: HostRuntime) -> Result<(), Fail> {
+    let site = Site::new(&rt, process::id(rt.process()), "left")?;
+    assert!(rt; replaces_file(&rt, &site)?);
+    assert!(rt; replaces_folder(&rt, &site)?);
     site.close(&rt)?;
     Ok(())
 }

@@ -1,0 +1,37 @@
+//! The line of progress.
+use super::Host;
+use super::realisations::diamond;
+use super::scene::{realise_both, scene};
+use super::store::Store;
+use crate::builders::Builders;
+use crate::process_build::ByProcesses;
+use crate::progress::{Progress, Watching};
+use std::process;
+use std::test::Fail;
+
+// What one worker writes of a diamond of which both sides fail: a line while each of the three
+// builders runs, and none behind it.
+const WRITTEN: &str = "\r\x1b[Knix_realise: 1 running, 0 ended well, 0 failed, 4 in the plan\
+    \r\x1b[K\r\x1b[Knix_realise: 1 running, 1 ended well, 0 failed, 4 in the plan\
+    \r\x1b[K\r\x1b[Knix_realise: 1 running, 1 ended well, 1 failed, 4 in the plan\
+    \r\x1b[K";
+
+// Realises such a diamond by one worker.
+fn realise_diamond<R: Host, M: Builders>(rt: &R, make: &M, store: &Store) -> Result<u8, Fail> {
+    let [_a, _b, _c, d] = diamond(rt, store, "exit 3")?;
+    Ok(realise_both(rt, make, store, "1", &d, &d).status)
+}
+
+#[test]
+fn lines_of_progress(rt: HostRuntime) -> Result<(), Fail> {
+    let store = scene(&rt, process::id(rt.process()), "progress")?;
+    let mut written = Vec::new(rt.alloc());
+    let progress = Progress::new(&mut written);
+    let make = ByProcesses::new(&rt, &rt);
+    let make = Watching::new(&rt, &make, &progress);
+    assert_eq!(rt; realise_diamond(&rt, &make, &store)?, 1);
+    drop(progress);
+    assert_eq!(rt; written.as_slice(), WRITTEN.as_bytes());
+    assert!(rt; store.held(&rt, 7)?);
+    Ok(())
+}
