@@ -1,5 +1,5 @@
 -- Two whole runs over one opening are alike, derivation by derivation in plan order.
-use Rattle.std.proofs.Common.{◌≡◌, ◌∙◌, inl, inr, ◌<◌, ℕ, zero, suc, true, false, List, [], ◌++◌, Result, Ok, Err, Option, Some, refl, sym, ap, subst, ⊎_elim, arith}
+use Rattle.std.proofs.Common.{◌≡◌, ◌∙◌, inl, inr, ◌<◌, length, ℕ, zero, suc, true, false, List, [], ◌++◌, Result, Ok, Err, Option, Some, refl, sym, ap, subst, ⊎_elim, arith}
 use Rattle.std.specs.Prelude.{Contains, flat_map, slice_get}
 use Rattle.std.specs.List.{position_or_len}
 use Rattle.std.proofs.lemmas.List.Elements.{Contains-append_cases, Contains-append_left}
@@ -38,12 +38,11 @@ use Rattle.store_run.proofs.Standings.{output_of_reused, source_of_free}
 use Rattle.store_run.proofs.Telling.{CameTo, IsFrom, WasBegun, WasMade, from_built, from_opening}
 use Rattle.store_run.proofs.Unhindered.{IsGoodBy, IsUnhindered, aside_same, good_ended, good_is, good_reused, inputs_in, is_good_by, state_by, unhindered_ready}
 
--- A history in which no wanted derivation has anything before it, and each that has an event was
--- begun and came to a verdict.
-pub record IsAtEnd (may : Job → Result Answer Reason → Type 0) (run : Run) (history : History)
+-- A history in which each derivation that has an event was begun and, once it ended, came to a
+-- verdict, and in which each record comes from the opening or from what was built.
+pub record IsAccounted (may : Job → Result Answer Reason → Type 0) (run : Run) (history : History)
     : Type 0 where
   pub begun : (d : ℕ) → (phase_of history.events d ≡ Idle → ⊥) → WasBegun run history d
-  pub settled : IsRunSettled run history
   pub made : (d : ℕ) → phase_of history.events d ≡ Ended → WasMade may run history d
   pub broke : (d : ℕ) (why : Reason) → phase_of history.events d ≡ Broken why
       → CameTo may run history d (Err why)
@@ -55,19 +54,26 @@ pub record IsAtEnd (may : Job → Result Answer Reason → Type 0) (run : Run) (
       → IsFrom run history path info
 
 -- the outputs of a derivation that is good are carried
-abbrev Carries : Run → (history other : History) → ℕ → Type 0
+abbrev pub Carries : Run → (history other : History) → ℕ → Type 0
 Carries run history other d = is_good (state_in run history d) ≡ true → (node : Node)
     → slice_get run.graph.nodes d ≡ Some node → (path : List ℕ)
     → Contains (output_paths node.drv) path
     → IsCarried (registered history.entries) (registered other.entries) path
 
 -- A derivation is in the same state in two histories, and its outputs are carried both ways.
-record IsAlikeAt (run : Run) (history other : History) (d : ℕ) : Type 0 where
-  same : state_in run history d ≡ state_in run other d
-  there : Carries run history other d
-  back : Carries run other history d
+pub record IsAlikeAt (run : Run) (history other : History) (d : ℕ) : Type 0 where
+  pub same : state_in run history d ≡ state_in run other d
+  pub there : Carries run history other d
+  pub back : Carries run other history d
 
-swapped : (run : Run) (history other : History) (d : ℕ) → IsAlikeAt run history other d
+-- A derivation isn't building in two histories, and has an event in both or in neither.
+pub record HasSameTurn (history other : History) (d : ℕ) : Type 0 where
+  pub over : (lease : ℕ) → phase_of history.events d ≡ Begun lease → ⊥
+  pub over_there : (lease : ℕ) → phase_of other.events d ≡ Begun lease → ⊥
+  pub idle : phase_of other.events d ≡ Idle → phase_of history.events d ≡ Idle
+  pub idle_there : phase_of history.events d ≡ Idle → phase_of other.events d ≡ Idle
+
+pub swapped : (run : Run) (history other : History) (d : ℕ) → IsAlikeAt run history other d
     → IsAlikeAt run other history d
 swapped run history other d alike = record {
   same = sym alike.same;
@@ -78,7 +84,7 @@ swapped run history other d alike = record {
 -- ---- from one history to another
 
 module _ (may : Job → Result Answer Reason → Type 0) (run : Run) (sound : IsSound run.graph)
-    (history other : History) (end : IsAtEnd may run history) (end' : IsAtEnd may run other)
+    (history other : History) (end : IsAccounted may run history) (end' : IsAccounted may run other)
     (opening : other.opening ≡ history.opening) where
   -- what was valid at opening is carried
   opening_carried : (path : List ℕ) → is_valid history.opening path ≡ true
@@ -109,18 +115,11 @@ module _ (may : Job → Result Answer Reason → Type 0) (run : Run) (sound : Is
           (output_of_reused run.system history.opening node.drv
           (sym (ap (standing_at run.system history.opening) at) ∙ stands) path has)
 
-  -- no derivation is building
-  none_building : (d lease : ℕ) → phase_of history.events d ≡ Begun lease → ⊥
-  none_building d lease phase =
-      let was = end.begun d (λ idle. let clash : Begun lease ≡ Idle = sym phase ∙ idle in cc) in
-      end.settled d was.within was.wanted
-      (inr (inr (lease, state_by run history sound d (Begun lease) phase)))
-
   module _ (d : ℕ) (below : (i : ℕ) → i < d → IsAlikeAt run history other i) where
     input_alike : (i : ℕ) → Contains (inputs_in run d) i → IsAlikeAt run history other i
     input_alike i has = below i (inputs_first run.graph sound d i has)
 
-    unhindered_there : IsUnhindered run history d → IsUnhindered run other d
+    pub unhindered_there : IsUnhindered run history d → IsUnhindered run other d
     unhindered_there un = record {
       free = ap (λ (opens : List Entry). standing_at run.system opens
           (slice_get run.graph.nodes d)) opening ∙ un.free;
@@ -129,7 +128,7 @@ module _ (may : Job → Result Answer Reason → Type 0) (run : Run) (sound : Is
     }
 
     -- the seeds of a derivation with nothing in its way are carried
-    seed_carried : (node : Node) → slice_get run.graph.nodes d ≡ Some node
+    pub seed_carried : (node : Node) → slice_get run.graph.nodes d ≡ Some node
         → IsUnhindered run history d → (seed : List ℕ)
         → Contains (seeds_of run.graph.nodes node.drv) seed
         → IsCarried (registered history.entries) (registered other.entries) seed
@@ -212,23 +211,9 @@ made_carried may run history other once once' d node at made made' same carried 
 
 -- ---- one derivation
 
--- what began there has an event here
-not_idle : (may : Job → Result Answer Reason → Type 0) (run : Run) (sound : IsSound run.graph)
-    (history other : History) (end : IsAtEnd may run history) (end' : IsAtEnd may run other)
-    (opening : other.opening ≡ history.opening) (d : ℕ)
-    (above : (i : ℕ) → i < d → IsAlikeAt run other history i)
-    → phase_of history.events d ≡ Idle → (phase_of other.events d ≡ Idle → ⊥) → ⊥
-not_idle may run sound history other end end' opening d above idle moved =
-    let was = end'.begun d moved in
-    let un = unhindered_there may run sound other history end' end (sym opening) d above
-    was.unhindered in
-    end.settled d was.within
-    (subst (λ (opens : List Entry). IsWanted run opens d) opening was.wanted)
-    (inr (inl (unhindered_ready run history sound d un idle)))
-
 module _ (may : Job → Result Answer Reason → Type 0) (run : Run) (sound : IsSound run.graph)
     (outcome : HasOneOutcome may run.graph) (history other : History)
-    (end : IsAtEnd may run history) (end' : IsAtEnd may run other)
+    (end : IsAccounted may run history) (end' : IsAccounted may run other)
     (opening : other.opening ≡ history.opening) (d : ℕ)
     (below : (i : ℕ) → i < d → IsAlikeAt run history other i) where
   above : (i : ℕ) → i < d → IsAlikeAt run other history i
@@ -336,8 +321,8 @@ module _ (may : Job → Result Answer Reason → Type 0) (run : Run) (sound : Is
             absurd cc;
       }
 
-  alike_at : IsAlikeAt run history other d
-  alike_at = by (phase_of history.events d) (phase_of other.events d) refl refl
+  pub alike_at : HasSameTurn history other d → IsAlikeAt run history other d
+  alike_at turn = by (phase_of history.events d) (phase_of other.events d) refl refl
     where
       by : (p q : Phase) → phase_of history.events d ≡ p → phase_of other.events d ≡ q
           → IsAlikeAt run history other d
@@ -346,43 +331,40 @@ module _ (may : Job → Result Answer Reason → Type 0) (run : Run) (sound : Is
       by (Broken why) (Broken why') is is' = both_broken why why' is is'
       by Ended (Broken why) is is' = absurd (ended_and_broken why is is')
       by (Broken why) Ended is is' = absurd (broken_and_ended why is is')
-      by (Begun lease) q is is' =
-          absurd (none_building may run sound history other end end' opening d lease is)
-      by p (Begun lease) is is' =
-          absurd (none_building may run sound other history end' end (sym opening) d lease is')
-      by Idle Ended is is' = absurd
-          (not_idle may run sound history other end end' opening d above is (λ idle.
-          let clash : Ended ≡ Idle = sym is' ∙ idle in cc))
-      by Idle (Broken why) is is' = absurd
-          (not_idle may run sound history other end end' opening d above is (λ idle.
-          let clash : Broken why ≡ Idle = sym is' ∙ idle in cc))
-      by Ended Idle is is' = absurd
-          (not_idle may run sound other history end' end (sym opening) d below is' (λ idle.
-          let clash : Ended ≡ Idle = sym is ∙ idle in cc))
-      by (Broken why) Idle is is' = absurd
-          (not_idle may run sound other history end' end (sym opening) d below is' (λ idle.
-          let clash : Broken why ≡ Idle = sym is ∙ idle in cc))
+      by (Begun lease) q is is' = absurd (turn.over lease is)
+      by p (Begun lease) is is' = absurd (turn.over_there lease is')
+      by Idle Ended is is' =
+          let clash : Ended ≡ Idle = sym is' ∙ turn.idle_there is in absurd cc
+      by Idle (Broken why) is is' =
+          let clash : Broken why ≡ Idle = sym is' ∙ turn.idle_there is in absurd cc
+      by Ended Idle is is' = let clash : Ended ≡ Idle = sym is ∙ turn.idle is' in absurd cc
+      by (Broken why) Idle is is' =
+          let clash : Broken why ≡ Idle = sym is ∙ turn.idle is' in absurd cc
 
 -- ---- all of them
 
 module _ (may : Job → Result Answer Reason → Type 0) (run : Run) (sound : IsSound run.graph)
     (outcome : HasOneOutcome may run.graph) (history other : History)
-    (end : IsAtEnd may run history) (end' : IsAtEnd may run other)
+    (end : IsAccounted may run history) (end' : IsAccounted may run other)
     (opening : other.opening ≡ history.opening) where
-  alike_below : (bound d : ℕ) → d < bound → IsAlikeAt run history other d
-  alike_below zero d low = absurd (omega arith)
-  alike_below (suc bound) d low =
-      alike_at may run sound outcome history other end end' opening d
-      (λ i less. alike_below bound i (omega arith))
-
-  is_alike : (d : ℕ) → IsAlikeAt run history other d
-  is_alike d = alike_below (suc d) d (omega arith)
+  -- the derivations below a number are alike, where each of them has the same turn once those
+  -- below it are alike
+  pub alike_below : (count : ℕ)
+      → ((d : ℕ) → d < count → ((i : ℕ) → i < d → IsAlikeAt run history other i)
+      → HasSameTurn history other d)
+      → (bound d : ℕ) → d < bound → d < count → IsAlikeAt run history other d
+  alike_below count turns zero d low within = absurd (omega arith)
+  alike_below count turns (suc bound) d low within =
+      let below : (i : ℕ) → i < d → IsAlikeAt run history other i =
+      λ i less. alike_below count turns bound i (omega (arith, low, less))
+      (omega (arith, within, less)) in
+      alike_at may run sound outcome history other end end' opening d below (turns d within below)
 
   -- what is registered here is registered there
-  record_there : (path : List ℕ) (info : PathInfo)
+  record_there : ((d : ℕ) → IsAlikeAt run history other d) → (path : List ℕ) (info : PathInfo)
       → Registers (registered history.entries) path info
       → Registers (registered other.entries) path info
-  record_there path info has = by (end.from path info has)
+  record_there alike path info has = by (end.from path info has)
     where
       valid : IsValid (registered history.entries) path
       valid = valid_from_registers (registered history.entries) path info has
@@ -397,17 +379,71 @@ module _ (may : Job → Result Answer Reason → Type 0) (run : Run) (sound : Is
           (Contains-append_left (registered history.opening) (registered end'.more)
           (record { path = path; info = info }) first)
       by (from_built d node at ends own) =
-          (is_alike d).there (is_good_by run history sound d (good_ended ends)) node at path own
-          path info ([], (valid, refl)) has
+          (alike d).there (is_good_by run history sound d (good_ended ends)) node at path own path
+          info ([], (valid, refl)) has
+
+-- ---- settled histories
+
+module _ (may : Job → Result Answer Reason → Type 0) (run : Run) (sound : IsSound run.graph)
+    (history other : History) (end : IsAccounted may run history)
+    (end' : IsAccounted may run other) (settled : IsRunSettled run history)
+    (opening : other.opening ≡ history.opening) where
+  -- no derivation is building
+  pub none_building : (d lease : ℕ) → phase_of history.events d ≡ Begun lease → ⊥
+  none_building d lease phase =
+      let was = end.begun d (λ idle. let clash : Begun lease ≡ Idle = sym phase ∙ idle in cc) in
+      settled d was.within was.wanted
+      (inr (inr (lease, state_by run history sound d (Begun lease) phase)))
+
+  -- what can begin there has an event here, where the derivations before it are alike
+  pub not_idle : (d : ℕ) → ((i : ℕ) → i < d → IsAlikeAt run other history i)
+      → phase_of history.events d ≡ Idle → d < length run.graph.nodes
+      → IsWanted run other.opening d → IsUnhindered run other d → ⊥
+  not_idle d above idle within wanted un =
+      settled d within (subst (λ (opens : List Entry). IsWanted run opens d) opening wanted)
+      (inr (inl (unhindered_ready run history sound d
+      (unhindered_there may run sound other history end' end (sym opening) d above un) idle)))
+
+  -- what has no event here has none there
+  idle_too : (d : ℕ) → ((i : ℕ) → i < d → IsAlikeAt run other history i)
+      → phase_of history.events d ≡ Idle → phase_of other.events d ≡ Idle
+  idle_too d above idle = by (phase_of other.events d) refl
+    where
+      moved : (phase_of other.events d ≡ Idle → ⊥) → phase_of other.events d ≡ Idle
+      moved has =
+          let was = end'.begun d has in
+          absurd (not_idle d above idle was.within was.wanted was.unhindered)
+
+      by : (p : Phase) → phase_of other.events d ≡ p → phase_of other.events d ≡ Idle
+      by Idle is = is
+      by (Begun lease) is = moved (λ i. let clash : Begun lease ≡ Idle = sym is ∙ i in cc)
+      by Ended is = moved (λ i. let clash : Ended ≡ Idle = sym is ∙ i in cc)
+      by (Broken why) is = moved (λ i. let clash : Broken why ≡ Idle = sym is ∙ i in cc)
 
 pub are_alike : (may : Job → Result Answer Reason → Type 0) (run : Run)
     (sound : IsSound run.graph) (outcome : HasOneOutcome may run.graph) (history other : History)
-    (end : IsAtEnd may run history) (end' : IsAtEnd may run other)
+    (end : IsAccounted may run history) (end' : IsAccounted may run other)
+    (settled : IsRunSettled run history) (settled' : IsRunSettled run other)
     (opening : other.opening ≡ history.opening) → AreAlike run history other
-are_alike may run sound outcome history other end end' opening = record {
-  states = λ d. (is_alike may run sound outcome history other end end' opening d).same;
+are_alike may run sound outcome history other end end' settled settled' opening = record {
+  states = λ d. (alike d).same;
   records = λ path info. (
-    record_there may run sound outcome history other end end' opening path info,
-    record_there may run sound outcome other history end' end (sym opening) path info,
+    record_there may run sound outcome history other end end' opening alike path info,
+    record_there may run sound outcome other history end' end (sym opening)
+        (λ d. swapped run history other d (alike d)) path info,
   );
 }
+  where
+    turn : (d : ℕ) → ((i : ℕ) → i < d → IsAlikeAt run history other i)
+        → HasSameTurn history other d
+    turn d below = record {
+      over = none_building may run sound history other end end' settled opening d;
+      over_there = none_building may run sound other history end' end settled' (sym opening) d;
+      idle = idle_too may run sound other history end' end settled' (sym opening) d below;
+      idle_there = idle_too may run sound history other end end' settled opening d
+          (λ i less. swapped run history other i (below i less));
+    }
+
+    alike : (d : ℕ) → IsAlikeAt run history other d
+    alike d = alike_below may run sound outcome history other end end' opening (suc d)
+        (λ e low below. turn e below) (suc d) d (omega arith) (omega arith)

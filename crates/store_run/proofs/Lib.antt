@@ -3,6 +3,7 @@ pub mod Answered
 pub mod Carried
 pub mod Examined
 pub mod OneOutcome
+pub mod OneThreads
 pub mod Openings
 pub mod RunEndings
 pub mod Schedules

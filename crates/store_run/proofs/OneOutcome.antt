@@ -31,20 +31,20 @@ use Rattle.store_run.proofs.Telling.{CameTo}
 
 -- ---- a job's parts are its derivation's
 
-job_seeds : (graph : Graph) (d : ℕ) (job : Job) (node : Node) → IsJob graph d job
+pub job_seeds : (graph : Graph) (d : ℕ) (job : Job) (node : Node) → IsJob graph d job
     → slice_get graph.nodes d ≡ Some node → job.seeds.items ≡ seeds_of graph.nodes node.drv
 job_seeds graph d job node is at =
     is.seeds ∙ ap (λ (n : Node). seeds_of graph.nodes n.drv)
     (same_element graph.nodes d is.node node is.is_node at)
 
-job_outputs : (graph : Graph) (d : ℕ) (job : Job) (node : Node) → IsJob graph d job
+pub job_outputs : (graph : Graph) (d : ℕ) (job : Job) (node : Node) → IsJob graph d job
     → slice_get graph.nodes d ≡ Some node → outputs_of job ≡ output_paths node.drv
 job_outputs graph d job node is at =
     is.paths ∙ ap (λ (n : Node). output_paths n.drv)
     (same_element graph.nodes d is.node node is.is_node at)
 
 -- what is permitted to the job is permitted to the derivation
-permitted_job : (graph : Graph) (d : ℕ) (job : Job) (node : Node) (entries : List Entry)
+pub permitted_job : (graph : Graph) (d : ℕ) (job : Job) (node : Node) (entries : List Entry)
     (permitted : List (List ℕ)) → IsJob graph d job → slice_get graph.nodes d ≡ Some node
     → ArePermittedPaths entries job permitted
     → ArePermitted (registered entries) (seeds_of graph.nodes node.drv) (output_paths node.drv)

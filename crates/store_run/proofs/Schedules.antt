@@ -1,5 +1,5 @@
 -- *Any schedule*: a whole run and one thread over the same opening are alike.
-use Rattle.std.proofs.Common.{◌≡◌, ◌∙◌, ℕ, List, Result, sym, subst, ⊎_elim}
+use Rattle.std.proofs.Common.{◌≡◌, ◌∙◌, ℕ, length, List, Result, sym, subst, ⊎_elim}
 use Rattle.drv_graph.specs.SoundGraphs.{IsSound}
 use Rattle.valid_table.specs.Valid.{IsJournal}
 use Rattle.valid_table.specs.declared.entry.Entry.{Entry}
@@ -18,16 +18,16 @@ use Rattle.sched_core.specs.declared.reason.State.TheVariants.{Failed}
 use Rattle.sched_core.proofs.OneReport.{one_report}
 use Rattle.sched_core.proofs.Registering.{entries_are_journal}
 use Rattle.sched_core.proofs.Seeds.{opened_with}
-use Rattle.store_run.specs.OneThread.{IsOneThread}
+use Rattle.store_run.specs.OneThread.{HadTurns}
 use Rattle.store_run.specs.Scheduling.{AnySchedule, HasOneOutcome, IsWholeRun, OneReport, RealisedIsWhole, WholeRunsAreAlike}
-use Rattle.store_run.proofs.Alike.{IsAtEnd, are_alike}
+use Rattle.store_run.proofs.Alike.{IsAccounted, are_alike}
 use Rattle.store_run.proofs.Telling.{begun_is, broke_is, drv_paths, from_is, made_is}
 use Rattle.store_run.proofs.ToldRuns.{IsTold, told_begin, told_done, told_fail, told_from, told_opening}
-use Rattle.store_run.proofs.Turns.{one_thread_legal, one_thread_opening, one_thread_settled, one_thread_told}
+use Rattle.store_run.proofs.Turns.{HaveTurned, turned_is, turned_settled}
 use Rattle.store_run.proofs.Unhindered.{state_by}
 
 module _ (excused : Reason → Type 0) (may : Job → Result Answer Reason → Type 0) (run : Run) where
-  opening_journal : (history : History) → IsTold excused may run history
+  pub opening_journal : (history : History) → IsTold excused may run history
       → IsJournal history.opening
   opening_journal _ (told_opening entries journal) = journal
   opening_journal _ (told_begin history d told legal can) = opening_journal history told
@@ -36,16 +36,15 @@ module _ (excused : Reason → Type 0) (may : Job → Result Answer Reason → T
   opening_journal _ (told_fail history d lease reason told legal phase why) =
       opening_journal history told
 
-  -- a told history that is settled, and in which nothing is excused
-  at_end : IsSound run.graph → (history : History) → IsTold excused may run history
-      → IsLegal run history → IsRunSettled run history
+  -- a told history in which nothing is excused
+  accounted : IsSound run.graph → (history : History) → IsTold excused may run history
+      → IsLegal run history
       → ((d : ℕ) (why : Reason) → phase_of history.events d ≡ Broken why → excused why → ⊥)
-      → IsAtEnd may run history
-  at_end sound history told legal settled none =
+      → IsAccounted may run history
+  accounted sound history told legal none =
       let opens = opened_with run history legal in
       record {
         begun = begun_is excused may run sound history told;
-        settled = settled;
         made = made_is excused may run sound history told;
         broke = λ d why at. ⊎_elim (λ excuse. absurd (none d why at excuse)) (λ came. came)
             (broke_is excused may run sound history told d why at);
@@ -58,7 +57,7 @@ module _ (excused : Reason → Type 0) (may : Job → Result Answer Reason → T
 
 module _ (may : Job → Result Answer Reason → Type 0) (run : Run) (history : History)
     (whole : IsWholeRun may run history) where
-  run_told : IsTold (λ reason. reason ≡ OutOfMemory) may run history
+  pub run_told : IsTold (λ reason. reason ≡ OutOfMemory) may run history
   run_told = told_from may run history whole.legal whole.answered
 
   -- no derivation failed for want of memory
@@ -71,14 +70,14 @@ module _ (may : Job → Result Answer Reason → Type 0) (run : Run) (history : 
       (subst (λ (r : Reason). state_in run history d ≡ Failed r) is
       (state_by run history whole.plan d (Broken why) at))
 
-  run_at_end : IsAtEnd may run history
-  run_at_end = at_end (λ reason. reason ≡ OutOfMemory) may run whole.plan history run_told
-      whole.legal whole.settled none_excused
+  pub run_accounted : IsAccounted may run history
+  run_accounted = accounted (λ reason. reason ≡ OutOfMemory) may run whole.plan history run_told
+      whole.legal none_excused
 
 pub whole_runs_are_alike : (may : Job → Result Answer Reason → Type 0) → WholeRunsAreAlike may
 whole_runs_are_alike may run history other whole whole' opening =
-    are_alike may run whole.plan whole.outcome history other (run_at_end may run history whole)
-    (run_at_end may run other whole') opening
+    are_alike may run whole.plan whole.outcome history other (run_accounted may run history whole)
+    (run_accounted may run other whole') whole.settled whole'.settled opening
 
 pub realised_is_whole : (may : Job → Result Answer Reason → Type 0) → RealisedIsWhole may
 realised_is_whole may plan system opening count book sound outcome realised memory = record {
@@ -90,28 +89,30 @@ realised_is_whole may plan system opening count book sound outcome realised memo
   memory = memory;
 }
 
-one_thread_at_end : (may : Job → Result Answer Reason → Type 0) (run : Run)
-    → IsSound run.graph → (opening : List Entry) (other : History)
-    → IsOneThread may run opening other → IsAtEnd may run other
-one_thread_at_end may run sound opening other one =
-    at_end (λ reason. ⊥) may run sound other (one_thread_told may run sound opening other one)
-    (one_thread_legal may run sound opening other one)
-    (one_thread_settled may run sound opening other one) (λ d why at none. none)
+-- the first turns of one thread
+pub turns_accounted : (may : Job → Result Answer Reason → Type 0) (run : Run)
+    (sound : IsSound run.graph) (opening : List Entry) (count : ℕ) (other : History)
+    → HadTurns may run opening count other → IsAccounted may run other
+turns_accounted may run sound opening count other had =
+    let turned = turned_is may run sound opening count other had in
+    accounted (λ reason. ⊥) may run sound other turned.told turned.legal (λ d why at none. none)
 
 pub any_schedule : (may : Job → Result Answer Reason → Type 0) → AnySchedule may
 any_schedule may run history other whole one =
-    are_alike may run whole.plan whole.outcome history other (run_at_end may run history whole)
-    (one_thread_at_end may run whole.plan history.opening other one)
-    (one_thread_opening may run whole.plan history.opening other one)
+    let turned = turned_is may run whole.plan history.opening (length run.graph.nodes) other one in
+    are_alike may run whole.plan whole.outcome history other (run_accounted may run history whole)
+    (turns_accounted may run whole.plan history.opening (length run.graph.nodes) other one)
+    whole.settled (turned_settled may run whole.plan history.opening other one)
+    turned.opening_is
 
 -- the report follows from the states
 pub one_report_of : (may : Job → Result Answer Reason → Type 0) → OneReport may
 one_report_of may run history other a b whole one of_a of_b =
     let alike = any_schedule may run history other whole one in
-    let opening = one_thread_opening may run whole.plan history.opening other one in
+    let turned = turned_is may run whole.plan history.opening (length run.graph.nodes) other one in
     let states : state_in run other ≡ state_in run history = λ i d. sym (alike.states d) i in
     let there : IsReport run.graph (IsWanted run history.opening) (state_in run history) b =
     subst (λ (s : ℕ → State). IsReport run.graph (IsWanted run history.opening) s b) states
     (subst (λ (opens : List Entry). IsReport run.graph (IsWanted run opens) (state_in run other) b)
-    opening of_b) in
+    turned.opening_is of_b) in
     one_report run.graph (IsWanted run history.opening) (state_in run history) a b of_a there

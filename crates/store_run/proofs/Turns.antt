@@ -36,7 +36,7 @@ use Rattle.sched_core.proofs.PlanInputs.{inputs_first}
 use Rattle.sched_core.proofs.Registrable.{verdicts_are_registrable}
 use Rattle.sched_core.specs.VerdictLaws.{AreRegistrable}
 use Rattle.store_run.specs.Builders.{IsOutcomeVerdict, IsVerdictBehind}
-use Rattle.store_run.specs.OneThread.{HadTurns, turn_done, turn_failed, turn_opening, turn_skipped}
+use Rattle.store_run.specs.OneThread.{HadTurns, IsOneThread, turn_done, turn_failed, turn_opening, turn_skipped}
 use Rattle.store_run.proofs.Carried.{valid_from_registers}
 use Rattle.store_run.proofs.OneOutcome.{refers_behind}
 use Rattle.store_run.proofs.Standings.{output_of_free}
@@ -155,14 +155,14 @@ idle_open Free first all closed (inr (inr is)) =
 -- ---- the turns
 
 -- What holds once the derivations below a number had their turns.
-record HaveTurned (may : Job → Result Answer Reason → Type 0) (run : Run) (opening : List Entry)
+pub record HaveTurned (may : Job → Result Answer Reason → Type 0) (run : Run) (opening : List Entry)
     (count : ℕ) (history : History)
     : Type 0 where
-  legal : IsLegal run history
-  told : IsTold (λ reason. ⊥) may run history
-  opening_is : history.opening ≡ opening
-  rest : (d : ℕ) → count ≤ d → phase_of history.events d ≡ Idle
-  closed : (d : ℕ) → d < count → d < length run.graph.nodes → IsWanted run opening d
+  pub legal : IsLegal run history
+  pub told : IsTold (λ reason. ⊥) may run history
+  pub opening_is : history.opening ≡ opening
+  pub rest : (d : ℕ) → count ≤ d → phase_of history.events d ≡ Idle
+  pub closed : (d : ℕ) → d < count → d < length run.graph.nodes → IsWanted run opening d
       → IsOpen (state_in run history d) → ⊥
 
 module _ (may : Job → Result Answer Reason → Type 0) (run : Run) (sound : IsSound run.graph)
@@ -295,7 +295,7 @@ module _ (may : Job → Result Answer Reason → Type 0) (run : Run) (sound : Is
   failed_is_closed reason (inr (inl is)) = cc
   failed_is_closed reason (inr (inr is)) = let clash = is.1 in cc
 
-  turned_is : (count : ℕ) (history : History) → HadTurns may run opening count history
+  pub turned_is : (count : ℕ) (history : History) → HadTurns may run opening count history
       → HaveTurned may run opening count history
   turned_is _ _ (turn_opening journal) = record {
     legal = legal_opening opening journal;
@@ -340,21 +340,9 @@ module _ (may : Job → Result Answer Reason → Type 0) (run : Run) (sound : Is
       (state_by run after sound d (Broken reason) (phase_broken middle.events d lease reason))
       still))
 
-  pub one_thread_legal : (history : History) → HadTurns may run opening (length run.graph.nodes)
-      history → IsLegal run history
-  one_thread_legal history had = (turned_is (length run.graph.nodes) history had).legal
-
-  pub one_thread_told : (history : History) → HadTurns may run opening (length run.graph.nodes)
-      history → IsTold (λ reason. ⊥) may run history
-  one_thread_told history had = (turned_is (length run.graph.nodes) history had).told
-
-  pub one_thread_opening : (history : History) → HadTurns may run opening (length run.graph.nodes)
-      history → history.opening ≡ opening
-  one_thread_opening history had = (turned_is (length run.graph.nodes) history had).opening_is
-
-  pub one_thread_settled : (history : History) → HadTurns may run opening (length run.graph.nodes)
-      history → IsRunSettled run history
-  one_thread_settled history had d within wanted still =
+  pub turned_settled : (history : History) → IsOneThread may run opening history
+      → IsRunSettled run history
+  turned_settled history had d within wanted still =
       let turned = turned_is (length run.graph.nodes) history had in
       turned.closed d within within
       (subst (λ (opens : List Entry). IsWanted run opens d) turned.opening_is wanted) still

@@ -78,6 +78,11 @@ abbrev pub AnySchedule : (may : Job → Result Answer Reason → Type 0) → Typ
 AnySchedule may = (run : Run) (history other : History) → IsWholeRun may run history
     → IsOneThread may run history.opening other → AreAlike run history other
 
+-- there is such a history of one thread
+abbrev pub HasOneThread : (may : Job → Result Answer Reason → Type 0) → Type 0
+HasOneThread may = (run : Run) (history : History) → IsWholeRun may run history
+    → (other : History) × IsOneThread may run history.opening other
+
 -- so the report is one
 abbrev pub OneReport : (may : Job → Result Answer Reason → Type 0) → Type 0
 OneReport may = (run : Run) (history other : History) (a b : List ℕ) → IsWholeRun may run history

@@ -1,6 +1,6 @@
 //! Laws over the definitions that contracts cite, each on the contract of a function that does
 //! nothing.
-ghost use Rattle.store_run.specs.Scheduling.{AnySchedule, OneReport, RealisedIsWhole, WholeRunsAreAlike};
+ghost use Rattle.store_run.specs.Scheduling.{AnySchedule, HasOneThread, OneReport, RealisedIsWhole, WholeRunsAreAlike};
 
 use crate::build::Build;
 
@@ -10,6 +10,11 @@ use crate::build::Build;
 pub fn any_schedule<B: Build>()
     ensures alike { AnySchedule B.may }
     ensures report { OneReport B.may }
+{}
+
+/// To each whole run there is a history of one thread over the same opening.
+pub fn one_thread_is_there<B: Build>()
+    ensures { HasOneThread B.may }
 {}
 
 /// Two whole runs over one opening are alike.

@@ -1,0 +1,234 @@
+-- To each whole run there is one thread over the same opening.
+use Rattle.std.proofs.Common.{◌≡◌, ◌↔◌, ◌∙◌, ◌⊎◌, inl, inr, ◌<◌, ◌≤◌, ℕ, zero, suc, List, length, Result, Ok, Err, Some, refl, sym, ap, subst, ⊎_elim, arith}
+use Rattle.std.specs.Prelude.{Contains, slice_get}
+use Rattle.drv_graph.specs.Nodes.{Node}
+use Rattle.valid_table.specs.Entries.{registered}
+use Rattle.valid_table.specs.PathInfos.{PathInfo}
+use Rattle.valid_table.specs.Valid.{IsOnce}
+use Rattle.valid_table.specs.declared.entry.Entry.{Entry}
+use Rattle.sched_core.specs.Books.{ArePermittedPaths, CanBegin, opened}
+use Rattle.sched_core.specs.Jobs.{output_paths, seeds_of}
+use Rattle.sched_core.specs.Legal.{MayRefer, begins, begun, ended, failed}
+use Rattle.sched_core.specs.Runs.{History, IsWanted, Run}
+use Rattle.sched_core.specs.States.{Phase, Idle, Begun, Ended, Broken, phase_of}
+use Rattle.sched_core.specs.Verdicts.{outputs_of}
+use Rattle.sched_core.specs.declared.job.Answer.{Answer}
+use Rattle.sched_core.specs.declared.job.Job.{Job}
+use Rattle.sched_core.specs.declared.reason.Event.TheVariants.{Begin, Done as Finish, Fail}
+use Rattle.sched_core.specs.declared.reason.Reason.{Reason}
+use Rattle.sched_core.specs.declared.reason.Reason.TheVariants.{OutOfMemory}
+use Rattle.store_run.specs.Builders.{IsOutcomeVerdict, IsVerdictBehind}
+use Rattle.store_run.specs.OneThread.{HadTurns, turn_done, turn_failed, turn_opening, turn_skipped}
+use Rattle.store_run.specs.Scheduling.{HasOneThread, IsWholeRun}
+use Rattle.store_run.proofs.Alike.{HasSameTurn, IsAccounted, IsAlikeAt, alike_below, none_building, not_idle, seed_carried, swapped, unhindered_there}
+use Rattle.store_run.proofs.Carried.{IsCarried, may_refer_there}
+use Rattle.store_run.proofs.OneOutcome.{job_outputs, job_seeds, permitted_job, permitted_whole}
+use Rattle.store_run.proofs.Schedules.{opening_journal, run_accounted, run_told, turns_accounted}
+use Rattle.store_run.proofs.Telling.{CameTo, phase_begun, phase_broken, phase_ended, phase_other, same_or_other}
+use Rattle.store_run.proofs.Turns.{HaveTurned, turned_is}
+use Rattle.store_run.proofs.Unhindered.{IsUnhindered, ready_unhindered, unhindered_ready}
+
+-- ---- what a derivation came to here it may come to there
+
+module _ (may : Job → Result Answer Reason → Type 0) (run : Run) (history other : History)
+    (once : IsOnce (registered history.entries)) (d : ℕ)
+    (verdict : Result (List PathInfo) Reason) (came : CameTo may run history d verdict)
+    (node : Node) (at : slice_get run.graph.nodes d ≡ Some node)
+    (there : (seed : List ℕ) → Contains (seeds_of run.graph.nodes node.drv) seed
+    → IsCarried (registered history.entries) (registered other.entries) seed)
+    (back : (seed : List ℕ) → Contains (seeds_of run.graph.nodes node.drv) seed
+    → IsCarried (registered other.entries) (registered history.entries) seed) where
+  permitted_there : (permitted : List (List ℕ))
+      → ArePermittedPaths came.before came.behind.job permitted
+      → ArePermittedPaths other.entries came.behind.job permitted
+  permitted_there permitted of =
+      let job = came.behind.job in
+      let seeds = seeds_of run.graph.nodes node.drv in
+      let outputs = output_paths node.drv in
+      let are = permitted_job run.graph d job node came.before permitted came.behind.is_job at of in
+      let whole = permitted_whole may run history once d node at verdict came in
+      record {
+        rising = of.rising;
+        each = λ path.
+            subst (λ (ss : List (List ℕ)). Contains permitted path
+            ↔ MayRefer (registered other.entries) ss (outputs_of job) path)
+            (sym (job_seeds run.graph d job node came.behind.is_job at))
+            (subst (λ (os : List (List ℕ)). Contains permitted path
+            ↔ MayRefer (registered other.entries) seeds os path)
+            (sym (job_outputs run.graph d job node came.behind.is_job at)) (
+              λ has. may_refer_there (registered history.entries) (registered other.entries) seeds
+                  outputs there path ((whole path).0 ((are.each path).0 has)),
+              λ can. (are.each path).1 ((whole path).1
+                  (may_refer_there (registered other.entries) (registered history.entries) seeds
+                  outputs back path can)),
+            ));
+      }
+
+  behind_there : IsVerdictBehind may run other.entries d verdict
+  behind_there = record {
+    job = came.behind.job;
+    is_job = came.behind.is_job;
+    comes_to = (
+      came.behind.comes_to.0,
+      came.behind.comes_to.1,
+      by came.behind.comes_to.0 came.behind.comes_to.2,
+    );
+  }
+    where
+      by : (outcome : Result Answer Reason)
+          → IsOutcomeVerdict came.before came.behind.job outcome verdict
+          → IsOutcomeVerdict other.entries came.behind.job outcome verdict
+      by (Ok answer) is = (is.0, permitted_there is.0 is.1, is.2)
+      by (Err reason) is = is
+
+-- ---- one turn after another
+
+-- The derivations below a number had their turns, and have events just where they have some here.
+record IsThread (may : Job → Result Answer Reason → Type 0) (run : Run) (history : History)
+    (count : ℕ) : Type 0 where
+  other : History
+  had : HadTurns may run history.opening count other
+  turns : (d : ℕ) → d < count → HasSameTurn history other d
+
+-- the same of one derivation more
+turns_more : (history other after : History) (count : ℕ)
+    → ((i : ℕ) → (count ≡ i → ⊥) → phase_of after.events i ≡ phase_of other.events i)
+    → ((d : ℕ) → d < count → HasSameTurn history other d) → HasSameTurn history after count
+    → (d : ℕ) → d < suc count → HasSameTurn history after d
+turns_more history other after count phases turns last d low =
+    ⊎_elim (λ same. subst (HasSameTurn history after) same last)
+    (λ apart.
+    let turn = turns d (omega (arith, low, apart)) in
+    record {
+      over = turn.over;
+      over_there = λ lease is. turn.over_there lease (sym (phases d apart) ∙ is);
+      idle = λ is. turn.idle (sym (phases d apart) ∙ is);
+      idle_there = λ is. phases d apart ∙ turn.idle_there is;
+    }) (same_or_other count d)
+
+module _ (may : Job → Result Answer Reason → Type 0) (run : Run) (history : History)
+    (whole : IsWholeRun may run history) (d : ℕ) (thread : IsThread may run history d) where
+  told : IsAccounted may run history
+  told = run_accounted may run history whole
+
+  told_there : IsAccounted may run thread.other
+  told_there = turns_accounted may run whole.plan history.opening d thread.other thread.had
+
+  turned : HaveTurned may run history.opening d thread.other
+  turned = turned_is may run whole.plan history.opening d thread.other thread.had
+
+  below : (i : ℕ) → i < d → IsAlikeAt run history thread.other i
+  below i less = alike_below may run whole.plan whole.outcome history thread.other told told_there
+      turned.opening_is d (λ e low rest. thread.turns e low) d i less less
+
+  above : (i : ℕ) → i < d → IsAlikeAt run thread.other history i
+  above i less = swapped run history thread.other i (below i less)
+
+  unhindered : (phase_of history.events d ≡ Idle → ⊥) → IsUnhindered run thread.other d
+  unhindered moved = unhindered_there may run whole.plan history thread.other told told_there
+      turned.opening_is d below (told.begun d moved).unhindered
+
+  can_begin : (phase_of history.events d ≡ Idle → ⊥) → CanBegin run thread.other d
+  can_begin moved = record {
+    within = (told.begun d moved).within;
+    wanted = subst (λ (opens : List Entry). IsWanted run opens d) (sym turned.opening_is)
+        (told.begun d moved).wanted;
+    ready = unhindered_ready run thread.other whole.plan d (unhindered moved)
+        (turned.rest d (omega arith));
+  }
+
+  behind : (phase_of history.events d ≡ Idle → ⊥) → (verdict : Result (List PathInfo) Reason)
+      → CameTo may run history d verdict → IsVerdictBehind may run thread.other.entries d verdict
+  behind moved verdict came =
+      let node = came.behind.is_job.node in
+      let at = came.behind.is_job.is_node in
+      behind_there may run history thread.other told.once d verdict came node at
+      (seed_carried may run whole.plan history thread.other told told_there turned.opening_is d
+      below node at (told.begun d moved).unhindered)
+      (seed_carried may run whole.plan thread.other history told_there told
+      (sym turned.opening_is) d above node at (unhindered moved))
+
+  thread_more : IsThread may run history (suc d)
+  thread_more = by (phase_of history.events d) refl
+    where
+      by : (p : Phase) → phase_of history.events d ≡ p → IsThread may run history (suc d)
+      by Idle is = record {
+        other = thread.other;
+        had = turn_skipped d thread.other thread.had (λ can.
+            not_idle may run whole.plan history thread.other told told_there whole.settled
+            turned.opening_is d above is can.within can.wanted
+            (ready_unhindered run thread.other whole.plan d can.ready));
+        turns = turns_more history thread.other thread.other d (λ i apart. refl) thread.turns
+            (record {
+              over = λ lease starts. let clash : Idle ≡ Begun lease = sym is ∙ starts in cc;
+              over_there = λ lease starts.
+                  let clash : Idle ≡ Begun lease = sym (turned.rest d (omega arith)) ∙ starts in cc;
+              idle = λ rests. is;
+              idle_there = λ rests. turned.rest d (omega arith);
+            });
+      }
+      by (Begun lease) is =
+          absurd (none_building may run whole.plan history thread.other told told_there
+          whole.settled turned.opening_is d lease is)
+      by Ended is =
+          let moved : phase_of history.events d ≡ Idle → ⊥ =
+          λ idle. let clash : Ended ≡ Idle = sym is ∙ idle in cc in
+          let made = told.made d is in
+          let lease = begins thread.other.events in
+          let middle = begun thread.other d in
+          let after = ended middle d lease made.entry in
+          let phase = phase_ended middle.events d lease in
+          record {
+            other = after;
+            had = turn_done d thread.other made.node made.infos made.entry thread.had
+                (can_begin moved) made.is_node (behind moved (Ok made.infos) made.came)
+                made.is_entry;
+            turns = turns_more history thread.other after d
+                (λ i apart. phase_other middle.events (Finish d lease) i apart
+                ∙ phase_other thread.other.events (Begin d lease) i apart) thread.turns
+                (record {
+                  over = λ n starts. let clash : Ended ≡ Begun n = sym is ∙ starts in cc;
+                  over_there = λ n starts. let clash : Ended ≡ Begun n = sym phase ∙ starts in cc;
+                  idle = λ rests. let clash : Ended ≡ Idle = sym phase ∙ rests in absurd cc;
+                  idle_there = λ rests. absurd (moved rests);
+                });
+          }
+      by (Broken why) is =
+          let moved : phase_of history.events d ≡ Idle → ⊥ =
+          λ idle. let clash : Broken why ≡ Idle = sym is ∙ idle in cc in
+          let came = told.broke d why is in
+          let lease = begins thread.other.events in
+          let middle = begun thread.other d in
+          let after = failed middle d lease why in
+          let phase = phase_broken middle.events d lease why in
+          record {
+            other = after;
+            had = turn_failed d thread.other why thread.had (can_begin moved)
+                (behind moved (Err why) came);
+            turns = turns_more history thread.other after d
+                (λ i apart. phase_other middle.events (Fail d lease why) i apart
+                ∙ phase_other thread.other.events (Begin d lease) i apart) thread.turns
+                (record {
+                  over = λ n starts. let clash : Broken why ≡ Begun n = sym is ∙ starts in cc;
+                  over_there = λ n starts.
+                      let clash : Broken why ≡ Begun n = sym phase ∙ starts in cc;
+                  idle = λ rests. let clash : Broken why ≡ Idle = sym phase ∙ rests in absurd cc;
+                  idle_there = λ rests. absurd (moved rests);
+                });
+          }
+
+thread_of : (may : Job → Result Answer Reason → Type 0) (run : Run) (history : History)
+    → IsWholeRun may run history → (count : ℕ) → IsThread may run history count
+thread_of may run history whole zero = record {
+  other = opened history.opening;
+  had = turn_opening (opening_journal (λ reason. reason ≡ OutOfMemory) may run history
+      (run_told may run history whole));
+  turns = λ d low. absurd (omega arith);
+}
+thread_of may run history whole (suc count) =
+    thread_more may run history whole count (thread_of may run history whole count)
+
+pub has_one_thread : (may : Job → Result Answer Reason → Type 0) → HasOneThread may
+has_one_thread may run history whole =
+    let thread = thread_of may run history whole (length run.graph.nodes) in
+    (thread.other, thread.had)
