@@ -1,5 +1,5 @@
 -- To each whole run there is one thread over the same opening.
-use Rattle.std.proofs.Common.{◌≡◌, ◌↔◌, ◌∙◌, ◌⊎◌, inl, inr, ◌<◌, ◌≤◌, ℕ, zero, suc, List, length, Result, Ok, Err, Some, refl, sym, ap, subst, ⊎_elim, arith}
+use Rattle.std.proofs.Common.{◌≡◌, ◌↔◌, ◌∙◌, ◌<◌, ℕ, zero, suc, List, length, Result, Ok, Err, Some, refl, sym, subst, ⊎_elim, arith}
 use Rattle.std.specs.Prelude.{Contains, slice_get}
 use Rattle.drv_graph.specs.Nodes.{Node}
 use Rattle.valid_table.specs.Entries.{registered}
@@ -24,7 +24,7 @@ use Rattle.store_run.proofs.Alike.{HasSameTurn, IsAccounted, IsAlikeAt, alike_be
 use Rattle.store_run.proofs.Carried.{IsCarried, may_refer_there}
 use Rattle.store_run.proofs.OneOutcome.{job_outputs, job_seeds, permitted_job, permitted_whole}
 use Rattle.store_run.proofs.Schedules.{opening_journal, run_accounted, run_told, turns_accounted}
-use Rattle.store_run.proofs.Telling.{CameTo, phase_begun, phase_broken, phase_ended, phase_other, same_or_other}
+use Rattle.store_run.proofs.Telling.{CameTo, phase_broken, phase_ended, phase_other, same_or_other}
 use Rattle.store_run.proofs.Turns.{HaveTurned, turned_is}
 use Rattle.store_run.proofs.Unhindered.{IsUnhindered, ready_unhindered, unhindered_ready}
 

@@ -4,7 +4,6 @@ use Rattle.drv_graph.specs.SoundGraphs.{IsSound}
 use Rattle.valid_table.specs.Valid.{IsJournal}
 use Rattle.valid_table.specs.declared.entry.Entry.{Entry}
 use Rattle.valid_table.proofs.JournalLists.{closed_references_valid}
-use Rattle.sched_core.specs.Books.{IsRunSettled}
 use Rattle.sched_core.specs.Legal.{IsLegal}
 use Rattle.sched_core.specs.Reports.{IsReport}
 use Rattle.sched_core.specs.Runs.{History, IsWanted, Run, state_in}
@@ -23,7 +22,7 @@ use Rattle.store_run.specs.Scheduling.{AnySchedule, HasOneOutcome, IsWholeRun, O
 use Rattle.store_run.proofs.Alike.{IsAccounted, are_alike}
 use Rattle.store_run.proofs.Telling.{begun_is, broke_is, drv_paths, from_is, made_is}
 use Rattle.store_run.proofs.ToldRuns.{IsTold, told_begin, told_done, told_fail, told_from, told_opening}
-use Rattle.store_run.proofs.Turns.{HaveTurned, turned_is, turned_settled}
+use Rattle.store_run.proofs.Turns.{turned_is, turned_settled}
 use Rattle.store_run.proofs.Unhindered.{state_by}
 
 module _ (excused : Reason → Type 0) (may : Job → Result Answer Reason → Type 0) (run : Run) where
