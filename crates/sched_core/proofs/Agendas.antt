@@ -1,13 +1,12 @@
 -- What is to be done as tallies change.
-use Rattle.std.proofs.Common.{◌≡◌, ◌≢◌, ◌∙◌, ◌⊎◌, inl, inr, ⊎_elim, ℕ, zero, suc, ◌+◌, ◌-◌, ◌<◌, ◌≤◌, ◌&&◌, not, Bool, true, false, List, [], ◌∷◌, ◌++◌, length, map, drop, take, get_or, Option, Some, None, refl, sym, ap, subst, arith, if◌then◌else◌}
+use Rattle.std.proofs.Common.{◌≡◌, ◌≢◌, ◌∙◌, ◌⊎◌, inl, inr, ⊎_elim, ℕ, zero, suc, ◌+◌, ◌-◌, ◌<◌, ◌≤◌, ◌&&◌, not, Bool, true, false, List, [], ◌∷◌, ◌++◌, length, drop, take, get_or, Some, refl, sym, ap, subst, arith, if◌then◌else◌}
 use Rattle.std.specs.Prelude.{All, Contains, slice_get}
-use Rattle.std.specs.List.{slice_index_or}
 use Rattle.std.proofs.Math.ListN.{set}
-use Rattle.std.proofs.lemmas.Bool.{cases_lt, false≢true}
-use Rattle.std.proofs.lemmas.List.{append-nil, get_or-map, length-append, length-map, length-set, length-take-le, length_push, take_all, take_more}
-use Rattle.std.proofs.lemmas.List.Elements.{All-append, All-contains, All-drop, All-nil, All-push, All-weaker, Contains-append_left, Contains-push}
-use Rattle.std.proofs.lemmas.Option.{get_or_from_slice_get, slice_get-get_or, slice_get_past, slice_get_within}
-use Rattle.sched_core.specs.Agendas.{Agenda, IsAgenda, IsFresh, IsWantedAt, alone_if, ends, frees, is_blocked, is_open, is_ready, is_unsettled, noted, settles, tally_count}
+use Rattle.std.proofs.lemmas.Bool.{false≢true}
+use Rattle.std.proofs.lemmas.List.{append-nil, get_or-map, length-append, length-set, length-take-le, length_push, take_all, take_more}
+use Rattle.std.proofs.lemmas.List.Elements.{All-append, All-drop, All-nil, All-push, All-weaker, Contains-append_left, Contains-push}
+use Rattle.std.proofs.lemmas.Option.{get_or_from_slice_get, slice_get-get_or, slice_get_within}
+use Rattle.sched_core.specs.Agendas.{Agenda, IsAgenda, IsWantedAt, alone_if, ends, frees, is_blocked, is_open, is_ready, is_unsettled, noted, settles, tally_count}
 use Rattle.sched_core.specs.Coursing.{kept}
 use Rattle.sched_core.specs.Tallies.{Turns, states_in, turns_begun, turns_done, turns_failed, turns_freed, turns_named, turns_refused, turns_stays}
 use Rattle.sched_core.specs.declared.reason.State.{State}
@@ -167,7 +166,7 @@ wanted_set tallies d e before after at same (tally, there, is) =
         let its : tally ≡ before = cc in (
           after,
           subst (λ n. slice_get (set tallies d after) n ≡ Some after) (sym here)
-          (set_same tallies d before after at),
+              (set_same tallies d before after at),
           same ∙ ap (λ (t : Tally). t.wanted) (sym its) ∙ is,
         )
     by (inr apart) = (tally, set_other tallies d e after tally apart there, is)
@@ -192,8 +191,8 @@ noted_agenda tallies agenda d before after at turns same is = record {
     length_alone (frees before after) d,
     count_set (λ tally. is_blocked tally.state) tallies d before after at,
     room_one after.wanted (is_blocked before.state) (is_blocked after.state)
-    (is_ready after.state) (turn_blocked before.state after.state turns)
-    (ready_not_blocked after.state),
+        (is_ready after.state) (turn_blocked before.state after.state turns)
+        (ready_not_blocked after.state),
   );
   work = All-append (λ e. e < length (set tallies d after)) agenda.work
       (alone_if (ends before after) d)
@@ -212,7 +211,7 @@ noted_agenda tallies agenda d before after at turns same is = record {
     length_alone (ends before after) d,
     count_set (λ tally. is_open tally.state) tallies d before after at,
     ends_one (is_open before.state) (is_open after.state)
-    (turn_open before.state after.state turns),
+        (turn_open before.state after.state turns),
   );
   unsettled = omega (arith, is.unsettled, unsettled_falls);
 }
@@ -264,7 +263,7 @@ noted_agenda tallies agenda d before after at turns same is = record {
           arith,
           count_set is_unsettled tallies d before after at,
           settles_one after.wanted (is_open before.state) (is_open after.state)
-          (turn_open before.state after.state turns),
+              (turn_open before.state after.state turns),
         )
 
 -- there is room to note it
@@ -280,7 +279,7 @@ settles_most tallies agenda d before after at turns same is =
       is.unsettled,
       count_set is_unsettled tallies d before after at,
       settles_one after.wanted (is_open before.state) (is_open after.state)
-      (turn_open before.state after.state turns),
+          (turn_open before.state after.state turns),
     )
 
 -- what is to be told, now or once it is known, doesn't grow
@@ -296,7 +295,7 @@ noted_measure tallies agenda d before after at turns =
       length_alone (ends before after) d,
       count_set (λ tally. is_open tally.state) tallies d before after at,
       ends_one (is_open before.state) (is_open after.state)
-      (turn_open before.state after.state turns),
+          (turn_open before.state after.state turns),
     )
 
 -- a number in a list but for its first
@@ -347,12 +346,12 @@ ring_falls_at tallies agenda d default first waits is =
 -- The first so many tallies were looked at, and what can be begun of them is in the ring.
 pub record IsOpening (tallies : List Tally) (d : ℕ) (ring : List ℕ) (unsettled : ℕ) : Type 0 where
   pub is : IsAgenda (take d tallies) (record {
-      ring = ring;
-      room = d;
-      work = [];
-      space = d;
-      unsettled = unsettled;
-    })
+    ring = ring;
+    room = d;
+    work = [];
+    space = d;
+    unsettled = unsettled;
+  })
   pub ready : All (λ e. kept (states_in tallies) e ≡ Ready) ring
 
 pub opening_none : (tallies : List Tally) → IsOpening tallies 0 [] 0

@@ -1,18 +1,18 @@
 -- A course by the tallies that are kept.
-use Rattle.std.proofs.Common.{◌≡◌, ◌∙◌, ◌↔◌, ◌⊎◌, inl, inr, ⊎_elim, ℕ, zero, suc, ◌+◌, ◌<◌, ◌==◌, ◌&&◌, Bool, true, false, List, [], ◌∷◌, ◌++◌, length, map, take, get_or, IsTrue, Option, Some, None, refl, sym, ap, subst, arith, eqb-true, eq-eqb}
-use Rattle.std.specs.Prelude.{Contains, MatchOption, slice_get, slice_set}
+use Rattle.std.proofs.Common.{◌≡◌, ◌∙◌, ◌↔◌, inl, inr, ℕ, zero, suc, ◌+◌, ◌<◌, ◌==◌, ◌&&◌, Bool, true, false, List, [], ◌∷◌, ◌++◌, length, map, take, get_or, IsTrue, Option, Some, None, refl, sym, ap, subst, arith, eqb-true, eq-eqb}
+use Rattle.std.specs.Prelude.{Contains, MatchOption, slice_get}
 use Rattle.std.specs.List.{slice_index_or}
 use Rattle.std.proofs.lemmas.Bool.{false≢true}
 use Rattle.std.proofs.lemmas.List.{get_or-map, length_push, map_push, take_all, take_more}
 use Rattle.std.proofs.lemmas.Option.{get_or_from_slice_get, slice_get-get_or, slice_get_within}
-use Rattle.nix_names.proofs.Lists.{Contains-from_get, Contains-nothing, get_mapped, get_push_cases}
+use Rattle.nix_names.proofs.Lists.{Contains-nothing}
 use Rattle.drv_graph.specs.Plans.{Graph}
 use Rattle.drv_graph.specs.SoundGraphs.{IsSound}
-use Rattle.sched_core.specs.Agendas.{Agenda, AreOpening, IsAgenda, IsCourse, IsFresh, IsSteady, course_by, is_open, is_unsettled, phases_in, standings_in, wanted_in}
-use Rattle.sched_core.specs.Courses.{Course, HasBegun, IsNext, IsOpen, IsSettled, course_rows, course_state}
-use Rattle.sched_core.specs.Coursing.{AreStatesOf, kept, phase_in}
+use Rattle.sched_core.specs.Agendas.{Agenda, AreOpening, IsAgenda, IsCourse, IsFresh, course_by, is_open, is_unsettled, phases_in, standings_in, wanted_in}
+use Rattle.sched_core.specs.Courses.{Course, IsNext, IsOpen, IsSettled, course_rows, course_state}
+use Rattle.sched_core.specs.Coursing.{kept, phase_in}
 use Rattle.sched_core.specs.Runs.{inputs_at}
-use Rattle.sched_core.specs.States.{Begun, Idle, Phase, by_phase, state, table}
+use Rattle.sched_core.specs.States.{Begun, Idle, state, table}
 use Rattle.sched_core.specs.Tallies.{HaveHeard, Hears, states_in}
 use Rattle.sched_core.specs.Users.{AreUsers, users_of_all}
 use Rattle.sched_core.specs.declared.reason.State.{State}

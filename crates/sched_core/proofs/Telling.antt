@@ -1,17 +1,15 @@
 -- Users are told, one after the other.
-use Rattle.std.proofs.Common.{◌≡◌, ◌≢◌, ◌∙◌, ◌⊎◌, inl, inr, ⊎_elim, ℕ, zero, suc, ◌+◌, ◌<◌, ◌≤◌, ◌==◌, ◌&&◌, not, Bool, true, false, List, [], ◌∷◌, ◌++◌, length, map, drop, get_or, Option, Some, None, refl, sym, ap, subst, arith, if◌then◌else◌, eqb-true, eq-eqb}
-use Rattle.std.specs.Prelude.{All, Contains, slice_get, slice_set}
-use Rattle.std.specs.List.{slice_index_or}
+use Rattle.std.proofs.Common.{◌≡◌, ◌≢◌, ◌∙◌, ⊎_elim, ℕ, zero, suc, ◌+◌, ◌<◌, ◌≤◌, ◌==◌, ◌&&◌, not, Bool, true, false, List, [], ◌∷◌, ◌++◌, length, map, drop, get_or, Option, Some, None, refl, sym, ap, subst, arith, if◌then◌else◌, eqb-true, eq-eqb}
+use Rattle.std.specs.Prelude.{slice_get, slice_set}
 use Rattle.std.proofs.Math.ListN.{set}
-use Rattle.std.proofs.lemmas.Bool.{false≢true}
-use Rattle.std.proofs.lemmas.List.{append-nil, append_assoc, drop_all, drop_more, get_or-map, get_or-set_other, length-append, length-map, length-set, map-set, set-get_or}
+use Rattle.std.proofs.lemmas.List.{append-nil, append_assoc, drop_more, get_or-map, get_or-set_other, length-set, map-set}
 use Rattle.std.proofs.lemmas.List.Elements.{All-drop}
-use Rattle.std.proofs.lemmas.Option.{get_or_from_slice_get, none-some, slice_get-get_or, slice_get_within}
+use Rattle.std.proofs.lemmas.Option.{get_or_from_slice_get, slice_get-get_or, slice_get_within}
 use Rattle.nix_names.proofs.Lists.{Contains-from_get}
-use Rattle.sched_core.specs.Agendas.{Agenda, AreSameElse, IsAgenda, IsFresh, IsSpreading, IsSteady, alone_if, ends, is_open, noted, phases_in, settles, standings_in, tally_count, to_end, wanted_in}
+use Rattle.sched_core.specs.Agendas.{Agenda, AreSameElse, IsAgenda, IsFresh, IsSpreading, IsSteady, alone_if, ends, is_open, noted, phases_in, settles, standings_in, to_end, wanted_in}
 use Rattle.sched_core.specs.Coursing.{kept, phase_in}
 use Rattle.sched_core.specs.States.{Idle, is_good}
-use Rattle.sched_core.specs.Tallies.{CanHear, HaveHeard, Hears, IsSameElse, IsTally, Knows, News, Open, Good, Bad, Turns, are_news, news_by, news_of, states_in, to_tell}
+use Rattle.sched_core.specs.Tallies.{CanHear, HaveHeard, IsSameElse, IsTally, News, Open, Turns, are_news, news_by, news_of, states_in, to_tell}
 use Rattle.sched_core.specs.Users.{AreUsers, once_at, times, users_of, users_of_all}
 use Rattle.sched_core.specs.declared.reason.State.{State}
 use Rattle.sched_core.specs.declared.reason.State.TheVariants.{Done, Failed, Building, Reused, Refused, Ready, Blocked}

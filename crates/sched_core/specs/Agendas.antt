@@ -1,6 +1,6 @@
 -- *Agenda*: what is still to be done of a plan: which derivations can be begun, and of which the
 -- users are still to be told (this product's own).
-use Rattle.std.specs.Prelude.{◌≡◌, ◌<◌, ◌≤◌, ◌+◌, ◌-◌, ◌&&◌, ℕ, not, Bool, true, false, Some, List, [], ◌∷◌, ◌++◌, All, Contains, length, map, slice_get, slice_set, if◌then◌else◌}
+use Rattle.std.specs.Prelude.{◌≡◌, ◌<◌, ◌≤◌, ◌+◌, ◌-◌, ◌&&◌, ℕ, not, Bool, true, false, Some, List, [], ◌∷◌, ◌++◌, All, Contains, length, map, slice_get, if◌then◌else◌}
 use Rattle.std.specs.List.{slice_index_or}
 use Rattle.drv_graph.specs.Plans.{Graph}
 use Rattle.sched_core.specs.Courses.{Course, course_rows}
@@ -10,7 +10,7 @@ use Rattle.sched_core.specs.States.{Idle, InputsFirst, Phase}
 use Rattle.sched_core.specs.Tallies.{HaveHeard, states_in}
 use Rattle.sched_core.specs.Users.{AreUsers, users_of_all}
 use Rattle.sched_core.specs.declared.reason.State.{State}
-use Rattle.sched_core.specs.declared.reason.State.TheVariants.{Done, Failed, Building, Reused, Refused, Ready, Blocked}
+use Rattle.sched_core.specs.declared.reason.State.TheVariants.{Building, Ready, Blocked}
 use Rattle.sched_core.specs.declared.standing.Standing.{Standing}
 use Rattle.sched_core.specs.declared.tally.Tally.{Tally}
 use Rattle.sched_core.specs.declared.users.Edge.{Edge}

@@ -1,6 +1,6 @@
 -- *Reverse edges*: from each derivation of a plan to those that have it as an input (this product's
 -- own).
-use Rattle.std.specs.Prelude.{◌≡◌, ◌<◌, ◌+◌, ◌==◌, ◌&&◌, ℕ, zero, suc, Option, Some, None, List, [], ◌∷◌, ◌++◌, All, length, slice_get, if◌then◌else◌}
+use Rattle.std.specs.Prelude.{◌≡◌, ◌<◌, ◌+◌, ◌==◌, ◌&&◌, ℕ, Option, Some, None, List, [], ◌∷◌, ◌++◌, All, length, slice_get, if◌then◌else◌}
 use Rattle.std.specs.List.{slice_index_or}
 use Rattle.sched_core.specs.declared.users.Edge.{Edge}
 

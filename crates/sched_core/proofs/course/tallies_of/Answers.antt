@@ -1,4 +1,4 @@
-use Rattle.std.proofs.Common.{◌≡◌, ◌<◌, length, arith, ap, subst}
+use Rattle.std.proofs.Common.{◌<◌, length, arith, subst}
 use Rattle.sched_core.specs.Coursing.{kept}
 use Rattle.sched_core.specs.Tallies.{Hears, states_in}
 use Rattle.sched_core.proofs.Tallied.{opened_all, opened_more}

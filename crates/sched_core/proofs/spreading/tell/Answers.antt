@@ -1,8 +1,7 @@
-use Rattle.std.proofs.Common.{◌≡◌, ◌∙◌, ◌+◌, ◌<◌, ◌≤◌, ℕ, List, ap, sym, subst, length, drop, false, refl, get_or}
+use Rattle.std.proofs.Common.{◌≡◌, ◌∙◌, ◌<◌, ◌≤◌, ℕ, List, ap, sym, subst, length, false, get_or}
 use Rattle.std.proofs.lemmas.List.{length-set}
-use Rattle.sched_core.specs.Agendas.{Agenda, AreSameElse, IsSpreading, noted, settles, to_end}
+use Rattle.sched_core.specs.Agendas.{Agenda, noted, settles}
 use Rattle.sched_core.specs.States.{is_good}
-use Rattle.sched_core.specs.Users.{users_of}
 use Rattle.sched_core.specs.declared.reason.State.TheVariants.{Done}
 use Rattle.sched_core.specs.declared.standing.Standing.TheVariants.{AllValid}
 use Rattle.sched_core.specs.declared.tally.Tally.{Tally}

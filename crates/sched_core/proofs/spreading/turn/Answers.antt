@@ -1,5 +1,5 @@
-use Rattle.std.proofs.Common.{◌≡◌, ◌∙◌, ℕ, List, [], false, sym, subst, get_or, set}
-use Rattle.sched_core.specs.Agendas.{Agenda, IsAgenda, IsSpreading, noted}
+use Rattle.std.proofs.Common.{◌∙◌, ℕ, List, [], false, sym, subst, get_or, set}
+use Rattle.sched_core.specs.Agendas.{Agenda, IsSpreading}
 use Rattle.sched_core.specs.declared.reason.State.{State}
 use Rattle.sched_core.specs.declared.reason.State.TheVariants.{Done}
 use Rattle.sched_core.specs.declared.standing.Standing.TheVariants.{AllValid}
@@ -33,13 +33,15 @@ note-requires-clause-unsettled c =
     c.requires.within c.requires.turns c.requires.steady.1.told.listed
 
 pub spread-requires : goal.spread-requires
-spread-requires c =
-    (c.requires.steady.0, subst (λ (a : Agenda). IsSpreading c.requires.steady.0 c.args.users.now
-    (set c.args.tallies.now c.args.d (now c.args.tallies.now c.args.d c.args.state)) a [])
-    (sym c.note.ensures)
-    (turned_spreading c.args.tallies.now c.args.agenda.now c.args.d no_tally c.args.state
-    c.requires.within c.requires.turns c.requires.steady.0 c.args.users.now c.requires.begun
-    c.requires.steady.1.told))
+spread-requires c = (
+  c.requires.steady.0,
+  subst (λ (a : Agenda). IsSpreading c.requires.steady.0 c.args.users.now
+      (set c.args.tallies.now c.args.d (now c.args.tallies.now c.args.d c.args.state)) a [])
+      (sym c.note.ensures)
+      (turned_spreading c.args.tallies.now c.args.agenda.now c.args.d no_tally c.args.state
+      c.requires.within c.requires.turns c.requires.steady.0 c.args.users.now c.requires.begun
+      c.requires.steady.1.told),
+)
 
 pub freshen-requires : goal.freshen-requires
 freshen-requires c =

@@ -1,6 +1,4 @@
-use Rattle.std.proofs.Common.{◌≡◌, ◌∙◌, Some, sym, subst, drop}
-use Rattle.std.specs.Prelude.{slice_get}
-use Rattle.sched_core.specs.Agendas.{Agenda, IsAgenda, is_ready}
+use Rattle.std.proofs.Common.{◌∙◌, sym}
 use Rattle.sched_core.proofs.Agendas.{ring_falls_at}
 use Rattle.sched_core.proofs.agenda.Agenda.freshen.Goals as goal
 

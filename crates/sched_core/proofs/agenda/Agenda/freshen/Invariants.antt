@@ -1,6 +1,5 @@
 use Rattle.std.proofs.Common.{◌≡◌, length}
 use Rattle.sched_core.specs.Agendas.{IsAgenda}
-use Rattle.sched_core.proofs.Agendas.{noted_agenda}
 use Rattle.sched_core.proofs.agenda.Agenda.freshen.Given as goal
 
 abbrev pub invariant-loop-d : goal.invariant-loop-d

@@ -30,32 +30,32 @@ loop-d-preserved c = elim c.if-tally.branch [
             c.loop-d.invariant.is;
       }
   | then-tally+then-is_open+else-is_ready w ↦ record {
-      room = ap (λ b. b.capacity) w.ring-is ∙ c.loop-d.invariant.room;
-      work = c.loop-d.invariant.work;
-      space = c.loop-d.invariant.space;
-      is = opening_open c.args.tallies.now c.loop-d.d c.loop-d.ring.items c.loop-d.unsettled _
-          c.if-tally.ring.items c.if-tally.unsettled c.loop-d-test.true w.if-tally.true
-          (sym w.is_open.ensures ∙ w.if-is_open.true)
-          (sym w.is_ready.ensures ∙ w.if-is_ready.false) (ap (λ b. b.items) w.ring-is)
-          w.unsettled-is c.loop-d.invariant.is;
-    }
+    room = ap (λ b. b.capacity) w.ring-is ∙ c.loop-d.invariant.room;
+    work = c.loop-d.invariant.work;
+    space = c.loop-d.invariant.space;
+    is = opening_open c.args.tallies.now c.loop-d.d c.loop-d.ring.items c.loop-d.unsettled _
+        c.if-tally.ring.items c.if-tally.unsettled c.loop-d-test.true w.if-tally.true
+        (sym w.is_open.ensures ∙ w.if-is_open.true)
+        (sym w.is_ready.ensures ∙ w.if-is_ready.false) (ap (λ b. b.items) w.ring-is)
+        w.unsettled-is c.loop-d.invariant.is;
+  }
   | else-tally w ↦ record {
-      room = ap (λ b. b.capacity) w.ring-is ∙ c.loop-d.invariant.room;
-      work = c.loop-d.invariant.work;
-      space = c.loop-d.invariant.space;
-      is = elim w.else-tally.branch [
-        | else-tally-via-then-tally+else-is_open v ↦
-            opening_passed c.args.tallies.now c.loop-d.d c.loop-d.ring.items c.loop-d.unsettled _
-            c.if-tally.ring.items c.if-tally.unsettled c.loop-d-test.true
-            (inr (sym v.is_open.ensures ∙ v.if-is_open.false)) (ap (λ b. b.items) w.ring-is)
-            w.unsettled-is c.loop-d.invariant.is
-        | else-tally-via-else-tally v ↦
-            opening_passed c.args.tallies.now c.loop-d.d c.loop-d.ring.items c.loop-d.unsettled _
-            c.if-tally.ring.items c.if-tally.unsettled c.loop-d-test.true
-            (inl v.if-tally.false) (ap (λ b. b.items) w.ring-is)
-            w.unsettled-is c.loop-d.invariant.is
-      ];
-    }
+    room = ap (λ b. b.capacity) w.ring-is ∙ c.loop-d.invariant.room;
+    work = c.loop-d.invariant.work;
+    space = c.loop-d.invariant.space;
+    is = elim w.else-tally.branch [
+      | else-tally-via-then-tally+else-is_open v ↦
+          opening_passed c.args.tallies.now c.loop-d.d c.loop-d.ring.items c.loop-d.unsettled _
+          c.if-tally.ring.items c.if-tally.unsettled c.loop-d-test.true
+          (inr (sym v.is_open.ensures ∙ v.if-is_open.false)) (ap (λ b. b.items) w.ring-is)
+          w.unsettled-is c.loop-d.invariant.is
+      | else-tally-via-else-tally v ↦
+          opening_passed c.args.tallies.now c.loop-d.d c.loop-d.ring.items c.loop-d.unsettled _
+          c.if-tally.ring.items c.if-tally.unsettled c.loop-d-test.true
+          (inl v.if-tally.false) (ap (λ b. b.items) w.ring-is)
+          w.unsettled-is c.loop-d.invariant.is
+    ];
+  }
 ]
 
 pub returns-clause-is : goal.returns-clause-is
