@@ -86,21 +86,21 @@ module _ (all other : List Registration) (seeds outputs : List (List ℕ))
     → Registers other path info)
     (refers : (path next : List ℕ) (info : PathInfo) → Contains outputs path
     → Registers all path info → Contains info.references next → MayRefer all seeds outputs next)
-    where
-  output_leads : (from to : List ℕ) (steps : List (List ℕ)) → Contains outputs from
-      → Leads all from to steps → (info : PathInfo) → Registers all to info
-      → Registers other to info
-  output_leads from to [] own leads info has =
-      records to info (subst (Contains outputs) leads.1 own) has
-  output_leads from to (next ∷ steps) own leads info has =
-      ⊎_elim
-      (λ reached. carried reached.0 reached.1 to info (
-        reached.2.0 ++ steps,
-        leads_on all reached.0 next to reached.2.0 steps reached.2.1 leads.1,
-      ) has)
-      (λ inner. output_leads next to steps inner leads.1 info has)
-      (refers from next leads.0.0 own leads.0.1 leads.0.2)
+  where
+    output_leads : (from to : List ℕ) (steps : List (List ℕ)) → Contains outputs from
+        → Leads all from to steps → (info : PathInfo) → Registers all to info
+        → Registers other to info
+    output_leads from to [] own leads info has =
+        records to info (subst (Contains outputs) leads.1 own) has
+    output_leads from to (next ∷ steps) own leads info has =
+        ⊎_elim
+        (λ reached. carried reached.0 reached.1 to info (
+          reached.2.0 ++ steps,
+          leads_on all reached.0 next to reached.2.0 steps reached.2.1 leads.1,
+        ) has)
+        (λ inner. output_leads next to steps inner leads.1 info has)
+        (refers from next leads.0.0 own leads.0.1 leads.0.2)
 
-  pub outputs_carried : (path : List ℕ) → Contains outputs path → IsCarried all other path
-  outputs_carried path own to info reaches has =
-      output_leads path to reaches.0 own reaches.1 info has
+    pub outputs_carried : (path : List ℕ) → Contains outputs path → IsCarried all other path
+    outputs_carried path own to info reaches has =
+        output_leads path to reaches.0 own reaches.1 info has

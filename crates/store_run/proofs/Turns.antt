@@ -171,51 +171,51 @@ module _ (may : Job → Result Answer Reason → Type 0) (run : Run) (sound : Is
   module _ (history : History) (told : IsTold (λ reason. ⊥) may run history) (d : ℕ) (node : Node)
       (infos : List PathInfo) (at : slice_get run.graph.nodes d ≡ Some node)
       (can : CanBegin run history d) (behind : IsVerdictBehind may run history.entries d (Ok infos))
-      where
-    outputs_new : (path : List ℕ) → Contains (output_paths node.drv) path
-        → IsValid (registered history.entries) path → ⊥
-    outputs_new path own valid =
-        let had = registers_from_valid (registered history.entries) path valid in
-        by had.0 (from_is (λ reason. ⊥) may run history told path had.0 had.1)
-      where
-        by : (info : PathInfo) → IsFrom run history path info → ⊥
-        by info (from_opening has) =
-            let un = ready_unhindered run history sound d can.ready in
-            let none : is_valid history.opening path ≡ false =
-            output_of_free run.system history.opening node.drv
-            (sym (ap (standing_at run.system history.opening) at) ∙ un.free) path own in
-            let some : is_valid history.opening path ≡ true =
-            list_any-from_Contains nat_list_eq_equiv path (paths_of (registered history.opening))
-            (valid_from_registers (registered history.opening) path info has) in
-            let clash : false ≡ true = sym none ∙ some in
-            cc
-        by info (from_built e other at' ends own') =
-            let same = one_maker run.graph sound d e node other path at at' own own' in
-            let clash : Idle ≡ Ended = sym (ready_is_idle run history d can.ready)
-            ∙ ap (phase_of history.events) same ∙ ends in
-            cc
+    where
+      outputs_new : (path : List ℕ) → Contains (output_paths node.drv) path
+          → IsValid (registered history.entries) path → ⊥
+      outputs_new path own valid =
+          let had = registers_from_valid (registered history.entries) path valid in
+          by had.0 (from_is (λ reason. ⊥) may run history told path had.0 had.1)
+        where
+          by : (info : PathInfo) → IsFrom run history path info → ⊥
+          by info (from_opening has) =
+              let un = ready_unhindered run history sound d can.ready in
+              let none : is_valid history.opening path ≡ false =
+              output_of_free run.system history.opening node.drv
+              (sym (ap (standing_at run.system history.opening) at) ∙ un.free) path own in
+              let some : is_valid history.opening path ≡ true =
+              list_any-from_Contains nat_list_eq_equiv path (paths_of (registered history.opening))
+              (valid_from_registers (registered history.opening) path info has) in
+              let clash : false ≡ true = sym none ∙ some in
+              cc
+          by info (from_built e other at' ends own') =
+              let same = one_maker run.graph sound d e node other path at at' own own' in
+              let clash : Idle ≡ Ended = sym (ready_is_idle run history d can.ready)
+              ∙ ap (phase_of history.events) same ∙ ends in
+              cc
 
-    registrable : (permitted : List (List ℕ)) × AreRegistrable node permitted infos
-    registrable = by behind.comes_to.0 behind.comes_to.2
-      where
-        by : (outcome : Result Answer Reason)
-            → IsOutcomeVerdict history.entries behind.job outcome (Ok infos)
-            → (permitted : List (List ℕ)) × AreRegistrable node permitted infos
-        by (Ok answer) is = (
-          is.0,
-          verdicts_are_registrable run.graph d behind.job node is.0 answer infos behind.is_job at
-              is.2,
-        )
-        by (Err reason) is = absurd cc
+      registrable : (permitted : List (List ℕ)) × AreRegistrable node permitted infos
+      registrable = by behind.comes_to.0 behind.comes_to.2
+        where
+          by : (outcome : Result Answer Reason)
+              → IsOutcomeVerdict history.entries behind.job outcome (Ok infos)
+              → (permitted : List (List ℕ)) × AreRegistrable node permitted infos
+          by (Ok answer) is = (
+            is.0,
+            verdicts_are_registrable run.graph d behind.job node is.0 answer infos behind.is_job at
+                is.2,
+          )
+          by (Err reason) is = absurd cc
 
-    allowed : IsAllowed run history.entries node infos
-    allowed = record {
-      count = registrable.1.count;
-      new = outputs_new;
-      permitted = refers_behind may run history.entries d node infos at behind;
-      fixed = registrable.1.fixed;
-      acyclic = registrable.1.acyclic;
-    }
+      allowed : IsAllowed run history.entries node infos
+      allowed = record {
+        count = registrable.1.count;
+        new = outputs_new;
+        permitted = refers_behind may run history.entries d node infos at behind;
+        fixed = registrable.1.fixed;
+        acyclic = registrable.1.acyclic;
+      }
 
   -- a turn that was passed over
   skipped : (d : ℕ) (history : History) → HaveTurned may run opening d history
