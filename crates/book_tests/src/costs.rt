@@ -40,11 +40,11 @@ fn refused(book: &Book<ListOutlet>) -> usize {
 }
 
 // Ends a lease, if there is one, by a failure; says whether it is the book's.
-fn ends_badly(book: &mut Book<ListOutlet>, lease: Result<Lease<usize>, Fail>) -> bool {
-    match lease {
-        Ok(lease) => fails(book, lease, Reason::ExitStatus(1)),
-        Err(_) => false,
-    }
+fn ends_badly(
+    book: &mut Book<ListOutlet>,
+    lease: Result<Lease<usize>, Fail>,
+) -> Result<bool, Fail> {
+    Ok(fails(book, lease?, Reason::ExitStatus(1)))
 }
 
 // Builds all that can be built.
@@ -68,7 +68,7 @@ fn users_of_one_that_failed(rt: HostRuntime) -> Result<(), Fail> {
     let (refused, settled) = (refused(&book), book.settled());
     book.close();
     assert!(rt; begins.is_ok() && ends.is_ok());
-    assert!(rt; failed && settled);
+    assert!(rt; failed? && settled);
     assert_eq!(rt; refused, USERS);
     Ok(())
 }

@@ -117,6 +117,18 @@ fn is_idle(known: &Known, states: &[State]) -> bool {
         .all(|(state, wanted)| !*wanted || *state != State::Ready)
 }
 
+// The most steps of a run over a plan: two for each derivation, and two for each pair of one and an
+// input of it.
+fn most_steps(plan: &Plan) -> u64 {
+    let mut count: u64 = 0;
+    for d in 0..plan.len() {
+        count = count
+            .wrapping_add(1)
+            .wrapping_add(plan.inputs(d).len() as u64);
+    }
+    count.wrapping_mul(2)
+}
+
 // Whether a book's derivations have just these states.
 fn has_states(book: &Book<ListOutlet>, states: &[State]) -> bool {
     for d in 0..book.plan().len() {
@@ -207,11 +219,17 @@ impl Running {
         Ok(self.step(alloc, looked_at)? && (!looked_at || self.agrees(alloc)?))
     }
 
+    // Whether the book is as it has to be where it is settled.
+    fn ends_well(&self, alloc: Global) -> Result<bool, AllocError> {
+        let is_quick = self.book.steps() <= most_steps(self.book.plan());
+        Ok(is_quick && self.leases.is_empty() && self.agrees(alloc)?)
+    }
+
     // Whether the book is as it has to be, up to its end and there.
     fn runs(&mut self, alloc: Global) -> Result<bool, Fail> {
         for step in 0..MOST_STEPS {
             if self.book.settled() {
-                return Ok(self.leases.is_empty() && self.agrees(alloc)?);
+                return Ok(self.ends_well(alloc)?);
             }
             if !self.step_is_right(alloc, step.is_multiple_of(self.every))? {
                 return Ok(false);
