@@ -134,7 +134,8 @@ module _ (known all : List (List ℕ)) where
       let (r, is) = element_at rs new lt in
       let before = take new rs in
       let after = drop (suc new) rs in
-      let at : slice_get paths new ≡ Some r.path = get_mapped (λ (x : Registration). x.path) rs new r is
+      let at : slice_get paths new ≡ Some r.path =
+      get_mapped (λ (x : Registration). x.path) rs new r is
       in
       let new_before : AreUnknown known (paths_of before) =
       subst (AreUnknown known) (take-map (λ (x : Registration). x.path) new rs) front.new in (

@@ -50,14 +50,25 @@ pub right_at :
     All (IsRightBehind (earlier ++ registered before) entry) (entry_lines entry)
 right_at earlier [] entry after right = search (rules, append-nil)
 right_at earlier (first ∷ before) entry after right =
-    search (rules, append_assoc, (right_at (earlier ++ registered_by first) before entry after right.1))
+    search (
+      rules,
+      append_assoc,
+      (right_at (earlier ++ registered_by first) before entry after right.1),
+    )
 
 -- the references of right lines are valid
 references_valid : (known all references : List (List ℕ))
     → All (IsRight known all) (map Reference references) → All (Contains all) references
 references_valid known all [] right = All-nil (Contains all)
 references_valid known all (path ∷ references) right =
-    search (rules, All-cons, All-head, All-tail, (references_valid known all references (All-tail (IsRight known all) (Reference path) (map Reference references) right)))
+    search (
+      rules,
+      All-cons,
+      All-head,
+      All-tail,
+      (references_valid known all references
+          (All-tail (IsRight known all) (Reference path) (map Reference references) right)),
+    )
 
 -- so the references of registrations whose lines are right are known
 references_valid_of :

@@ -28,7 +28,13 @@ pub references_back : (dir : List ℕ) (Of : Place → List Line → Type 0) →
     → Of (Within output before) (map Reference references ++ more)
 references_back dir Of back output before [] more of_dir above of = of
 references_back dir Of back output before (path ∷ paths) more of_dir above of =
-    search (rules, All-head, All-tail, (references_back dir Of back output (Some path) paths more (All-tail (IsPathOf dir) path paths of_dir) above.1 of))
+    search (
+      rules,
+      All-head,
+      All-tail,
+      (references_back dir Of back output (Some path) paths more
+          (All-tail (IsPathOf dir) path paths of_dir) above.1 of),
+    )
 
 -- the place where an output may stand: behind a deriver, or within the lines of an output before it
 abbrev pub place_at : Option (List ℕ) → Option (List ℕ) → Place
