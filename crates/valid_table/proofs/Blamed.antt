@@ -11,7 +11,6 @@ use Rattle.valid_table.specs.declared.entry.Registration.{Registration}
 use Rattle.valid_table.specs.declared.fault.TableFault.{TableFault}
 use Rattle.valid_table.specs.declared.fault.TableFault.TheVariants.{NoMemory, Unclosed, AlreadyValid}
 use Rattle.valid_table.specs.declared.obstacle.Blame.{Blame}
-use Rattle.valid_table.specs.declared.obstacle.Obstacle.TheVariants as obstacle
 use Rattle.valid_table.proofs.EnteredPaths.{unclosed_here}
 use Rattle.nix_names.proofs.Lists.{same_element}
 
