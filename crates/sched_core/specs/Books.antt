@@ -1,8 +1,9 @@
 -- *Book*: what a run keeps, and what each call on it does (this product's own).
-use Rattle.std.specs.Prelude.{◌≡◌, ◌<◌, ◌++◌, ℕ, Option, Some, List, [], ◌∷◌, length, slice_get, Contains}
+use Rattle.std.specs.Prelude.{◌≡◌, ◌<◌, ◌++◌, ℕ, Option, Some, List, [], ◌∷◌, length, slice_get, All, Contains}
 use Rattle.drv_graph.specs.Nodes.{Node}
 use Rattle.valid_table.specs.Entries.{registered}
 use Rattle.valid_table.specs.PathInfos.{PathInfo}
+use Rattle.valid_table.specs.Valid.{IsValid}
 use Rattle.valid_table.specs.declared.entry.Entry.{Entry}
 use Rattle.valid_table.specs.declared.fault.OutletFault.{OutletFault}
 use Rattle.valid_table.specs.declared.fault.OutletFault.TheVariants as outlet
@@ -53,6 +54,15 @@ IsRunSettled run history = (d : ℕ) → d < length run.graph.nodes → IsWanted
 pub record IsBooksLease (run : Run) (history : History) (job : Job) (number : ℕ) : Type 0 where
   pub building : phase_of history.events job.derivation ≡ Begun number
   pub is_job : IsJob run.graph job.derivation job
+
+-- all that a job is built from is valid by some entries
+abbrev pub AreSeedsValid : List Entry → Job → Type 0
+AreSeedsValid entries job = All (IsValid (registered entries)) job.seeds.items
+
+-- all that is building is built from what is valid by some entries
+abbrev pub BuildsOver : Run → History → List Entry → Type 0
+BuildsOver run history entries = (job : Job) (number : ℕ) → IsBooksLease run history job number
+    → AreSeedsValid entries job
 
 -- each reference in some records is permitted to a job behind some entries
 abbrev pub MayAllRefer : List Entry → Job → List PathInfo → Type 0

@@ -1,7 +1,7 @@
 //! Books: what is built, and what can be.
 ghost use Rattle.std.specs.Prelude.{◌≡◌, ◌<◌, ◌↔◌, ◌⊎◌, ◌++◌, ℕ, [], IfErr, IfOk, IsTrue, MatchOption, OnErr, OnOk, length, ⊤};
 ghost use Rattle.valid_table.specs.Valid.{IsJournal};
-ghost use Rattle.sched_core.specs.Books.{ArePermittedPaths, CanBegin, IsBeginning, IsBooksLease, IsFailing, IsFinishFault, IsFinishing, IsRunSettled, IsSameRun, MayAllRefer, opened};
+ghost use Rattle.sched_core.specs.Books.{ArePermittedPaths, AreSeedsValid, BuildsOver, CanBegin, IsBeginning, IsBooksLease, IsFailing, IsFinishFault, IsFinishing, IsRunSettled, IsSameRun, MayAllRefer, opened};
 ghost use Rattle.sched_core.specs.Legal.{IsLegal};
 ghost use Rattle.sched_core.specs.Reports.{IsReportIn};
 ghost use Rattle.sched_core.specs.Runs.{state_in};
@@ -33,7 +33,7 @@ pub struct Book<O: Outlet> {
 
 impl<O: Outlet> Model for Book<O> {
     ghost use Rattle.std.specs.Prelude.{◌≡◌, ◌++◌};
-    ghost use Rattle.sched_core.specs.Books.{Ledger};
+    ghost use Rattle.sched_core.specs.Books.{BuildsOver, Ledger};
 
     ghost Value = { Ledger };
 
@@ -44,7 +44,8 @@ impl<O: Outlet> Model for Book<O> {
       pending = O.pending b.outlet;
     } };
 
-    ghost invariant = { λ b. O.shown b.outlet ++ O.pending b.outlet ≡ b.progress.history.entries };
+    ghost invariant = { λ b. (O.shown b.outlet ++ O.pending b.outlet ≡ b.progress.history.entries)
+        × BuildsOver b.progress.run b.progress.history (O.shown b.outlet) };
 }
 
 impl<O: Outlet> Book<O> {
@@ -78,7 +79,8 @@ impl<O: Outlet> Book<O> {
 
     /// The lease of a wanted derivation that is ready, which begins with it; none exactly where
     /// there is no such derivation, and then nothing changes and no memory is taken. Before a
-    /// derivation begins the outlet publishes all entries, and the lease is told of that list.
+    /// derivation begins the outlet publishes all entries, and the lease is told of that list, by
+    /// which all that the derivation is built from is valid.
     ///
     /// `NoMemory` and `NoView` begin nothing; the outlet may have published. Takes memory for the
     /// lease's job.
@@ -90,6 +92,9 @@ impl<O: Outlet> Book<O> {
         ensures told { IfOk result
             (λ next. MatchOption next ⊤
             (λ lease. MatchOption lease.told ⊥ (λ told. O.names told self.old.history.entries))) }
+        ensures seeds { IfOk result
+            (λ next. MatchOption next ⊤
+            (λ lease. AreSeedsValid self.old.history.entries lease.job)) }
         ensures same { OnErr result (IsSameRun self.old self.new) }
         ensures some { OnErr result ((d : ℕ) × CanBegin self.old.run self.old.history d) }
         ensures err { IfErr result (λ fault. (fault ≡ NoMemory) ⊎ (fault ≡ NoView)) }
@@ -182,6 +187,19 @@ impl<O: Outlet> Book<O> {
             return Err(BookFault::ForeignLease);
         }
         self.progress.permitted(lease.job())
+    }
+
+    /// What the outlet tells of the list that it shows: a beginning of the book's entries, by which
+    /// all that the derivations that are building are built from is valid.
+    pub fn tell(&self) -> O::Told
+        ensures told { O.names result self.now.shown }
+        ensures outlet { self.now.shown ++ self.now.pending ≡ self.now.history.entries }
+        ensures is_journal { IsJournal self.now.history.entries }
+        ensures seeds { BuildsOver self.now.run self.now.history self.now.shown }
+    {
+        // Its contract says that the entries are a journal.
+        let _ = self.progress.journal();
+        self.outlet.tell()
     }
 
     /// The state of the derivation with this number.

@@ -68,5 +68,6 @@ pub use checked::Checked;
 pub use fault::BookFault;
 pub use job::{Answer, Job, JobOutput};
 pub use lease::Lease;
+pub use permitted::permitted_beside;
 pub use reason::{Event, Reason, Refusal, State};
 pub use verdict::examine;

@@ -1,45 +1,42 @@
 //! The paths to which outputs may refer.
-ghost use Rattle.std.specs.Prelude.{◌≡◌, ◌↔◌, ℕ, All, Contains, IfErr, IfOk, List, nat_eq};
-ghost use Rattle.std.specs.Cmp.Lexicographic.{pointwise};
-ghost use Rattle.std.specs.List.{IsDistinct};
+ghost use Rattle.std.specs.Prelude.{◌≡◌, All, IfErr, IfOk};
 ghost use Rattle.nix_names.specs.Rising.{IsRising};
+ghost use Rattle.valid_table.specs.Closing.{HaveSame};
 ghost use Rattle.valid_table.specs.Closure.{IsClosure};
 ghost use Rattle.valid_table.specs.Entries.{registered};
+ghost use Rattle.valid_table.specs.Unions.{IsUnion};
 ghost use Rattle.valid_table.specs.Valid.{IsValid};
-ghost use Rattle.sched_core.specs.Legal.{ArePermitted};
+ghost use Rattle.sched_core.specs.Verdicts.{outputs_of};
 ghost use Rattle.sched_core.specs.declared.fault.BookFault.TheVariants.{NoMemory};
 
 use crate::fault::BookFault;
+use crate::job::Job;
 use crate::links::copy_path;
 use nix_names::StorePath;
 use std::alloc::Global;
 use valid_table::{Journal, TableFault, union};
 
-// The paths that are permitted to outputs at these paths, no two of which are the same, and that
-// are built from these seeds, which are valid by the journal. Costs the closure of the seeds, and a
-// copy of each path.
-pub(crate) fn permitted(
+/// The paths to which the outputs of a job may refer, strictly rising: what its seeds lead to, which
+/// is given so, and its own outputs. Answers `NoMemory` where memory is refused, and no other fault.
+/// Costs a copy of each path.
+pub fn permitted_beside(
     alloc: Global,
-    journal: &Journal,
-    seeds: &[StorePath],
-    outputs: &[StorePath],
+    reached: &[StorePath],
+    job: &Job,
 ) -> Result<Vec<StorePath>, BookFault>
-    requires valid { All (IsValid (registered journal.now.entries)) seeds.now }
-    requires distinct { IsDistinct (pointwise nat_eq) outputs.now }
-    ensures ok { IfOk result
-        (λ paths. ArePermitted (registered journal.now.entries) seeds.now outputs.now paths.items) }
+    requires { IsRising reached.now }
+    ensures ok { IfOk result (λ paths. IsUnion reached.now (outputs_of job.now) paths.items) }
     ensures err { IfErr result (λ fault. fault ≡ NoMemory) }
 {
-    let reached = closure_of(alloc, journal, seeds)?;
-    let own = sorted_copy(alloc, outputs)?;
-    match union(alloc, &reached, &own) {
+    let own = sorted_outputs(alloc, job)?;
+    match union(alloc, reached, &own) {
         Ok(paths) => Ok(paths),
         Err(_) => Err(BookFault::NoMemory),
     }
 }
 
-// What some valid paths lead to.
-fn closure_of(
+// What some paths lead to that are valid by a journal.
+pub(crate) fn closure_of(
     alloc: Global,
     journal: &Journal,
     seeds: &[StorePath],
@@ -56,18 +53,17 @@ fn closure_of(
     }
 }
 
-// Copies of some paths, in rising order.
-fn sorted_copy(alloc: Global, paths: &[StorePath]) -> Result<Vec<StorePath>, BookFault>
-    requires { IsDistinct (pointwise nat_eq) paths.now }
+// The paths of a job's outputs, in strictly rising order.
+fn sorted_outputs(alloc: Global, job: &Job) -> Result<Vec<StorePath>, BookFault>
     ensures rising { IfOk result (λ sorted. IsRising sorted.items) }
-    ensures same { IfOk result (λ sorted. (path : List ℕ) → Contains sorted.items path
-        ↔ Contains paths.now path) }
+    ensures same { IfOk result (λ sorted. HaveSame sorted.items (outputs_of job.now)) }
     ensures err { IfErr result (λ fault. fault ≡ NoMemory) }
 {
-    let mut sorted = Vec::with_capacity(alloc, paths.len())?;
-    for path in paths {
-        sorted.push(copy_path(alloc, path)?)?;
+    let mut sorted = Vec::with_capacity(alloc, job.outputs.len())?;
+    for output in &job.outputs {
+        sorted.push(copy_path(alloc, &output.path)?)?;
     }
     sorted.sort_unstable();
+    sorted.dedup();
     Ok(sorted)
 }

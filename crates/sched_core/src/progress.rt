@@ -19,7 +19,7 @@ use crate::fault::BookFault;
 use crate::is_job::is_job;
 use crate::job::Job;
 use crate::job_of::job_of;
-use crate::permitted::permitted;
+use crate::permitted::{closure_of, permitted_beside};
 use crate::reason::{Event, Reason, State};
 use crate::report::report_of;
 use crate::standings::standings_of;
@@ -186,11 +186,8 @@ impl Progress {
         ensures err { IfErr result (λ fault. fault ≡ NoMemory) }
     {
         let alloc = *self.events.allocator();
-        let plan = self.course.plan();
-        // Its contract says that a derivation's outputs have different paths.
-        let _ = plan.len();
-        let outputs = plan.output_paths(job.derivation);
-        permitted(alloc, &self.journal, &job.seeds, outputs)
+        let reached = closure_of(alloc, &self.journal, &job.seeds)?;
+        permitted_beside(alloc, &reached, job)
     }
 
     // Whether a lease with this job and this number was given and not ended. Costs a comparison of
