@@ -1,4 +1,5 @@
 pub mod Builders
+pub mod Finding
 pub mod Numbers
 pub mod OneThread
 pub mod Realising

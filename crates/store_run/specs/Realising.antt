@@ -11,7 +11,7 @@ use Rattle.sched_core.specs.declared.job.Job.{Job}
 use Rattle.sched_core.specs.declared.reason.Reason.{Reason}
 use Rattle.store_run.specs.Builders.{IsAnswered}
 use Rattle.store_run.specs.declared.fault.RunFault.{RunFault}
-use Rattle.store_run.specs.declared.fault.RunFault.TheVariants.{NoWorkers, ThreadFault, NoMemory, ForeignPlan}
+use Rattle.store_run.specs.declared.fault.RunFault.TheVariants.{NoWorkers, NoView, ThreadFault, NoMemory, ForeignPlan}
 
 -- A book is over a plan, for a system, and opened with these entries.
 pub record IsOverLent (plan : Graph) (system : List ℕ) (opening : List Entry) (book : Ledger)
@@ -60,6 +60,8 @@ abbrev pub IsRunFault : (may : Job → Result Answer Reason → Type 0) → Grap
     → (opening : List Entry) → (count : ℕ) → RunFault → Option Ledger → Type 0
 IsRunFault may plan system opening count NoWorkers None = AreWorkers count → ⊥
 IsRunFault may plan system opening count NoWorkers (Some book) = ⊥
+IsRunFault may plan system opening count NoView None = AreWorkers count
+IsRunFault may plan system opening count NoView (Some book) = ⊥
 IsRunFault may plan system opening count ThreadFault None = ⊥
 IsRunFault may plan system opening count ThreadFault (Some book) =
     IsCutOff may plan system opening count book

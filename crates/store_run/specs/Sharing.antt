@@ -2,14 +2,12 @@
 use Rattle.std.specs.Prelude.{◌≡◌, ◌⊎◌, ℕ, Option, Some, None, List, Result, Ok, Err}
 use Rattle.valid_table.specs.PathInfos.{PathInfo}
 use Rattle.valid_table.specs.declared.entry.Entry.{Entry}
-use Rattle.sched_core.specs.Books.{CanBegin, IsBeginning, IsBooksLease, IsFailing, IsFinishing, IsNotAllowed, IsRunSettled, IsSameRun, Ledger}
+use Rattle.sched_core.specs.Books.{CanBegin, IsBeginning, IsBooksLease, IsFailing, IsFinishing, IsNotAllowed, IsRunSettled, IsSameRun, Leased, Ledger}
 use Rattle.sched_core.specs.declared.fault.BookFault.{BookFault}
 use Rattle.sched_core.specs.declared.fault.BookFault.TheVariants.{NoMemory, NoView, ForeignLease, NotLawful}
-use Rattle.sched_core.specs.declared.job.Answer.{Answer}
 use Rattle.sched_core.specs.declared.job.Job.{Job}
 use Rattle.sched_core.specs.declared.reason.Reason.{Reason}
 use Rattle.sched_core.specs.declared.reason.Reason.TheVariants.{OutOfMemory}
-use Rattle.store_run.specs.Builders.{IsOutcomeVerdict}
 use Rattle.store_run.specs.declared.shared.Step.{Step}
 use Rattle.store_run.specs.declared.shared.Step.TheVariants.{Build, Wait, End}
 
@@ -54,6 +52,12 @@ pub record IsRefused (before after : Share) : Type 0 where
   pub is_fault : (fault ≡ NoMemory) ⊎ (fault ≡ NoView)
   pub stops : after.stop ≡ Some fault
 
+-- what is given to build
+abbrev pub IfGiven : {Told : Type 0} → Step Told → (Leased Told → Type 0) → Type 0
+IfGiven (Build lease) fact = fact lease
+IfGiven Wait fact = Unit {0}
+IfGiven End fact = Unit {0}
+
 -- what a worker is to do next
 abbrev pub IsStep : {Told : Type 0} → (before after : Share) → Step Told → Type 0
 IsStep before after (Build lease) = IsGiving before after lease.job lease.number
@@ -69,13 +73,6 @@ first_cause None fault = Some fault
 pub record IsStopping (before after : Share) (fault : BookFault) : Type 0 where
   pub book : after.book ≡ before.book
   pub stops : after.stop ≡ first_cause before.stop fault
-
--- why a job failed with this outcome: for its reason; for that of the verdict on its answer; or
--- memory was refused to whoever examined it
-abbrev pub IsWhyFailed : List Entry → Job → Result Answer Reason → Reason → Type 0
-IsWhyFailed entries job (Ok answer) reason = (reason ≡ OutOfMemory)
-    ⊎ IsOutcomeVerdict entries job (Ok answer) (Err reason)
-IsWhyFailed entries job (Err given) reason = reason ≡ given
 
 -- A lease was given up, since it isn't the book's.
 pub record IsForeign (before after : Share) (job : Job) (number : ℕ) : Type 0 where
@@ -112,12 +109,10 @@ abbrev pub IsRegistering : (before after : Share) → Job → (number : ℕ) →
 IsRegistering before after job number infos = IsBuilt before after job number infos
     ⊎ IsUnlawful before after job number infos ⊎ IsNoting before after job number OutOfMemory
 
--- how a lease ends, by what its job came to: with the records of the verdict on that, or for a
--- reason why there are none
-abbrev pub IsEnding : (before after : Share) → Job → (number : ℕ) → Result Answer Reason → Type 0
-IsEnding before after job number outcome =
-    ((infos : List PathInfo)
-    × IsOutcomeVerdict before.book.history.entries job outcome (Ok infos)
-    × IsRegistering before after job number infos)
-    ⊎ ((reason : Reason) × IsWhyFailed before.book.history.entries job outcome reason
-    × IsNoting before after job number reason)
+-- how a lease ends by what was found of its job; or the view is gone, which stops the run
+abbrev pub IsEnding : (before after : Share) → Job → (number : ℕ) → Result (List PathInfo) Reason
+    → Type 0
+IsEnding before after job number (Ok infos) =
+    IsRegistering before after job number infos ⊎ IsStopping before after NoView
+IsEnding before after job number (Err reason) =
+    IsNoting before after job number reason ⊎ IsStopping before after NoView

@@ -10,6 +10,9 @@ pub enum RunFault {
     /// There is no builder, or there are more than 64.
     #[error("there must be from 1 to 64 workers")]
     NoWorkers,
+    /// The view of the valid paths could not be opened.
+    #[error("the view of the valid paths could not be opened")]
+    NoView,
     /// All workers that could be started have ended, and the book isn't settled.
     #[error("the workers ended before the book was settled")]
     ThreadFault,
@@ -27,6 +30,7 @@ impl RunFault {
         ensures { result ≡ fault_number_of self.now }
     {
         match self {
+            RunFault::NoView => 40,
             RunFault::NoWorkers => 70,
             RunFault::ThreadFault => 71,
             RunFault::NoMemory => 72,

@@ -4,7 +4,7 @@
 //! |---|---|
 //! | `build` | builders, which make what a job asks for |
 //! | `shared` | what the workers of a run share: the book, and why the run stops |
-//! | `verdict` | the verdict on what the job of a lease came to |
+//! | `verdict` | the verdict on what the job of a lease came to, by what a reader sees |
 //! | `locked` | that, behind a lock on which workers wait |
 //! | `worker` | what one worker does |
 //! | `run` | a run, from a plan and a journal to a settled book |
@@ -28,5 +28,5 @@ mod worker;
 pub use build::Build;
 pub use fault::RunFault;
 pub use locked::Locked;
-pub use run::realise;
+pub use run::{Ended, realise};
 pub use worker::work;

@@ -1,14 +1,14 @@
 //! A book behind a lock, on which workers wait.
-ghost use Rattle.std.specs.Prelude.{◌≡◌, ◌⊎◌, Err};
-ghost use Rattle.sched_core.specs.declared.reason.Reason.TheVariants.{OutOfMemory};
+ghost use Rattle.std.specs.Prelude.{IfSome};
 ghost use Rattle.store_run.specs.Builders.{IsAnswered};
+ghost use Rattle.store_run.specs.Finding.{IsTold, MayBeFound};
 
 use crate::build::Build;
 use crate::shared::{Shared, Step};
-use sched_core::{Answer, Book, BookFault, Lease, Reason};
-use std::alloc::Global;
+use sched_core::{Book, BookFault, Checked, Lease, Reason};
 use std::sync::{Condvar, Mutex, Wait};
 use valid_table::Outlet;
+use valid_view::{Naming, Tells, ViewReader};
 
 /// The book of a run behind a lock, and the place where workers wait for work. Whenever the lock is
 /// free, the book's history is legal, its tables agree with it, and what became of each derivation
@@ -31,7 +31,9 @@ impl<O: Outlet, B: Build> Locked<O, B> {
 
     // A lease of something that is ready, for which the worker waits; none where the run ends.
     // Each lease wakes another worker, for which something may be ready, and the end wakes all.
-    pub(crate) fn take<R: Wait>(&self, rt: &R) -> Option<Lease<O::Told>> {
+    pub(crate) fn take<R: Wait>(&self, rt: &R) -> Option<Lease<O::Told>>
+        ensures { IfSome result (IsTold O.names) }
+    {
         let mut shared = self.shared.lock(rt);
         for _ in rt.forever() {
             match shared.step() {
@@ -49,17 +51,24 @@ impl<O: Outlet, B: Build> Locked<O, B> {
         None
     }
 
-    // Ends a lease by the verdict on what its job came to.
-    pub(crate) fn end<R: Wait>(
+    // Ends a lease by what was found of its job by the list that the reader saw, or gives it up
+    // where nothing was, since the view is gone.
+    pub(crate) fn end<R: Wait, J: Naming>(
         &self,
         rt: &R,
-        alloc: Global,
+        reader: &mut ViewReader<J>,
         lease: Lease<O::Told>,
-        outcome: Result<Answer, Reason>,
+        found: Option<Result<Checked, Reason>>,
     )
-        requires { (outcome ≡ Err OutOfMemory) ⊎ B.may lease.job outcome }
+    where
+        O: Tells<J>,
+        requires { IfSome found (MayBeFound B.may reader.old.seen lease.job) }
     {
-        self.shared.lock(rt).end(alloc, lease, outcome);
+        let mut shared = self.shared.lock(rt);
+        match found {
+            Some(found) => shared.end(reader, lease, found),
+            None => shared.end_unseen(lease),
+        }
     }
 
     /// The book, and why the run stopped, if it did.
