@@ -12,7 +12,6 @@ use Rattle.nix_names.proofs.RisingLists.{distinct_from_rising}
 use Rattle.nix_drv.specs.Derivation.{Output}
 use Rattle.drv_graph.specs.Loading.{AreDistinct}
 use Rattle.drv_graph.specs.Nodes.{Node}
-use Rattle.drv_graph.specs.PlanNodes.{output_paths_of}
 use Rattle.drv_graph.specs.Plans.{Graph}
 use Rattle.drv_graph.specs.SoundGraphs.{IsSound}
 use Rattle.valid_table.specs.Adding.{AreClosed, AreNew}
@@ -158,16 +157,7 @@ module _ (run : Run) (entries : List Entry) (node : Node) (infos : List PathInfo
         length-map node.drv.outputs (λ (o : Output). o.path),
       )
 
--- no two outputs of a plan's derivation have one path
-pub outputs_differ : (graph : Graph) (d : ℕ) (node : Node) → IsSound graph → slice_get graph.nodes d
-    ≡ Some node
-    → AreDistinct (output_paths node.drv)
-outputs_differ graph d node sound at =
-    All-contains (λ (n : Node). AreDistinct (output_paths_of n.drv)) graph.nodes node
-    sound.own_outputs
-    (Contains-from_get graph.nodes d node at)
-
--- and it stands at a derivation's file
+-- a plan's derivation stands at a derivation's file
 pub node_is_named : (graph : Graph) (d : ℕ) (node : Node) → IsSound graph → slice_get graph.nodes d
     ≡ Some node → IsDrvPath node.path
 node_is_named graph d node sound at =

@@ -1,5 +1,5 @@
 -- How a lease ends.
-use Rattle.std.proofs.Common.{◌≡◌, ◌++◌, ◌∷◌, [], ℕ, List, ap, refl, subst, ◌∙◌}
+use Rattle.std.proofs.Common.{◌≡◌, ◌++◌, ◌∷◌, [], ℕ, List, ap, append_assoc, refl, subst, sym, ◌∙◌}
 use Rattle.valid_table.specs.Adding.{AreClosed, AreNew}
 use Rattle.valid_table.specs.Entries.{registered, registered_by}
 use Rattle.valid_table.specs.PathInfos.{PathInfo}
@@ -49,6 +49,17 @@ may_append run entries held d infos entry shown done same copy =
       done_is_new run entries done.node infos entry done.allowed done.is_entry,
       done_is_closed run entries done.node infos entry done.allowed done.is_entry,
     )
+
+-- the outlet holds just the entries behind the entry, too
+pub holding : (entries more shown after_shown pending after_pending : List Entry)
+    (entry copy : Entry) → shown ++ pending ≡ entries → more ≡ entries ++ entry ∷ []
+    → after_shown ≡ shown → after_pending ≡ pending ++ copy ∷ [] → copy ≡ entry
+    → after_shown ++ after_pending ≡ more
+holding entries more shown after_shown pending after_pending entry copy held more_is same added
+    same_entry =
+    rw (same, added, same_entry, more_is)
+    (sym (append_assoc shown pending (entry ∷ []))
+    ∙ ap (λ es. es ++ entry ∷ []) held)
 
 -- what ending a lease by a Done comes to
 pub finishing : (before : Ledger) (run after_run : Run) (history between after : History)

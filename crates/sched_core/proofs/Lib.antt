@@ -1,4 +1,5 @@
 pub mod Agendas
+pub mod Building
 pub mod Comparing
 pub mod CountedNews
 pub mod Cycles

@@ -1,20 +1,9 @@
 -- The permitted paths: a closure and outputs, put together.
-use Rattle.std.proofs.Common.{◌≡◌, inl, inr, ℕ, Bool, true, false, List, [], ◌∷◌, nat_eq, Some, refl, sym, subst, ⊎_elim}
-use Rattle.std.specs.Prelude.{All, Contains, IfSome, slice_get, if◌then◌else◌}
-use Rattle.std.specs.Cmp.Lexicographic.{pointwise, slice_cmp, nat_list_eq_equiv}
-use Rattle.std.specs.List.{IsDistinct}
-use Rattle.std.specs.List.Sorted.{IsPermutation, IsSorted}
-use Rattle.std.specs.Ordering.{nat_cmp}
+use Rattle.std.proofs.Common.{◌≡◌, inl, inr, ℕ, Bool, true, false, List, [], ◌∷◌, refl, sym, subst, ⊎_elim}
+use Rattle.std.specs.Prelude.{All, Contains, if◌then◌else◌}
 use Rattle.std.proofs.Math.Dec.{T, eqb}
 use Rattle.std.proofs.Math.Facts.{eqb_yes}
-use Rattle.std.proofs.lemmas.Map.Keys.{IsDistinct-IsPermutation}
 use Rattle.std.proofs.lemmas.List.Elements.{All-contains, Contains-append_right}
-use Rattle.nix_names.specs.Rising.{IsRising}
-use Rattle.nix_names.proofs.RisingLists.{rising_sorted}
-use Rattle.drv_graph.specs.Nodes.{Node}
-use Rattle.drv_graph.specs.PlanNodes.{output_paths_of}
-use Rattle.drv_graph.specs.Plans.{Graph}
-use Rattle.drv_graph.specs.SoundGraphs.{IsSound}
 use Rattle.valid_table.specs.Closing.{HaveSame}
 use Rattle.valid_table.specs.Closure.{IsClosure}
 use Rattle.valid_table.specs.Entries.{registered}
@@ -28,20 +17,9 @@ use Rattle.sched_core.specs.States.{Phase, Idle, Begun, Ended, Broken, later, ph
 use Rattle.sched_core.specs.declared.job.Job.{Job}
 use Rattle.sched_core.specs.declared.reason.Event.{Event}
 use Rattle.sched_core.specs.declared.reason.Event.TheVariants.{Begin, Done as Finish, Fail}
-use Rattle.sched_core.proofs.Dones.{outputs_differ}
 use Rattle.sched_core.proofs.Seeds.{seeds_are_valid}
 use Rattle.nix_names.proofs.Lists.{Contains-first, Contains-later}
 use Rattle.nix_names.specs.Firsts.{IsFirst}
-
--- ---- outputs in rising order
-
-pub distinct_rising : (paths before sorted : List (List ℕ)) → before ≡ paths
-    → IsDistinct (pointwise nat_eq) paths
-    → IsPermutation before sorted → IsSorted (slice_cmp nat_cmp) sorted → IsRising sorted
-distinct_rising paths before sorted same distinct moved ordered =
-    rising_sorted sorted ordered
-    (IsDistinct-IsPermutation (pointwise nat_eq) nat_list_eq_equiv.symm before sorted moved
-    (subst (IsDistinct (pointwise nat_eq)) (sym same) distinct))
 
 -- ---- the closure of valid paths
 
@@ -55,30 +33,28 @@ all_are_valid registrations roots path valid first =
     (Contains-first path first.after)) in
     first.is (All-contains (IsValid registrations) roots path valid there)
 
--- ---- the outputs of a derivation differ
-
-pub outputs_apart : (graph : Graph) (d : ℕ) (node : Node) (paths : List (List ℕ)) → IsSound graph
-    → slice_get graph.nodes d ≡ Some node
-    → IfSome (slice_get graph.nodes d) (λ (n : Node). paths ≡ output_paths_of n.drv)
-    → IsDistinct (pointwise nat_eq) paths
-outputs_apart graph d node paths sound at told =
-    let same : paths ≡ output_paths_of node.drv =
-    subst (λ o. IfSome o (λ (n : Node). paths ≡ output_paths_of n.drv)) at told in
-    subst (IsDistinct (pointwise nat_eq)) (sym same) (outputs_differ graph d node sound at)
-
 -- ---- both together
 
-pub are_permitted : (registrations : List Registration)
-    (seeds outputs reached own all : List (List ℕ)) → IsClosure registrations seeds reached
-    → HaveSame own outputs → IsUnion reached own all → ArePermitted registrations seeds outputs all
-are_permitted registrations seeds outputs reached own all closure same union = record {
+-- a union with the same paths in another list
+pub union_of_same : (reached own outputs all : List (List ℕ)) → HaveSame own outputs
+    → IsUnion reached own all → IsUnion reached outputs all
+union_of_same reached own outputs all same union = record {
   rising = union.rising;
   each = λ path. (
-    λ has. ⊎_elim (λ there. inl ((closure.each path).0 there))
-        (λ output. inr ((same path).0 output)) ((union.each path).0 has),
-    λ may. (union.each path).1
-        (⊎_elim (λ there. inl ((closure.each path).1 there)) (λ output. inr ((same path).1 output))
-        may),
+    λ has. ⊎_elim inl (λ output. inr ((same path).0 output)) ((union.each path).0 has),
+    λ either. (union.each path).1 (⊎_elim inl (λ output. inr ((same path).1 output)) either),
+  );
+}
+
+-- a union with what the seeds lead to
+pub are_permitted : (registrations : List Registration) (seeds outputs reached all : List (List ℕ))
+    → IsClosure registrations seeds reached → IsUnion reached outputs all
+    → ArePermitted registrations seeds outputs all
+are_permitted registrations seeds outputs reached all closure union = record {
+  rising = union.rising;
+  each = λ path. (
+    λ has. ⊎_elim (λ there. inl ((closure.each path).0 there)) inr ((union.each path).0 has),
+    λ may. (union.each path).1 (⊎_elim (λ there. inl ((closure.each path).1 there)) inr may),
   );
 }
 

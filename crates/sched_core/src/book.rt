@@ -102,6 +102,8 @@ impl<O: Outlet> Book<O> {
         let Some(d) = self.progress.next() else {
             return Ok(None);
         };
+        // Its contract says that the history is legal.
+        let _ = self.progress.events();
         self.outlet.publish()?;
         let job = self.progress.job(d)?;
         let number = self.progress.begin(d);

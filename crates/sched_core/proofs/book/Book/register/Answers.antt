@@ -1,7 +1,8 @@
-use Rattle.std.proofs.Common.{◌∙◌, ap, subst, sym}
+use Rattle.std.proofs.Common.{◌∙◌, ap, refl, subst, sym}
 use Rattle.sched_core.specs.Books.{IsBooksLease, IsDone, Ledger, MayAllRefer}
 use Rattle.sched_core.specs.declared.job.Job.{Job}
-use Rattle.sched_core.proofs.Ending.{done_under_lease, finishing, may_append}
+use Rattle.sched_core.proofs.Building.{builds_behind_done, builds_still}
+use Rattle.sched_core.proofs.Ending.{done_under_lease, finishing, holding, may_append}
 use Rattle.sched_core.proofs.book.Book.register.Goals as goal
 
 pub append-requires-clause-new : goal.append-requires-clause-new
@@ -17,7 +18,7 @@ append-requires-clause-new g c =
     c.args.lease.now.job.derivation c.args.checked.now c.in_ok-entry.field-0.entry =
     done_under_lease _ _ _ _ _ _ lease (asked lease)
     (rw (← c.job-job.ensures) c.in_ok-entry.ensures.entry) in
-    (may_append _ _ _ _ _ _ _ done c.self.invariant c.in_ok-entry.ensures.shown).0
+    (may_append _ _ _ _ _ _ _ done c.self.invariant.0 c.in_ok-entry.ensures.shown).0
 
 pub append-requires-clause-closed : goal.append-requires-clause-closed
 append-requires-clause-closed g c =
@@ -32,7 +33,7 @@ append-requires-clause-closed g c =
     c.args.lease.now.job.derivation c.args.checked.now c.in_ok-entry.field-0.entry =
     done_under_lease _ _ _ _ _ _ lease (asked lease)
     (rw (← c.job-job.ensures) c.in_ok-entry.ensures.entry) in
-    (may_append _ _ _ _ _ _ _ done c.self.invariant c.in_ok-entry.ensures.shown).1
+    (may_append _ _ _ _ _ _ _ done c.self.invariant.0 c.in_ok-entry.ensures.shown).1
 
 pub finish-requires-clause-done : goal.finish-requires-clause-done
 finish-requires-clause-done g c =
@@ -71,3 +72,29 @@ returns-clause-ok g c =
     c.number-2.ensures
     c.finish.ensures.history c.in_ok-append.ensures.same c.in_ok-append.ensures.ok
     c.in_ok-entry.ensures.shown
+
+pub invariant_of-self : goal.invariant_of-self
+invariant_of-self g c =
+    let shown = g.O.Outlet.shown c.self.inside.outlet in (
+      rw c.prepare.ensures.history c.self.invariant.0,
+      builds_still _ _ _ _ shown shown c.self.invariant.1 c.prepare.ensures.run
+          c.prepare.ensures.history refl,
+    )
+
+pub invariant_of-self-in_err-append : goal.invariant_of-self-in_err-append
+invariant_of-self-in_err-append g c = (
+  rw (c.in_err-append.ensures.same, c.in_err-append.ensures.err, c.in_ok-entry.ensures.history)
+      c.self.invariant.0,
+  builds_still _ _ _ _ _ _ c.self.invariant.1 c.in_ok-entry.ensures.run
+      c.in_ok-entry.ensures.history c.in_err-append.ensures.same,
+)
+
+pub invariant_of-self-2 : goal.invariant_of-self-2
+invariant_of-self-2 g c = (
+  holding _ _ _ _ _ _ _ _ c.self.invariant.0
+      (rw (c.finish.ensures.history, c.in_ok-entry.ensures.history) refl)
+      c.in_ok-append.ensures.same c.in_ok-append.ensures.ok c.in_ok-entry.ensures.shown,
+  builds_behind_done _ _ _ _ _ _ _ _ _ _ c.self.invariant.1
+      (c.finish.ensures.run ∙ c.in_ok-entry.ensures.run) c.in_ok-entry.ensures.history
+      c.finish.ensures.history c.in_ok-append.ensures.same,
+)

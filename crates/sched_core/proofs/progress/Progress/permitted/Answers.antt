@@ -1,15 +1,16 @@
 use Rattle.std.proofs.Common.{List, ℕ, subst, sym}
 use Rattle.std.specs.Prelude.{All}
+use Rattle.std.proofs.lemmas.Result.{IfOk-weaker}
 use Rattle.valid_table.specs.Entries.{registered}
 use Rattle.valid_table.specs.Valid.{IsValid}
 use Rattle.sched_core.specs.Booking.{Progress}
 use Rattle.sched_core.specs.Books.{IsBooksLease}
-use Rattle.sched_core.proofs.Permitting.{outputs_apart, seeds_of_lease}
+use Rattle.sched_core.proofs.Permitting.{are_permitted, seeds_of_lease}
 use Rattle.sched_core.proofs.progress.Progress.permitted.Goals as goal
 use Rattle.nix_names.proofs.Lists.{All-from_contains}
 
-pub permitted-requires-clause-valid : goal.permitted-requires-clause-valid
-permitted-requires-clause-valid c =
+pub closure_of-requires : goal.closure_of-requires
+closure_of-requires c =
     let known = registered c.self.inside.journal.entries in
     let lease = subst (λ (p : Progress). IsBooksLease p.run p.history c.args.job.now c.requires.0)
     (sym c.self.view_is) c.requires.1 in
@@ -17,9 +18,11 @@ permitted-requires-clause-valid c =
     (All-from_contains (IsValid known) c.args.job.now.seeds.items
     (seeds_of_lease _ _ c.args.job.now c.requires.0 c.self.invariant.0.legal lease))
 
-pub permitted-requires-clause-distinct : goal.permitted-requires-clause-distinct
-permitted-requires-clause-distinct c =
-    let lease = subst (λ (p : Progress). IsBooksLease p.run p.history c.args.job.now c.requires.0)
-    (sym c.self.view_is) c.requires.1 in
-    outputs_apart _ c.args.job.now.derivation lease.is_job.node _ c.len.ensures.sound
-    (rw c.plan-plan.ensures lease.is_job.is_node) c.output_paths-outputs.ensures
+pub returns-clause-ok : goal.returns-clause-ok
+returns-clause-ok c =
+    rw (← c.self.view_is)
+    (IfOk-weaker c.permitted_beside.result _ _
+    (λ paths union. are_permitted _ _ _ _ paths.items
+    (rw c.deref.ensures.value at c.in_ok-reached.ensures.ok)
+    (rw c.deref-2.ensures.value at union))
+    c.permitted_beside.ensures.ok)

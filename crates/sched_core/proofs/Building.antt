@@ -1,0 +1,118 @@
+-- What is building is built from what is valid by the entries that are shown.
+use Rattle.std.proofs.Common.{◌≡◌, ◌∙◌, ◌++◌, ◌∷◌, [], ℕ, Bool, true, false, List, append-nil, refl, sym, subst}
+use Rattle.std.specs.Prelude.{if◌then◌else◌}
+use Rattle.std.proofs.Math.Dec.{eqb}
+use Rattle.nix_drv.proofs.Fixed.{eqb_same}
+use Rattle.nix_names.proofs.Lists.{All-from_contains}
+use Rattle.valid_table.specs.Entries.{registered}
+use Rattle.valid_table.specs.Valid.{IsValid}
+use Rattle.valid_table.specs.declared.entry.Entry.{Entry}
+use Rattle.sched_core.specs.Books.{BuildsOver, CanBegin, IsBooksLease}
+use Rattle.sched_core.specs.Jobs.{IsJob}
+use Rattle.sched_core.specs.Legal.{IsLegal, legal_begin, begins, begun, ended, failed, is_begin}
+use Rattle.sched_core.specs.Runs.{History, Run}
+use Rattle.sched_core.specs.States.{Phase, Idle, Begun, Ended, Broken, later, phase_of}
+use Rattle.sched_core.specs.declared.job.Job.{Job}
+use Rattle.sched_core.specs.declared.reason.Event.{Event}
+use Rattle.sched_core.specs.declared.reason.Event.TheVariants.{Begin, Done as Finish, Fail}
+use Rattle.sched_core.specs.declared.reason.Reason.{Reason}
+use Rattle.sched_core.proofs.Permitting.{seeds_of_lease}
+use Rattle.sched_core.proofs.Seeds.{phase_push}
+
+-- ---- over all entries
+
+-- in a legal history
+pub builds_over_all : (run : Run) (history : History) → IsLegal run history
+    → BuildsOver run history history.entries
+builds_over_all run history legal job number lease =
+    All-from_contains (IsValid (registered history.entries)) job.seeds.items
+    (seeds_of_lease run history job number legal lease)
+
+-- and behind one Begin more
+pub builds_behind_begin : (run : Run) (history : History) (d : ℕ) → IsLegal run history
+    → CanBegin run history d → BuildsOver run (begun history d) history.entries
+builds_behind_begin run history d legal can =
+    builds_over_all run (begun history d)
+    (legal_begin history d legal can.within can.wanted can.ready)
+
+-- which gives a lease
+pub begun_lease : (run : Run) (history : History) (d : ℕ) (job : Job) → IsJob run.graph d job
+    → IsBooksLease run (begun history d) job (begins history.events)
+begun_lease run history d job is =
+    let number = begins history.events in
+    let building : phase_of (begun history d).events d ≡ Begun number =
+    phase_push history.events (Begin d number) d ∙ rw (eqb_same d) refl in
+    record {
+      building = subst (λ e. phase_of (begun history d).events e ≡ Begun number)
+          (sym is.derivation) building;
+      is_job = subst (λ e. IsJob run.graph e job) (sym is.derivation) is;
+    }
+
+-- ---- behind an event that ends a lease
+
+begun_before_done : (same : Bool) (p : Phase) (number : ℕ)
+    → later p (if same then Ended else Idle) ≡ Begun number → p ≡ Begun number
+begun_before_done true p number is = absurd cc
+begun_before_done false p number is = is
+
+begun_before_fail : (same : Bool) (p : Phase) (reason : Reason) (number : ℕ)
+    → later p (if same then Broken reason else Idle) ≡ Begun number → p ≡ Begun number
+begun_before_fail true p reason number is = absurd cc
+begun_before_fail false p reason number is = is
+
+-- what is building has begun before
+begun_before : (events : List Event) (event : Event) (d number : ℕ) → is_begin event ≡ false
+    → phase_of (events ++ event ∷ []) d ≡ Begun number → phase_of events d ≡ Begun number
+begun_before events (Begin e n) d number ends is = absurd cc
+begun_before events (Finish e n) d number ends is =
+    begun_before_done (eqb e d) (phase_of events d) number
+    (sym (phase_push events (Finish e n) d) ∙ is)
+begun_before events (Fail e n reason) d number ends is =
+    begun_before_fail (eqb e d) (phase_of events d) reason number
+    (sym (phase_push events (Fail e n reason) d) ∙ is)
+
+-- so it is built from what was valid then
+builds_behind : (run : Run) (history after : History) (event : Event) (shown : List Entry)
+    → BuildsOver run history shown → after.events ≡ history.events ++ event ∷ []
+    → is_begin event ≡ false → BuildsOver run after shown
+builds_behind run history after event shown builds added ends job number lease =
+    builds job number
+    (record {
+      building = begun_before history.events event job.derivation number ends
+          (subst (λ es. phase_of es job.derivation ≡ Begun number) added lease.building);
+      is_job = lease.is_job;
+    })
+
+pub builds_behind_fail : (run after_run : Run) (history after : History) (d lease : ℕ)
+    (reason : Reason) (shown : List Entry) → BuildsOver run history shown → after_run ≡ run
+    → after ≡ failed history d lease reason → BuildsOver after_run after shown
+builds_behind_fail run after_run history after d lease reason shown builds same is =
+    rw (same, is)
+    (builds_behind run history (failed history d lease reason) (Fail d lease reason) shown builds
+    refl refl)
+
+pub builds_behind_done : (run after_run : Run) (history between after : History) (d lease : ℕ)
+    (entry : Entry) (shown after_shown : List Entry) → BuildsOver run history shown
+    → after_run ≡ run → between ≡ history → after ≡ ended between d lease entry
+    → after_shown ≡ shown → BuildsOver after_run after after_shown
+builds_behind_done run after_run history between after d lease entry shown after_shown builds same
+    still is stays =
+    rw (same, is, still, stays)
+    (builds_behind run history (ended history d lease entry) (Finish d lease) shown builds refl
+    refl)
+
+-- ---- where no event is added
+
+pub builds_still : (run after_run : Run) (history after : History) (shown after_shown : List Entry)
+    → BuildsOver run history shown → after_run ≡ run → after ≡ history → after_shown ≡ shown
+    → BuildsOver after_run after after_shown
+builds_still run after_run history after shown after_shown builds same_run same same_shown =
+    rw (same_run, same, same_shown) builds
+
+-- what is published is all that the outlet holds
+pub all_shown : (entries held shown pending : List Entry) → held ≡ entries → shown ≡ held
+    → pending ≡ [] → (shown ≡ entries) × (shown ++ pending ≡ entries)
+all_shown entries held shown pending same all none = (
+  all ∙ same,
+  rw (none, all, same) (append-nil entries),
+)

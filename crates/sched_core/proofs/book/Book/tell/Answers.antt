@@ -1,0 +1,7 @@
+use Rattle.std.proofs.Common.{subst}
+use Rattle.sched_core.specs.Books.{BuildsOver, Ledger}
+use Rattle.sched_core.proofs.book.Book.tell.Goals as goal
+
+pub returns-clause-seeds : goal.returns-clause-seeds
+returns-clause-seeds g c = subst (λ (l : Ledger). BuildsOver l.run l.history l.shown)
+    c.self.view_is c.self.invariant.1
