@@ -1,23 +1,37 @@
 -- What keeps a book's history answered.
-use Rattle.std.proofs.Common.{◌≡◌, ◌⊎◌, inl, inr, ℕ, List, Result, Ok, Err, ap, subst}
+use Rattle.std.proofs.Common.{◌≡◌, ◌∙◌, ◌⊎◌, inl, inr, ℕ, List, Option, Some, None, Result, Ok, Err, ap}
+use Rattle.std.specs.Prelude.{MatchOption}
 use Rattle.valid_table.specs.PathInfos.{PathInfo}
 use Rattle.valid_table.specs.declared.entry.Entry.{Entry}
-use Rattle.sched_core.specs.Books.{IsBeginning, IsFailing, IsFinishing, Ledger, MayAllRefer}
+use Rattle.valid_view.specs.Shown.{IsShowable}
+use Rattle.sched_core.specs.Books.{AreSeedsValid, IsBeginning, IsBooksLease, IsFailing, IsFinishing, Leased, Ledger, MayAllRefer}
 use Rattle.sched_core.specs.Jobs.{IsJob}
-use Rattle.sched_core.specs.Runs.{Run}
+use Rattle.sched_core.specs.Runs.{History, Run}
 use Rattle.sched_core.specs.declared.job.Answer.{Answer}
 use Rattle.sched_core.specs.declared.job.Job.{Job}
 use Rattle.sched_core.specs.declared.reason.Reason.{Reason}
 use Rattle.sched_core.specs.declared.reason.Reason.TheVariants.{OutOfMemory}
 use Rattle.sched_core.proofs.ExaminedRecords.{verdicts_may_refer}
 use Rattle.store_run.specs.Builders.{IsAnswered, IsOutcomeVerdict, IsVerdictBehind, MayComeTo, answered_begin, answered_done, answered_fail}
-use Rattle.store_run.specs.Sharing.{IsWhyFailed}
+use Rattle.store_run.specs.Finding.{IsFoundBy, IsTold, MayBeFound, StaysPermitted}
 
 pub after_beginning : (may : Job → Result Answer Reason → Type 0) (before after : Ledger)
     (job : Job) (number : ℕ) → IsAnswered may before.run before.history
     → IsBeginning before after job number → IsAnswered may after.run after.history
 after_beginning may before after job number answered begins =
     rw (begins.run, begins.history) (answered_begin before.history job.derivation answered)
+
+-- a lease that was told of some entries, by which its job's seeds are valid
+pub told_at : {Told : Type 0} (names : Told → List Entry → Type 0) (entries : List Entry)
+    (lease : Leased Told) → MatchOption lease.told ⊥ (λ told. names told entries)
+    → AreSeedsValid entries lease.job → IsTold names lease
+told_at {Told} names entries lease told seeds = by lease.told told
+  where
+    by : (o : Option Told) → MatchOption o ⊥ (λ t. names t entries)
+        → MatchOption o ⊥
+        (λ t. (known : List Entry) × names t known × AreSeedsValid known lease.job)
+    by None none = absurd none
+    by (Some t) named = (entries, named, seeds)
 
 verdict_behind : (may : Job → Result Answer Reason → Type 0) (run : Run) (entries : List Entry)
     (job : Job) (verdict : Result (List PathInfo) Reason)
@@ -32,31 +46,35 @@ verdict_behind may run entries job verdict is_job came = record {
 pub after_finishing : (may : Job → Result Answer Reason → Type 0) (before after : Ledger)
     (job : Job) (number : ℕ) (infos : List PathInfo)
     → IsAnswered may before.run before.history
-    → MayComeTo may before.history.entries job (Ok infos)
+    → (IsBooksLease before.run before.history job number
+    → MayComeTo may before.history.entries job (Ok infos))
     → IsFinishing before after job number infos → IsAnswered may after.run after.history
 after_finishing may before after job number infos answered came finishes =
     rw (finishes.run, finishes.history)
     (answered_done before.history job.derivation number finishes.done.node infos finishes.entry
     answered finishes.done.is_node
-    (verdict_behind may before.run before.history.entries job (Ok infos) finishes.lease.is_job came)
+    (verdict_behind may before.run before.history.entries job (Ok infos) finishes.lease.is_job
+    (came finishes.lease))
     finishes.done.is_entry)
 
-why_behind : (may : Job → Result Answer Reason → Type 0) (run : Run) (entries : List Entry)
-    (job : Job) (reason : Reason) → IsJob run.graph job.derivation job
-    → (reason ≡ OutOfMemory) ⊎ MayComeTo may entries job (Err reason)
-    → (reason ≡ OutOfMemory) ⊎ IsVerdictBehind may run entries job.derivation (Err reason)
-why_behind may run entries job reason is_job (inl refused) = inl refused
-why_behind may run entries job reason is_job (inr came) =
-    inr (verdict_behind may run entries job (Err reason) is_job came)
+why_behind : (may : Job → Result Answer Reason → Type 0) (run : Run) (history : History)
+    (job : Job) (number : ℕ) (reason : Reason) → IsBooksLease run history job number
+    → (reason ≡ OutOfMemory) ⊎ (IsBooksLease run history job number
+    → MayComeTo may history.entries job (Err reason))
+    → (reason ≡ OutOfMemory) ⊎ IsVerdictBehind may run history.entries job.derivation (Err reason)
+why_behind may run history job number reason lease (inl refused) = inl refused
+why_behind may run history job number reason lease (inr came) =
+    inr (verdict_behind may run history.entries job (Err reason) lease.is_job (came lease))
 
 pub after_failing : (may : Job → Result Answer Reason → Type 0) (before after : Ledger)
     (job : Job) (number : ℕ) (reason : Reason) → IsAnswered may before.run before.history
-    → (reason ≡ OutOfMemory) ⊎ MayComeTo may before.history.entries job (Err reason)
+    → (reason ≡ OutOfMemory) ⊎ (IsBooksLease before.run before.history job number
+    → MayComeTo may before.history.entries job (Err reason))
     → IsFailing before after job number reason → IsAnswered may after.run after.history
 after_failing may before after job number reason answered why fails =
     rw (fails.run, fails.history)
     (answered_fail before.history job.derivation number reason answered
-    (why_behind may before.run before.history.entries job reason fails.lease.is_job why))
+    (why_behind may before.run before.history job number reason fails.lease why))
 
 -- records come of an answer alone
 outcome_may_refer : (entries : List Entry) (job : Job) (outcome : Result Answer Reason)
@@ -72,21 +90,51 @@ pub came_may_refer : (may : Job → Result Answer Reason → Type 0) (entries : 
 came_may_refer may entries job infos came =
     outcome_may_refer entries job came.0 infos came.2
 
-why_given : (may : Job → Result Answer Reason → Type 0) (entries : List Entry) (job : Job)
-    (outcome : Result Answer Reason) (reason : Reason) → may job outcome
-    → IsWhyFailed entries job outcome reason
-    → (reason ≡ OutOfMemory) ⊎ MayComeTo may entries job (Err reason)
-why_given may entries job (Ok answer) reason given (inl refused) = inl refused
-why_given may entries job (Ok answer) reason given (inr is) = inr (Ok answer, given, is)
-why_given may entries job (Err why) reason given is =
-    inr (Err why, given, ap (λ (r : Reason). Err r) is)
+-- an outcome without an answer has one reason
+same_reason : (reason : Reason) → ◌≡◌ {A = Result Answer Reason} (Err reason) (Err OutOfMemory)
+    → reason ≡ OutOfMemory
+same_reason reason is = cc
 
-pub came_with_reason : (may : Job → Result Answer Reason → Type 0) (entries : List Entry)
-    (job : Job) (outcome : Result Answer Reason) (reason : Reason)
-    → (outcome ≡ Err OutOfMemory) ⊎ may job outcome
-    → IsWhyFailed entries job outcome reason
-    → (reason ≡ OutOfMemory) ⊎ MayComeTo may entries job (Err reason)
-came_with_reason may entries job outcome reason (inr given) is =
-    why_given may entries job outcome reason given is
-came_with_reason may entries job outcome reason (inl refused) is =
-    inl (subst (λ (o : Result Answer Reason). IsWhyFailed entries job o reason) refused is)
+-- what was found by a list comes of an outcome that may be given, where what is permitted by that
+-- list is permitted behind the entries, or memory was refused
+pub found_comes : {P : Type 0} (may : Job → Result Answer Reason → Type 0)
+    (seen entries : List Entry) (job : Job) (found : Result (List PathInfo) Reason)
+    → MayBeFound may seen job found
+    → (P → IsShowable seen → AreSeedsValid seen job → StaysPermitted seen entries job)
+    → (found ≡ Err OutOfMemory) ⊎ (P → MayComeTo may entries job found)
+found_comes {P} may seen entries job found is stays = by is.outcome is.given is.by
+  where
+    by : (outcome : Result Answer Reason) → (outcome ≡ Err OutOfMemory) ⊎ may job outcome
+        → IsFoundBy seen job outcome found
+        → (found ≡ Err OutOfMemory) ⊎ (P → MayComeTo may entries job found)
+    by (Ok answer) (inl refused) verdict = absurd cc
+    by (Ok answer) (inr given) (inl refused) = inl refused
+    by (Ok answer) (inr given) (inr verdict) = inr (λ p. (
+      Ok answer,
+      given,
+      (
+        verdict.verdict.0,
+        stays p verdict.showable verdict.seeds verdict.verdict.0 verdict.verdict.1,
+        verdict.verdict.2,
+      ),
+    ))
+    by (Err reason) (inl refused) is = inl (is ∙ ap (λ (r : Reason). Err r) (same_reason reason refused))
+    by (Err reason) (inr given) is = inr (λ p. (Err reason, given, is))
+
+-- records come of an outcome
+pub records_come : {P : Type 0} (may : Job → Result Answer Reason → Type 0) (entries : List Entry)
+    (job : Job) (infos : List PathInfo)
+    → ◌≡◌ {A = Result (List PathInfo) Reason} (Ok infos) (Err OutOfMemory)
+    ⊎ (P → MayComeTo may entries job (Ok infos))
+    → P → MayComeTo may entries job (Ok infos)
+records_come may entries job infos (inl refused) = absurd cc
+records_come may entries job infos (inr come) = come
+
+-- so does a reason, but for want of memory
+pub reason_comes : {P : Type 0} (may : Job → Result Answer Reason → Type 0) (entries : List Entry)
+    (job : Job) (reason : Reason)
+    → ◌≡◌ {A = Result (List PathInfo) Reason} (Err reason) (Err OutOfMemory)
+    ⊎ (P → MayComeTo may entries job (Err reason))
+    → (reason ≡ OutOfMemory) ⊎ (P → MayComeTo may entries job (Err reason))
+reason_comes may entries job reason (inl refused) = inl cc
+reason_comes may entries job reason (inr come) = inr come

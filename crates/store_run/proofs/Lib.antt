@@ -5,6 +5,7 @@ pub mod Examined
 pub mod OneOutcome
 pub mod OneThreads
 pub mod Openings
+pub mod Permits
 pub mod RunEndings
 pub mod Schedules
 pub mod Standings

@@ -22,8 +22,10 @@ use valid_view::{Name, Naming, Tells, ViewReader, ViewWriter};
 const MOST_WORKERS: usize = 64;
 
 /// A run's book, whose outlet is a view, or why there is no settled one.
-pub type Ended<'a, J, R> =
-    Result<Book<ViewWriter<J, &'a R>>, (RunFault, Option<Book<ViewWriter<J, &'a R>>>)>;
+pub type Ended<'a, J, R> = Result<
+    Book<ViewWriter<J, &'a R>>,
+    (RunFault, Option<Book<ViewWriter<J, &'a R>>>),
+>;
 
 /// Builds what is wanted of a plan, for a system, over a journal, by one worker for each builder,
 /// which reads what is valid in a view of its own name. The book is over the lent plan, system and
@@ -113,6 +115,13 @@ fn copied(
     Some((plan, journal, system))
 }
 
+// A worker: who builds, and who asks what is valid.
+#[derive(Drop)]
+struct Worker<J: Naming, B> {
+    builder: B,
+    reader: ViewReader<J>,
+}
+
 // Lets each builder work in a thread of its own, with a reader of its own, until all have ended.
 // One for which no thread can be made is left out.
 fn run_workers<R, J, O, B>(
@@ -126,14 +135,25 @@ where
     R: Threads + Wait + Sync,
     J: Naming + Send + Sync,
     O: Tells<J> + Send,
-    O::Told: Send,
     B: Build + Send + Drop,
 {
     thread::scope(thread::scope_env(), rt, |scope| {
         for (builder, reader) in builders.into_iter().zip(readers) {
-            let _ = scope.spawn(move || work(rt, alloc, locked, reader, &builder));
+            let worker = Worker { builder, reader };
+            let _ = scope.spawn(move || employ(rt, alloc, locked, worker));
         }
     });
+}
+
+// Lets a worker work to the end of the run.
+fn employ<R: Wait, J: Naming, O: Tells<J>, B: Build + Drop>(
+    rt: &R,
+    alloc: Global,
+    locked: &Locked<O, B>,
+    worker: Worker<J, B>,
+) {
+    let Worker { builder, reader } = worker;
+    work(rt, alloc, locked, reader, &builder);
 }
 
 // How a run ends, by its book and why it stopped: well where the book is settled, whatever stopped

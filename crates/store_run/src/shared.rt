@@ -158,11 +158,7 @@ impl<O: Outlet, B: Build> Shared<O, B> {
 // Has a reader see the list that the outlet shows, so that what was permitted to the job of a lease
 // by the list that it saw before is permitted behind the book's entries. Says whether it could; it
 // can't where the view is gone.
-fn catches_up<J: Naming, O: Tells<J>>(
-    book: &Book<O>,
-    reader: &mut ViewReader<J>,
-    job: &Job,
-) -> bool
+fn catches_up<J: Naming, O: Tells<J>>(book: &Book<O>, reader: &mut ViewReader<J>, job: &Job) -> bool
     ensures { IsTrue result → (number : ℕ) → IsBooksLease book.now.run book.now.history job.now number
         → IsShowable reader.old.seen → AreSeedsValid reader.old.seen job.now
         → StaysPermitted reader.old.seen book.now.history.entries job.now }

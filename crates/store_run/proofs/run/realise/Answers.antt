@@ -8,7 +8,7 @@ use Rattle.store_run.proofs.run.realise.Goals as goal
 -- src/run.rt:49:18
 pub new-locked-requires-after_bounds : goal.new-locked-requires-after_bounds
 new-locked-requires-after_bounds g c κs within =
-    rw c.in-Some.ensures (answered_opening c.args.journal.now.entries)
+    rw c.in-Ok.ensures.opened (answered_opening c.args.journal.now.entries)
 
 -- there is a right number of workers
 workers : (g : Over) (c : goal.After-ending g) → AreWorkers (vec_len c.args.builders)

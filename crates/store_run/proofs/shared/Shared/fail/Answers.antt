@@ -1,4 +1,5 @@
 use Rattle.std.proofs.Common.{◌≡◌, ◌⊎◌, Err, subst, sym}
+use Rattle.sched_core.specs.Books.{IsBooksLease}
 use Rattle.sched_core.specs.declared.reason.Reason.TheVariants.{OutOfMemory}
 use Rattle.store_run.specs.Builders.{MayComeTo}
 use Rattle.store_run.specs.Sharing.{Share}
@@ -8,7 +9,8 @@ use Rattle.store_run.proofs.shared.Shared.fail.Goals as goal
 pub invariant_of-self-in_default : goal.invariant_of-self-in_default
 invariant_of-self-in_default g c =
     let why = subst (λ (s : Share). (c.args.reason ≡ OutOfMemory)
-    ⊎ MayComeTo g.B.Build.may s.book.history.entries c.args.lease.job (Err c.args.reason))
+    ⊎ (IsBooksLease s.book.run s.book.history c.args.lease.job c.args.lease.number
+    → MayComeTo g.B.Build.may s.book.history.entries c.args.lease.job (Err c.args.reason)))
     (sym c.self.view_is) c.requires in
     after_failing g.B.Build.may c.self.inside.book c.fail.new.self c.args.lease.job
     c.args.lease.number c.args.reason c.self.invariant why c.in_default.ensures.ok

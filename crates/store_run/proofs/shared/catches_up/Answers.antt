@@ -1,0 +1,33 @@
+use Rattle.std.proofs.Common.{◌∙◌, List, ap, subst, sym}
+use Rattle.std.specs.Option.{option_copied}
+use Rattle.std.specs.Prelude.{IsTrue}
+use mathlib.Core.List.{IsPrefix}
+use Rattle.valid_table.specs.declared.entry.Entry.{Entry}
+use Rattle.valid_view.proofs.Prefixes.{prefix_trans}
+use Rattle.store_run.proofs.Permits.{journal_showable, none_first, stays_by_view, stays_without_seeds, where_answered}
+use Rattle.store_run.proofs.shared.catches_up.Goals as goal
+
+-- src/shared.rt:172:9
+pub returns-in_default : goal.returns-in_default
+returns-in_default g c = λ _ number lease showable valid.
+    stays_without_seeds c.args.reader.now.seen c.args.book.now.history.entries c.args.job.now
+    (sym c.deref.ensures.value
+    ∙ none_first c.deref.result.now
+    (sym c.first.ensures.value ∙ ap option_copied c.in_default.is))
+
+-- src/shared.rt:161:1
+pub returns : goal.returns
+returns g c = λ yes number lease showable valid.
+    let known = where_answered c.look.result (subst IsTrue c.is_ok.ensures.value yes)
+    c.look.ensures.known in
+    let told : IsPrefix c.args.book.now.shown c.learn.new.self.told =
+    subst (λ (front : List Entry). IsPrefix front c.learn.new.self.told)
+    (c.front.ensures c.args.book.now.shown c.tell.ensures.told) c.learn.ensures.told in
+    stays_by_view c.args.reader.now.seen c.look.new.self.seen c.args.book.now.shown
+    c.args.book.now.history.entries c.args.job.now
+    (subst (λ (seen : List Entry). IsPrefix seen c.look.new.self.seen) c.learn.ensures.seen
+    c.look.ensures.later)
+    (prefix_trans c.args.book.now.shown c.learn.new.self.told c.look.new.self.seen told known.0)
+    (c.args.book.now.pending, c.tell.ensures.outlet) known.1
+    (journal_showable c.args.book.now.history.entries c.tell.ensures.is_journal) valid
+    (c.tell.ensures.seeds c.args.job.now number lease)
