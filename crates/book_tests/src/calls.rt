@@ -42,6 +42,32 @@ fn told_once(rt: HostRuntime) -> Result<(), Fail> {
     Ok(())
 }
 
+// How many entries a book's outlet tells of, and how many there are.
+fn shown_of_all(book: &Book<ListOutlet>) -> (usize, usize) {
+    (book.tell(), book.journal().entries().len())
+}
+
+// The same when the book is open, behind a Done, and behind the next lease.
+fn shown_along(alloc: Global, book: &mut Book<ListOutlet>) -> Result<[(usize, usize); 3], Fail> {
+    let at_opening = shown_of_all(book);
+    let first = lease(book)?;
+    build(alloc, book, first, &[])?;
+    let behind_done = shown_of_all(book);
+    lease(book)?.give_up();
+    Ok([at_opening, behind_done, shown_of_all(book)])
+}
+
+// What is registered is told of once the next lease is given.
+#[test]
+fn tells_what_is_shown(rt: HostRuntime) -> Result<(), Fail> {
+    let before: [&[u8]; 4] = [b"realiser-journal 1\n", b"A ", SRC, b" -\n"];
+    let mut book = open(rt.alloc(), &[LEFT], &before)?;
+    let shown = shown_along(rt.alloc(), &mut book);
+    book.close();
+    assert_eq!(rt; shown?, [(1, 1), (1, 2), (2, 2)]);
+    Ok(())
+}
+
 // Whether no lease can be given.
 fn is_idle(book: &mut Book<ListOutlet>) -> Result<bool, Fail> {
     match book.next()? {

@@ -6,6 +6,7 @@
 //! | `runs` | runs to their end: their reports, journals and counts of events |
 //! | `causes` | derivations that ask for what is left out |
 //! | `calls` | leases, and what a book tells of itself |
+//! | `permitted` | what is permitted beside a closure |
 //! | `refusals` | leases of another book, records of another job |
 //! | `growths` | memory that is refused while a lease ends |
 //! | `costs` | what events cost |
@@ -34,6 +35,8 @@ mod growths;
 mod hindered;
 #[cfg(test)]
 mod made;
+#[cfg(test)]
+mod permitted;
 #[cfg(test)]
 mod random_plans;
 #[cfg(test)]

@@ -103,7 +103,7 @@ impl<O: Outlet> Book<O> {
             return Ok(None);
         };
         // Its contract says that the history is legal.
-        let _ = self.progress.events();
+        let _ = self.progress.journal();
         self.outlet.publish()?;
         let job = self.progress.job(d)?;
         let number = self.progress.begin(d);

@@ -5,18 +5,18 @@ use Rattle.valid_table.specs.Entries.{registered}
 use Rattle.valid_table.specs.Valid.{IsValid}
 use Rattle.sched_core.specs.Booking.{Progress}
 use Rattle.sched_core.specs.Books.{IsBooksLease}
-use Rattle.sched_core.proofs.Permitting.{are_permitted, seeds_of_lease}
+use Rattle.sched_core.proofs.Building.{builds_over_all}
+use Rattle.sched_core.proofs.Permitting.{are_permitted}
 use Rattle.sched_core.proofs.progress.Progress.permitted.Goals as goal
-use Rattle.nix_names.proofs.Lists.{All-from_contains}
 
 pub closure_of-requires : goal.closure_of-requires
 closure_of-requires c =
-    let known = registered c.self.inside.journal.entries in
     let lease = subst (λ (p : Progress). IsBooksLease p.run p.history c.args.job.now c.requires.0)
     (sym c.self.view_is) c.requires.1 in
-    subst (λ (seeds : List (List ℕ)). All (IsValid known) seeds) (sym c.deref.ensures.value)
-    (All-from_contains (IsValid known) c.args.job.now.seeds.items
-    (seeds_of_lease _ _ c.args.job.now c.requires.0 c.self.invariant.0.legal lease))
+    subst
+    (λ (seeds : List (List ℕ)). All (IsValid (registered c.self.inside.journal.entries)) seeds)
+    (sym c.deref.ensures.value)
+    (builds_over_all _ _ c.self.invariant.0.legal c.args.job.now c.requires.0 lease)
 
 pub returns-clause-ok : goal.returns-clause-ok
 returns-clause-ok c =

@@ -1,0 +1,108 @@
+//! What is permitted beside a closure.
+ghost use Rattle.std.specs.Prelude.{IfOk};
+ghost use Rattle.nix_names.specs.Rising.{IsRising};
+
+use crate::books::{journal, paths};
+use crate::files::*;
+use drv_graph::Kind;
+use nix_names::StorePath;
+use sched_core::{Job, JobOutput, permitted_beside};
+use std::alloc::Global;
+use std::test::*;
+use valid_table::Table;
+
+// What seeds lead to, the outputs of a job, and what is permitted to it.
+struct Beside {
+    reached: &'static [&'static [u8]],
+    outputs: &'static [&'static [u8]],
+    permitted: &'static [&'static [u8]],
+}
+
+const BESIDE: [Beside; 5] = [
+    Beside {
+        reached: &[],
+        outputs: &[],
+        permitted: &[],
+    },
+    Beside {
+        reached: &[SRC, BASE_OUT],
+        outputs: &[],
+        permitted: &[SRC, BASE_OUT],
+    },
+    Beside {
+        reached: &[SRC, BASE_OUT],
+        outputs: &[LEFT_OUT, LEFT_DEV],
+        permitted: &[LEFT_DEV, SRC, BASE_OUT, LEFT_OUT],
+    },
+    // One of the outputs is reached.
+    Beside {
+        reached: &[SRC, LEFT_OUT],
+        outputs: &[LEFT_DEV, LEFT_OUT],
+        permitted: &[LEFT_DEV, SRC, LEFT_OUT],
+    },
+    // Each of two outputs is there twice.
+    Beside {
+        reached: &[SRC],
+        outputs: &[LEFT_OUT, LEFT_DEV, LEFT_OUT, LEFT_DEV],
+        permitted: &[LEFT_DEV, SRC, LEFT_OUT],
+    },
+];
+
+// Paths without references.
+const REGISTERED: [&[u8]; 10] = [
+    b"realiser-journal 1\n",
+    b"A ",
+    SRC,
+    b" -\n",
+    b"A ",
+    BASE_OUT,
+    b" -\n",
+    b"A ",
+    LEFT_OUT,
+    b" -\n",
+];
+
+// What these paths lead to, which are all registered.
+fn reached(alloc: Global, texts: &[&[u8]]) -> Result<Vec<StorePath>, Fail>
+    ensures { IfOk result (λ paths. IsRising paths.items) }
+{
+    let table = Table::replay(alloc, &journal(alloc, &REGISTERED)?)?;
+    Ok(table.closure(alloc, &paths(alloc, texts)?)?)
+}
+
+// A job with outputs at these paths.
+fn job(alloc: Global, texts: &[&[u8]]) -> Result<Job, Fail> {
+    let mut outputs = Vec::new(alloc);
+    for path in paths(alloc, texts)? {
+        let name = Vec::new(alloc);
+        outputs.push(JobOutput { name, path })?;
+    }
+    Ok(Job {
+        derivation: 0,
+        builder: Vec::new(alloc),
+        args: Vec::new(alloc),
+        env: Vec::new(alloc),
+        outputs,
+        kind: Kind::Addressed,
+        seeds: Vec::new(alloc),
+    })
+}
+
+// Whether just this is permitted.
+fn is_permitted(alloc: Global, beside: &Beside) -> Result<bool, Fail> {
+    let reached = reached(alloc, beside.reached)?;
+    let permitted = permitted_beside(alloc, &reached, &job(alloc, beside.outputs)?)?;
+    Ok(permitted == paths(alloc, beside.permitted)?)
+}
+
+#[test]
+fn permitted_rows(rt: HostRuntime) -> Result<(), Fail> {
+    for beside in &BESIDE {
+        assert!(rt;
+            is_permitted(rt.alloc(), beside)?,
+            "of {:?}",
+            beside.outputs
+        );
+    }
+    Ok(())
+}
