@@ -8,7 +8,7 @@ use Rattle.nix_names.proofs.Lists.{Contains-nothing}
 use Rattle.valid_table.specs.Closure.{IsClosure}
 use Rattle.valid_table.specs.Entries.{registered}
 use Rattle.valid_table.specs.Unions.{IsUnion}
-use Rattle.valid_table.specs.Valid.{AreReferencesValid, IsJournal, IsOnce, IsValid}
+use Rattle.valid_table.specs.Valid.{IsJournal, IsOnce, IsValid}
 use Rattle.valid_table.specs.declared.entry.Entry.{Entry}
 use Rattle.valid_table.specs.declared.entry.Registration.{Registration}
 use Rattle.valid_table.proofs.JournalLists.{closed_references_valid, registered-append, valid_more}
@@ -18,7 +18,7 @@ use Rattle.valid_view.specs.declared.fault.ViewFault.{ViewFault}
 use Rattle.valid_view.specs.declared.seen.Seen.{Seen}
 use Rattle.valid_view.proofs.Showable.{showable_front}
 use Rattle.sched_core.specs.Books.{ArePermittedPaths, AreSeedsValid}
-use Rattle.sched_core.specs.Legal.{ArePermitted, MayRefer}
+use Rattle.sched_core.specs.Legal.{MayRefer}
 use Rattle.sched_core.specs.Verdicts.{outputs_of}
 use Rattle.sched_core.specs.declared.job.Job.{Job}
 use Rattle.sched_core.proofs.Permitting.{are_permitted}

@@ -1,7 +1,6 @@
 -- What the workers of a run share, and what becomes of it (this product's own).
 use Rattle.std.specs.Prelude.{◌≡◌, ◌⊎◌, ℕ, Option, Some, None, List, Result, Ok, Err}
 use Rattle.valid_table.specs.PathInfos.{PathInfo}
-use Rattle.valid_table.specs.declared.entry.Entry.{Entry}
 use Rattle.sched_core.specs.Books.{CanBegin, IsBeginning, IsBooksLease, IsFailing, IsFinishing, IsNotAllowed, IsRunSettled, IsSameRun, Leased, Ledger}
 use Rattle.sched_core.specs.declared.fault.BookFault.{BookFault}
 use Rattle.sched_core.specs.declared.fault.BookFault.TheVariants.{NoMemory, NoView, ForeignLease, NotLawful}

@@ -115,13 +115,6 @@ fn copied(
     Some((plan, journal, system))
 }
 
-// A worker: who builds, and who asks what is valid.
-#[derive(Drop)]
-struct Worker<J: Naming, B> {
-    builder: B,
-    reader: ViewReader<J>,
-}
-
 // Lets each builder work in a thread of its own, with a reader of its own, until all have ended.
 // One for which no thread can be made is left out.
 fn run_workers<R, J, O, B>(
@@ -139,21 +132,9 @@ where
 {
     thread::scope(thread::scope_env(), rt, |scope| {
         for (builder, reader) in builders.into_iter().zip(readers) {
-            let worker = Worker { builder, reader };
-            let _ = scope.spawn(move || employ(rt, alloc, locked, worker));
+            let _ = scope.spawn(move || work(rt, alloc, locked, reader, &builder));
         }
     });
-}
-
-// Lets a worker work to the end of the run.
-fn employ<R: Wait, J: Naming, O: Tells<J>, B: Build + Drop>(
-    rt: &R,
-    alloc: Global,
-    locked: &Locked<O, B>,
-    worker: Worker<J, B>,
-) {
-    let Worker { builder, reader } = worker;
-    work(rt, alloc, locked, reader, &builder);
 }
 
 // How a run ends, by its book and why it stopped: well where the book is settled, whatever stopped

@@ -1,4 +1,4 @@
-use Rattle.std.proofs.Common.{List, All, subst}
+use Rattle.std.proofs.Common.{All, subst}
 use Rattle.valid_table.specs.Closure.{IsClosure}
 use Rattle.valid_table.specs.Entries.{registered}
 use Rattle.valid_table.specs.Unions.{IsUnion}

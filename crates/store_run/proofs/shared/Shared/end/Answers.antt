@@ -1,8 +1,6 @@
-use Rattle.std.proofs.Common.{◌≡◌, ◌∙◌, Err, Ok, Result, ap, subst, sym}
-use Rattle.valid_table.specs.PathInfos.{PathInfo}
+use Rattle.std.proofs.Common.{Err, Ok, subst}
 use Rattle.sched_core.specs.Books.{AreSeedsValid, IsBooksLease}
 use Rattle.sched_core.specs.declared.job.Job.{Job}
-use Rattle.sched_core.specs.declared.reason.Reason.{Reason}
 use Rattle.valid_view.specs.Shown.{IsShowable}
 use Rattle.store_run.specs.Finding.{MayBeFound, StaysPermitted}
 use Rattle.store_run.specs.Sharing.{Share}

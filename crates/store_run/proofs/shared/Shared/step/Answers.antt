@@ -1,5 +1,3 @@
-use Rattle.std.specs.Prelude.{MatchOption, ⊤}
-use Rattle.sched_core.specs.Books.{AreSeedsValid}
 use Rattle.store_run.proofs.Answered.{after_beginning, told_at}
 use Rattle.store_run.proofs.shared.Shared.step.Goals as goal
 
