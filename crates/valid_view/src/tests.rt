@@ -11,6 +11,7 @@ use std::thread::{Threads, join};
 use valid_table::{Entry, Journal, Outlet, Record, Registration};
 
 mod crowd;
+mod growths;
 mod stores;
 
 const X: &[u8] = b"/nix/store/aaaaaaaaaaaaaaaaaaaaaaaaaaaaaaaa-x";

@@ -34,10 +34,15 @@ fn nth(alloc: Global, paths: &[StorePath], n: usize) -> Result<StorePath, Fail> 
     }
 }
 
+// The record of a folder that refers to a path.
+fn record_behind(alloc: Global, path: StorePath) -> Result<Record, Fail> {
+    Ok(Record::new(vec![in alloc; path]?, None)?)
+}
+
 // The record of a folder that refers to the path before path n, if there is one.
 fn record(alloc: Global, paths: &[StorePath], n: usize) -> Result<Record, Fail> {
     match n.checked_sub(1) {
-        Some(before) => Ok(Record::new(vec![in alloc; nth(alloc, paths, before)?]?, None)?),
+        Some(before) => record_behind(alloc, nth(alloc, paths, before)?),
         None => Ok(Record::new(Vec::new(alloc), None)?),
     }
 }
@@ -60,6 +65,13 @@ fn added_thrice(alloc: Global, paths: &[StorePath], n: usize) -> Result<(Entry, 
     let entry = added(alloc, paths, n)?;
     let (second, third) = (entry.copy(alloc)?, entry.copy(alloc)?);
     Ok((entry, second, third))
+}
+
+// The journal that has path 0 of these alone.
+fn opening(alloc: Global, paths: &[StorePath]) -> Result<Journal, Fail> {
+    let mut journal = Journal::new(alloc);
+    journal.add(nth(alloc, paths, 0)?, record(alloc, paths, 0)?)?;
+    Ok(journal)
 }
 
 // A writer, beside the journal of all that it was given.
@@ -108,8 +120,7 @@ impl<J: Naming + Send, R: Wait + Drop> Store<J, R> {
         requires readers { (1 ≤ readers) × (readers ≤ 64) }
         ensures { IfOk result (λ view. length view.1.items ≡ readers) }
     {
-        let mut journal = Journal::new(alloc);
-        journal.add(nth(alloc, paths, 0)?, record(alloc, paths, 0)?)?;
+        let journal = opening(alloc, paths)?;
         let (writer, readers) = open::<J, R>(alloc, rt, name, &journal, readers)?;
         Ok((Store { journal, writer }, readers))
     }
