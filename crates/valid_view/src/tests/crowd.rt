@@ -87,12 +87,14 @@ impl<'a, J: Naming> Watcher<'a, J> {
         Ok(self.asks(last)? && self.last >= last)
     }
 
-    // One turn: of 256 one asks for a closure, and 64 learn.
+    // One turn: of 1,024 one asks for the closure of any path, 15 for one of the first 256, and 256
+    // learn. Publishing waits for closures that are being made.
     fn turn<R: Wait>(&mut self, rt: &R, seed: u64) -> Result<bool, ViewFault> {
         let n = (seed >> 33) as usize % (LAST + 1);
-        match seed >> 25 & 255 {
+        match seed >> 23 & 1_023 {
             0 => self.asks_all(n),
-            1..=64 => {
+            1..=15 => self.asks_all(n % 256),
+            16..=271 => {
                 let told = self.square.told.lock(rt).again();
                 self.learns(told)
             }
