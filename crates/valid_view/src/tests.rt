@@ -10,6 +10,10 @@ use std::test::*;
 use std::thread::{Threads, join};
 use valid_table::{Entry, Journal, Outlet, Record, Registration};
 
+mod crowd;
+mod growths;
+mod stores;
+
 const X: &[u8] = b"/nix/store/aaaaaaaaaaaaaaaaaaaaaaaaaaaaaaaa-x";
 
 const Y: &[u8] = b"/nix/store/cccccccccccccccccccccccccccccccc-y";
