@@ -1,11 +1,14 @@
 pub mod Alike
+pub mod AlonePlans
 pub mod Answered
 pub mod Carried
+pub mod ExampleJobs
 pub mod Examined
 pub mod OneOutcome
 pub mod OneThreads
 pub mod Openings
 pub mod RunEndings
+pub mod ScheduleExample
 pub mod Schedules
 pub mod Standings
 pub mod Telling

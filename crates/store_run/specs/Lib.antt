@@ -2,5 +2,6 @@ pub mod Builders
 pub mod Numbers
 pub mod OneThread
 pub mod Realising
+pub mod ScheduleExample
 pub mod Scheduling
 pub mod Sharing

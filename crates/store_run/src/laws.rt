@@ -1,6 +1,12 @@
 //! Laws over the definitions that contracts cite, each on the contract of a function that does
 //! nothing.
-ghost use Rattle.store_run.specs.Scheduling.{AnySchedule, HasOneThread, OneReport, RealisedIsWhole, WholeRunsAreAlike};
+ghost use Rattle.std.specs.Prelude.{◌≡◌, [], pos};
+ghost use Rattle.sched_core.specs.Runs.{state_in};
+ghost use Rattle.sched_core.specs.declared.reason.Reason.TheVariants.{ExitStatus};
+ghost use Rattle.sched_core.specs.declared.reason.State.TheVariants.{Done, Failed};
+ghost use Rattle.store_run.specs.OneThread.{IsOneThread};
+ghost use Rattle.store_run.specs.ScheduleExample.{Overlap, both, in_turn, may_leave, side_by_side};
+ghost use Rattle.store_run.specs.Scheduling.{AnySchedule, HasOneThread, IsWholeRun, OneReport, RealisedIsWhole, WholeRunsAreAlike};
 
 use crate::build::Build;
 
@@ -26,4 +32,15 @@ pub fn whole_runs_are_alike<B: Build>()
 /// may give one outcome to each derivation.
 pub fn realised_is_whole<B: Build>()
     ensures { RealisedIsWhole B.may }
+{}
+
+/// There are whole runs in which builds overlap and one of them fails: over a plan of two
+/// derivations both are under way at once, the first fails, and the second is built. One thread
+/// leaves other events in another order.
+pub fn builds_may_overlap()
+    ensures whole { IsWholeRun may_leave both side_by_side }
+    ensures overlap { Overlap side_by_side 0 1 }
+    ensures failed { state_in both side_by_side 0 ≡ Failed (ExitStatus (pos 1)) }
+    ensures built { state_in both side_by_side 1 ≡ Done }
+    ensures in_turn { IsOneThread may_leave both [] in_turn }
 {}
