@@ -23,7 +23,7 @@ use Rattle.drv_graph.specs.SoundGraphs.{IsSound}
 use Rattle.drv_graph.specs.declared.kinds.Kind.TheVariants.{Addressed}
 use Rattle.drv_graph.proofs.OneText.{one_path}
 use Rattle.drv_graph.proofs.PathLists.{other_path}
-use Rattle.store_run.specs.ScheduleExample.{both, drv_alone, left, node_alone, out_alone, right, text_of}
+use Rattle.store_run.specs.ScheduleExample.{Recipe, both, drv_alone, failing, left, making, node_alone, out_alone, right, text_of}
 
 abbrev store : List ℕ
 store = codes "/nix/store"
@@ -46,14 +46,14 @@ named_path kind inner name named = name_of_path store _ name (hash_part_of_fold 
 
 -- ---- one derivation
 
-module _ (name builder : List ℕ) (args : List (List ℕ)) where
+module _ (recipe : Recipe) where
   abbrev drv : Drv
-  drv = drv_alone name builder args (out_alone name builder args)
+  drv = drv_alone recipe (out_alone recipe)
 
   abbrev output : Output
   output = record {
     name = codes "out";
-    path = out_alone name builder args;
+    path = out_alone recipe;
     algo = [];
     hash = [];
   }
@@ -63,13 +63,13 @@ module _ (name builder : List ℕ) (args : List (List ℕ)) where
 
   -- its output's path is the expected one
   expected_alone : (o : Output) → Contains drv.outputs o
-      → IsExpected store name Addressed drv [] o (out_alone name builder args)
+      → IsExpected store recipe.name Addressed drv [] o (out_alone recipe)
   expected_alone o has =
-      subst (λ (p : Output). IsExpected store name Addressed drv [] p
-      (out_alone name builder args)) (one_of output o has)
-      (text_of (drv_alone name builder args []), modulo, refl)
+      subst (λ (p : Output). IsExpected store recipe.name Addressed drv [] p
+      (out_alone recipe)) (one_of output o has)
+      (text_of (drv_alone recipe []), modulo, refl)
     where
-      modulo : IsModuloText drv [] true (text_of (drv_alone name builder args []))
+      modulo : IsModuloText drv [] true (text_of (drv_alone recipe []))
       modulo = record {
         inputs = [];
         united = record {
@@ -83,7 +83,7 @@ module _ (name builder : List ℕ) (args : List (List ℕ)) where
 
   -- the entry of its environment under the output's name is that path
   env_value : (entry : EnvEntry) → Contains drv.env entry → entry.key ≡ codes "out"
-      → entry.value ≡ out_alone name builder args
+      → entry.value ≡ out_alone recipe
   env_value entry (zero, low, is) key =
       let clash : codes "builder" ≡ codes "out" = ap (λ (e : EnvEntry). e.key) is ∙ key in
       absurd cc
@@ -97,31 +97,31 @@ module _ (name builder : List ℕ) (args : List (List ℕ)) where
   env_value entry (suc (suc (suc (suc k))), low, is) key = absurd (omega arith)
 
   none_other : (o : Output) → Contains drv.outputs o
-      → HasOtherEntry IsThePath (IsExpected store name Addressed drv []) drv o → ⊥
+      → HasOtherEntry IsThePath (IsExpected store recipe.name Addressed drv []) drv o → ⊥
   none_other o has (entry, path, among, key, expected, unfit) =
       let named : o.name ≡ codes "out" = sym (ap (λ (p : Output). p.name) (one_of output o has)) in
       unfit (env_value entry among (key ∙ named)
-      ∙ one_path store name Addressed drv [] o (out_alone name builder args) path
+      ∙ one_path store recipe.name Addressed drv [] o (out_alone recipe) path
       (expected_alone o has) expected)
 
   out_is_name : is_name (codes "out") ≡ true
   unfolding is_name is_name_char is_dotted
   out_is_name = refl
 
-  pub check_alone : is_name name ≡ true
-      → IsOutputsCheck IsThePath store name drv [] [] (Ok Addressed)
+  pub check_alone : is_name recipe.name ≡ true
+      → IsOutputsCheck IsThePath store recipe.name drv [] [] (Ok Addressed)
   check_alone named =
-      let expected = IsExpected store name Addressed drv [] in
+      let expected = IsExpected store recipe.name Addressed drv [] in
       let fit : PathsFit IsThePath expected drv =
       All-from_contains (λ (o : Output). (path : List ℕ) × expected o path × (o.path ≡ path))
       drv.outputs (λ o has. (
-        out_alone name builder args,
+        out_alone recipe,
         expected_alone o has,
         sym (ap (λ (p : Output). p.path) (one_of output o has)),
       )) in
-      let sound : AreSound name drv [] Addressed = record {
+      let sound : AreSound recipe.name drv [] Addressed = record {
         has_kind = kind_alone;
-        named = all_one (IsWellNamed name) output (out_is_name, named);
+        named = all_one (IsWellNamed recipe.name) output (out_is_name, named);
         known = All-nil IsKnownUse;
       } in (
         sound,
@@ -131,15 +131,15 @@ module _ (name builder : List ℕ) (args : List (List ℕ)) where
       )
 
   -- its path is that of a derivation's file
-  module _ (filed : is_name (name ++ codes ".drv") ≡ true) where
-    pub node_name : name_of (node_alone name builder args).path ≡ name ++ codes ".drv"
+  module _ (filed : is_name (recipe.name ++ codes ".drv") ≡ true) where
+    pub node_name : name_of (node_alone recipe).path ≡ recipe.name ++ codes ".drv"
     unfolding text_path
-    node_name = named_path (text_kind []) (sha256 (text_of drv)) (name ++ codes ".drv") filed
+    node_name = named_path (text_kind []) (sha256 (text_of drv)) (recipe.name ++ codes ".drv") filed
 
-    pub lawful_alone : (before : List Node) → is_name name ≡ true
-        → take (length (name ++ codes ".drv") - 4) (name ++ codes ".drv") ≡ name
+    pub lawful_alone : (before : List Node) → is_name recipe.name ≡ true
+        → take (length (recipe.name ++ codes ".drv") - 4) (recipe.name ++ codes ".drv") ≡ recipe.name
         → ((earlier : Node) → Contains before earlier → ShareOutput earlier.drv drv → ⊥)
-        → IsLawful store before (node_alone name builder args)
+        → IsLawful store before (node_alone recipe)
     lawful_alone before named cut alone = record {
       kind = Addressed;
       right = record {
@@ -173,42 +173,37 @@ unfolding is_name is_name_char is_dotted
 right_filed = refl
 
 -- where two of them share an output, they have one name
-shared_name : (name builder name' builder' : List ℕ) (args args' : List (List ℕ))
-    → is_name name ≡ true → is_name name' ≡ true
-    → ShareOutput (node_alone name builder args).drv (node_alone name' builder' args').drv
-    → name ≡ name'
-shared_name name builder name' builder' args args' named named' (x, y, of_x, of_y, same) =
-    let bytes = sha256 (text_of (drv_alone name builder args [])) in
-    let bytes' = sha256 (text_of (drv_alone name' builder' args' [])) in
-    let outs : out_alone name builder args ≡ out_alone name' builder' args' =
-    ap (λ (p : Output). p.path) (one_of (output name builder args) x of_x) ∙ same
-    ∙ sym (ap (λ (p : Output). p.path) (one_of (output name' builder' args') y of_y)) in
-    sym (named_path (codes "output:out") bytes name named) ∙ ap name_of outs
-    ∙ named_path (codes "output:out") bytes' name' named'
+shared_name : (one other : Recipe) → is_name one.name ≡ true → is_name other.name ≡ true
+    → ShareOutput (node_alone one).drv (node_alone other).drv → one.name ≡ other.name
+shared_name one other named named' (x, y, of_x, of_y, same) =
+    let outs : out_alone one ≡ out_alone other =
+    ap (λ (p : Output). p.path) (one_of (output one) x of_x) ∙ same
+    ∙ sym (ap (λ (p : Output). p.path) (one_of (output other) y of_y)) in
+    sym (named_path (codes "output:out") (sha256 (text_of (drv_alone one []))) one.name named)
+    ∙ ap name_of outs
+    ∙ named_path (codes "output:out") (sha256 (text_of (drv_alone other []))) other.name named'
 
-names_differ : codes "left" ≡ codes "right" → ⊥
-names_differ same = cc
+outputs_differ : ShareOutput left.drv right.drv → ⊥
+outputs_differ share =
+    let names : codes "left" ≡ codes "right" =
+    shared_name failing making left_named right_named share in
+    cc
 
-files_differ : left.path ≡ right.path → ⊥
+pub files_differ : left.path ≡ right.path → ⊥
 files_differ same =
     let names : codes "left.drv" ≡ codes "right.drv" =
-    sym (node_name (codes "left") (codes "/bin/false") [] left_filed) ∙ ap name_of same
-    ∙ node_name (codes "right") (codes "/bin/sh") (codes "-c" ∷ codes "/bin/mkdir $out" ∷ [])
-    right_filed in
+    sym (node_name failing left_filed) ∙ ap name_of same ∙ node_name making right_filed in
     cc
 
 lawful_left : IsLawful store [] left
-lawful_left = lawful_alone (codes "left") (codes "/bin/false") [] left_filed [] left_named refl
+lawful_left = lawful_alone failing left_filed [] left_named refl
     (λ earlier none. absurd (Contains-nothing earlier none))
 
 lawful_right : IsLawful store (left ∷ []) right
 lawful_right =
-    lawful_alone (codes "right") (codes "/bin/sh") (codes "-c" ∷ codes "/bin/mkdir $out" ∷ [])
-    right_filed (left ∷ []) right_named refl
-    (λ earlier has share. names_differ
-    (shared_name (codes "left") (codes "/bin/false") (codes "right") (codes "/bin/sh") []
-    (codes "-c" ∷ codes "/bin/mkdir $out" ∷ []) left_named right_named
-    (subst (λ (n : Node). ShareOutput n.drv right.drv) (sym (one_of left earlier has)) share)))
+    lawful_alone making right_filed (left ∷ []) right_named refl
+    (λ earlier has share. outputs_differ
+    (subst (λ (n : Node). ShareOutput n.drv right.drv) (sym (one_of left earlier has)) share))
 
 lawful_both : AreLawful store both.graph.nodes
 lawful_both [] after node parts =
@@ -221,14 +216,11 @@ lawful_both (x ∷ []) after node parts =
 lawful_both (x ∷ y ∷ []) after node parts = absurd cc
 lawful_both (x ∷ y ∷ z ∷ before) after node parts = absurd cc
 
-drv_paths : All (λ (n : Node). IsDrvPath n.path) both.graph.nodes
-drv_paths =
-    all_two (λ (n : Node). IsDrvPath n.path) left right
-    (subst (λ (n : List ℕ). is_drv_name n ≡ true)
-    (sym (node_name (codes "left") (codes "/bin/false") [] left_filed)) refl)
-    (subst (λ (n : List ℕ). is_drv_name n ≡ true)
-    (sym (node_name (codes "right") (codes "/bin/sh")
-    (codes "-c" ∷ codes "/bin/mkdir $out" ∷ []) right_filed)) refl)
+pub left_file : IsDrvPath left.path
+left_file = subst (λ (n : List ℕ). is_drv_name n ≡ true) (sym (node_name failing left_filed)) refl
+
+pub right_file : IsDrvPath right.path
+right_file = subst (λ (n : List ℕ). is_drv_name n ≡ true) (sym (node_name making right_filed)) refl
 
 pub both_sound : IsSound both.graph
 unfolding IsDistinct
@@ -238,7 +230,7 @@ both_sound = record {
   distinct = ((other_path left.path right.path files_differ, tt), (tt, tt));
   roots_within = all_two (λ root. root < 2) 0 1 (omega arith) (omega arith);
   roots_once = ((refl, tt), (tt, tt));
-  named = drv_paths;
+  named = all_two (λ (n : Node). IsDrvPath n.path) left right left_file right_file;
   own_outputs = all_two (λ (n : Node). AreDistinct (output_paths_of n.drv)) left right (tt, tt)
       (tt, tt);
 }

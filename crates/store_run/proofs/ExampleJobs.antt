@@ -31,7 +31,7 @@ use Rattle.sched_core.specs.declared.reason.Reason.{Reason}
 use Rattle.sched_core.specs.declared.reason.Reason.TheVariants.{ExitStatus, HashMismatch, Killed, MissingOutput, NoStart, NotFlatFile, OutOfMemory, OutputCycle, ReadFault, TooLarge}
 use Rattle.sched_core.proofs.OneVerdict.{has_one_verdict}
 use Rattle.store_run.specs.Scheduling.{HasOneOutcome, IsVerdictOn}
-use Rattle.store_run.specs.ScheduleExample.{IsEmptyFolder, Leaves, both, left, may_leave, node_alone, out_alone, right}
+use Rattle.store_run.specs.ScheduleExample.{IsEmptyFolder, Leaves, Recipe, both, failing, left, making, may_leave, node_alone, out_alone, right}
 use Rattle.store_run.proofs.AlonePlans.{kind_alone}
 use denote.RawPtr.{null_ptr}
 
@@ -108,9 +108,6 @@ no_cycle outputs (a, b, there, back, apart, leads, leads') = by there leads
 
 -- ---- the verdicts
 
-abbrev pub right_args : List (List ℕ)
-right_args = codes "-c" ∷ codes "/bin/mkdir $out" ∷ []
-
 right_node : (graph_job : Job) → (is : IsJob both.graph 1 graph_job) → is.node ≡ right
 right_node job is = same_element both.graph.nodes 1 is.node right is.is_node refl
 
@@ -128,7 +125,7 @@ module _ (job : Job) (is_job : IsJob both.graph 1 job) (answer : Answer)
   job_kind : job.kind ≡ Addressed
   job_kind = one_kind right.drv job.kind Addressed
       (subst (λ (n : Node). HasKind n.drv job.kind) (right_node job is_job) is_job.kind)
-      (kind_alone (codes "right") (codes "/bin/sh") right_args)
+      (kind_alone making)
 
   taken_at : (n : ℕ) → n < length job.outputs.items → tree_at answer n ≡ Some left_behind.1.0
   taken_at zero low = tree_first answer left_behind.1.0 left_behind.1.2
@@ -221,85 +218,86 @@ path_few hash name long short =
       length-append hash (45 ∷ name),
     )
 
-out_few : (name builder : List ℕ) (args : List (List ℕ)) → length name < 256
-    → length (out_alone name builder args) < 2 ^ 63
+out_few : (recipe : Recipe) → length recipe.name < 256 → length (out_alone recipe) < 2 ^ 63
 unfolding store_path
-out_few name builder args short =
-    path_few _ name (hash_part_len _ (hash_part_of_fold _)) short
+out_few recipe short = path_few _ recipe.name (hash_part_len _ (hash_part_of_fold _)) short
 
-module _ (d : ℕ) (name builder : List ℕ) (args : List (Vec ℕ Global)) (short : length name < 256)
-    (few_bytes : length builder < 2 ^ 63) (few_args : length args < 2 ^ 63) where
-  name_few : length name < 2 ^ 63
-  name_few = omega arith
+env_of : (key value : List ℕ) → length key < 2 ^ 63 → length value < 2 ^ 63 → EnvEntryStruct
+env_of key value few few' = record { key = vec_of key few; value = vec_of value few' }
 
-  env_of : (key value : List ℕ) → length key < 2 ^ 63 → length value < 2 ^ 63 → EnvEntryStruct
-  env_of key value few few' = record { key = vec_of key few; value = vec_of value few' }
+module _ (recipe : Recipe) (short : length recipe.name < 256)
+    (few : length recipe.builder < 2 ^ 63) (args : List (Vec ℕ Global))
+    (few_args : length args < 2 ^ 63) where
+  env_entries : List EnvEntryStruct
+  env_entries =
+      env_of (codes "builder") recipe.builder (omega arith) few
+      ∷ env_of (codes "name") recipe.name (omega arith) (omega arith)
+      ∷ env_of (codes "out") (out_alone recipe) (omega arith) (out_few recipe short)
+      ∷ env_of (codes "system") (codes "x86_64-linux") (omega arith) (omega arith) ∷ []
 
-  pub job_of : Job
-  job_of = record {
+  job_output : JobOutput
+  job_output = record { name = vec_of (codes "out") (omega arith); path = out_alone recipe }
+
+  job_of : ℕ → Job
+  unfolding env_entries
+  job_of d = record {
     derivation = d;
-    builder = vec_of builder few_bytes;
+    builder = vec_of recipe.builder few;
     args = vec_of args few_args;
-    env = vec_of (env_of (codes "builder") builder (omega arith) few_bytes
-        ∷ env_of (codes "name") name (omega arith) name_few
-        ∷ env_of (codes "out") (out_alone name builder (map bytes_of args)) (omega arith)
-        (out_few name builder (map bytes_of args) short)
-        ∷ env_of (codes "system") (codes "x86_64-linux") (omega arith) (omega arith) ∷ [])
-        (omega arith);
-    outputs = vec_of (record {
-      name = vec_of (codes "out") (omega arith);
-      path = out_alone name builder (map bytes_of args);
-    } ∷ []) (omega arith);
+    env = vec_of env_entries (omega arith);
+    outputs = vec_of (job_output ∷ []) (omega arith);
     kind = Addressed;
     seeds = vec_of [] (omega arith);
   }
 
-  pub is_job_of : (graph : Graph)
-      → slice_get graph.nodes d ≡ Some (node_alone name builder (map bytes_of args))
-      → IsJob graph d job_of
-  unfolding job_of env_of
-  is_job_of graph at = record {
-    node = node_alone name builder (map bytes_of args);
+  is_job_of : map bytes_of args ≡ recipe.args → (graph : Graph) (d : ℕ)
+      → slice_get graph.nodes d ≡ Some (node_alone recipe) → IsJob graph d (job_of d)
+  unfolding job_of env_entries env_of job_output
+  is_job_of same graph d at = record {
+    node = node_alone recipe;
     is_node = at;
     derivation = refl;
     builder = refl;
-    args = refl;
+    args = same;
     env = refl;
     names = refl;
     paths = refl;
-    kind = kind_alone name builder (map bytes_of args);
+    kind = kind_alone recipe;
     seeds = refl;
   }
 
 -- ---- of the two
 
+abbrev making_args : List (Vec ℕ Global)
+making_args = vec_of (codes "-c") (omega arith)
+    ∷ vec_of (codes "/bin/mkdir $out") (omega arith) ∷ []
+
+pub left_job : Job
+left_job = job_of failing (omega arith) (omega arith) [] (omega arith) 0
+
+pub left_is_job : IsJob both.graph 0 left_job
+unfolding left_job
+left_is_job = is_job_of failing (omega arith) (omega arith) [] (omega arith) refl both.graph 0 refl
+
+pub right_job : Job
+right_job = job_of making (omega arith) (omega arith) making_args (omega arith) 1
+
+pub right_is_job : IsJob both.graph 1 right_job
+unfolding right_job
+right_is_job = is_job_of making (omega arith) (omega arith) making_args (omega arith) refl
+    both.graph 1 refl
+
 pub left_answer : Answer
 left_answer = record { status = Some (pos 1); trees = vec_of [] (omega arith) }
+
+abbrev no_members : Tree
+no_members = Dir' (vec_of [] (omega arith)) end_of-Member
 
 pub right_answer : Answer
 right_answer = record {
   status = Some (pos 0);
-  trees = vec_of (Some (Dir' (vec_of [] (omega arith)) end_of-Member) ∷ []) (omega arith);
+  trees = vec_of (Some no_members ∷ []) (omega arith);
 }
-
-pub left_job : Job
-left_job = job_of 0 (codes "left") (codes "/bin/false") [] (omega arith) (omega arith) (omega arith)
-
-pub left_is_job : IsJob both.graph 0 left_job
-unfolding left_job
-left_is_job = is_job_of 0 (codes "left") (codes "/bin/false") [] (omega arith) (omega arith)
-    (omega arith) both.graph refl
-
-pub right_job : Job
-right_job = job_of 1 (codes "right") (codes "/bin/sh")
-    (vec_of (codes "-c") (omega arith) ∷ vec_of (codes "/bin/mkdir $out") (omega arith) ∷ [])
-    (omega arith) (omega arith) (omega arith)
-
-pub right_is_job : IsJob both.graph 1 right_job
-unfolding right_job
-right_is_job = is_job_of 1 (codes "right") (codes "/bin/sh")
-    (vec_of (codes "-c") (omega arith) ∷ vec_of (codes "/bin/mkdir $out") (omega arith) ∷ [])
-    (omega arith) (omega arith) (omega arith) both.graph refl
 
 pub left_leaves : Leaves true left_answer
 unfolding left_answer
@@ -307,7 +305,7 @@ left_leaves = (refl, refl)
 
 pub right_leaves : Leaves false right_answer
 unfolding right_answer
-right_leaves = (refl, (Dir' (vec_of [] (omega arith)) end_of-Member, (refl, refl), refl))
+right_leaves = (refl, (no_members, (refl, refl), refl))
 
 pub left_may : may_leave left_job (Ok left_answer)
 unfolding left_job job_of

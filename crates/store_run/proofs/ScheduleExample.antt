@@ -28,10 +28,10 @@ use Rattle.sched_core.specs.declared.reason.State.TheVariants.{Done, Failed, Rea
 use Rattle.store_run.specs.Builders.{IsAnswered, IsVerdictBehind, answered_begin, answered_done, answered_fail, answered_opening}
 use Rattle.store_run.specs.OneThread.{IsOneThread, turn_done, turn_failed, turn_opening}
 use Rattle.store_run.specs.Scheduling.{HasMemory, IsWholeRun}
-use Rattle.store_run.specs.ScheduleExample.{Overlap, both, in_turn, left, made, may_leave, out_alone, right, side_by_side}
+use Rattle.store_run.specs.ScheduleExample.{Overlap, both, in_turn, left, made, making, may_leave, out_alone, right, side_by_side}
 use Rattle.store_run.proofs.AlonePlans.{both_sound, kind_alone}
 use Rattle.store_run.proofs.OneOutcome.{job_outputs, job_seeds}
-use Rattle.store_run.proofs.ExampleJobs.{both_outcome, left_answer, left_is_job, left_job, left_leaves, left_may, left_verdict, no_cycle, nothing_in, right_answer, right_args, right_is_job, right_job, right_leaves, right_may, right_verdict}
+use Rattle.store_run.proofs.ExampleJobs.{both_outcome, left_answer, left_is_job, left_job, left_leaves, left_may, left_verdict, no_cycle, nothing_in, right_answer, right_is_job, right_job, right_leaves, right_may, right_verdict}
 
 -- ---- verdicts behind some entries
 
@@ -114,7 +114,7 @@ right_allowed = record {
   permitted = λ info path has refers. absurd (none_refers info path has refers);
   fixed = λ method digest kind info has.
       let clash : Addressed ≡ Fixed method digest = one_kind right.drv Addressed
-      (Fixed method digest) (kind_alone (codes "right") (codes "/bin/sh") right_args) kind in
+      (Fixed method digest) (kind_alone making) kind in
       absurd cc;
   acyclic = no_cycle (output_paths right.drv);
 }
@@ -122,7 +122,7 @@ right_allowed = record {
 right_entry : IsEntryOf right (nothing_in ∷ []) made
 right_entry = record {
   outputs = record {
-    path = out_alone (codes "right") (codes "/bin/sh") right_args;
+    path = out_alone making;
     info = nothing_in;
   } ∷ [];
   is_done = refl;
@@ -132,7 +132,7 @@ right_entry = record {
   where
     there : (path : List ℕ) (info : PathInfo)
         → Contains {X = Registration} (record {
-          path = out_alone (codes "right") (codes "/bin/sh") right_args;
+          path = out_alone making;
           info = nothing_in;
         } ∷ []) (record { path = path; info = info })
         → (n : ℕ) × (slice_get (output_paths right.drv) n ≡ Some path)
@@ -145,11 +145,11 @@ right_entry = record {
         → (n : ℕ) × (slice_get (output_paths right.drv) n ≡ Some path)
         × (slice_get (nothing_in ∷ []) n ≡ Some info)
         → Contains {X = Registration} (record {
-          path = out_alone (codes "right") (codes "/bin/sh") right_args;
+          path = out_alone making;
           info = nothing_in;
         } ∷ []) (record { path = path; info = info })
     back path info (zero, at, at') =
-        let paths : out_alone (codes "right") (codes "/bin/sh") right_args ≡ path = cc in
+        let paths : out_alone making ≡ path = cc in
         let infos : nothing_in ≡ info = cc in
         (0, omega arith, λ i. record { path = paths i; info = infos i })
     back path info (suc n, at, at') = absurd cc

@@ -22,17 +22,23 @@ use Rattle.sched_core.specs.declared.reason.Event.TheVariants.{Begin, Done as Fi
 use Rattle.sched_core.specs.declared.reason.Reason.{Reason}
 use Rattle.sched_core.specs.declared.reason.Reason.TheVariants.{ExitStatus}
 
+-- How a derivation is built: its name, the program and its arguments.
+pub record Recipe : Type 0 where
+  pub name : List ℕ
+  pub builder : List ℕ
+  pub args : List (List ℕ)
+
 -- a derivation without inputs and sources, whose one output has this path
-abbrev pub drv_alone : (name builder : List ℕ) → (args : List (List ℕ)) → (out : List ℕ) → Drv
-drv_alone name builder args out = record {
+abbrev pub drv_alone : Recipe → (out : List ℕ) → Drv
+drv_alone recipe out = record {
   outputs = record { name = codes "out"; path = out; algo = []; hash = [] } ∷ [];
   inputs = [];
   sources = [];
   system = codes "x86_64-linux";
-  builder = builder;
-  args = args;
-  env = record { key = codes "builder"; value = builder }
-      ∷ record { key = codes "name"; value = name }
+  builder = recipe.builder;
+  args = recipe.args;
+  env = record { key = codes "builder"; value = recipe.builder }
+      ∷ record { key = codes "name"; value = recipe.name }
       ∷ record { key = codes "out"; value = out }
       ∷ record { key = codes "system"; value = codes "x86_64-linux" } ∷ [];
 }
@@ -42,25 +48,34 @@ abbrev pub text_of : Drv → List ℕ
 text_of drv = text derivation_form (drv_value drv)
 
 -- the path of that output: it is made of the text without it
-abbrev pub out_alone : (name builder : List ℕ) → (args : List (List ℕ)) → List ℕ
-out_alone name builder args = store_path (codes "output:out")
-    (sha256 (text_of (drv_alone name builder args []))) (codes "/nix/store") name
+abbrev pub out_alone : Recipe → List ℕ
+out_alone recipe = store_path (codes "output:out") (sha256 (text_of (drv_alone recipe [])))
+    (codes "/nix/store") recipe.name
 
 -- the derivation with that output, at its own path
-abbrev pub node_alone : (name builder : List ℕ) → (args : List (List ℕ)) → Node
-node_alone name builder args = record {
-  path = text_path (codes "/nix/store") (name ++ codes ".drv")
-      (text_of (drv_alone name builder args (out_alone name builder args))) [];
-  drv = drv_alone name builder args (out_alone name builder args);
+abbrev pub node_alone : Recipe → Node
+node_alone recipe = record {
+  path = text_path (codes "/nix/store") (recipe.name ++ codes ".drv")
+      (text_of (drv_alone recipe (out_alone recipe))) [];
+  drv = drv_alone recipe (out_alone recipe);
 }
 
 -- one that fails, and one that makes an empty folder
+abbrev pub failing : Recipe
+failing = record { name = codes "left"; builder = codes "/bin/false"; args = [] }
+
+abbrev pub making : Recipe
+making = record {
+  name = codes "right";
+  builder = codes "/bin/sh";
+  args = codes "-c" ∷ codes "/bin/mkdir $out" ∷ [];
+}
+
 abbrev pub left : Node
-left = node_alone (codes "left") (codes "/bin/false") []
+left = node_alone failing
 
 abbrev pub right : Node
-right = node_alone (codes "right") (codes "/bin/sh")
-    (codes "-c" ∷ codes "/bin/mkdir $out" ∷ [])
+right = node_alone making
 
 -- the plan of both, for their system
 abbrev pub both : Run
@@ -87,10 +102,8 @@ may_leave job (Err reason) = ⊥
 
 -- the entry of what right made
 abbrev pub made : Entry
-made = Done right.path (record {
-  path = out_alone (codes "right") (codes "/bin/sh") (codes "-c" ∷ codes "/bin/mkdir $out" ∷ []);
-  info = record { references = []; digest = None };
-} ∷ [])
+made = Done right.path
+    (record { path = out_alone making; info = record { references = []; digest = None } } ∷ [])
 
 -- two workers: right begins and ends while left is being built
 abbrev pub side_by_side : History
