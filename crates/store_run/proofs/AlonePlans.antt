@@ -2,13 +2,14 @@
 use Rattle.std.proofs.Common.{◌≡◌, ◌<◌, ◌∙◌, ℕ, zero, suc, true, List, [], ◌∷◌, ◌++◌, length, Ok, refl, sym, ap, subst, ⊎_elim, arith}
 use Rattle.std.specs.Prelude.{All, Contains, codes, ◌-◌, take}
 use Rattle.std.specs.List.{IsDistinct}
+use Rattle.std.proofs.lemmas.List.{length-append}
 use Rattle.std.proofs.lemmas.List.Elements.{All-cons, All-nil}
 use Rattle.sha2.specs.Sha256.{sha256}
 use Rattle.nix_names.specs.Names.{is_dotted, is_drv_name, is_name, is_name_char}
-use Rattle.nix_names.specs.StorePaths.{IsDrvPath, name_of, store_path}
+use Rattle.nix_names.specs.StorePaths.{IsDrvPath, name_of, path_text, store_path}
 use Rattle.nix_names.proofs.Lists.{All-from_contains, Contains-cons_cases, Contains-nothing}
 use Rattle.nix_names.proofs.PathDigests.{hash_part_of_fold}
-use Rattle.nix_names.proofs.PathTexts.{name_of_path}
+use Rattle.nix_names.proofs.PathTexts.{hash_part_len, name_of_path}
 use Rattle.nix_drv.specs.Derivation.{Drv, EnvEntry, Output}
 use Rattle.nix_drv.specs.OwnPath.{text_kind, text_path}
 use Rattle.drv_graph.specs.Expected.{IsExpected}
@@ -25,17 +26,17 @@ use Rattle.drv_graph.proofs.OneText.{one_path}
 use Rattle.drv_graph.proofs.PathLists.{other_path}
 use Rattle.store_run.specs.ScheduleExample.{Recipe, both, drv_alone, failing, left, making, node_alone, out_alone, right, text_of}
 
-abbrev store : List ℕ
+abbrev pub store : List ℕ
 store = codes "/nix/store"
 
-one_of : {X : Type 0} (x y : X) → Contains (x ∷ []) y → x ≡ y
+pub one_of : {X : Type 0} (x y : X) → Contains (x ∷ []) y → x ≡ y
 one_of x y has = ⊎_elim (λ same. same) (λ none. absurd (Contains-nothing y none))
     (Contains-cons_cases x [] y has)
 
 all_one : {X : Type 0} (P : X → Type 0) (x : X) → P x → All P (x ∷ [])
 all_one P x is = All-cons P x [] is (All-nil P)
 
-all_two : {X : Type 0} (P : X → Type 0) (x y : X) → P x → P y → All P (x ∷ y ∷ [])
+pub all_two : {X : Type 0} (P : X → Type 0) (x y : X) → P x → P y → All P (x ∷ y ∷ [])
 all_two P x y first second = All-cons P x (y ∷ []) first (all_one P y second)
 
 -- a store path has its name
@@ -43,6 +44,18 @@ named_path : (kind inner name : List ℕ) → is_name name ≡ true
     → name_of (store_path kind inner store name) ≡ name
 unfolding store_path
 named_path kind inner name named = name_of_path store _ name (hash_part_of_fold _) named
+
+-- an output's path isn't long
+path_short : (hash name : List ℕ) → length hash ≡ 32 → length name < 256
+    → length (path_text store hash name) < 1000
+path_short hash name long short =
+    omega (arith, length-append store (47 ∷ hash ++ (45 ∷ name)), length-append hash (45 ∷ name))
+
+pub out_short : (recipe : Recipe) → length recipe.name < 256
+    → length (out_alone recipe) < 1000
+unfolding store_path
+out_short recipe short =
+    path_short _ recipe.name (hash_part_len _ (hash_part_of_fold _)) short
 
 -- ---- one derivation
 
@@ -160,7 +173,7 @@ left_named : is_name (codes "left") ≡ true
 unfolding is_name is_name_char is_dotted
 left_named = refl
 
-left_filed : is_name (codes "left.drv") ≡ true
+pub left_filed : is_name (codes "left.drv") ≡ true
 unfolding is_name is_name_char is_dotted
 left_filed = refl
 
@@ -168,7 +181,7 @@ right_named : is_name (codes "right") ≡ true
 unfolding is_name is_name_char is_dotted
 right_named = refl
 
-right_filed : is_name (codes "right.drv") ≡ true
+pub right_filed : is_name (codes "right.drv") ≡ true
 unfolding is_name is_name_char is_dotted
 right_filed = refl
 
@@ -205,7 +218,7 @@ lawful_right =
     (λ earlier has share. outputs_differ
     (subst (λ (n : Node). ShareOutput n.drv right.drv) (sym (one_of left earlier has)) share))
 
-lawful_both : AreLawful store both.graph.nodes
+pub lawful_both : AreLawful store both.graph.nodes
 lawful_both [] after node parts =
     let same : left ≡ node = cc in subst (IsLawful store []) same lawful_left
 lawful_both (x ∷ []) after node parts =

@@ -1,15 +1,12 @@
 -- What the jobs of the two derivations come to.
-use Rattle.std.proofs.Common.{◌≡◌, ◌∙◌, ◌<◌, ◌^◌, ℕ, zero, suc, true, false, List, [], ◌∷◌, ◌++◌, length, map, Some, None, Result, Ok, Err, refl, sym, ap, subst, arith}
+use Rattle.std.proofs.Common.{◌≡◌, ◌∙◌, ◌<◌, ◌^◌, ℕ, zero, suc, true, false, List, [], ◌∷◌, length, map, Some, None, Result, Ok, Err, refl, sym, ap, subst, arith}
 use Rattle.std.specs.Prelude.{Contains, codes, pos, slice_get}
 use Rattle.std.specs.declared.alloc.Global.{Global}
 use Rattle.std.specs.declared.vec.Vec.{Vec}
 use Rattle.std.proofs.Math.Nat.{le_refl}
-use Rattle.std.proofs.lemmas.List.{length-append, length-map}
+use Rattle.std.proofs.lemmas.List.{length-map}
 use Rattle.nix_names.specs.Names.{same_bytes}
-use Rattle.nix_names.specs.StorePaths.{path_text, store_path}
 use Rattle.nix_names.proofs.Lists.{Contains-nothing, same_element}
-use Rattle.nix_names.proofs.PathDigests.{hash_part_of_fold}
-use Rattle.nix_names.proofs.PathTexts.{hash_part_len}
 use Rattle.nix_drv.specs.Parts.{bytes_of}
 use Rattle.nix_drv.specs.declared.derivation.EnvEntry.{EnvEntry as EnvEntryStruct}
 use Rattle.drv_graph.specs.Kinds.{HasKind}
@@ -32,7 +29,7 @@ use Rattle.sched_core.specs.declared.reason.Reason.TheVariants.{ExitStatus, Hash
 use Rattle.sched_core.proofs.OneVerdict.{has_one_verdict}
 use Rattle.store_run.specs.Scheduling.{HasOneOutcome, IsVerdictOn}
 use Rattle.store_run.specs.ScheduleExample.{IsEmptyFolder, Leaves, Recipe, both, failing, left, making, may_leave, node_alone, out_alone, right}
-use Rattle.store_run.proofs.AlonePlans.{kind_alone}
+use Rattle.store_run.proofs.AlonePlans.{kind_alone, out_short}
 use denote.RawPtr.{null_ptr}
 
 -- ---- an empty folder
@@ -208,19 +205,8 @@ vec_of xs few = record {
   small = few;
 }
 
--- an output's path is not too long
-path_few : (hash name : List ℕ) → length hash ≡ 32 → length name < 256
-    → length (path_text (codes "/nix/store") hash name) < 2 ^ 63
-path_few hash name long short =
-    omega (
-      arith,
-      length-append (codes "/nix/store") (47 ∷ hash ++ (45 ∷ name)),
-      length-append hash (45 ∷ name),
-    )
-
-out_few : (recipe : Recipe) → length recipe.name < 256 → length (out_alone recipe) < 2 ^ 63
-unfolding store_path
-out_few recipe short = path_few _ recipe.name (hash_part_len _ (hash_part_of_fold _)) short
+small : (bytes : List ℕ) → length bytes < 1000 → length bytes < 2 ^ 63
+small bytes few = omega arith
 
 env_of : (key value : List ℕ) → length key < 2 ^ 63 → length value < 2 ^ 63 → EnvEntryStruct
 env_of key value few few' = record { key = vec_of key few; value = vec_of value few' }
@@ -232,7 +218,7 @@ module _ (recipe : Recipe) (short : length recipe.name < 256)
   env_entries =
       env_of (codes "builder") recipe.builder (omega arith) few
       ∷ env_of (codes "name") recipe.name (omega arith) (omega arith)
-      ∷ env_of (codes "out") (out_alone recipe) (omega arith) (out_few recipe short)
+      ∷ env_of (codes "out") (out_alone recipe) (omega arith) (small (out_alone recipe) (out_short recipe short))
       ∷ env_of (codes "system") (codes "x86_64-linux") (omega arith) (omega arith) ∷ []
 
   job_output : JobOutput

@@ -8,6 +8,7 @@ pub mod OneOutcome
 pub mod OneThreads
 pub mod Openings
 pub mod RunEndings
+pub mod ExampleLoads
 pub mod ScheduleExample
 pub mod Schedules
 pub mod Standings

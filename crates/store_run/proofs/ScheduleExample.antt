@@ -1,6 +1,6 @@
 -- Two builds that overlap, of which one fails, are a whole run.
 use Rattle.std.proofs.Common.{◌≡◌, ◌∙◌, ◌<◌, inl, inr, ℕ, zero, suc, List, [], ◌∷◌, Some, Ok, Err, refl, sym, ap, subst, ⊎_elim, arith}
-use Rattle.std.specs.Prelude.{Contains, codes, pos, slice_get}
+use Rattle.std.specs.Prelude.{Contains, pos, slice_get}
 use Rattle.std.specs.List.{IsDistinct}
 use Rattle.std.proofs.lemmas.List.Elements.{All-nil}
 use Rattle.nix_names.proofs.Lists.{Contains-cons_cases, Contains-first, Contains-later, Contains-nothing}

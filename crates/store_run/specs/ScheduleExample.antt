@@ -7,6 +7,7 @@ use Rattle.nix_names.specs.StorePaths.{store_path}
 use Rattle.nix_drv.specs.Derivation.{Drv, derivation_form, drv_value}
 use Rattle.nix_drv.specs.Grammar.{text}
 use Rattle.nix_drv.specs.OwnPath.{text_path}
+use Rattle.nix_drv.specs.Sources.{Listing}
 use Rattle.drv_graph.specs.Nodes.{Node}
 use Rattle.ref_scan.specs.Trees.{entry_count}
 use Rattle.ref_scan.specs.declared.tree.Tree.{Tree}
@@ -82,6 +83,15 @@ abbrev pub both : Run
 both = record {
   graph = record { nodes = left ∷ right ∷ []; roots = 0 ∷ 1 ∷ [] };
   system = codes "x86_64-linux";
+}
+
+-- a source that has the two files alone
+abbrev pub two_files : Listing
+two_files = record {
+  files = (left.path, text_of left.drv) ∷ (right.path, text_of right.drv) ∷ [];
+  failing = [];
+  fetches = 0;
+  failures = 0;
 }
 
 -- a tree is a folder with nothing in it

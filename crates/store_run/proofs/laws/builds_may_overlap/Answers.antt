@@ -1,5 +1,9 @@
+use Rattle.store_run.proofs.ExampleLoads.{loads}
 use Rattle.store_run.proofs.ScheduleExample.{left_failed, overlap, right_built, thread, whole}
 use Rattle.store_run.proofs.laws.builds_may_overlap.Goals as goal
+
+pub returns-clause-loads : goal.returns-clause-loads
+returns-clause-loads c = loads
 
 pub returns-clause-whole : goal.returns-clause-whole
 returns-clause-whole c = whole
