@@ -51,11 +51,9 @@ path_short : (hash name : List ℕ) → length hash ≡ 32 → length name < 256
 path_short hash name long short =
     omega (arith, length-append store (47 ∷ hash ++ (45 ∷ name)), length-append hash (45 ∷ name))
 
-pub out_short : (recipe : Recipe) → length recipe.name < 256
-    → length (out_alone recipe) < 1000
+pub out_short : (recipe : Recipe) → length recipe.name < 256 → length (out_alone recipe) < 1000
 unfolding store_path
-out_short recipe short =
-    path_short _ recipe.name (hash_part_len _ (hash_part_of_fold _)) short
+out_short recipe short = path_short _ recipe.name (hash_part_len _ (hash_part_of_fold _)) short
 
 -- ---- one derivation
 
@@ -143,14 +141,15 @@ module _ (recipe : Recipe) where
             drv.outputs none_other,
       )
 
-  -- its path is that of a derivation's file
+  -- where its file has a name
   module _ (filed : is_name (recipe.name ++ codes ".drv") ≡ true) where
     pub node_name : name_of (node_alone recipe).path ≡ recipe.name ++ codes ".drv"
     unfolding text_path
     node_name = named_path (text_kind []) (sha256 (text_of drv)) (recipe.name ++ codes ".drv") filed
 
     pub lawful_alone : (before : List Node) → is_name recipe.name ≡ true
-        → take (length (recipe.name ++ codes ".drv") - 4) (recipe.name ++ codes ".drv") ≡ recipe.name
+        → take (length (recipe.name ++ codes ".drv") - 4) (recipe.name ++ codes ".drv")
+        ≡ recipe.name
         → ((earlier : Node) → Contains before earlier → ShareOutput earlier.drv drv → ⊥)
         → IsLawful store before (node_alone recipe)
     lawful_alone before named cut alone = record {

@@ -67,8 +67,8 @@ nothing_in = record { references = []; digest = None }
 record_of_empty : (permitted : List (List ℕ)) (tree : Tree) → IsEmptyFolder tree
     → IsRecordOf permitted tree nothing_in
 record_of_empty permitted tree is = record {
-  found = subst (λ (lists : List (List ℕ)). IsFoundIn lists permitted []) (sym (empty_pieces tree is))
-      (record {
+  found = subst (λ (lists : List (List ℕ)). IsFoundIn lists permitted [])
+      (sym (empty_pieces tree is)) (record {
         rising = tt;
         each = λ path. (
           λ none. absurd (Contains-nothing path none),
@@ -105,7 +105,7 @@ no_cycle outputs (a, b, there, back, apart, leads, leads') = by there leads
 
 -- ---- the verdicts
 
-right_node : (graph_job : Job) → (is : IsJob both.graph 1 graph_job) → is.node ≡ right
+right_node : (job : Job) (is : IsJob both.graph 1 job) → is.node ≡ right
 right_node job is = same_element both.graph.nodes 1 is.node right is.is_node refl
 
 tree_first : (answer : Answer) (folder : Tree) → answer.trees.items ≡ Some folder ∷ []
@@ -218,7 +218,8 @@ module _ (recipe : Recipe) (short : length recipe.name < 256)
   env_entries =
       env_of (codes "builder") recipe.builder (omega arith) few
       ∷ env_of (codes "name") recipe.name (omega arith) (omega arith)
-      ∷ env_of (codes "out") (out_alone recipe) (omega arith) (small (out_alone recipe) (out_short recipe short))
+      ∷ env_of (codes "out") (out_alone recipe) (omega arith)
+      (small (out_alone recipe) (out_short recipe short))
       ∷ env_of (codes "system") (codes "x86_64-linux") (omega arith) (omega arith) ∷ []
 
   job_output : JobOutput

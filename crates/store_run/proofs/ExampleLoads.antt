@@ -87,7 +87,8 @@ left_stands = record {
   bytes = text_of left.drv;
   given = rw (nat_list_eq_equiv.refl left.path) refl;
   found = found_alone failing left_filed left_file
-      (left_few (out_alone failing) (out_short failing (omega arith))) (in_order_by left.drv (left_keys (out_alone failing)));
+      (left_few (out_alone failing) (out_short failing (omega arith)))
+      (in_order_by left.drv (left_keys (out_alone failing)));
 }
 
 right_stands : MayStand store (listing_gives two_files) right.path right.drv
@@ -98,7 +99,8 @@ right_stands = record {
     nat_list_eq_equiv.refl right.path,
   ) refl;
   found = found_alone making right_filed right_file
-      (right_few (out_alone making) (out_short making (omega arith))) (in_order_by right.drv (right_keys (out_alone making)));
+      (right_few (out_alone making) (out_short making (omega arith)))
+      (in_order_by right.drv (right_keys (out_alone making)));
 }
 
 -- ---- plan order
