@@ -1,6 +1,8 @@
 //! Runs over the plan of the example of a whole run, by a builder that does what the example says.
-ghost use Rattle.store_run.specs.ScheduleExample.{may_leave};
+ghost use Rattle.store_run.specs.ScheduleExample.{both, in_turn, may_leave, side_by_side};
+ghost use Rattle.store_run.specs.Scheduling.{AreAlike};
 
+use super::{any_schedule, builds_may_overlap};
 use crate::{Build, realise};
 use drv_graph::Plan;
 use nix_drv::{ListSource, ListedFile};
@@ -49,6 +51,14 @@ impl Build for Program {
             trees,
         })
     }
+}
+
+// The law at this builder: both histories of the example are alike.
+fn alike()
+    ensures { AreAlike both side_by_side in_turn }
+{
+    any_schedule::<Program>();
+    builds_may_overlap();
 }
 
 fn file(alloc: Global, path: &[u8], bytes: &[u8]) -> Result<ListedFile, AllocError> {
@@ -130,7 +140,7 @@ fn report_by<R: Threads + Wait + Sync>(
 // The report is that of the example, by one worker and by two.
 #[test]
 fn report_of_the_example(rt: HostRuntime) -> Result<(), Fail> {
-    super::any_schedule::<Program>();
+    alike();
     for workers in [1, 2] {
         let report = report_by(&rt, rt.alloc(), workers)?;
         assert_eq!(rt; report.as_slice(), REPORT);
