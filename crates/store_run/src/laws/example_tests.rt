@@ -6,7 +6,7 @@ use super::{any_schedule, builds_may_overlap};
 use crate::{Build, realise};
 use drv_graph::Plan;
 use nix_drv::{ListSource, ListedFile};
-use nix_names::{StoreDir, parse_path};
+use nix_names::{StoreDir, StorePath, parse_path};
 use ref_scan::Tree;
 use sched_core::{Answer, Book, Job, Reason};
 use std::alloc::{AllocError, Global};
@@ -15,6 +15,7 @@ use std::test::*;
 use std::thread::Threads;
 use valid_table::{Journal, ListOutlet};
 
+// The paths were computed apart, with Python's hashlib.
 const LEFT: &[u8] = b"/nix/store/jbgzpvl5d32l046pn5l2g0zdhnnw9lvb-left.drv";
 
 const LEFT_TEXT: &[u8] =
@@ -69,17 +70,23 @@ fn file(alloc: Global, path: &[u8], bytes: &[u8]) -> Result<ListedFile, AllocErr
 
 fn source(alloc: Global) -> Result<ListSource, Fail> {
     let mut files = Vec::new(alloc);
-    files.push(file(alloc, LEFT, LEFT_TEXT)?)?;
-    files.push(file(alloc, RIGHT, RIGHT_TEXT)?)?;
+    for (path, text) in [(LEFT, LEFT_TEXT), (RIGHT, RIGHT_TEXT)] {
+        files.push(file(alloc, path, text)?)?;
+    }
     Ok(ListSource::new(alloc, files, Vec::new(alloc))?)
+}
+
+fn roots(alloc: Global, dir: &StoreDir) -> Result<Vec<StorePath>, Fail> {
+    let mut roots = Vec::new(alloc);
+    for root in [LEFT, RIGHT] {
+        roots.push(parse_path(alloc, dir, root)?)?;
+    }
+    Ok(roots)
 }
 
 fn plan(alloc: Global) -> Result<Plan, Fail> {
     let dir = StoreDir::new(alloc, b"/nix/store")?;
-    let mut roots = Vec::new(alloc);
-    for root in [LEFT, RIGHT] {
-        roots.push(parse_path(alloc, &dir, root)?)?;
-    }
+    let roots = roots(alloc, &dir)?;
     let mut source = source(alloc)?;
     Ok(Plan::load(alloc, &mut source, &dir, &roots)?)
 }
