@@ -1,12 +1,16 @@
 pub mod Alike
+pub mod AlonePlans
 pub mod Answered
 pub mod Carried
+pub mod ExampleJobs
 pub mod Examined
 pub mod OneOutcome
 pub mod OneThreads
 pub mod Openings
 pub mod Permits
 pub mod RunEndings
+pub mod ExampleLoads
+pub mod ScheduleExample
 pub mod Schedules
 pub mod Standings
 pub mod Telling

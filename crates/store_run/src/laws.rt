@@ -1,8 +1,19 @@
 //! Laws over the definitions that contracts cite, each on the contract of a function that does
 //! nothing.
-ghost use Rattle.store_run.specs.Scheduling.{AnySchedule, HasOneThread, OneReport, RealisedIsWhole, WholeRunsAreAlike};
+ghost use Rattle.std.specs.Prelude.{◌≡◌, [], ◌∷◌, codes, pos};
+ghost use Rattle.nix_drv.specs.Sources.{listing_gives};
+ghost use Rattle.drv_graph.specs.Plans.{IsPlan};
+ghost use Rattle.sched_core.specs.Runs.{state_in};
+ghost use Rattle.sched_core.specs.declared.reason.Reason.TheVariants.{ExitStatus};
+ghost use Rattle.sched_core.specs.declared.reason.State.TheVariants.{Done, Failed};
+ghost use Rattle.store_run.specs.OneThread.{IsOneThread};
+ghost use Rattle.store_run.specs.ScheduleExample.{Overlap, both, in_turn, left, may_leave, right, side_by_side, two_files};
+ghost use Rattle.store_run.specs.Scheduling.{AnySchedule, HasOneThread, IsWholeRun, OneReport, RealisedIsWhole, WholeRunsAreAlike};
 
 use crate::build::Build;
+
+#[cfg(test)]
+mod example_tests;
 
 /// What a whole run leaves behind, one that had memory and whose builders may give one outcome to
 /// each derivation, is alike with what one thread would leave behind: each derivation in the same
@@ -26,4 +37,17 @@ pub fn whole_runs_are_alike<B: Build>()
 /// may give one outcome to each derivation.
 pub fn realised_is_whole<B: Build>()
     ensures { RealisedIsWhole B.may }
+{}
+
+/// There are whole runs in which builds overlap and one of them fails: over a plan that loading
+/// gives from two files both derivations are under way at once, the first fails, and the second is
+/// built. One thread leaves the events in another order.
+pub fn builds_may_overlap()
+    ensures loads { IsPlan (codes "/nix/store") (listing_gives two_files)
+        (left.path ∷ right.path ∷ []) both.graph }
+    ensures whole { IsWholeRun may_leave both side_by_side }
+    ensures overlap { Overlap side_by_side 0 1 }
+    ensures failed { state_in both side_by_side 0 ≡ Failed (ExitStatus (pos 1)) }
+    ensures built { state_in both side_by_side 1 ≡ Done }
+    ensures in_turn { IsOneThread may_leave both [] in_turn }
 {}

@@ -1,0 +1,248 @@
+-- The plan of two derivations without inputs is sound.
+use Rattle.std.proofs.Common.{◌≡◌, ◌<◌, ◌∙◌, ℕ, zero, suc, true, List, [], ◌∷◌, ◌++◌, length, Ok, refl, sym, ap, subst, ⊎_elim, arith}
+use Rattle.std.specs.Prelude.{All, Contains, codes, ◌-◌, take}
+use Rattle.std.specs.List.{IsDistinct}
+use Rattle.std.proofs.lemmas.List.{length-append}
+use Rattle.std.proofs.lemmas.List.Elements.{All-cons, All-nil}
+use Rattle.sha2.specs.Sha256.{sha256}
+use Rattle.nix_names.specs.Names.{is_dotted, is_drv_name, is_name, is_name_char}
+use Rattle.nix_names.specs.StorePaths.{IsDrvPath, name_of, path_text, store_path}
+use Rattle.nix_names.proofs.Lists.{All-from_contains, Contains-cons_cases, Contains-nothing}
+use Rattle.nix_names.proofs.PathDigests.{hash_part_of_fold}
+use Rattle.nix_names.proofs.PathTexts.{hash_part_len, name_of_path}
+use Rattle.nix_drv.specs.Derivation.{Drv, EnvEntry, Output}
+use Rattle.nix_drv.specs.OwnPath.{text_kind, text_path}
+use Rattle.drv_graph.specs.Expected.{IsExpected}
+use Rattle.drv_graph.specs.Kinds.{HasKind, IsAddressed}
+use Rattle.drv_graph.specs.Loading.{AreDistinct}
+use Rattle.drv_graph.specs.Modulo.{IsModuloText}
+use Rattle.drv_graph.specs.Nodes.{Node, no_hashes}
+use Rattle.drv_graph.specs.Outputs.{AreSound, HasOtherEntry, IsKnownUse, IsOutputsCheck, IsThePath, IsWellNamed, PathsFit}
+use Rattle.drv_graph.specs.PlanNodes.{output_paths_of}
+use Rattle.drv_graph.specs.Plans.{AreLawful, IsLawful, ShareOutput}
+use Rattle.drv_graph.specs.SoundGraphs.{IsSound}
+use Rattle.drv_graph.specs.declared.kinds.Kind.TheVariants.{Addressed}
+use Rattle.drv_graph.proofs.OneText.{one_path}
+use Rattle.drv_graph.proofs.PathLists.{other_path}
+use Rattle.store_run.specs.ScheduleExample.{Recipe, both, drv_alone, failing, left, making, node_alone, out_alone, right, text_of}
+
+abbrev pub store : List ℕ
+store = codes "/nix/store"
+
+pub one_of : {X : Type 0} (x y : X) → Contains (x ∷ []) y → x ≡ y
+one_of x y has = ⊎_elim (λ same. same) (λ none. absurd (Contains-nothing y none))
+    (Contains-cons_cases x [] y has)
+
+all_one : {X : Type 0} (P : X → Type 0) (x : X) → P x → All P (x ∷ [])
+all_one P x is = All-cons P x [] is (All-nil P)
+
+pub all_two : {X : Type 0} (P : X → Type 0) (x y : X) → P x → P y → All P (x ∷ y ∷ [])
+all_two P x y first second = All-cons P x (y ∷ []) first (all_one P y second)
+
+-- a store path has its name
+named_path : (kind inner name : List ℕ) → is_name name ≡ true
+    → name_of (store_path kind inner store name) ≡ name
+unfolding store_path
+named_path kind inner name named = name_of_path store _ name (hash_part_of_fold _) named
+
+-- an output's path isn't long
+path_short : (hash name : List ℕ) → length hash ≡ 32 → length name < 256
+    → length (path_text store hash name) < 1000
+path_short hash name long short =
+    omega (arith, length-append store (47 ∷ hash ++ (45 ∷ name)), length-append hash (45 ∷ name))
+
+pub out_short : (recipe : Recipe) → length recipe.name < 256 → length (out_alone recipe) < 1000
+unfolding store_path
+out_short recipe short = path_short _ recipe.name (hash_part_len _ (hash_part_of_fold _)) short
+
+-- ---- one derivation
+
+module _ (recipe : Recipe) where
+  abbrev drv : Drv
+  drv = drv_alone recipe (out_alone recipe)
+
+  abbrev output : Output
+  output = record {
+    name = codes "out";
+    path = out_alone recipe;
+    algo = [];
+    hash = [];
+  }
+
+  pub kind_alone : HasKind drv Addressed
+  kind_alone = ((λ none. cc), all_one IsAddressed _ (refl, refl))
+
+  -- its output's path is the expected one
+  expected_alone : (o : Output) → Contains drv.outputs o
+      → IsExpected store recipe.name Addressed drv [] o (out_alone recipe)
+  expected_alone o has =
+      subst (λ (p : Output). IsExpected store recipe.name Addressed drv [] p
+      (out_alone recipe)) (one_of output o has)
+      (text_of (drv_alone recipe []), modulo, refl)
+    where
+      modulo : IsModuloText drv [] true (text_of (drv_alone recipe []))
+      modulo = record {
+        inputs = [];
+        united = record {
+          rising = tt;
+          names_rise = All-nil _;
+          paths = λ path. (λ has. has, λ has. has);
+          names = λ path named. (λ is. is, λ is. is);
+        };
+        is_text = refl;
+      }
+
+  -- the entry of its environment under the output's name is that path
+  env_value : (entry : EnvEntry) → Contains drv.env entry → entry.key ≡ codes "out"
+      → entry.value ≡ out_alone recipe
+  env_value entry (zero, low, is) key =
+      let clash : codes "builder" ≡ codes "out" = ap (λ (e : EnvEntry). e.key) is ∙ key in
+      absurd cc
+  env_value entry (suc zero, low, is) key =
+      let clash : codes "name" ≡ codes "out" = ap (λ (e : EnvEntry). e.key) is ∙ key in
+      absurd cc
+  env_value entry (suc (suc zero), low, is) key = sym (ap (λ (e : EnvEntry). e.value) is)
+  env_value entry (suc (suc (suc zero)), low, is) key =
+      let clash : codes "system" ≡ codes "out" = ap (λ (e : EnvEntry). e.key) is ∙ key in
+      absurd cc
+  env_value entry (suc (suc (suc (suc k))), low, is) key = absurd (omega arith)
+
+  none_other : (o : Output) → Contains drv.outputs o
+      → HasOtherEntry IsThePath (IsExpected store recipe.name Addressed drv []) drv o → ⊥
+  none_other o has (entry, path, among, key, expected, unfit) =
+      let named : o.name ≡ codes "out" = sym (ap (λ (p : Output). p.name) (one_of output o has)) in
+      unfit (env_value entry among (key ∙ named)
+      ∙ one_path store recipe.name Addressed drv [] o (out_alone recipe) path
+      (expected_alone o has) expected)
+
+  out_is_name : is_name (codes "out") ≡ true
+  unfolding is_name is_name_char is_dotted
+  out_is_name = refl
+
+  pub check_alone : is_name recipe.name ≡ true
+      → IsOutputsCheck IsThePath store recipe.name drv [] [] (Ok Addressed)
+  check_alone named =
+      let expected = IsExpected store recipe.name Addressed drv [] in
+      let fit : PathsFit IsThePath expected drv =
+      All-from_contains (λ (o : Output). (path : List ℕ) × expected o path × (o.path ≡ path))
+      drv.outputs (λ o has. (
+        out_alone recipe,
+        expected_alone o has,
+        sym (ap (λ (p : Output). p.path) (one_of output o has)),
+      )) in
+      let sound : AreSound recipe.name drv [] Addressed = record {
+        has_kind = kind_alone;
+        named = all_one (IsWellNamed recipe.name) output (out_is_name, named);
+        known = All-nil IsKnownUse;
+      } in (
+        sound,
+        fit,
+        All-from_contains (λ (o : Output). HasOtherEntry IsThePath expected drv o → ⊥)
+            drv.outputs none_other,
+      )
+
+  -- where its file has a name
+  module _ (filed : is_name (recipe.name ++ codes ".drv") ≡ true) where
+    pub node_name : name_of (node_alone recipe).path ≡ recipe.name ++ codes ".drv"
+    unfolding text_path
+    node_name = named_path (text_kind []) (sha256 (text_of drv)) (recipe.name ++ codes ".drv") filed
+
+    pub lawful_alone : (before : List Node) → is_name recipe.name ≡ true
+        → take (length (recipe.name ++ codes ".drv") - 4) (recipe.name ++ codes ".drv")
+        ≡ recipe.name
+        → ((earlier : Node) → Contains before earlier → ShareOutput earlier.drv drv → ⊥)
+        → IsLawful store before (node_alone recipe)
+    lawful_alone before named cut alone = record {
+      kind = Addressed;
+      right = record {
+        used = [];
+        hashes = [];
+        are_used = tt;
+        are_hashes = no_hashes;
+        check = subst (λ (n : List ℕ). IsOutputsCheck IsThePath store n drv [] [] (Ok Addressed))
+            (sym (ap (λ (n : List ℕ). take (length n - 4) n) node_name ∙ cut))
+            (check_alone named);
+      };
+      alone = alone;
+    }
+
+-- ---- the two
+
+left_named : is_name (codes "left") ≡ true
+unfolding is_name is_name_char is_dotted
+left_named = refl
+
+pub left_filed : is_name (codes "left.drv") ≡ true
+unfolding is_name is_name_char is_dotted
+left_filed = refl
+
+right_named : is_name (codes "right") ≡ true
+unfolding is_name is_name_char is_dotted
+right_named = refl
+
+pub right_filed : is_name (codes "right.drv") ≡ true
+unfolding is_name is_name_char is_dotted
+right_filed = refl
+
+-- where two of them share an output, they have one name
+shared_name : (one other : Recipe) → is_name one.name ≡ true → is_name other.name ≡ true
+    → ShareOutput (node_alone one).drv (node_alone other).drv → one.name ≡ other.name
+shared_name one other named named' (x, y, of_x, of_y, same) =
+    let outs : out_alone one ≡ out_alone other =
+    ap (λ (p : Output). p.path) (one_of (output one) x of_x) ∙ same
+    ∙ sym (ap (λ (p : Output). p.path) (one_of (output other) y of_y)) in
+    sym (named_path (codes "output:out") (sha256 (text_of (drv_alone one []))) one.name named)
+    ∙ ap name_of outs
+    ∙ named_path (codes "output:out") (sha256 (text_of (drv_alone other []))) other.name named'
+
+outputs_differ : ShareOutput left.drv right.drv → ⊥
+outputs_differ share =
+    let names : codes "left" ≡ codes "right" =
+    shared_name failing making left_named right_named share in
+    cc
+
+pub files_differ : left.path ≡ right.path → ⊥
+files_differ same =
+    let names : codes "left.drv" ≡ codes "right.drv" =
+    sym (node_name failing left_filed) ∙ ap name_of same ∙ node_name making right_filed in
+    cc
+
+lawful_left : IsLawful store [] left
+lawful_left = lawful_alone failing left_filed [] left_named refl
+    (λ earlier none. absurd (Contains-nothing earlier none))
+
+lawful_right : IsLawful store (left ∷ []) right
+lawful_right =
+    lawful_alone making right_filed (left ∷ []) right_named refl
+    (λ earlier has share. outputs_differ
+    (subst (λ (n : Node). ShareOutput n.drv right.drv) (sym (one_of left earlier has)) share))
+
+pub lawful_both : AreLawful store both.graph.nodes
+lawful_both [] after node parts =
+    let same : left ≡ node = cc in subst (IsLawful store []) same lawful_left
+lawful_both (x ∷ []) after node parts =
+    let first : left ≡ x = cc in
+    let same : right ≡ node = cc in
+    subst (λ (n : Node). IsLawful store (x ∷ []) n) same
+    (subst (λ (n : Node). IsLawful store (n ∷ []) right) first lawful_right)
+lawful_both (x ∷ y ∷ []) after node parts = absurd cc
+lawful_both (x ∷ y ∷ z ∷ before) after node parts = absurd cc
+
+pub left_file : IsDrvPath left.path
+left_file = subst (λ (n : List ℕ). is_drv_name n ≡ true) (sym (node_name failing left_filed)) refl
+
+pub right_file : IsDrvPath right.path
+right_file = subst (λ (n : List ℕ). is_drv_name n ≡ true) (sym (node_name making right_filed)) refl
+
+pub both_sound : IsSound both.graph
+unfolding IsDistinct
+both_sound = record {
+  dir = store;
+  lawful = lawful_both;
+  distinct = ((other_path left.path right.path files_differ, tt), (tt, tt));
+  roots_within = all_two (λ root. root < 2) 0 1 (omega arith) (omega arith);
+  roots_once = ((refl, tt), (tt, tt));
+  named = all_two (λ (n : Node). IsDrvPath n.path) left right left_file right_file;
+  own_outputs = all_two (λ (n : Node). AreDistinct (output_paths_of n.drv)) left right (tt, tt)
+      (tt, tt);
+}

@@ -1,0 +1,303 @@
+-- What the jobs of the two derivations come to.
+use Rattle.std.proofs.Common.{◌≡◌, ◌∙◌, ◌<◌, ◌^◌, ℕ, zero, suc, true, false, List, [], ◌∷◌, length, map, Some, None, Result, Ok, Err, refl, sym, ap, subst, arith}
+use Rattle.std.specs.Prelude.{Contains, codes, pos, slice_get}
+use Rattle.std.specs.declared.alloc.Global.{Global}
+use Rattle.std.specs.declared.vec.Vec.{Vec}
+use Rattle.std.proofs.Math.Nat.{le_refl}
+use Rattle.std.proofs.lemmas.List.{length-map}
+use Rattle.nix_names.specs.Names.{same_bytes}
+use Rattle.nix_names.proofs.Lists.{Contains-nothing, same_element}
+use Rattle.nix_drv.specs.Parts.{bytes_of}
+use Rattle.nix_drv.specs.declared.derivation.EnvEntry.{EnvEntry as EnvEntryStruct}
+use Rattle.drv_graph.specs.Kinds.{HasKind}
+use Rattle.drv_graph.specs.Nodes.{Node}
+use Rattle.drv_graph.specs.Plans.{Graph, Leads}
+use Rattle.drv_graph.specs.declared.kinds.Kind.{Kind}
+use Rattle.drv_graph.specs.declared.kinds.Kind.TheVariants.{Addressed}
+use Rattle.drv_graph.proofs.KindAnswers.{one_kind}
+use Rattle.ref_scan.specs.Scan.{IsFoundIn}
+use Rattle.ref_scan.specs.Trees.{Fits, depth_among, entry_count_among, file_bytes_among, pieces, pieces_among}
+use Rattle.ref_scan.specs.declared.tree.Tree.{Tree, File, Pieces, Dir', Row_of-Member, end_of-Member, more_of-Member}
+use Rattle.valid_table.specs.PathInfos.{PathInfo}
+use Rattle.sched_core.specs.Jobs.{IsJob, output_paths}
+use Rattle.sched_core.specs.Verdicts.{IsCyclic, IsRecordAt, IsRecordOf, IsTreeFault, IsVerdict, RefersTo, outputs_of, tree_at}
+use Rattle.sched_core.specs.declared.job.Answer.{Answer}
+use Rattle.sched_core.specs.declared.job.Job.{Job}
+use Rattle.sched_core.specs.declared.job.JobOutput.{JobOutput}
+use Rattle.sched_core.specs.declared.reason.Reason.{Reason}
+use Rattle.sched_core.specs.declared.reason.Reason.TheVariants.{ExitStatus, HashMismatch, Killed, MissingOutput, NoStart, NotFlatFile, OutOfMemory, OutputCycle, ReadFault, TooLarge}
+use Rattle.sched_core.proofs.OneVerdict.{has_one_verdict}
+use Rattle.store_run.specs.Scheduling.{HasOneOutcome, IsVerdictOn}
+use Rattle.store_run.specs.ScheduleExample.{IsEmptyFolder, Leaves, Recipe, both, failing, left, making, may_leave, node_alone, out_alone, right}
+use Rattle.store_run.proofs.AlonePlans.{kind_alone, out_short}
+use denote.RawPtr.{null_ptr}
+
+-- ---- an empty folder
+
+no_pieces : {m : _} (row : Row_of-Member m) → entry_count_among row ≡ 0 → pieces_among row ≡ []
+no_pieces end_of-Member none = refl
+no_pieces (more_of-Member name tree rest) none = absurd (omega arith)
+
+no_depth : {m : _} (row : Row_of-Member m) → entry_count_among row ≡ 0 → depth_among row ≡ 0
+no_depth end_of-Member none = refl
+no_depth (more_of-Member name tree rest) none = absurd (omega arith)
+
+no_bytes : {m : _} (row : Row_of-Member m) → entry_count_among row ≡ 0 → file_bytes_among row ≡ 0
+no_bytes end_of-Member none = refl
+no_bytes (more_of-Member name tree rest) none = absurd (omega arith)
+
+empty_pieces : (tree : Tree) → IsEmptyFolder tree → pieces tree ≡ []
+empty_pieces (File bytes) is = absurd (let clash = is.0 in cc)
+empty_pieces (Pieces parts) is = absurd (let clash = is.0 in cc)
+empty_pieces (Dir' shape entries) is = no_pieces entries is.1
+
+empty_fits : (tree : Tree) → IsEmptyFolder tree → Fits tree
+empty_fits (File bytes) is = absurd (let clash = is.0 in cc)
+empty_fits (Pieces parts) is = absurd (let clash = is.0 in cc)
+empty_fits (Dir' shape entries) is = record {
+  depth = omega (arith, no_depth entries is.1);
+  entries = omega (arith, is.1);
+  bytes = omega (arith, no_bytes entries is.1);
+}
+
+-- its record
+abbrev pub nothing_in : PathInfo
+nothing_in = record { references = []; digest = None }
+
+record_of_empty : (permitted : List (List ℕ)) (tree : Tree) → IsEmptyFolder tree
+    → IsRecordOf permitted tree nothing_in
+record_of_empty permitted tree is = record {
+  found = subst (λ (lists : List (List ℕ)). IsFoundIn lists permitted [])
+      (sym (empty_pieces tree is)) (record {
+        rising = tt;
+        each = λ path. (
+          λ none. absurd (Contains-nothing path none),
+          λ some. absurd (Contains-nothing some.1.1 (some.1.0, some.1.2, some.1.3)),
+        );
+      });
+  digest = sym is.0;
+}
+
+no_fault : (tree : Tree) → IsEmptyFolder tree → (why : Reason) → IsTreeFault Addressed tree why → ⊥
+no_fault tree is TooLarge unfit = unfit (empty_fits tree is)
+no_fault tree is (ExitStatus n) none = none
+no_fault tree is NoStart none = none
+no_fault tree is (MissingOutput n) none = none
+no_fault tree is NotFlatFile none = none
+no_fault tree is HashMismatch none = none
+no_fault tree is OutputCycle none = none
+no_fault tree is ReadFault none = none
+no_fault tree is OutOfMemory none = none
+no_fault tree is Killed none = none
+
+info_is : (n : ℕ) (info : PathInfo) → slice_get (nothing_in ∷ []) n ≡ Some info → nothing_in ≡ info
+info_is zero info at = cc
+info_is (suc n) info at = absurd cc
+
+pub no_cycle : (outputs : List (List ℕ)) → IsCyclic outputs (nothing_in ∷ []) → ⊥
+no_cycle outputs (a, b, there, back, apart, leads, leads') = by there leads
+  where
+    by : (steps : List (List ℕ)) → Leads (RefersTo outputs (nothing_in ∷ [])) a b steps → ⊥
+    by [] same = apart same
+    by (next ∷ steps) ((n, info, from, at, refers, to), rest) =
+        Contains-nothing next
+        (subst (λ (i : PathInfo). Contains i.references next) (sym (info_is n info at)) refers)
+
+-- ---- the verdicts
+
+right_node : (job : Job) (is : IsJob both.graph 1 job) → is.node ≡ right
+right_node job is = same_element both.graph.nodes 1 is.node right is.is_node refl
+
+tree_first : (answer : Answer) (folder : Tree) → answer.trees.items ≡ Some folder ∷ []
+    → tree_at answer 0 ≡ Some folder
+tree_first answer folder trees = rw trees refl
+
+module _ (job : Job) (is_job : IsJob both.graph 1 job) (answer : Answer)
+    (left_behind : Leaves false answer) (permitted : List (List ℕ)) where
+  one_output : length job.outputs.items ≡ 1
+  one_output = sym (length-map job.outputs.items (λ (o : JobOutput). o.path))
+      ∙ ap length is_job.paths
+      ∙ ap (λ (n : Node). length (output_paths n.drv)) (right_node job is_job)
+
+  job_kind : job.kind ≡ Addressed
+  job_kind = one_kind right.drv job.kind Addressed
+      (subst (λ (n : Node). HasKind n.drv job.kind) (right_node job is_job) is_job.kind)
+      (kind_alone making)
+
+  taken_at : (n : ℕ) → n < length job.outputs.items → tree_at answer n ≡ Some left_behind.1.0
+  taken_at zero low = tree_first answer left_behind.1.0 left_behind.1.2
+  taken_at (suc n) low = absurd (omega (arith, one_output, low))
+
+  pub right_verdict : IsVerdict job permitted answer (Ok (nothing_in ∷ []))
+  right_verdict = (
+    (
+      (left_behind.0, λ n low none. let clash = sym none ∙ taken_at n low in cc),
+      λ n why low fault.
+          let same : fault.0 ≡ left_behind.1.0 =
+          let both_at = sym fault.1 ∙ taken_at n low in cc in
+          no_fault left_behind.1.0 left_behind.1.1 why
+          (subst (λ (t : Tree). IsTreeFault Addressed t why) same
+          (subst (λ (k : Kind). IsTreeFault k fault.0 why) job_kind fault.2)),
+    ),
+    record {
+      count = sym one_output;
+      each = records;
+    },
+    no_cycle (outputs_of job),
+  )
+    where
+      records : (n : ℕ) (info : PathInfo) → slice_get (nothing_in ∷ []) n ≡ Some info
+          → IsRecordAt permitted answer n info
+      records zero info at = (
+        left_behind.1.0,
+        tree_first answer left_behind.1.0 left_behind.1.2,
+        subst (IsRecordOf permitted left_behind.1.0) (info_is 0 info at)
+            (record_of_empty permitted left_behind.1.0 left_behind.1.1),
+      )
+      records (suc n) info at = absurd cc
+
+pub left_verdict : (job : Job) (permitted : List (List ℕ)) (answer : Answer)
+    → Leaves true answer → IsVerdict job permitted answer (Err (ExitStatus (pos 1)))
+left_verdict job permitted answer left_behind = (left_behind.0, λ same. cc)
+
+-- what each derivation comes to
+abbrev pub comes_to : ℕ → Result (List PathInfo) Reason
+comes_to zero = Err (ExitStatus (pos 1))
+comes_to (suc d) = Ok (nothing_in ∷ [])
+
+comes : (d : ℕ) (job : Job) (permitted : List (List ℕ)) (x : Result Answer Reason)
+    (a : Result (List PathInfo) Reason) → IsJob both.graph d job → may_leave job x
+    → IsVerdictOn job permitted x a → a ≡ comes_to d
+comes d job permitted (Err reason) a is may on = absurd may
+comes zero job permitted (Ok answer) a is may on =
+    let node : is.node ≡ left = same_element both.graph.nodes 0 is.node left is.is_node refl in
+    let builder : job.builder.items ≡ codes "/bin/false" =
+    is.builder ∙ ap (λ (n : Node). n.drv.builder) node in
+    has_one_verdict job permitted answer a (comes_to 0) on
+    (left_verdict job permitted answer
+    (subst (λ (b : List ℕ). Leaves (same_bytes b (codes "/bin/false")) answer) builder may))
+comes (suc zero) job permitted (Ok answer) a is may on =
+    let builder : job.builder.items ≡ codes "/bin/sh" =
+    is.builder ∙ ap (λ (n : Node). n.drv.builder) (right_node job is) in
+    has_one_verdict job permitted answer a (comes_to 1) on
+    (right_verdict job is answer
+    (subst (λ (b : List ℕ). Leaves (same_bytes b (codes "/bin/false")) answer) builder may)
+    permitted)
+comes (suc (suc d)) job permitted (Ok answer) a is may on = absurd (let none = is.is_node in cc)
+
+pub both_outcome : HasOneOutcome may_leave both.graph
+both_outcome d job again permitted x y a b is is' may may' on on' =
+    comes d job permitted x a is may on ∙ sym (comes d again permitted y b is' may' on')
+
+-- ---- a job and an answer for each
+
+heap : Global
+heap = record { memory = record { seal = tt } }
+
+abbrev vec_of : {X : Type 0} → (xs : List X) → length xs < 2 ^ 63 → Vec X Global
+vec_of xs few = record {
+  ptr = null_ptr;
+  len = length xs;
+  cap = length xs;
+  alloc = heap;
+  items = xs;
+  ok = (refl, le_refl (length xs));
+  small = few;
+}
+
+small : (bytes : List ℕ) → length bytes < 1000 → length bytes < 2 ^ 63
+small bytes few = omega arith
+
+env_of : (key value : List ℕ) → length key < 2 ^ 63 → length value < 2 ^ 63 → EnvEntryStruct
+env_of key value few few' = record { key = vec_of key few; value = vec_of value few' }
+
+module _ (recipe : Recipe) (short : length recipe.name < 256)
+    (few : length recipe.builder < 2 ^ 63) (args : List (Vec ℕ Global))
+    (few_args : length args < 2 ^ 63) where
+  env_entries : List EnvEntryStruct
+  env_entries =
+      env_of (codes "builder") recipe.builder (omega arith) few
+      ∷ env_of (codes "name") recipe.name (omega arith) (omega arith)
+      ∷ env_of (codes "out") (out_alone recipe) (omega arith)
+      (small (out_alone recipe) (out_short recipe short))
+      ∷ env_of (codes "system") (codes "x86_64-linux") (omega arith) (omega arith) ∷ []
+
+  job_output : JobOutput
+  job_output = record { name = vec_of (codes "out") (omega arith); path = out_alone recipe }
+
+  job_of : ℕ → Job
+  unfolding env_entries
+  job_of d = record {
+    derivation = d;
+    builder = vec_of recipe.builder few;
+    args = vec_of args few_args;
+    env = vec_of env_entries (omega arith);
+    outputs = vec_of (job_output ∷ []) (omega arith);
+    kind = Addressed;
+    seeds = vec_of [] (omega arith);
+  }
+
+  is_job_of : map bytes_of args ≡ recipe.args → (graph : Graph) (d : ℕ)
+      → slice_get graph.nodes d ≡ Some (node_alone recipe) → IsJob graph d (job_of d)
+  unfolding job_of env_entries env_of job_output
+  is_job_of same graph d at = record {
+    node = node_alone recipe;
+    is_node = at;
+    derivation = refl;
+    builder = refl;
+    args = same;
+    env = refl;
+    names = refl;
+    paths = refl;
+    kind = kind_alone recipe;
+    seeds = refl;
+  }
+
+-- ---- of the two
+
+abbrev making_args : List (Vec ℕ Global)
+making_args = vec_of (codes "-c") (omega arith)
+    ∷ vec_of (codes "/bin/mkdir $out") (omega arith) ∷ []
+
+pub left_job : Job
+left_job = job_of failing (omega arith) (omega arith) [] (omega arith) 0
+
+pub left_is_job : IsJob both.graph 0 left_job
+unfolding left_job
+left_is_job = is_job_of failing (omega arith) (omega arith) [] (omega arith) refl both.graph 0 refl
+
+pub right_job : Job
+right_job = job_of making (omega arith) (omega arith) making_args (omega arith) 1
+
+pub right_is_job : IsJob both.graph 1 right_job
+unfolding right_job
+right_is_job = is_job_of making (omega arith) (omega arith) making_args (omega arith) refl
+    both.graph 1 refl
+
+pub left_answer : Answer
+left_answer = record { status = Some (pos 1); trees = vec_of [] (omega arith) }
+
+abbrev no_members : Tree
+no_members = Dir' (vec_of [] (omega arith)) end_of-Member
+
+pub right_answer : Answer
+right_answer = record {
+  status = Some (pos 0);
+  trees = vec_of (Some no_members ∷ []) (omega arith);
+}
+
+pub left_leaves : Leaves true left_answer
+unfolding left_answer
+left_leaves = (refl, refl)
+
+pub right_leaves : Leaves false right_answer
+unfolding right_answer
+right_leaves = (refl, (no_members, (refl, refl), refl))
+
+pub left_may : may_leave left_job (Ok left_answer)
+unfolding left_job job_of
+left_may = left_leaves
+
+pub right_may : may_leave right_job (Ok right_answer)
+unfolding right_job job_of
+right_may = right_leaves

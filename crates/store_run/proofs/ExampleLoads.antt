@@ -1,0 +1,148 @@
+-- The plan of the two derivations is what loading gives from their files.
+use Rattle.std.proofs.Common.{◌≡◌, ◌<◌, ◌≤◌, ◌*◌, ℕ, true, List, [], ◌∷◌, ◌++◌, length, flat_map, Option, Some, None, refl, sym, ap, subst, ⊎_elim, arith, rules}
+use Rattle.std.specs.Prelude.{Contains, codes}
+use Rattle.std.proofs.lemmas.List.{length-append}
+use Rattle.std.specs.Cmp.Lexicographic.{nat_list_eq_equiv}
+use Rattle.std.proofs.lemmas.List.Elements.{All-nil}
+use Rattle.nix_names.specs.Names.{is_name}
+use Rattle.nix_names.specs.StorePaths.{IsDrvPath, IsPathOf}
+use Rattle.nix_names.proofs.Lists.{Contains-cons_cases, Contains-first, Contains-later, Contains-nothing}
+use Rattle.nix_drv.specs.Checked.{IsFoundAt}
+use Rattle.nix_drv.specs.Derivation.{Drv, derivation_form, drv_value}
+use Rattle.nix_drv.specs.Grammar.{text}
+use Rattle.nix_drv.specs.Order.{InOrder, KeysRise}
+use Rattle.nix_drv.specs.Outcome.{max_len}
+use Rattle.nix_drv.specs.OwnPath.{paths_of, text_path}
+use Rattle.nix_drv.specs.Sources.{listing_gives}
+use Rattle.nix_drv.specs.Strings.{letter, spelled, spelling}
+use Rattle.nix_drv.proofs.Rising.{order_means_rising}
+use Rattle.drv_graph.specs.Nodes.{Node, inputs_of}
+use Rattle.drv_graph.specs.Plans.{AreLeft, IsPlan, IsReached, Leads, MayStand, Uses, left_behind_inputs, none_left}
+use Rattle.drv_graph.proofs.PathLists.{other_path}
+use Rattle.store_run.proofs.AlonePlans.{all_two, files_differ, lawful_both, left_file, left_filed, node_name, one_of, out_short, right_file, right_filed, store}
+use Rattle.store_run.specs.ScheduleExample.{Recipe, both, drv_alone, failing, left, making, node_alone, out_alone, right, text_of, two_files}
+
+spelled_few : (byte : ℕ) (escape : Option ℕ) → length (spelled byte escape) ≤ 2
+spelled_few byte (Some escape) = omega arith
+spelled_few byte None = omega arith
+
+spelling_few : (bytes : List ℕ) → length (flat_map spelling bytes) ≤ 2 * length bytes
+unfolding spelling
+spelling_few [] = omega arith
+spelling_few (b ∷ bs) =
+    omega (
+      arith,
+      length-append (spelled b (letter b)) (flat_map spelling bs),
+      spelled_few b (letter b),
+      spelling_few bs,
+    )
+
+left_few : (out : List ℕ) → length out < 1000 → length (text_of (drv_alone failing out)) ≤ 4194304
+unfolding text spelling
+left_few out few = simp length-append (omega (arith, few, spelling_few out))
+
+right_few : (out : List ℕ) → length out < 1000 → length (text_of (drv_alone making out)) ≤ 4194304
+unfolding text spelling
+right_few out few = simp length-append (omega (arith, few, spelling_few out))
+
+left_keys : (out : List ℕ) → KeysRise derivation_form (drv_value (drv_alone failing out))
+unfolding KeysRise
+left_keys out = search rules
+
+right_keys : (out : List ℕ) → KeysRise derivation_form (drv_value (drv_alone making out))
+unfolding KeysRise
+right_keys out = search rules
+
+-- lists that rise are in order
+in_order_by : (drv : Drv) → KeysRise derivation_form (drv_value drv)
+    → InOrder derivation_form (drv_value drv)
+in_order_by drv = (order_means_rising derivation_form (drv_value drv)).1
+
+-- each stands at its own path
+found_alone : (recipe : Recipe) → is_name (recipe.name ++ codes ".drv") ≡ true
+    → IsDrvPath (node_alone recipe).path
+    → length (text_of (node_alone recipe).drv) ≤ max_len
+    → InOrder derivation_form (drv_value (node_alone recipe).drv)
+    → IsFoundAt store (node_alone recipe).path (text_of (node_alone recipe).drv)
+    (node_alone recipe).drv (node_alone recipe).path
+unfolding paths_of
+found_alone recipe filed file few order = record {
+  read = record {
+    named = file;
+    within = few;
+    is_text = record { is_text = refl; in_order = order };
+  };
+  in_store = All-nil (IsPathOf store);
+  own_path = record {
+    refs = [];
+    rising = tt;
+    same = λ ref. (λ has. has, λ has. has);
+    is_path = ap (λ (name : List ℕ). text_path store name (text_of (node_alone recipe).drv) [])
+        (sym (node_name recipe filed));
+  };
+}
+
+left_stands : MayStand store (listing_gives two_files) left.path left.drv
+left_stands = record {
+  bytes = text_of left.drv;
+  given = rw (nat_list_eq_equiv.refl left.path) refl;
+  found = found_alone failing left_filed left_file
+      (left_few (out_alone failing) (out_short failing (omega arith)))
+      (in_order_by left.drv (left_keys (out_alone failing)));
+}
+
+right_stands : MayStand store (listing_gives two_files) right.path right.drv
+right_stands = record {
+  bytes = text_of right.drv;
+  given = rw (
+    other_path right.path left.path (λ same. files_differ (sym same)),
+    nat_list_eq_equiv.refl right.path,
+  ) refl;
+  found = found_alone making right_filed right_file
+      (right_few (out_alone making) (out_short making (omega arith)))
+      (in_order_by right.drv (right_keys (out_alone making)));
+}
+
+-- ---- plan order
+
+uses_none : (from next : List ℕ) → Uses both.graph.nodes from next → ⊥
+uses_none from next uses =
+    ⊎_elim
+    (λ is_left. Contains-nothing next
+    (subst (λ (n : Node). Contains (inputs_of n.drv) next) (sym is_left) uses.is_input))
+    (λ later. Contains-nothing next
+    (subst (λ (n : Node). Contains (inputs_of n.drv) next) (sym (one_of right uses.node later))
+    uses.is_input)) (Contains-cons_cases left (right ∷ []) uses.node uses.is_node)
+
+reached_root : (roots : List (List ℕ)) (path : List ℕ)
+    → IsReached (Uses both.graph.nodes) roots path → Contains roots path
+reached_root roots path reached = by reached.root reached.is_root reached.steps reached.leads
+  where
+    by : (root : List ℕ) → Contains roots root → (steps : List (List ℕ))
+        → Leads (Uses both.graph.nodes) root path steps → Contains roots path
+    by root is [] same = subst (Contains roots) same is
+    by root is (next ∷ steps) leads = absurd (uses_none root next leads.0)
+
+in_order : AreLeft both.graph.nodes [] (left.path ∷ right.path ∷ []) (left.path ∷ right.path ∷ [])
+in_order =
+    left_behind_inputs left [] [] (right.path ∷ []) (left.path ∷ right.path ∷ [])
+    (Contains-first left (right ∷ [])) (Contains-nothing left.path) (none_left [])
+    (Contains-nothing left.path)
+    (left_behind_inputs right (left.path ∷ []) (left.path ∷ []) [] (left.path ∷ right.path ∷ [])
+    (Contains-later left (right ∷ []) right (Contains-first right [])) not_left
+    (none_left (left.path ∷ [])) not_left (none_left (left.path ∷ right.path ∷ [])))
+  where
+    not_left : Contains (left.path ∷ []) right.path → ⊥
+    not_left has = files_differ (one_of left.path right.path has)
+
+pub loads : IsPlan store (listing_gives two_files) (left.path ∷ right.path ∷ []) both.graph
+loads = record {
+  given = all_two (λ (n : Node). MayStand store (listing_gives two_files) n.path n.drv) left right
+      left_stands right_stands;
+  in_order = in_order;
+  reached = λ path has. record { root = path; is_root = has; steps = []; leads = refl };
+  whole = reached_root (left.path ∷ right.path ∷ []);
+  lawful = lawful_both;
+  few = omega arith;
+  is_roots = rw (other_path left.path right.path files_differ) refl;
+}

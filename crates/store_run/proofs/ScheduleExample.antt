@@ -1,0 +1,251 @@
+-- Two builds that overlap, of which one fails, are a whole run.
+use Rattle.std.proofs.Common.{◌≡◌, ◌∙◌, ◌<◌, inl, inr, ℕ, zero, suc, List, [], ◌∷◌, Some, Ok, Err, refl, sym, ap, subst, ⊎_elim, arith}
+use Rattle.std.specs.Prelude.{Contains, pos, slice_get}
+use Rattle.std.specs.List.{IsDistinct}
+use Rattle.std.proofs.lemmas.List.Elements.{All-nil}
+use Rattle.nix_names.proofs.Lists.{Contains-cons_cases, Contains-first, Contains-later, Contains-nothing}
+use Rattle.drv_graph.specs.Nodes.{Node}
+use Rattle.drv_graph.specs.declared.kinds.Kind.TheVariants.{Addressed, Fixed}
+use Rattle.drv_graph.proofs.KindAnswers.{one_kind}
+use Rattle.valid_table.specs.Entries.{registered}
+use Rattle.valid_table.specs.PathInfos.{PathInfo}
+use Rattle.valid_table.specs.Valid.{HasDrvPath, IsJournal}
+use Rattle.valid_table.specs.declared.entry.Entry.{Entry}
+use Rattle.valid_table.specs.declared.entry.Registration.{Registration}
+use Rattle.sched_core.specs.Books.{ArePermittedPaths, IsRunSettled, opened}
+use Rattle.sched_core.specs.Courses.{IsOpen}
+use Rattle.sched_core.specs.Jobs.{IsJob, output_paths, seeds_of}
+use Rattle.sched_core.specs.Legal.{ArePermitted, IsAllowed, IsEntryOf, IsLegal, begun, ended, failed, legal_begin, legal_done, legal_fail, legal_opening}
+use Rattle.sched_core.specs.Runs.{IsWanted, state_in, wanted_root}
+use Rattle.sched_core.specs.States.{state, states, table}
+use Rattle.sched_core.specs.Verdicts.{outputs_of}
+use Rattle.sched_core.specs.declared.job.Job.{Job}
+use Rattle.sched_core.specs.declared.reason.Event.TheVariants.{Begin, Done as Finish, Fail}
+use Rattle.sched_core.specs.declared.reason.Reason.{Reason}
+use Rattle.sched_core.specs.declared.reason.Reason.TheVariants.{ExitStatus, OutOfMemory}
+use Rattle.sched_core.specs.declared.reason.State.{State}
+use Rattle.sched_core.specs.declared.reason.State.TheVariants.{Done, Failed, Ready}
+use Rattle.store_run.specs.Builders.{IsAnswered, IsVerdictBehind, answered_begin, answered_done, answered_fail, answered_opening}
+use Rattle.store_run.specs.OneThread.{IsOneThread, turn_done, turn_failed, turn_opening}
+use Rattle.store_run.specs.Scheduling.{HasMemory, IsWholeRun}
+use Rattle.store_run.specs.ScheduleExample.{Overlap, both, in_turn, left, made, making, may_leave, out_alone, right, side_by_side}
+use Rattle.store_run.proofs.AlonePlans.{both_sound, kind_alone}
+use Rattle.store_run.proofs.OneOutcome.{job_outputs, job_seeds}
+use Rattle.store_run.proofs.ExampleJobs.{both_outcome, left_answer, left_is_job, left_job, left_leaves, left_may, left_verdict, no_cycle, nothing_in, right_answer, right_is_job, right_job, right_leaves, right_may, right_verdict}
+
+-- ---- verdicts behind some entries
+
+-- to a job without seeds just its own outputs are permitted
+permitted_own : (entries : List Entry) (d : ℕ) (job : Job) (node : Node) → IsJob both.graph d job
+    → slice_get both.graph.nodes d ≡ Some node → seeds_of both.graph.nodes node.drv ≡ []
+    → (path : List ℕ) → output_paths node.drv ≡ path ∷ []
+    → ArePermittedPaths entries job (path ∷ [])
+permitted_own entries d job node is at none path one =
+    let seeds : job.seeds.items ≡ [] = job_seeds both.graph d job node is at ∙ none in
+    let outputs : outputs_of job ≡ path ∷ [] = job_outputs both.graph d job node is at ∙ one in
+    subst (λ (ss : List (List ℕ)). ArePermitted (registered entries) ss (outputs_of job)
+    (path ∷ [])) (sym seeds)
+    (subst (λ (os : List (List ℕ)). ArePermitted (registered entries) [] os (path ∷ []))
+    (sym outputs) (record {
+      rising = tt;
+      each = λ p. (
+        λ has. inr has,
+        λ may. ⊎_elim (λ seed. absurd (Contains-nothing seed.0 seed.1)) (λ own. own) may,
+      );
+    }))
+
+left_behind : (entries : List Entry)
+    → IsVerdictBehind may_leave both entries 0 (Err (ExitStatus (pos 1)))
+left_behind entries = record {
+  job = left_job;
+  is_job = left_is_job;
+  comes_to = (
+    Ok left_answer,
+    left_may,
+    (
+      output_paths left.drv,
+      permitted_own entries 0 left_job left left_is_job refl refl _ refl,
+      left_verdict left_job (output_paths left.drv) left_answer left_leaves,
+    ),
+  );
+}
+
+right_behind : (entries : List Entry)
+    → IsVerdictBehind may_leave both entries 1 (Ok (nothing_in ∷ []))
+right_behind entries = record {
+  job = right_job;
+  is_job = right_is_job;
+  comes_to = (
+    Ok right_answer,
+    right_may,
+    (
+      output_paths right.drv,
+      permitted_own entries 1 right_job right right_is_job refl refl _ refl,
+      right_verdict right_job right_is_job right_answer right_leaves (output_paths right.drv),
+    ),
+  );
+}
+
+-- ---- the steps
+
+journal : IsJournal []
+unfolding IsDistinct
+journal = record { closed = tt; once = tt; derived = All-nil HasDrvPath }
+
+wanted : (opening : List Entry) (d : ℕ) → d < 2 → IsWanted both opening d
+wanted opening zero low = wanted_root 0 (Contains-first 0 (1 ∷ []))
+wanted opening (suc zero) low =
+    wanted_root 1 (Contains-later 0 (1 ∷ []) 1 (Contains-first 1 []))
+wanted opening (suc (suc d)) low = absurd (omega arith)
+
+none_refers : (info : PathInfo) (path : List ℕ) → Contains (nothing_in ∷ []) info
+    → Contains info.references path → ⊥
+none_refers info path has refers =
+    ⊎_elim
+    (λ same. Contains-nothing path
+    (subst (λ (i : PathInfo). Contains i.references path) (sym same) refers))
+    (λ none. Contains-nothing info none) (Contains-cons_cases nothing_in [] info has)
+
+-- what right made may be registered
+right_allowed : IsAllowed both [] right (nothing_in ∷ [])
+right_allowed = record {
+  count = refl;
+  new = λ path own valid. Contains-nothing path valid;
+  permitted = λ info path has refers. absurd (none_refers info path has refers);
+  fixed = λ method digest kind info has.
+      let clash : Addressed ≡ Fixed method digest = one_kind right.drv Addressed
+      (Fixed method digest) (kind_alone making) kind in
+      absurd cc;
+  acyclic = no_cycle (output_paths right.drv);
+}
+
+right_entry : IsEntryOf right (nothing_in ∷ []) made
+right_entry = record {
+  outputs = record {
+    path = out_alone making;
+    info = nothing_in;
+  } ∷ [];
+  is_done = refl;
+  rising = tt;
+  each = λ path info. (there path info, back path info);
+}
+  where
+    there : (path : List ℕ) (info : PathInfo)
+        → Contains {X = Registration} (record {
+          path = out_alone making;
+          info = nothing_in;
+        } ∷ []) (record { path = path; info = info })
+        → (n : ℕ) × (slice_get (output_paths right.drv) n ≡ Some path)
+        × (slice_get (nothing_in ∷ []) n ≡ Some info)
+    there path info (zero, low, is) =
+        (0, ap (λ (r : Registration). Some r.path) is, ap (λ (r : Registration). Some r.info) is)
+    there path info (suc k, low, is) = absurd (omega arith)
+
+    back : (path : List ℕ) (info : PathInfo)
+        → (n : ℕ) × (slice_get (output_paths right.drv) n ≡ Some path)
+        × (slice_get (nothing_in ∷ []) n ≡ Some info)
+        → Contains {X = Registration} (record {
+          path = out_alone making;
+          info = nothing_in;
+        } ∷ []) (record { path = path; info = info })
+    back path info (zero, at, at') =
+        let paths : out_alone making ≡ path = cc in
+        let infos : nothing_in ≡ info = cc in
+        (0, omega arith, λ i. record { path = paths i; info = infos i })
+    back path info (suc n, at, at') = absurd cc
+
+-- ---- side by side
+
+first_ready : state_in both (opened []) 0 ≡ Ready
+unfolding state states table
+first_ready = refl
+
+second_ready : state_in both (begun (opened []) 0) 1 ≡ Ready
+unfolding state states table
+second_ready = refl
+
+pub left_failed : state_in both side_by_side 0 ≡ Failed (ExitStatus (pos 1))
+unfolding state states table
+left_failed = refl
+
+pub right_built : state_in both side_by_side 1 ≡ Done
+unfolding state states table
+right_built = refl
+
+legal_both : IsLegal both (begun (begun (opened []) 0) 1)
+legal_both =
+    legal_begin (begun (opened []) 0) 1
+    (legal_begin (opened []) 0 (legal_opening [] journal) (omega arith) (wanted [] 0 (omega arith))
+    first_ready) (omega arith) (wanted [] 1 (omega arith)) second_ready
+
+legal : IsLegal both side_by_side
+legal =
+    legal_fail (ended (begun (begun (opened []) 0) 1) 1 1 made) 0 0 (ExitStatus (pos 1))
+    (legal_done (begun (begun (opened []) 0) 1) 1 1 right (nothing_in ∷ []) made legal_both refl
+    refl right_allowed right_entry) refl
+
+answered : IsAnswered may_leave both side_by_side
+answered =
+    answered_fail (ended (begun (begun (opened []) 0) 1) 1 1 made) 0 0 (ExitStatus (pos 1))
+    (answered_done (begun (begun (opened []) 0) 1) 1 1 right (nothing_in ∷ []) made
+    (answered_begin (begun (opened []) 0) 1
+    (answered_begin (opened []) 0 (answered_opening []))) refl (right_behind []) right_entry)
+    (inr (left_behind (made ∷ [])))
+
+closed_failed : (s : State) (reason : Reason) → s ≡ Failed reason → IsOpen s → ⊥
+closed_failed s reason is (inl blocked) = cc
+closed_failed s reason is (inr (inl ready)) = cc
+closed_failed s reason is (inr (inr (lease, building))) = cc
+
+closed_done : (s : State) → s ≡ Done → IsOpen s → ⊥
+closed_done s is (inl blocked) = cc
+closed_done s is (inr (inl ready)) = cc
+closed_done s is (inr (inr (lease, building))) = cc
+
+settled : IsRunSettled both side_by_side
+settled zero low is = closed_failed _ (ExitStatus (pos 1)) left_failed
+settled (suc zero) low is = closed_done _ right_built
+settled (suc (suc d)) low is = absurd (omega arith)
+
+memory : HasMemory both side_by_side
+memory zero low is failed =
+    let clash : Failed (ExitStatus (pos 1)) ≡ Failed OutOfMemory = sym left_failed ∙ failed in cc
+memory (suc zero) low is failed =
+    let clash : Done ≡ Failed OutOfMemory = sym right_built ∙ failed in cc
+memory (suc (suc d)) low is failed = absurd (omega arith)
+
+pub whole : IsWholeRun may_leave both side_by_side
+whole = record {
+  plan = both_sound;
+  outcome = both_outcome;
+  legal = legal;
+  settled = settled;
+  answered = answered;
+  memory = memory;
+}
+
+pub overlap : Overlap side_by_side 0 1
+overlap = record {
+  before = Begin 0 0 ∷ Begin 1 1 ∷ [];
+  after = Finish 1 1 ∷ Fail 0 0 (ExitStatus (pos 1)) ∷ [];
+  parts = refl;
+  one = 0;
+  other = 1;
+  first = refl;
+  second = refl;
+}
+
+-- ---- in turn
+
+right_ready : state_in both (failed (begun (opened []) 0) 0 0 (ExitStatus (pos 1))) 1 ≡ Ready
+unfolding state states table
+right_ready = refl
+
+pub thread : IsOneThread may_leave both [] in_turn
+thread =
+    turn_done 1 (failed (begun (opened []) 0) 0 0 (ExitStatus (pos 1))) right (nothing_in ∷ []) made
+    (turn_failed 0 (opened []) (ExitStatus (pos 1)) (turn_opening journal)
+    (record { within = omega arith; wanted = wanted [] 0 (omega arith); ready = first_ready })
+    (left_behind []))
+    (record { within = omega arith; wanted = wanted [] 1 (omega arith); ready = right_ready })
+    refl (right_behind []) right_entry

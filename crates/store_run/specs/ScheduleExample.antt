@@ -1,0 +1,142 @@
+-- Two builds at once, of which one fails: a whole run, so that the conditions of *Any schedule* can
+-- be met (this product's own).
+use Rattle.std.specs.Prelude.{◌≡◌, ◌++◌, Bool, true, false, ℕ, pos, Some, None, List, [], ◌∷◌, codes, Result, Ok, Err}
+use Rattle.sha2.specs.Sha256.{sha256}
+use Rattle.nix_names.specs.Names.{same_bytes}
+use Rattle.nix_names.specs.StorePaths.{store_path}
+use Rattle.nix_drv.specs.Derivation.{Drv, derivation_form, drv_value}
+use Rattle.nix_drv.specs.Grammar.{text}
+use Rattle.nix_drv.specs.OwnPath.{text_path}
+use Rattle.nix_drv.specs.Sources.{Listing}
+use Rattle.drv_graph.specs.Nodes.{Node}
+use Rattle.ref_scan.specs.Trees.{entry_count}
+use Rattle.ref_scan.specs.declared.tree.Tree.{Tree}
+use Rattle.valid_table.specs.declared.entry.Entry.{Entry}
+use Rattle.valid_table.specs.declared.entry.Entry.TheVariants.{Done}
+use Rattle.sched_core.specs.Runs.{History, Run}
+use Rattle.sched_core.specs.States.{Begun, phase_of}
+use Rattle.sched_core.specs.Verdicts.{digest_of}
+use Rattle.sched_core.specs.declared.job.Answer.{Answer}
+use Rattle.sched_core.specs.declared.job.Job.{Job}
+use Rattle.sched_core.specs.declared.reason.Event.{Event}
+use Rattle.sched_core.specs.declared.reason.Event.TheVariants.{Begin, Done as Finish, Fail}
+use Rattle.sched_core.specs.declared.reason.Reason.{Reason}
+use Rattle.sched_core.specs.declared.reason.Reason.TheVariants.{ExitStatus}
+
+-- How a derivation is built: its name, the program and its arguments.
+pub record Recipe : Type 0 where
+  pub name : List ℕ
+  pub builder : List ℕ
+  pub args : List (List ℕ)
+
+-- a derivation without inputs and sources, whose one output has this path
+abbrev pub drv_alone : Recipe → (out : List ℕ) → Drv
+drv_alone recipe out = record {
+  outputs = record { name = codes "out"; path = out; algo = []; hash = [] } ∷ [];
+  inputs = [];
+  sources = [];
+  system = codes "x86_64-linux";
+  builder = recipe.builder;
+  args = recipe.args;
+  env = record { key = codes "builder"; value = recipe.builder }
+      ∷ record { key = codes "name"; value = recipe.name }
+      ∷ record { key = codes "out"; value = out }
+      ∷ record { key = codes "system"; value = codes "x86_64-linux" } ∷ [];
+}
+
+-- the text of a derivation
+abbrev pub text_of : Drv → List ℕ
+text_of drv = text derivation_form (drv_value drv)
+
+-- the path of that output: it is made of the text without it
+abbrev pub out_alone : Recipe → List ℕ
+out_alone recipe = store_path (codes "output:out") (sha256 (text_of (drv_alone recipe [])))
+    (codes "/nix/store") recipe.name
+
+-- the derivation with that output, at its own path
+abbrev pub node_alone : Recipe → Node
+node_alone recipe = record {
+  path = text_path (codes "/nix/store") (recipe.name ++ codes ".drv")
+      (text_of (drv_alone recipe (out_alone recipe))) [];
+  drv = drv_alone recipe (out_alone recipe);
+}
+
+-- one that fails, and one that makes an empty folder
+abbrev pub failing : Recipe
+failing = record { name = codes "left"; builder = codes "/bin/false"; args = [] }
+
+abbrev pub making : Recipe
+making = record {
+  name = codes "right";
+  builder = codes "/bin/sh";
+  args = codes "-c" ∷ codes "/bin/mkdir $out" ∷ [];
+}
+
+abbrev pub left : Node
+left = node_alone failing
+
+abbrev pub right : Node
+right = node_alone making
+
+-- the plan of both, for their system
+abbrev pub both : Run
+both = record {
+  graph = record { nodes = left ∷ right ∷ []; roots = 0 ∷ 1 ∷ [] };
+  system = codes "x86_64-linux";
+}
+
+-- a source that has the two files alone
+abbrev pub two_files : Listing
+two_files = record {
+  files = (left.path, text_of left.drv) ∷ (right.path, text_of right.drv) ∷ [];
+  failing = [];
+  fetches = 0;
+  failures = 0;
+}
+
+-- a tree is a folder with nothing in it
+abbrev pub IsEmptyFolder : Tree → Type 0
+IsEmptyFolder tree = (digest_of tree ≡ None) × (entry_count tree ≡ 0)
+
+-- what a program leaves behind: one that fails ends with status 1 and leaves nothing, any other
+-- makes an empty folder at one output
+abbrev pub Leaves : (fails : Bool) → Answer → Type 0
+Leaves true answer = (answer.status ≡ Some (pos 1)) × (answer.trees.items ≡ [])
+Leaves false answer = (answer.status ≡ Some (pos 0))
+    × ((folder : Tree) × IsEmptyFolder folder × (answer.trees.items ≡ Some folder ∷ []))
+
+-- what a job may come to: `/bin/false` fails, and nothing else
+abbrev pub may_leave : Job → Result Answer Reason → Type 0
+may_leave job (Ok answer) = Leaves (same_bytes job.builder.items (codes "/bin/false")) answer
+may_leave job (Err reason) = ⊥
+
+-- the entry of what right made
+abbrev pub made : Entry
+made = Done right.path
+    (record { path = out_alone making; info = record { references = []; digest = None } } ∷ [])
+
+-- two workers: right begins and ends while left is being built
+abbrev pub side_by_side : History
+side_by_side = record {
+  opening = [];
+  entries = made ∷ [];
+  events = Begin 0 0 ∷ Begin 1 1 ∷ Finish 1 1 ∷ Fail 0 0 (ExitStatus (pos 1)) ∷ [];
+}
+
+-- one thread: right begins when left has failed
+abbrev pub in_turn : History
+in_turn = record {
+  opening = [];
+  entries = made ∷ [];
+  events = Begin 0 0 ∷ Fail 0 0 (ExitStatus (pos 1)) ∷ Begin 1 1 ∷ Finish 1 1 ∷ [];
+}
+
+-- Two builds overlap: behind some of a history's events both are under way.
+pub record Overlap (history : History) (a b : ℕ) : Type 0 where
+  pub before : List Event
+  pub after : List Event
+  pub parts : history.events ≡ before ++ after
+  pub one : ℕ
+  pub other : ℕ
+  pub first : phase_of before a ≡ Begun one
+  pub second : phase_of before b ≡ Begun other
