@@ -51,6 +51,7 @@ table_fault_words (table.AlreadyValid path) = with_value (codes "AlreadyValid") 
 -- the words of a fault on workers
 abbrev pub run_fault_words : RunFault → List ℕ
 run_fault_words run.NoWorkers = codes "NoWorkers"
+run_fault_words run.NoView = codes "NoView"
 run_fault_words run.ThreadFault = codes "ThreadFault"
 run_fault_words run.NoMemory = codes "NoMemory"
 run_fault_words run.ForeignPlan = codes "ForeignPlan"

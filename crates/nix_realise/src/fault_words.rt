@@ -74,6 +74,7 @@ pub fn write_run_fault(fault: RunFault, out: &mut Vec<u8>) -> Result<(), AllocEr
 {
     match fault {
         RunFault::NoWorkers => write_name(b"NoWorkers", out),
+        RunFault::NoView => write_name(b"NoView", out),
         RunFault::ThreadFault => write_name(b"ThreadFault", out),
         RunFault::NoMemory => write_name(b"NoMemory", out),
         RunFault::ForeignPlan => write_name(b"ForeignPlan", out),

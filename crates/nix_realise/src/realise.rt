@@ -13,11 +13,13 @@ use crate::stop::Stop;
 use crate::task::{Task, task_of};
 use sched_core::Book;
 use std::io::Write;
+use std::marker::Brand;
 use std::rt::Files;
 use std::sync::Wait;
 use std::thread::Threads;
 use store_run::{Build, RunFault};
-use valid_table::ListOutlet;
+use valid_table::Outlet;
+use valid_view::{Name, Naming};
 
 /// Builds what is wanted of the request's derivations, writes the journal and prints the report.
 /// What is refused, and in which order, is the answer of `task_of`; nothing is run then. Once the
@@ -58,19 +60,40 @@ where
     requires { length builders.items ≡ request.now.jobs }
     ensures { RunEnds B.may request.now task.now (O.contents out.old) (O.contents out.new) result }
 {
+    run_named::<Brand, _, _, _>(rt, Name::new(), request, task, builders, out)
+}
+
+// Does what `run_task` does, over a view of this name.
+fn run_named<'a, J, R, B, O>(
+    rt: &R,
+    name: Name,
+    request: &RealiseRequest<'a>,
+    task: &Task,
+    builders: Vec<B>,
+    out: &mut O,
+) -> Result<u8, Stop<'a>>
+where
+    J: Naming + Send + Sync,
+    R: Files + AllocGlobal + Threads + Wait + Sync,
+    B: Build + Send + Drop,
+    O: Write,
+    requires named { name ≡ J.book }
+    requires jobs { length builders.items ≡ request.now.jobs }
+    ensures { RunEnds B.may request.now task.now (O.contents out.old) (O.contents out.new) result }
+{
     let system = request.system.as_bytes();
     let (plan, journal) = (&task.plan, &task.journal);
-    match store_run::realise(rt, rt.alloc(), plan, journal, system, builders) {
+    match store_run::realise::<J, R, B>(rt, rt.alloc(), name, plan, journal, system, builders) {
         Ok(book) => end(rt, request, book, out),
         Err((fault, book)) => Err(fall_short(rt, request, fault, book)),
     }
 }
 
 // Ends a run with its settled book.
-fn end<'a, R: Files + AllocGlobal, O: Write>(
+fn end<'a, R: Files + AllocGlobal, V: Outlet, O: Write>(
     rt: &R,
     request: &RealiseRequest<'a>,
-    book: Book<ListOutlet>,
+    book: Book<V>,
     out: &mut O,
 ) -> Result<u8, Stop<'a>>
     requires { IsRunSettled book.run book.history }
@@ -82,11 +105,11 @@ fn end<'a, R: Files + AllocGlobal, O: Write>(
 }
 
 // Ends a run for a fault of its workers; where they left a book its journal is written.
-fn fall_short<'a, R: Files + AllocGlobal>(
+fn fall_short<'a, R: Files + AllocGlobal, V: Outlet>(
     rt: &R,
     request: &RealiseRequest<'a>,
     fault: RunFault,
-    book: Option<Book<ListOutlet>>,
+    book: Option<Book<V>>,
 ) -> Stop<'a>
     ensures { result ≡ Stop.Run fault }
 {
@@ -99,10 +122,10 @@ fn fall_short<'a, R: Files + AllocGlobal>(
 }
 
 // Writes the journal of a settled book, and prints its report.
-fn tell<'a, R: Files + AllocGlobal, O: Write>(
+fn tell<'a, R: Files + AllocGlobal, V: Outlet, O: Write>(
     rt: &R,
     request: &RealiseRequest<'a>,
-    book: &Book<ListOutlet>,
+    book: &Book<V>,
     out: &mut O,
 ) -> Result<u8, Stop<'a>>
     requires { IsRunSettled book.now.run book.now.history }
@@ -117,10 +140,10 @@ fn tell<'a, R: Files + AllocGlobal, O: Write>(
 }
 
 // Puts the journal of a book in the place of the one that is there.
-fn write_book<'a, R: Files + AllocGlobal>(
+fn write_book<'a, R: Files + AllocGlobal, V: Outlet>(
     rt: &R,
     request: &RealiseRequest<'a>,
-    book: &Book<ListOutlet>,
+    book: &Book<V>,
 ) -> Result<(), Stop<'a>>
     ensures { IfErr result (λ stop. (stop ≡ Stop.NoMemory) ⊎ (stop ≡ Stop.JournalNotWritten)) }
 {
