@@ -19,12 +19,14 @@ def entries(name, output):
     return environment | {f"key{number:02}": f"the value of key {number}, which says little" for number in range(8)}
 
 
-def derivation(name, output, inputs, script=SCRIPT):
-    """The text of a derivation with one output and these inputs, which runs a script; nothing in it takes an escape."""
+def derivation(name, output, inputs, script=SCRIPT, sources=()):
+    """The text of a derivation with one output, these inputs and sources, which runs a script; nothing in it takes an escape."""
     return (
         f'Derive([("out","{output}","","")],['
         + ",".join(f'("{name}",["out"])' for name in inputs)
-        + f'],[],"x86_64-linux","/bin/sh",["-c","{script}"],['
+        + "],["
+        + ",".join(f'"{path}"' for path in sources)
+        + f'],"x86_64-linux","/bin/sh",["-c","{script}"],['
         + ",".join(f'("{key}","{value}")' for key, value in sorted(entries(name, output).items()))
         + "])"
     )
@@ -40,24 +42,24 @@ def name_of(number):
     return f"bench-{number}"
 
 
-def output_of(folder, number, inputs, script=SCRIPT):
+def output_of(folder, number, inputs, script=SCRIPT, sources=()):
     """The path of the output of the derivation with this number, whose inputs are paths with their modulo hashes."""
     name = name_of(number)
     hashes = sorted(modulo for _, modulo in inputs)
-    return make_path("output:out", digest(derivation(name, "", hashes, script)), folder, name)
+    return make_path("output:out", digest(derivation(name, "", hashes, script, sources)), folder, name)
 
 
-def write(folder, number, inputs, script=SCRIPT):
+def write(folder, number, inputs, script=SCRIPT, sources=()):
     """Writes the derivation with this number, whose inputs are paths with their modulo hashes, and gives its own."""
     name = name_of(number)
-    output = output_of(folder, number, inputs, script)
+    output = output_of(folder, number, inputs, script, sources)
     paths = sorted(path for path, _ in inputs)
     hashes = sorted(modulo for _, modulo in inputs)
-    text = derivation(name, output, paths, script)
-    path = text_path(folder, name + ".drv", text.encode(), paths)
+    text = derivation(name, output, paths, script, sources)
+    path = text_path(folder, name + ".drv", text.encode(), sorted([*paths, *sources]))
     with open(path, "w", encoding="ascii") as file:
         file.write(text)
-    return path, digest(derivation(name, output, hashes, script))
+    return path, digest(derivation(name, output, hashes, script, sources))
 
 
 def chain(folder, count):
