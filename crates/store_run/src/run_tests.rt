@@ -2,7 +2,7 @@
 ghost use Rattle.std.specs.Prelude.{◌≡◌, IfOk, []};
 ghost use Rattle.sched_core.specs.Books.{opened};
 
-use crate::{Build, Locked, RunFault, realise};
+use crate::{Locked, RunFault};
 use builders::{Deed, Does, Double, Gate};
 use drv_graph::Plan;
 use files::*;
@@ -14,6 +14,7 @@ use std::sync::Wait;
 use std::sync::atomic::AtomicU64;
 use std::test::*;
 use std::thread::Threads;
+use traces::{Traces, fault_of, realised, report_of};
 use valid_table::{Journal, ListOutlet};
 
 mod builders;
@@ -21,7 +22,9 @@ mod bulk;
 mod failing;
 mod files;
 mod made;
+mod meanwhile;
 mod schedules;
+mod traces;
 
 // A text, by its pieces.
 type Pieces = &'static [&'static [u8]];
@@ -182,51 +185,6 @@ fn doubles(alloc: Global, told: &'static [Deed], count: usize) -> Result<Vec<Dou
     Ok(builders)
 }
 
-// The book of a run that went to its end; any other is closed.
-fn realised<R: Threads + Wait + Sync, B: Build + Send + Drop>(
-    rt: &R,
-    alloc: Global,
-    plan: &Plan,
-    journal: &Journal,
-    builders: Vec<B>,
-) -> Result<Book<ListOutlet>, Fail> {
-    match realise(rt, alloc, plan, journal, SYSTEM, builders) {
-        Ok(book) => Ok(book),
-        Err((fault, Some(book))) => {
-            book.close();
-            Err(fault.into())
-        }
-        Err((fault, None)) => Err(fault.into()),
-    }
-}
-
-// The report of a run.
-fn report(book: &Book<ListOutlet>) -> Result<Vec<u8>, Fail> {
-    if !book.settled() {
-        return Err("it isn't settled".into());
-    }
-    Ok(book.report()?)
-}
-
-// The report of a run by these builders, over an empty journal.
-fn report_of<R: Threads + Wait + Sync, B: Build + Send + Drop>(
-    rt: &R,
-    alloc: Global,
-    plan: &Plan,
-    builders: Vec<B>,
-) -> Result<Vec<u8>, Fail> {
-    let book = realised(rt, alloc, plan, &Journal::new(alloc), builders)?;
-    let report = report(&book);
-    book.close();
-    report
-}
-
-// Whether a book ended as its row says.
-fn ended(alloc: Global, book: &Book<ListOutlet>, row: &Row) -> Result<bool, Fail> {
-    let is_report = report(book)? == joined(alloc, row.report)?;
-    Ok(is_report && book.events().len() == row.events)
-}
-
 // Whether a run by so many workers ends as its row says.
 fn holds<R: Threads + Wait + Sync>(
     rt: &R,
@@ -236,11 +194,21 @@ fn holds<R: Threads + Wait + Sync>(
 ) -> Result<bool, Fail> {
     let plan = plan(alloc, row.roots)?;
     let journal = journal(alloc, row.before)?;
-    let builders = doubles(alloc, row.told, workers)?;
-    let book = realised(rt, alloc, &plan, &journal, builders)?;
-    let holds = ended(alloc, &book, row);
-    book.close();
-    holds
+    let traces = told_run(rt, alloc, &plan, &journal, row.told, workers)?;
+    Ok(traces.report == joined(alloc, row.report)? && traces.events.len() == row.events)
+}
+
+// What a run by so many workers leaves behind, whose builders do as they are told.
+fn told_run<R: Threads + Wait + Sync>(
+    rt: &R,
+    alloc: Global,
+    plan: &Plan,
+    journal: &Journal,
+    told: &'static [Deed],
+    workers: usize,
+) -> Result<Traces, Fail> {
+    let builders = doubles(alloc, told, workers)?;
+    realised(rt, alloc, plan, journal, builders)
 }
 
 #[test]
@@ -261,14 +229,8 @@ fn ends<R: Threads + Wait + Sync>(
     plan: &Plan,
     workers: usize,
 ) -> Result<(Option<Event>, Option<Event>), Fail> {
-    let builders = doubles(alloc, &[], workers)?;
-    let book = realised(rt, alloc, plan, &Journal::new(alloc), builders)?;
-    let ends = (
-        book.events().first().copied(),
-        book.events().last().copied(),
-    );
-    book.close();
-    Ok(ends)
+    let events = told_run(rt, alloc, plan, &Journal::new(alloc), &[], workers)?.events;
+    Ok((events.first().copied(), events.last().copied()))
 }
 
 // Of a diamond the first derivation begins first, and the last one ends last.
@@ -283,22 +245,10 @@ fn order_of_a_diamond(rt: HostRuntime) -> Result<(), Fail> {
     Ok(())
 }
 
-// How a run without a book ended.
-fn fault_without_book(
-    ended: Result<Book<ListOutlet>, (RunFault, Option<Book<ListOutlet>>)>,
-) -> Option<RunFault> {
-    match ended {
-        Ok(book) | Err((_, Some(book))) => {
-            book.close();
-            None
-        }
-        Err((fault, None)) => Some(fault),
-    }
-}
-
 #[test]
 fn numbers_of_faults(rt: HostRuntime) {
     for (fault, number) in [
+        (RunFault::NoView, 40),
         (RunFault::NoWorkers, 70),
         (RunFault::ThreadFault, 71),
         (RunFault::NoMemory, 72),
@@ -311,13 +261,11 @@ fn numbers_of_faults(rt: HostRuntime) {
 // No workers, and one more than there may be.
 #[test]
 fn wrong_number_of_workers(rt: HostRuntime) -> Result<(), Fail> {
-    let alloc = rt.alloc();
-    let plan = plan(alloc, &[APART])?;
-    let journal = Journal::new(alloc);
+    let plan = plan(rt.alloc(), &[APART])?;
     for workers in [0, 65] {
-        let builders = doubles(alloc, &[], workers)?;
-        let ended = realise(&rt, alloc, &plan, &journal, SYSTEM, builders);
-        assert_eq!(rt; fault_without_book(ended), Some(RunFault::NoWorkers));
+        let builders = doubles(rt.alloc(), &[], workers)?;
+        let fault = fault_of(&rt, rt.alloc(), &plan, builders);
+        assert_eq!(rt; fault, Some(RunFault::NoWorkers));
     }
     Ok(())
 }
@@ -427,11 +375,7 @@ fn journal_after<R: Threads + Wait + Sync>(
     plan: &Plan,
     workers: usize,
 ) -> Result<Vec<u8>, Fail> {
-    let builders = doubles(alloc, &FRESH, workers)?;
-    let book = realised(rt, alloc, plan, &Journal::new(alloc), builders)?;
-    let text = book.journal().write(alloc);
-    book.close();
-    Ok(text?)
+    Ok(told_run(rt, alloc, plan, &Journal::new(alloc), &FRESH, workers)?.text)
 }
 
 #[test]

@@ -1,19 +1,22 @@
 //! Runs over the plan of the example of a whole run, by a builder that does what the example says.
+ghost use Rattle.std.specs.Prelude.{◌≡◌};
 ghost use Rattle.store_run.specs.ScheduleExample.{both, in_turn, may_leave, side_by_side};
 ghost use Rattle.store_run.specs.Scheduling.{AreAlike};
 
 use super::{any_schedule, builds_may_overlap};
-use crate::{Build, realise};
+use crate::{Build, Ended, realise};
 use drv_graph::Plan;
 use nix_drv::{ListSource, ListedFile};
 use nix_names::{StoreDir, StorePath, parse_path};
 use ref_scan::Tree;
 use sched_core::{Answer, Book, Job, Reason};
 use std::alloc::{AllocError, Global};
+use std::marker::Brand;
 use std::sync::Wait;
 use std::test::*;
 use std::thread::Threads;
-use valid_table::{Journal, ListOutlet};
+use valid_table::{Journal, Outlet};
+use valid_view::{Name, Naming};
 
 // The paths were computed apart, with Python's hashlib.
 const LEFT: &[u8] = b"/nix/store/jbgzpvl5d32l046pn5l2g0zdhnnw9lvb-left.drv";
@@ -99,23 +102,22 @@ fn programs(alloc: Global, count: usize) -> Result<Vec<Program>, AllocError> {
     Ok(programs)
 }
 
-// The book of a run by so many workers that went to its end.
-fn realised<R: Threads + Wait + Sync>(
-    rt: &R,
-    alloc: Global,
-    workers: usize,
-) -> Result<Book<ListOutlet>, Fail> {
-    let plan = plan(alloc)?;
-    let builders = programs(alloc, workers)?;
-    match realise(
-        rt,
-        alloc,
-        &plan,
-        &Journal::new(alloc),
-        b"x86_64-linux",
-        builders,
-    ) {
-        Ok(book) => Ok(book),
+// The report of a run.
+fn report<O: Outlet>(book: &Book<O>) -> Result<Vec<u8>, Fail> {
+    if !book.settled() {
+        return Err("it isn't settled".into());
+    }
+    Ok(book.report()?)
+}
+
+// The report of a run that went to its end; its book is closed, as is that of any other.
+fn report_at_end<J: Naming + Send, R: Wait>(ended: Ended<J, R>) -> Result<Vec<u8>, Fail> {
+    match ended {
+        Ok(book) => {
+            let report = report(&book);
+            book.close();
+            report
+        }
         Err((fault, Some(book))) => {
             book.close();
             Err(fault.into())
@@ -124,12 +126,20 @@ fn realised<R: Threads + Wait + Sync>(
     }
 }
 
-// The report of a run.
-fn report(book: &Book<ListOutlet>) -> Result<Vec<u8>, Fail> {
-    if !book.settled() {
-        return Err("it isn't settled".into());
-    }
-    Ok(book.report()?)
+// The report of a run by so many workers over a view of this name.
+fn report_named<J: Naming + Send + Sync, R: Threads + Wait + Sync>(
+    rt: &R,
+    alloc: Global,
+    name: Name,
+    workers: usize,
+) -> Result<Vec<u8>, Fail>
+    requires { name ≡ J.book }
+{
+    let plan = plan(alloc)?;
+    let journal = Journal::new(alloc);
+    let builders = programs(alloc, workers)?;
+    let ended: Ended<J, R> = realise(rt, alloc, name, &plan, &journal, b"x86_64-linux", builders);
+    report_at_end(ended)
 }
 
 // The report of a run by so many workers.
@@ -138,10 +148,7 @@ fn report_by<R: Threads + Wait + Sync>(
     alloc: Global,
     workers: usize,
 ) -> Result<Vec<u8>, Fail> {
-    let book = realised(rt, alloc, workers)?;
-    let report = report(&book);
-    book.close();
-    report
+    report_named::<Brand, _>(rt, alloc, Name::new(), workers)
 }
 
 // The report is that of the example, by one worker and by two.

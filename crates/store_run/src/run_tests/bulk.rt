@@ -3,15 +3,14 @@
 use super::builders::Double;
 use super::failing::Wild;
 use super::made::made_plan;
-use super::{BUILT, FAILED, REFUSED, doubles, gated, realised, report, report_of};
-use crate::Build;
+use super::traces::{Traces, realised, report_of};
+use super::{BUILT, FAILED, REFUSED, doubles, gated, told_run};
 use drv_graph::Plan;
-use sched_core::Book;
 use std::alloc::{AllocError, Global};
 use std::sync::Wait;
 use std::test::*;
 use std::thread::Threads;
-use valid_table::{Entry, Journal, ListOutlet};
+use valid_table::{Entry, Journal};
 
 // How many lines of a report begin with these bytes.
 fn lines(report: &[u8], start: &[u8]) -> usize {
@@ -52,30 +51,6 @@ fn one_worker_or_one_derivation(rt: HostRuntime) -> Result<(), Fail> {
     Ok(())
 }
 
-// The report of a run and its journal's entries.
-fn after<R: Threads + Wait + Sync, B: Build + Send + Drop>(
-    rt: &R,
-    alloc: Global,
-    plan: &Plan,
-    builders: Vec<B>,
-) -> Result<(Vec<u8>, Vec<Entry>), Fail> {
-    let book = realised(rt, alloc, plan, &Journal::new(alloc), builders)?;
-    let after = report_and_entries(alloc, &book);
-    book.close();
-    after
-}
-
-fn report_and_entries(
-    alloc: Global,
-    book: &Book<ListOutlet>,
-) -> Result<(Vec<u8>, Vec<Entry>), Fail> {
-    let mut entries = Vec::new(alloc);
-    for entry in book.journal().entries() {
-        entries.push(entry.copy(alloc)?)?;
-    }
-    Ok((report(book)?, entries))
-}
-
 // Whether two journals hold the same entries, each once.
 fn are_alike(some: &[Entry], others: &[Entry]) -> bool {
     some.len() == others.len() && some.iter().all(|entry| others.contains(entry))
@@ -87,20 +62,19 @@ fn after_all_built<R: Threads + Wait + Sync>(
     alloc: Global,
     plan: &Plan,
     workers: usize,
-) -> Result<(Vec<u8>, Vec<Entry>), Fail> {
-    let builders: Vec<Double> = doubles(alloc, &[], workers)?;
-    after(rt, alloc, plan, builders)
+) -> Result<Traces, Fail> {
+    told_run(rt, alloc, plan, &Journal::new(alloc), &[], workers)
 }
 
 // One worker and eight end with one report, and register the same.
 #[test]
 fn one_worker_or_eight(rt: HostRuntime) -> Result<(), Fail> {
     let plan = made_plan(rt.alloc(), 200, 3)?;
-    let (alone, entries) = after_all_built(&rt, rt.alloc(), &plan, 1)?;
-    let (together, others) = after_all_built(&rt, rt.alloc(), &plan, 8)?;
-    assert_eq!(rt; lines(&alone, BUILT), 200);
-    assert!(rt; alone == together);
-    assert!(rt; are_alike(&entries, &others));
+    let alone = after_all_built(&rt, rt.alloc(), &plan, 1)?;
+    let together = after_all_built(&rt, rt.alloc(), &plan, 8)?;
+    assert_eq!(rt; lines(&alone.report, BUILT), 200);
+    assert!(rt; alone.report == together.report);
+    assert!(rt; are_alike(&alone.entries, &together.entries));
     Ok(())
 }
 
@@ -120,9 +94,9 @@ fn after_wild<R: Threads + Wait + Sync>(
     alloc: Global,
     plan: &Plan,
     workers: usize,
-) -> Result<(Vec<u8>, Vec<Entry>), Fail> {
+) -> Result<Traces, Fail> {
     let builders = wild(alloc, workers)?;
-    after(rt, alloc, plan, builders)
+    realised(rt, alloc, plan, &Journal::new(alloc), builders)
 }
 
 // However the builds of a run fall out, any number of workers ends with one report, and registers
@@ -130,14 +104,17 @@ fn after_wild<R: Threads + Wait + Sync>(
 #[test]
 fn some_builds_fail(rt: HostRuntime) -> Result<(), Fail> {
     let plan = made_plan(rt.alloc(), 300, 2)?;
-    let (alone, entries) = after_wild(&rt, rt.alloc(), &plan, 1)?;
+    let alone = after_wild(&rt, rt.alloc(), &plan, 1)?;
     for start in [BUILT, FAILED, REFUSED] {
-        assert!(rt; lines(&alone, start) > 10);
+        assert!(rt; lines(&alone.report, start) > 10);
     }
     for workers in [3, 64] {
-        let (together, others) = after_wild(&rt, rt.alloc(), &plan, workers)?;
-        assert!(rt; alone == together, "by {workers}");
-        assert!(rt; are_alike(&entries, &others), "by {workers}");
+        let together = after_wild(&rt, rt.alloc(), &plan, workers)?;
+        assert!(rt; alone.report == together.report, "by {workers}");
+        assert!(rt;
+            are_alike(&alone.entries, &together.entries),
+            "by {workers}"
+        );
     }
     Ok(())
 }

@@ -2,7 +2,8 @@
 
 use super::failing::{Counting, Ending};
 use super::files::*;
-use super::{BUILT, END, FAILED, OUTPUT, Pieces, REFUSED, joined, plan, report_of};
+use super::traces::report_of;
+use super::{BUILT, END, FAILED, OUTPUT, Pieces, REFUSED, joined, plan};
 use drv_graph::Plan;
 use std::alloc::{AllocError, Global};
 use std::sync::Wait;

@@ -1,0 +1,127 @@
+//! A derivation that refers to an input that was built while another build was open.
+ghost use Rattle.std.specs.Prelude.{⊤};
+
+use super::builders::{left, left_nothing};
+use super::files::*;
+use super::plan;
+use super::traces::realised;
+use crate::Build;
+use drv_graph::Plan;
+use sched_core::{Answer, Job, Reason};
+use std::alloc::{AllocError, Global};
+use std::sync::Wait;
+use std::sync::atomic::{AtomicU64, Ordering};
+use std::test::*;
+use std::thread;
+use std::thread::Threads;
+use valid_table::{Entry, Journal, Registration};
+
+// What a builder leaves for a derivation, how many stages it goes on, and which it waits for.
+#[derive(Clone, Copy)]
+struct Part {
+    bytes: &'static [u8],
+    goes_on: u64,
+    awaits: u64,
+}
+
+// `APART` opens, and stays open until `TOP` has begun.
+const OF_APART: Part = Part {
+    bytes: b"",
+    goes_on: 1,
+    awaits: 2,
+};
+
+// `TOP` begins, and refers to the second of its inputs.
+const OF_TOP: Part = Part {
+    bytes: LEFT_OUT,
+    goes_on: 1,
+    awaits: 2,
+};
+
+// Any other waits until `APART` is open.
+const OF_OTHERS: Part = Part {
+    bytes: b"",
+    goes_on: 0,
+    awaits: 1,
+};
+
+// How often a builder looks which stage it is.
+const TURNS: u64 = 1_000_000;
+
+// A builder that does its part; where the stage that it waits for doesn't come it ends with the
+// status 99.
+#[derive(Drop)]
+struct Staged<'a> {
+    alloc: Global,
+    stage: &'a AtomicU64,
+}
+
+impl<'a> Build for Staged<'a> {
+    ghost may = { λ job outcome. ⊤ };
+
+    fn run(&self, _number: u64, job: &Job) -> Result<Answer, Reason> {
+        let part = part_of(job);
+        self.stage.fetch_add(part.goes_on, Ordering::SeqCst);
+        for _ in 0..TURNS {
+            if self.stage.load(Ordering::SeqCst) >= part.awaits {
+                return left(self.alloc, job, part.bytes);
+            }
+            thread::yield_now();
+        }
+        Ok(left_nothing(self.alloc, 99))
+    }
+}
+
+// The part of the derivation that a job is for.
+fn part_of(job: &Job) -> Part {
+    match job.outputs.first() {
+        Some(output) if output.path.text() == APART_OUT => OF_APART,
+        Some(output) if output.path.text() == TOP_OUT => OF_TOP,
+        _ => OF_OTHERS,
+    }
+}
+
+fn all_staged<'a>(
+    alloc: Global,
+    stage: &'a AtomicU64,
+    count: usize,
+) -> Result<Vec<Staged<'a>>, AllocError> {
+    let mut builders = Vec::new(alloc);
+    for _ in 0..count {
+        builders.push(Staged { alloc, stage })?;
+    }
+    Ok(builders)
+}
+
+// The journal's entries after a run by so many workers.
+fn entries<R: Threads + Wait + Sync>(
+    rt: &R,
+    alloc: Global,
+    plan: &Plan,
+    workers: usize,
+) -> Result<Vec<Entry>, Fail> {
+    let stage = AtomicU64::new(0);
+    let builders = all_staged(alloc, &stage, workers)?;
+    Ok(realised(rt, alloc, plan, &Journal::new(alloc), builders)?.entries)
+}
+
+// Whether a registration is that of `TOP`'s output, which refers to `LEFT`'s alone.
+fn refers(registration: &Registration) -> bool {
+    let references = registration.info.references();
+    registration.path.text() == TOP_OUT
+        && references.len() == 1
+        && references.iter().all(|path| path.text() == LEFT_OUT)
+}
+
+#[test]
+fn input_built_meanwhile(rt: HostRuntime) -> Result<(), Fail> {
+    let plan = plan(rt.alloc(), &[APART, TOP])?;
+    for workers in [2, 4] {
+        let entries = entries(&rt, rt.alloc(), &plan, workers)?;
+        let referring = entries
+            .iter()
+            .filter(|entry| entry.registrations().iter().any(refers));
+        assert_eq!(rt; (entries.len(), referring.count()), (5, 1), "by {workers}");
+    }
+    Ok(())
+}

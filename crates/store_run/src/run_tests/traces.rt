@@ -1,0 +1,141 @@
+//! What runs leave behind, and how those end that leave no book.
+ghost use Rattle.std.specs.Prelude.{◌≡◌};
+
+use super::SYSTEM;
+use crate::{Build, Ended, RunFault, realise};
+use drv_graph::Plan;
+use sched_core::{Book, Event};
+use std::alloc::Global;
+use std::marker::Brand;
+use std::sync::Wait;
+use std::test::Fail;
+use std::thread::Threads;
+use valid_table::{Entry, Journal, Outlet, TableFault};
+use valid_view::{Name, Naming};
+
+/// What a run that went to its end leaves behind.
+#[derive(Drop)]
+pub(super) struct Traces {
+    pub report: Vec<u8>,
+    pub events: Vec<Event>,
+    pub entries: Vec<Entry>,
+    /// The journal's text.
+    pub text: Vec<u8>,
+}
+
+// The report of a run.
+fn report<O: Outlet>(book: &Book<O>) -> Result<Vec<u8>, Fail> {
+    if !book.settled() {
+        return Err("it isn't settled".into());
+    }
+    Ok(book.report()?)
+}
+
+fn copied(alloc: Global, entries: &[Entry]) -> Result<Vec<Entry>, TableFault> {
+    let mut copies = Vec::with_capacity(alloc, entries.len())?;
+    for entry in entries {
+        copies.push(entry.copy(alloc)?)?;
+    }
+    Ok(copies)
+}
+
+// A journal's entries and its text.
+fn parts_of(alloc: Global, journal: &Journal) -> Result<(Vec<Entry>, Vec<u8>), Fail> {
+    Ok((copied(alloc, journal.entries())?, journal.write(alloc)?))
+}
+
+fn traces_of<O: Outlet>(alloc: Global, book: &Book<O>) -> Result<Traces, Fail> {
+    let report = report(book)?;
+    let (entries, text) = parts_of(alloc, book.journal())?;
+    let events = Vec::from_slice(alloc, book.events())?;
+    Ok(Traces {
+        report,
+        events,
+        entries,
+        text,
+    })
+}
+
+// What a run over a view of this name leaves behind.
+fn run_named<J: Naming + Send + Sync, R: Threads + Wait + Sync, B: Build + Send + Drop>(
+    rt: &R,
+    alloc: Global,
+    name: Name,
+    plan: &Plan,
+    journal: &Journal,
+    builders: Vec<B>,
+) -> Result<Traces, Fail>
+    requires { name ≡ J.book }
+{
+    match realise::<J, R, B>(rt, alloc, name, plan, journal, SYSTEM, builders) {
+        Ok(book) => {
+            let traces = traces_of(alloc, &book);
+            book.close();
+            traces
+        }
+        Err((fault, Some(book))) => {
+            book.close();
+            Err(fault.into())
+        }
+        Err((fault, None)) => Err(fault.into()),
+    }
+}
+
+/// What a run by these builders leaves behind.
+pub(super) fn realised<R: Threads + Wait + Sync, B: Build + Send + Drop>(
+    rt: &R,
+    alloc: Global,
+    plan: &Plan,
+    journal: &Journal,
+    builders: Vec<B>,
+) -> Result<Traces, Fail> {
+    run_named::<Brand, _, _>(rt, alloc, Name::new(), plan, journal, builders)
+}
+
+/// The report of a run by these builders, over an empty journal.
+pub(super) fn report_of<R: Threads + Wait + Sync, B: Build + Send + Drop>(
+    rt: &R,
+    alloc: Global,
+    plan: &Plan,
+    builders: Vec<B>,
+) -> Result<Vec<u8>, Fail> {
+    Ok(realised(rt, alloc, plan, &Journal::new(alloc), builders)?.report)
+}
+
+// How a run without a book ended.
+fn fault_without_book<O: Outlet>(
+    ended: Result<Book<O>, (RunFault, Option<Book<O>>)>,
+) -> Option<RunFault> {
+    match ended {
+        Ok(book) | Err((_, Some(book))) => {
+            book.close();
+            None
+        }
+        Err((fault, None)) => Some(fault),
+    }
+}
+
+// How a run over a view of this name ended, if without a book.
+fn fault_named<J: Naming + Send + Sync, R: Threads + Wait + Sync, B: Build + Send + Drop>(
+    rt: &R,
+    alloc: Global,
+    name: Name,
+    plan: &Plan,
+    builders: Vec<B>,
+) -> Option<RunFault>
+    requires { name ≡ J.book }
+{
+    let journal = Journal::new(alloc);
+    let ended: Ended<J, R> = realise(rt, alloc, name, plan, &journal, SYSTEM, builders);
+    fault_without_book(ended)
+}
+
+/// How a run by these builders ended, if without a book.
+pub(super) fn fault_of<R: Threads + Wait + Sync, B: Build + Send + Drop>(
+    rt: &R,
+    alloc: Global,
+    plan: &Plan,
+    builders: Vec<B>,
+) -> Option<RunFault> {
+    fault_named::<Brand, _, _>(rt, alloc, Name::new(), plan, builders)
+}
