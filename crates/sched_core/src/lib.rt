@@ -17,7 +17,6 @@
 //! | `users` | the edges from each derivation to its users |
 //! | `agenda` | what can be begun, and of which the users are still to be told |
 //! | `spreading` | an event, and how users are told of it |
-//! | `users` | the users of each derivation |
 //! | `job_of`, `seeds_of` | the job of a derivation, and the paths that it is built from |
 //! | `is_job`, `has_seeds` | whether a job is that of a derivation |
 //! | `standings` | where the derivations of a plan stand by themselves |
