@@ -4,6 +4,7 @@ pub mod Answered
 pub mod Carried
 pub mod ExampleJobs
 pub mod Examined
+pub mod GivenOutcomes
 pub mod OneOutcome
 pub mod OneThreads
 pub mod Openings
@@ -12,6 +13,7 @@ pub mod RunEndings
 pub mod ExampleLoads
 pub mod ScheduleExample
 pub mod Schedules
+pub mod SameVerdicts
 pub mod Standings
 pub mod Telling
 pub mod ToldRuns

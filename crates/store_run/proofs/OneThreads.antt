@@ -112,20 +112,20 @@ module _ (may : Job → Result Answer Reason → Type 0) (run : Run) (history : 
   told = run_accounted may run history whole
 
   told_there : IsAccounted may run thread.other
-  told_there = turns_accounted may run whole.plan history.opening d thread.other thread.had
+  told_there = turns_accounted may run whole.end.plan history.opening d thread.other thread.had
 
   turned : HaveTurned may run history.opening d thread.other
-  turned = turned_is may run whole.plan history.opening d thread.other thread.had
+  turned = turned_is may run whole.end.plan history.opening d thread.other thread.had
 
   below : (i : ℕ) → i < d → IsAlikeAt run history thread.other i
-  below i less = alike_below may run whole.plan whole.outcome history thread.other told told_there
+  below i less = alike_below may run whole.end.plan whole.outcome history thread.other told told_there
       turned.opening_is d (λ e low rest. thread.turns e low) d i less less
 
   above : (i : ℕ) → i < d → IsAlikeAt run thread.other history i
   above i less = swapped run history thread.other i (below i less)
 
   unhindered : (phase_of history.events d ≡ Idle → ⊥) → IsUnhindered run thread.other d
-  unhindered moved = unhindered_there may run whole.plan history thread.other told told_there
+  unhindered moved = unhindered_there may run whole.end.plan history thread.other told told_there
       turned.opening_is d below (told.begun d moved).unhindered
 
   can_begin : (phase_of history.events d ≡ Idle → ⊥) → CanBegin run thread.other d
@@ -133,7 +133,7 @@ module _ (may : Job → Result Answer Reason → Type 0) (run : Run) (history : 
     within = (told.begun d moved).within;
     wanted = subst (λ (opens : List Entry). IsWanted run opens d) (sym turned.opening_is)
         (told.begun d moved).wanted;
-    ready = unhindered_ready run thread.other whole.plan d (unhindered moved)
+    ready = unhindered_ready run thread.other whole.end.plan d (unhindered moved)
         (turned.rest d (omega arith));
   }
 
@@ -143,9 +143,9 @@ module _ (may : Job → Result Answer Reason → Type 0) (run : Run) (history : 
       let node = came.behind.is_job.node in
       let at = came.behind.is_job.is_node in
       behind_there may run history thread.other told.once d verdict came node at
-      (seed_carried may run whole.plan history thread.other told told_there turned.opening_is d
+      (seed_carried may run whole.end.plan history thread.other told told_there turned.opening_is d
       below node at (told.begun d moved).unhindered)
-      (seed_carried may run whole.plan thread.other history told_there told
+      (seed_carried may run whole.end.plan thread.other history told_there told
       (sym turned.opening_is) d above node at (unhindered moved))
 
   thread_more : IsThread may run history (suc d)
@@ -155,9 +155,9 @@ module _ (may : Job → Result Answer Reason → Type 0) (run : Run) (history : 
       by Idle is = record {
         other = thread.other;
         had = turn_skipped d thread.other thread.had (λ can.
-            not_idle may run whole.plan history thread.other told told_there whole.settled
+            not_idle may run whole.end.plan history thread.other told told_there whole.end.settled
             turned.opening_is d above is can.within can.wanted
-            (ready_unhindered run thread.other whole.plan d can.ready));
+            (ready_unhindered run thread.other whole.end.plan d can.ready));
         turns = turns_more history thread.other thread.other d (λ i apart. refl) thread.turns
             (record {
               over = λ lease starts. let clash : Idle ≡ Begun lease = sym is ∙ starts in cc;
@@ -168,8 +168,8 @@ module _ (may : Job → Result Answer Reason → Type 0) (run : Run) (history : 
             });
       }
       by (Begun lease) is =
-          absurd (none_building may run whole.plan history thread.other told told_there
-          whole.settled turned.opening_is d lease is)
+          absurd (none_building may run whole.end.plan history thread.other told told_there
+          whole.end.settled turned.opening_is d lease is)
       by Ended is =
           let moved : phase_of history.events d ≡ Idle → ⊥ =
           λ idle. let clash : Ended ≡ Idle = sym is ∙ idle in cc in

@@ -216,12 +216,14 @@ memory (suc (suc d)) low is failed = absurd (omega arith)
 
 pub whole : IsWholeRun may_leave both side_by_side
 whole = record {
-  plan = both_sound;
+  end = record {
+    plan = both_sound;
+    legal = legal;
+    settled = settled;
+    answered = answered;
+    memory = memory;
+  };
   outcome = both_outcome;
-  legal = legal;
-  settled = settled;
-  answered = answered;
-  memory = memory;
 }
 
 pub overlap : Overlap side_by_side 0 1

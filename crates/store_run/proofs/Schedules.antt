@@ -18,7 +18,7 @@ use Rattle.sched_core.proofs.OneReport.{one_report}
 use Rattle.sched_core.proofs.Registering.{entries_are_journal}
 use Rattle.sched_core.proofs.Seeds.{opened_with}
 use Rattle.store_run.specs.OneThread.{HadTurns}
-use Rattle.store_run.specs.Scheduling.{AnySchedule, HasOneOutcome, IsWholeRun, OneReport, RealisedIsWhole, WholeRunsAreAlike}
+use Rattle.store_run.specs.Scheduling.{AnySchedule, HasOneOutcome, IsWholeRun, OneReport, RealisedIsEnded, RealisedIsWhole, WholeRunsAreAlike}
 use Rattle.store_run.proofs.Alike.{IsAccounted, are_alike}
 use Rattle.store_run.proofs.Telling.{begun_is, broke_is, drv_paths, from_is, made_is}
 use Rattle.store_run.proofs.ToldRuns.{IsTold, told_begin, told_done, told_fail, told_from, told_opening}
@@ -57,35 +57,40 @@ module _ (excused : Reason → Type 0) (may : Job → Result Answer Reason → T
 module _ (may : Job → Result Answer Reason → Type 0) (run : Run) (history : History)
     (whole : IsWholeRun may run history) where
   pub run_told : IsTold (λ reason. reason ≡ OutOfMemory) may run history
-  run_told = told_from may run history whole.legal whole.answered
+  run_told = told_from may run history whole.end.legal whole.end.answered
 
   -- no derivation failed for want of memory
   none_excused : (d : ℕ) (why : Reason) → phase_of history.events d ≡ Broken why
       → why ≡ OutOfMemory → ⊥
   none_excused d why at is =
-      let was = begun_is (λ reason. reason ≡ OutOfMemory) may run whole.plan history run_told d
+      let was = begun_is (λ reason. reason ≡ OutOfMemory) may run whole.end.plan history run_told d
       (λ idle. let clash : Broken why ≡ Idle = sym at ∙ idle in cc) in
-      whole.memory d was.within was.wanted
+      whole.end.memory d was.within was.wanted
       (subst (λ (r : Reason). state_in run history d ≡ Failed r) is
-      (state_by run history whole.plan d (Broken why) at))
+      (state_by run history whole.end.plan d (Broken why) at))
 
   pub run_accounted : IsAccounted may run history
-  run_accounted = accounted (λ reason. reason ≡ OutOfMemory) may run whole.plan history run_told
-      whole.legal none_excused
+  run_accounted = accounted (λ reason. reason ≡ OutOfMemory) may run whole.end.plan history run_told
+      whole.end.legal none_excused
 
 pub whole_runs_are_alike : (may : Job → Result Answer Reason → Type 0) → WholeRunsAreAlike may
 whole_runs_are_alike may run history other whole whole' opening =
-    are_alike may run whole.plan whole.outcome history other (run_accounted may run history whole)
-    (run_accounted may run other whole') whole.settled whole'.settled opening
+    are_alike may run whole.end.plan whole.outcome history other (run_accounted may run history whole)
+    (run_accounted may run other whole') whole.end.settled whole'.end.settled opening
 
-pub realised_is_whole : (may : Job → Result Answer Reason → Type 0) → RealisedIsWhole may
-realised_is_whole may plan system opening count book sound outcome realised memory = record {
+pub realised_is_ended : (may : Job → Result Answer Reason → Type 0) → RealisedIsEnded may
+realised_is_ended may plan system opening count book sound realised memory = record {
   plan = subst IsSound (sym realised.left.over.plan_is) sound;
-  outcome = subst (HasOneOutcome may) (sym realised.left.over.plan_is) outcome;
   legal = realised.left.legal;
   settled = realised.settled;
   answered = realised.left.answered;
   memory = memory;
+}
+
+pub realised_is_whole : (may : Job → Result Answer Reason → Type 0) → RealisedIsWhole may
+realised_is_whole may plan system opening count book sound outcome realised memory = record {
+  end = realised_is_ended may plan system opening count book sound realised memory;
+  outcome = subst (HasOneOutcome may) (sym realised.left.over.plan_is) outcome;
 }
 
 -- the first turns of one thread
@@ -98,17 +103,17 @@ turns_accounted may run sound opening count other had =
 
 pub any_schedule : (may : Job → Result Answer Reason → Type 0) → AnySchedule may
 any_schedule may run history other whole one =
-    let turned = turned_is may run whole.plan history.opening (length run.graph.nodes) other one in
-    are_alike may run whole.plan whole.outcome history other (run_accounted may run history whole)
-    (turns_accounted may run whole.plan history.opening (length run.graph.nodes) other one)
-    whole.settled (turned_settled may run whole.plan history.opening other one)
+    let turned = turned_is may run whole.end.plan history.opening (length run.graph.nodes) other one in
+    are_alike may run whole.end.plan whole.outcome history other (run_accounted may run history whole)
+    (turns_accounted may run whole.end.plan history.opening (length run.graph.nodes) other one)
+    whole.end.settled (turned_settled may run whole.end.plan history.opening other one)
     turned.opening_is
 
 -- the report follows from the states
 pub one_report_of : (may : Job → Result Answer Reason → Type 0) → OneReport may
 one_report_of may run history other a b whole one of_a of_b =
     let alike = any_schedule may run history other whole one in
-    let turned = turned_is may run whole.plan history.opening (length run.graph.nodes) other one in
+    let turned = turned_is may run whole.end.plan history.opening (length run.graph.nodes) other one in
     let states : state_in run other ≡ state_in run history = λ i d. sym (alike.states d) i in
     let there : IsReport run.graph (IsWanted run history.opening) (state_in run history) b =
     subst (λ (s : ℕ → State). IsReport run.graph (IsWanted run history.opening) s b) states

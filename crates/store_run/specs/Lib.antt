@@ -1,5 +1,6 @@
 pub mod Builders
 pub mod Finding
+pub mod GivenOutcomes
 pub mod Numbers
 pub mod OneThread
 pub mod Realising

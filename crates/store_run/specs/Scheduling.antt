@@ -50,30 +50,40 @@ pub record AreAlike (run : Run) (history other : History) : Type 0 where
       → Registers (registered history.entries) path info
       ↔ Registers (registered other.entries) path info
 
--- What a run over a loaded plan leaves behind that went to its end with memory enough, by a builder
--- that may give one outcome to each derivation.
-pub record IsWholeRun (may : Job → Result Answer Reason → Type 0) (run : Run) (history : History)
+-- What a run over a loaded plan leaves behind that went to its end with memory enough, whatever its
+-- builders gave.
+pub record IsEndedRun (may : Job → Result Answer Reason → Type 0) (run : Run) (history : History)
     : Type 0 where
   pub plan : IsSound run.graph
-  pub outcome : HasOneOutcome may run.graph
   pub legal : IsLegal run history
   pub settled : IsRunSettled run history
   pub answered : IsAnswered may run history
   pub memory : HasMemory run history
 
+-- What such a run leaves behind by builders that may give one outcome to each derivation.
+pub record IsWholeRun (may : Job → Result Answer Reason → Type 0) (run : Run) (history : History)
+    : Type 0 where
+  pub end : IsEndedRun may run history
+  pub outcome : HasOneOutcome may run.graph
+
 -- what `realise` leaves behind at Ok is such, over a loaded plan, where memory was not refused
+abbrev pub RealisedIsEnded : (may : Job → Result Answer Reason → Type 0) → Type 0
+RealisedIsEnded may = (plan : Graph) (system : List ℕ) (opening : List Entry) (count : ℕ)
+    (book : Ledger) → IsSound plan → IsRealised may plan system opening count book
+    → HasMemory book.run book.history → IsEndedRun may book.run book.history
+
 abbrev pub RealisedIsWhole : (may : Job → Result Answer Reason → Type 0) → Type 0
 RealisedIsWhole may = (plan : Graph) (system : List ℕ) (opening : List Entry) (count : ℕ)
     (book : Ledger) → IsSound plan → HasOneOutcome may plan
     → IsRealised may plan system opening count book → HasMemory book.run book.history
     → IsWholeRun may book.run book.history
 
--- two such runs over one opening are alike
+-- two whole runs over one opening are alike
 abbrev pub WholeRunsAreAlike : (may : Job → Result Answer Reason → Type 0) → Type 0
 WholeRunsAreAlike may = (run : Run) (history other : History) → IsWholeRun may run history
     → IsWholeRun may run other → other.opening ≡ history.opening → AreAlike run history other
 
--- *Any schedule*: what such a run leaves behind is alike with what one thread would leave behind
+-- *Any schedule*: what a whole run leaves behind is alike with what one thread would leave behind
 abbrev pub AnySchedule : (may : Job → Result Answer Reason → Type 0) → Type 0
 AnySchedule may = (run : Run) (history other : History) → IsWholeRun may run history
     → IsOneThread may run history.opening other → AreAlike run history other

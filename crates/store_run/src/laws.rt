@@ -6,9 +6,10 @@ ghost use Rattle.drv_graph.specs.Plans.{IsPlan};
 ghost use Rattle.sched_core.specs.Runs.{state_in};
 ghost use Rattle.sched_core.specs.declared.reason.Reason.TheVariants.{ExitStatus};
 ghost use Rattle.sched_core.specs.declared.reason.State.TheVariants.{Done, Failed};
+ghost use Rattle.store_run.specs.GivenOutcomes.{EqualOutcomesAreAlike, OutcomesDecide};
 ghost use Rattle.store_run.specs.OneThread.{IsOneThread};
 ghost use Rattle.store_run.specs.ScheduleExample.{Overlap, both, in_turn, left, may_leave, right, side_by_side, two_files};
-ghost use Rattle.store_run.specs.Scheduling.{AnySchedule, HasOneThread, IsWholeRun, OneReport, RealisedIsWhole, WholeRunsAreAlike};
+ghost use Rattle.store_run.specs.Scheduling.{AnySchedule, HasOneThread, IsWholeRun, OneReport, RealisedIsEnded, RealisedIsWhole, WholeRunsAreAlike};
 
 use crate::build::Build;
 
@@ -33,10 +34,24 @@ pub fn whole_runs_are_alike<B: Build>()
     ensures { WholeRunsAreAlike B.may }
 {}
 
-/// What `realise` leaves behind at Ok is a whole run, where memory was not refused and the builders
-/// may give one outcome to each derivation.
+/// What `realise` leaves behind at Ok over a loaded plan is a run that went to its end with memory
+/// enough, where memory was not refused; and a whole one, where the builders may give one outcome
+/// to each derivation.
 pub fn realised_is_whole<B: Build>()
-    ensures { RealisedIsWhole B.may }
+    ensures ended { RealisedIsEnded B.may }
+    ensures whole { RealisedIsWhole B.may }
+{}
+
+/// What a run leaves behind that went to its end with memory enough follows from the outcomes that
+/// its builders gave, whatever they may give: one thread that is given the same leaves each
+/// derivation in the same state, each path with the same record, and the same report.
+pub fn outcomes_decide<B: Build>()
+    ensures { OutcomesDecide B.may }
+{}
+
+/// Two such runs over one opening, in which each derivation is given the same outcome, are alike.
+pub fn equal_outcomes_are_alike<B: Build>()
+    ensures { EqualOutcomesAreAlike B.may }
 {}
 
 /// There are whole runs in which builds overlap and one of them fails: over a plan that loading

@@ -17,7 +17,12 @@ fn refused_outputs(rt: HostRuntime) -> Result<(), Fail> {
         ("ln -s /etc/passwd $out", Reason::ReadFault),
         ("ln -s /no/such/file $out", Reason::ReadFault),
         ("mkfifo $out", Reason::ReadFault),
-        ("mknod $out c 1 3 || mkfifo $out", Reason::ReadFault),
+        // A device that nobody may open, which Linux lets anybody make since 5.8.
+        ("mknod $out c 0 0 || mkfifo $out", Reason::ReadFault),
+        (
+            "mkdir -p $out/a; mknod $out/a/b c 0 0 || mkfifo $out/a/b",
+            Reason::ReadFault,
+        ),
         (
             "mkdir -p $out/a/b; ln -s /etc $out/a/b/c",
             Reason::ReadFault,

@@ -1,0 +1,228 @@
+-- What builders gave in a run decides what the run leaves behind.
+use Rattle.std.proofs.Common.{◌≡◌, ◌∙◌, ◌⊎◌, inl, inr, ℕ, Bool, true, false, List, Result, Ok, Err, refl, sym, ap, subst, ⊎_elim}
+use Rattle.std.specs.Prelude.{if◌then◌else◌}
+use Rattle.std.proofs.Math.Dec.{eqb}
+use Rattle.nix_drv.proofs.Fixed.{eqb_same}
+use Rattle.drv_graph.specs.Plans.{Graph}
+use Rattle.valid_table.specs.PathInfos.{PathInfo}
+use Rattle.valid_table.specs.declared.entry.Entry.{Entry}
+use Rattle.sched_core.specs.Jobs.{IsJob}
+use Rattle.sched_core.specs.Legal.{begins, begun, ended, failed}
+use Rattle.sched_core.specs.Runs.{History, Run}
+use Rattle.sched_core.specs.States.{Phase, Idle, Begun, Ended, Broken, phase_of}
+use Rattle.sched_core.specs.Verdicts.{IsVerdict}
+use Rattle.sched_core.specs.declared.job.Answer.{Answer}
+use Rattle.sched_core.specs.declared.job.Job.{Job}
+use Rattle.sched_core.specs.declared.reason.Event.{Event}
+use Rattle.sched_core.specs.declared.reason.Event.TheVariants.{Begin, Done as Finish, Fail}
+use Rattle.sched_core.specs.declared.reason.Reason.{Reason}
+use Rattle.sched_core.specs.declared.reason.Reason.TheVariants.{OutOfMemory}
+use Rattle.sched_core.proofs.Histories.{ready_is_idle}
+use Rattle.sched_core.proofs.OneVerdict.{has_one_verdict}
+use Rattle.sched_core.proofs.Seeds.{same_number}
+use Rattle.store_run.specs.Builders.{IsAnswered, IsVerdictBehind, answered_begin, answered_done, answered_fail, answered_opening}
+use Rattle.store_run.specs.GivenOutcomes.{EqualOutcomesAreAlike, GivesEach, OutcomesDecide}
+use Rattle.store_run.specs.Scheduling.{HasOneOutcome, IsEndedRun, IsVerdictOn, IsWholeRun}
+use Rattle.store_run.proofs.OneThreads.{has_one_thread}
+use Rattle.store_run.proofs.SameVerdicts.{same_kind, same_outputs, verdict_too}
+use Rattle.store_run.proofs.Schedules.{any_schedule, one_report_of, whole_runs_are_alike}
+use Rattle.store_run.proofs.Telling.{phase_broken, phase_ended, phase_other, same_or_other}
+use Rattle.store_run.proofs.ToldRuns.{IsTold, told_begin, told_done, told_fail, told_from, told_opening}
+
+-- ---- the outcomes that were given
+
+-- something has become of a derivation
+abbrev IsOver : Phase → Type 0
+IsOver Idle = ⊥
+IsOver (Begun lease) = ⊥
+IsOver Ended = Unit {0}
+IsOver (Broken reason) = Unit {0}
+
+over_idle : (p : Phase) → p ≡ Idle → IsOver p → ⊥
+over_idle p is over = subst IsOver is over
+
+over_begun : (p : Phase) (lease : ℕ) → p ≡ Begun lease → IsOver p → ⊥
+over_begun p lease is over = subst IsOver is over
+
+module _ (excused : Reason → Type 0) (may : Job → Result Answer Reason → Type 0) (run : Run) where
+  -- the outcome behind a verdict, or behind a Fail that may be excused
+  outcome_behind : (entries : List Entry) (d : ℕ) (verdict : Result (List PathInfo) Reason)
+      → IsVerdictBehind may run entries d verdict → Result Answer Reason
+  outcome_behind entries d verdict behind = behind.comes_to.0
+
+  outcome_failed : (entries : List Entry) (d : ℕ) (reason : Reason)
+      → excused reason ⊎ IsVerdictBehind may run entries d (Err reason) → Result Answer Reason
+  outcome_failed entries d reason (inl excuse) = Err OutOfMemory
+  outcome_failed entries d reason (inr behind) = outcome_behind entries d (Err reason) behind
+
+  -- what each derivation was given, where anything became of it
+  outcomes_in : (history : History) → IsTold excused may run history → ℕ → Result Answer Reason
+  outcomes_in _ (told_opening entries journal) d = Err OutOfMemory
+  outcomes_in _ (told_begin history e told legal can) d = outcomes_in history told d
+  outcomes_in _ (told_done history e lease node infos entry told legal phase at came is_entry) d =
+      if eqb e d then outcome_behind history.entries e (Ok infos) came
+      else outcomes_in history told d
+  outcomes_in _ (told_fail history e lease reason told legal phase why) d =
+      if eqb e d then outcome_failed history.entries e reason why
+      else outcomes_in history told d
+
+  module _ (outcomes : ℕ → Result Answer Reason) where
+    given_behind : (entries : List Entry) (d : ℕ) (verdict : Result (List PathInfo) Reason)
+        (behind : IsVerdictBehind may run entries d verdict)
+        → behind.comes_to.0 ≡ outcomes d
+        → IsVerdictBehind (GivesEach may outcomes) run entries d verdict
+    given_behind entries d verdict behind is = record {
+      job = behind.job;
+      is_job = behind.is_job;
+      comes_to = (
+        behind.comes_to.0,
+        (behind.comes_to.1, is ∙ ap outcomes (sym behind.is_job.derivation)),
+        behind.comes_to.2,
+      );
+    }
+
+    given_failed : (entries : List Entry) (d : ℕ) (reason : Reason)
+        (why : excused reason ⊎ IsVerdictBehind may run entries d (Err reason))
+        → outcome_failed entries d reason why ≡ outcomes d
+        → excused reason ⊎ IsVerdictBehind (GivesEach may outcomes) run entries d (Err reason)
+    given_failed entries d reason (inl excuse) is = inl excuse
+    given_failed entries d reason (inr behind) is =
+        inr (given_behind entries d (Err reason) behind is)
+
+    -- of an event the outcome is that of its derivation, and the others keep theirs
+    here : (d : ℕ) (given rest : Result Answer Reason)
+        → (if eqb d d then given else rest) ≡ outcomes d → given ≡ outcomes d
+    here d given rest is =
+        sym (ap (λ (same : Bool). if same then given else rest) (eqb_same d)) ∙ is
+
+    elsewhere : (e d : ℕ) (given rest : Result Answer Reason) → (e ≡ d → ⊥)
+        → (if eqb e d then given else rest) ≡ outcomes d → rest ≡ outcomes d
+    elsewhere e d given rest other is = by (eqb e d) refl is
+      where
+        by : (same : Bool) → eqb e d ≡ same → (if same then given else rest) ≡ outcomes d
+            → rest ≡ outcomes d
+        by true same is = absurd (other (same_number e d same))
+        by false same is = is
+
+    -- where the listed outcomes are those that were given
+    given_in : (history : History) (told : IsTold excused may run history)
+        → ((d : ℕ) → IsOver (phase_of history.events d) → outcomes_in history told d ≡ outcomes d)
+        → IsTold excused (GivesEach may outcomes) run history
+    given_in _ (told_opening entries journal) are = told_opening entries journal
+    given_in _ (told_begin history e told legal can) are =
+        told_begin history e (given_in history told (λ d over.
+        ⊎_elim
+        (λ same. absurd (over_idle (phase_of history.events d)
+        (subst (λ n. phase_of history.events n ≡ Idle) same
+        (ready_is_idle run history e can.ready)) over))
+        (λ other. are d (subst IsOver
+        (sym (phase_other history.events (Begin e (begins history.events)) d other)) over))
+        (same_or_other e d))) legal can
+    given_in _ (told_done history e lease node infos entry told legal phase at came is_entry) are =
+        told_done history e lease node infos entry
+        (given_in history told (λ d over.
+        ⊎_elim
+        (λ same. absurd (over_begun (phase_of history.events d) lease
+        (subst (λ n. phase_of history.events n ≡ Begun lease) same phase) over))
+        (λ other. elsewhere e d (outcome_behind history.entries e (Ok infos) came)
+        (outcomes_in history told d) other (are d (subst IsOver
+        (sym (phase_other history.events (Finish e lease) d other)) over)))
+        (same_or_other e d)))
+        legal phase at
+        (given_behind history.entries e (Ok infos) came
+        (here e (outcome_behind history.entries e (Ok infos) came) (outcomes_in history told e)
+        (are e (subst IsOver (sym (phase_ended history.events e lease)) unit))))
+        is_entry
+    given_in _ (told_fail history e lease reason told legal phase why) are =
+        told_fail history e lease reason
+        (given_in history told (λ d over.
+        ⊎_elim
+        (λ same. absurd (over_begun (phase_of history.events d) lease
+        (subst (λ n. phase_of history.events n ≡ Begun lease) same phase) over))
+        (λ other. elsewhere e d (outcome_failed history.entries e reason why)
+        (outcomes_in history told d) other (are d (subst IsOver
+        (sym (phase_other history.events (Fail e lease reason) d other)) over)))
+        (same_or_other e d)))
+        legal phase
+        (given_failed history.entries e reason why
+        (here e (outcome_failed history.entries e reason why) (outcomes_in history told e)
+        (are e (subst IsOver (sym (phase_broken history.events e lease reason)) unit))))
+
+-- a told history is answered
+answered_from : (may : Job → Result Answer Reason → Type 0) (run : Run) (history : History)
+    → IsTold (λ reason. reason ≡ OutOfMemory) may run history → IsAnswered may run history
+answered_from may run _ (told_opening entries journal) = answered_opening entries
+answered_from may run _ (told_begin history d told legal can) =
+    answered_begin history d (answered_from may run history told)
+answered_from may run _
+    (told_done history d lease node infos entry told legal phase at came is_entry) =
+    answered_done history d lease node infos entry (answered_from may run history told) at came
+    is_entry
+answered_from may run _ (told_fail history d lease reason told legal phase why) =
+    answered_fail history d lease reason (answered_from may run history told) why
+
+-- ---- where each derivation is given one outcome
+
+one_outcome : (may : Job → Result Answer Reason → Type 0) (outcomes : ℕ → Result Answer Reason)
+    (graph : Graph) → HasOneOutcome (GivesEach may outcomes) graph
+one_outcome may outcomes graph d job again permitted x y a b is is' gives gives' on on' =
+    by x on (subst (λ (o : Result Answer Reason). IsVerdictOn again permitted o b) (sym same) on')
+  where
+    same : x ≡ y
+    same = gives.1 ∙ ap outcomes (is.derivation ∙ sym is'.derivation) ∙ sym gives'.1
+
+    by : (outcome : Result Answer Reason) → IsVerdictOn job permitted outcome a
+        → IsVerdictOn again permitted outcome b → a ≡ b
+    by (Ok answer) on on' = has_one_verdict again permitted answer a b
+        (verdict_too job again (same_outputs graph d job again is is')
+        (same_kind graph d job again is is') answer permitted a on) on'
+    by (Err reason) on on' = on ∙ sym on'
+
+-- such a run is a whole one
+whole_by : (may : Job → Result Answer Reason → Type 0) (run : Run) (history : History)
+    (outcomes : ℕ → Result Answer Reason) → IsEndedRun (GivesEach may outcomes) run history
+    → IsWholeRun (GivesEach may outcomes) run history
+whole_by may run history outcomes end = record {
+  end = end;
+  outcome = one_outcome may outcomes run.graph;
+}
+
+pub outcomes_decide : (may : Job → Result Answer Reason → Type 0) → OutcomesDecide may
+outcomes_decide may run history end = (
+  outcomes,
+  record {
+    given = given;
+    alike = λ other one. any_schedule gives run history other whole one;
+    report = λ other a b one of_a of_b.
+        one_report_of gives run history other a b whole one of_a of_b;
+    thread = has_one_thread gives run history whole;
+  },
+)
+  where
+    told : IsTold (λ reason. reason ≡ OutOfMemory) may run history
+    told = told_from may run history end.legal end.answered
+
+    outcomes : ℕ → Result Answer Reason
+    outcomes = outcomes_in (λ reason. reason ≡ OutOfMemory) may run history told
+
+    gives : Job → Result Answer Reason → Type 0
+    gives = GivesEach may outcomes
+
+    given : IsAnswered (GivesEach may outcomes) run history
+    given = answered_from (GivesEach may outcomes) run history
+        (given_in (λ reason. reason ≡ OutOfMemory) may run outcomes history told (λ d over. refl))
+
+    whole : IsWholeRun (GivesEach may outcomes) run history
+    whole = whole_by may run history outcomes (record {
+      plan = end.plan;
+      legal = end.legal;
+      settled = end.settled;
+      answered = given;
+      memory = end.memory;
+    })
+
+pub equal_outcomes_are_alike : (may : Job → Result Answer Reason → Type 0)
+    → EqualOutcomesAreAlike may
+equal_outcomes_are_alike may run history other outcomes end end' opening =
+    whole_runs_are_alike (GivesEach may outcomes) run history other
+    (whole_by may run history outcomes end) (whole_by may run other outcomes end') opening
