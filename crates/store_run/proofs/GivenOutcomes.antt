@@ -46,17 +46,17 @@ over_begun p lease is over = subst IsOver is over
 
 module _ (excused : Reason → Type 0) (may : Job → Result Answer Reason → Type 0) (run : Run) where
   -- the outcome behind a verdict, or behind a Fail that may be excused
-  outcome_behind : (entries : List Entry) (d : ℕ) (verdict : Result (List PathInfo) Reason)
+  abbrev outcome_behind : (entries : List Entry) (d : ℕ) (verdict : Result (List PathInfo) Reason)
       → IsVerdictBehind may run entries d verdict → Result Answer Reason
   outcome_behind entries d verdict behind = behind.comes_to.0
 
-  outcome_failed : (entries : List Entry) (d : ℕ) (reason : Reason)
+  abbrev outcome_failed : (entries : List Entry) (d : ℕ) (reason : Reason)
       → excused reason ⊎ IsVerdictBehind may run entries d (Err reason) → Result Answer Reason
   outcome_failed entries d reason (inl excuse) = Err OutOfMemory
   outcome_failed entries d reason (inr behind) = outcome_behind entries d (Err reason) behind
 
   -- what each derivation was given, where anything became of it
-  outcomes_in : (history : History) → IsTold excused may run history → ℕ → Result Answer Reason
+  abbrev outcomes_in : (history : History) → IsTold excused may run history → ℕ → Result Answer Reason
   outcomes_in _ (told_opening entries journal) d = Err OutOfMemory
   outcomes_in _ (told_begin history e told legal can) d = outcomes_in history told d
   outcomes_in _ (told_done history e lease node infos entry told legal phase at came is_entry) d =
@@ -131,7 +131,7 @@ module _ (excused : Reason → Type 0) (may : Job → Result Answer Reason → T
         legal phase at
         (given_behind history.entries e (Ok infos) came
         (here e (outcome_behind history.entries e (Ok infos) came) (outcomes_in history told e)
-        (are e (subst IsOver (sym (phase_ended history.events e lease)) unit))))
+        (are e (subst IsOver (sym (phase_ended history.events e lease)) tt))))
         is_entry
     given_in _ (told_fail history e lease reason told legal phase why) are =
         told_fail history e lease reason
@@ -146,7 +146,7 @@ module _ (excused : Reason → Type 0) (may : Job → Result Answer Reason → T
         legal phase
         (given_failed history.entries e reason why
         (here e (outcome_failed history.entries e reason why) (outcomes_in history told e)
-        (are e (subst IsOver (sym (phase_broken history.events e lease reason)) unit))))
+        (are e (subst IsOver (sym (phase_broken history.events e lease reason)) tt))))
 
 -- a told history is answered
 answered_from : (may : Job → Result Answer Reason → Type 0) (run : Run) (history : History)

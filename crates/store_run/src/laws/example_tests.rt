@@ -1,9 +1,12 @@
 //! Runs over the plan of the example of a whole run, by a builder that does what the example says.
-ghost use Rattle.std.specs.Prelude.{◌≡◌};
+ghost use Rattle.std.specs.Prelude.{◌≡◌, ℕ, Result};
+ghost use Rattle.sched_core.specs.declared.job.Answer.{Answer as Given};
+ghost use Rattle.sched_core.specs.declared.reason.Reason.{Reason as Why};
+ghost use Rattle.store_run.specs.GivenOutcomes.{IsDecided};
 ghost use Rattle.store_run.specs.ScheduleExample.{both, in_turn, may_leave, side_by_side};
 ghost use Rattle.store_run.specs.Scheduling.{AreAlike};
 
-use super::{any_schedule, builds_may_overlap};
+use super::{any_schedule, builds_may_overlap, outcomes_decide};
 use crate::{Build, Ended, realise};
 use drv_graph::Plan;
 use nix_drv::{ListSource, ListedFile};
@@ -62,6 +65,14 @@ fn alike()
     ensures { AreAlike both side_by_side in_turn }
 {
     any_schedule::<Program>();
+    builds_may_overlap();
+}
+
+// What was given decides what the example leaves.
+fn decided()
+    ensures { (outcomes : ℕ → Result Given Why) × IsDecided may_leave both side_by_side outcomes }
+{
+    outcomes_decide::<Program>();
     builds_may_overlap();
 }
 
@@ -155,6 +166,7 @@ fn report_by<R: Threads + Wait + Sync>(
 #[test]
 fn report_of_the_example(rt: HostRuntime) -> Result<(), Fail> {
     alike();
+    decided();
     for workers in [1, 2] {
         let report = report_by(&rt, rt.alloc(), workers)?;
         assert_eq!(rt; report.as_slice(), REPORT);
