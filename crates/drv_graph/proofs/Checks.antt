@@ -443,18 +443,19 @@ pub env_mismatch : (in_draft : Bool) (env : List EnvEntry) (outputs : List Outpu
     → slice_get outputs i ≡ Some o → slice_get paths i ≡ Some path
     → FitBefore (EntriesFit in_draft env) outputs paths i → HasMisfit in_draft env o.name path
     → IsEnvMismatch o.name fault → IsEnvFault in_draft env outputs paths fault
-env_mismatch in_draft env outputs paths i o path (EnvMismatch output) at_o at_path before wrong h = (
-  o,
-  path,
-  record {
-    place = i;
-    is_output = at_o;
-    is_path = at_path;
-    wrong = wrong;
-    before = before;
-  },
-  h,
-)
+env_mismatch in_draft env outputs paths i o path (EnvMismatch output) at_o at_path before wrong
+    h = (
+      o,
+      path,
+      record {
+        place = i;
+        is_output = at_o;
+        is_path = at_path;
+        wrong = wrong;
+        before = before;
+      },
+      h,
+    )
 env_mismatch in_draft env outputs paths i o path NoMemory at_o at_path before wrong h = tt
 env_mismatch in_draft env outputs paths i o path MixedOutputs at_o at_path before wrong h = h
 env_mismatch in_draft env outputs paths i o path (UnknownMethod output) at_o at_path before wrong

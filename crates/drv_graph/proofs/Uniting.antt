@@ -181,8 +181,8 @@ gathered_joined given front last input are same = record {
         (paths_push front last ∙ sym (paths_push front (joined last input)))
         (elim (path_push_cases given input path has) [
           | inl before ↦ (are.paths path).1 before
-          | inr at ↦ subst (λ (p : List ℕ). Contains (input_paths (front ++ last ∷ [])) p) (same ∙ at)
-              (path_push_last front last)
+          | inr at ↦ subst (λ (p : List ℕ). Contains (input_paths (front ++ last ∷ [])) p)
+              (same ∙ at) (path_push_last front last)
         ]),
   );
   names = λ path name. (there path name, back path name);

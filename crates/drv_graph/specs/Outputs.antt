@@ -65,7 +65,8 @@ HasOtherEntry Fits Expected drv output =
 -- What the check of a derivation's outputs answers, by its name, its inputs' derivations and their
 -- hashes. The first of these that holds: mixed outputs; a method or a hash that isn't known; a name
 -- that is none; the first use of an output that isn't there; the first output with a path that
--- doesn't fit the expected one; the first output with such an entry. Want of memory may come in any's place.
+-- doesn't fit the expected one; the first output with such an entry. Want of memory may come in
+-- any's place.
 abbrev pub IsOutputsCheck : (Fits : List ℕ → List ℕ → Type 0) → (dir name : List ℕ) → Drv
     → (used : List Drv) → (hashes : List (List ℕ)) → Result Kind OutputFault → Type 0
 IsOutputsCheck Fits dir name drv used hashes (Ok kind) =

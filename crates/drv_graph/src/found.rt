@@ -80,7 +80,8 @@ fn check_visit(
     visit: &Visit,
 ) -> Result<(Kind, [u8; 32]), GraphFault>
     requires kept { AreKept kept.now }
-    requires numbers { AreNumbers (nodes_of kept.now) visit.now.numbers.items (inputs_of visit.now.drv) }
+    requires numbers { AreNumbers (nodes_of kept.now) visit.now.numbers.items
+        (inputs_of visit.now.drv) }
     ensures { IsChecking dir.now kept.now visit.now result }
 {
     let used = used_inputs(alloc, kept, &visit.numbers)?;

@@ -73,8 +73,8 @@ fn go_on<S: DrvSource>(
     requires is_new { Contains (paths_of (nodes_of found.old.nodes.items)) visit.path → ⊥ }
     ensures keeps { GivesSame (S.gives source.old) (S.gives source.new) }
     ensures counts { S.failures source.old ≤ S.failures source.new }
-    ensures going_on { IsGoingOn dir.now (S.gives source.old) found.old found.new visits.old.items visit
-        visits.new.items result }
+    ensures going_on { IsGoingOn dir.now (S.gives source.old) found.old found.new visits.old.items
+        visit visits.new.items result }
 {
     if visit.inputs.len() <= visit.numbers.len() {
         return leave(alloc, dir, found, visit);
@@ -99,7 +99,8 @@ fn step<S: DrvSource>(
     requires { length visit.old.numbers.items < length visit.old.inputs.items }
     ensures keeps { GivesSame (S.gives source.old) (S.gives source.new) }
     ensures counts { S.failures source.old ≤ S.failures source.new }
-    ensures stepping { IsStepping dir.now (S.gives source.old) marks.old marks.new visit.old visit.new result }
+    ensures stepping { IsStepping dir.now (S.gives source.old) marks.old marks.new visit.old
+        visit.new result }
 {
     let input = &visit.inputs[visit.numbers.len()];
     match meet(alloc, source, dir, marks, input)? {

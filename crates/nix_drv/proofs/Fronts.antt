@@ -152,7 +152,8 @@ spellings-append (b ∷ v) w = ap (λ (t : List ℕ). spelling b ++ t) (spelling
 bytes_begin : (more : List ℕ) → IsFrontOfBytes more → (v : List ℕ)
     × Begins more (flat_map spelling v ++ 34 ∷ [])
 bytes_begin more (at0, at1, at2, inl at) =
-    let one : flat_map spelling (at.0 ∷ []) ≡ at1 ++ at.1.0 = append-nil (spelling at.0) ∙ at.1.1 in (
+    let one : flat_map spelling (at.0 ∷ []) ≡ at1 ++ at.1.0 =
+    append-nil (spelling at.0) ∙ at.1.1 in (
       at0 ++ at.0 ∷ [],
       (at.1.0 ++ 34 ∷ [], rw (spellings-append at0 (at.0 ∷ []), one, at2) (simp append_assoc)),
     )

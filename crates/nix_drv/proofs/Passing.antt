@@ -47,8 +47,10 @@ both_pass P Q mid end (Err q) next below above first second =
     let one : first.0 ≤ mid = below first.0 first.1 in (
       first.0,
       inl first.1,
-      λ other at. elim at
-          [ inl p ↦ first.2 other p | inr s ↦ let two : mid ≤ other = above other s in omega arith ],
+      λ other at. elim at [
+        | inl p ↦ first.2 other p
+        | inr s ↦ let two : mid ≤ other = above other s in omega arith
+      ],
       first.3,
     )
 

@@ -194,7 +194,8 @@ pub used_found : (inputs : List Input) (k : ℕ) (input : Input) (name : List �
     → slice_get inputs k ≡ Some input → IsPlaceOf input.names name (Some place)
     → IfSome (slice_get inputs k) (λ used. IsTrue true ↔ Contains used.names name)
 used_found inputs k input name place at found =
-    subst (λ (o : Option Input). IfSome o (λ used. IsTrue true ↔ Contains used.names name)) (sym at) (
+    subst (λ (o : Option Input). IfSome o (λ used. IsTrue true ↔ Contains used.names name))
+    (sym at) (
       λ _. (
         place,
         slice_get_within input.names place name found,

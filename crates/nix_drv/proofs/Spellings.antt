@@ -99,8 +99,8 @@ run_written a b c d rest bytes run special n byte begun fits plain run_is specia
       part = begun.part ++ run ++ spelling byte;
       written = Appends-trans a c d (begun.part ++ run) (spelling byte)
           (Appends-trans a b c begun.part run begun.written more) new;
-      left = run_spelled begun.part rest run special n byte (34 ∷ flat_map spelling bytes) fits plain
-          begun.left run_is special_is long byte_is;
+      left = run_spelled begun.part rest run special n byte (34 ∷ flat_map spelling bytes) fits
+          plain begun.left run_is special_is long byte_is;
     }
 
 -- the last run and the quote were written, where nothing failed

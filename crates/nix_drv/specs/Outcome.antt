@@ -12,7 +12,9 @@ abbrev pub max_len : ℕ
 max_len = 4194304
 
 -- A derivation exactly where the bytes are its text and not too many. Else too many; or no text of
--- the language with its order rules left out, with the length of the longest beginning that can still become one; or a text that breaks them, with the place of the first element that does; or memory was refused.
+-- the language with its order rules left out, with the length of the longest beginning that can
+-- still become one; or a text that breaks them, with the place of the first element that does; or
+-- memory was refused.
 abbrev pub IsReading : List ℕ → Result Drv DrvFault → Type 0
 IsReading input (Ok drv) = (length input ≤ max_len) × IsDrvText drv input
 IsReading input (Err TooLong) = max_len < length input

@@ -1,5 +1,6 @@
 -- Going over a value, whose text stands at a place: the place behind the text, or that of the first
--- element that breaks the order of its list. A place from 2^64 on is taken as the last number of the machine.
+-- element that breaks the order of its list. A place from 2^64 on is taken as the last number of
+-- the machine.
 use Rattle.std.specs.Prelude.{ℕ, ◌+◌, ◌-◌, ◌^◌, min, if◌then◌else◌, List, [], ◌∷◌, length, Option, Some, None, Result, Ok, Err}
 use Rattle.nix_drv.specs.Strings.{string_text}
 use Rattle.nix_drv.specs.Grammar.{ListOrder, Grammar, Fixed, Str, Then, Many, Value}

@@ -52,9 +52,8 @@ no_more_than xs ys distinct among =
 
 -- ---- what is registered
 
-pub reached_is_valid : (registrations : List Registration) (from to : List ℕ) (steps : List (List ℕ))
-    → Leads registrations from to steps
-    → IsValid registrations to
+pub reached_is_valid : (registrations : List Registration) (from to : List ℕ)
+    (steps : List (List ℕ)) → Leads registrations from to steps → IsValid registrations to
 reached_is_valid registrations from to [] leads = subst (IsValid registrations) leads.1 leads.0
 reached_is_valid registrations from to (next ∷ steps) leads =
     reached_is_valid registrations next to steps leads.1

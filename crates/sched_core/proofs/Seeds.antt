@@ -195,14 +195,14 @@ good_by (Broken reason) s first all is = absurd cc
 
 -- ---- what standings say
 
-pub standing_all : (all : Bool) (cause : Option Refusal) → (if all then AllValid else by_cause cause)
-    ≡ AllValid → all ≡ true
+pub standing_all : (all : Bool) (cause : Option Refusal)
+    → (if all then AllValid else by_cause cause) ≡ AllValid → all ≡ true
 standing_all true cause is = refl
 standing_all false (Some cause) is = absurd cc
 standing_all false None is = absurd cc
 
-pub standing_free : (all : Bool) (cause : Option Refusal) → (if all then AllValid else by_cause cause)
-    ≡ Free → cause ≡ None
+pub standing_free : (all : Bool) (cause : Option Refusal)
+    → (if all then AllValid else by_cause cause) ≡ Free → cause ≡ None
 standing_free true cause is = absurd cc
 standing_free false (Some cause) is = absurd cc
 standing_free false None is = refl

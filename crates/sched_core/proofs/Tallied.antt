@@ -27,7 +27,8 @@ use Rattle.sched_core.proofs.PlanInputs.{inputs_first}
 
 -- a part of the tallies, read at a tally
 part_at : {X : Type 0} (part : Tally → X) (tallies : List Tally) (d : ℕ) (tally : Tally)
-    (default : X) → slice_get tallies d ≡ Some tally → get_or (map part tallies) d default ≡ part tally
+    (default : X) → slice_get tallies d ≡ Some tally
+    → get_or (map part tallies) d default ≡ part tally
 part_at part tallies d tally default at =
     get_or-map part tallies d tally default (slice_get_within tallies d tally at)
     ∙ ap part (get_or_from_slice_get tallies d tally tally at)
@@ -64,7 +65,8 @@ module _ (graph : Graph) (tallies : List Tally) (users : List (List Edge)) (agen
   pub state_told : (d : ℕ) (none : Tally) → d < length graph.nodes
       → (get_or tallies d none).state ≡ course_state course d
   state_told d none low =
-      sym (get_or-map (λ (t : Tally). t.state) tallies d none Blocked (omega (arith, low, is.count)))
+      sym (get_or-map (λ (t : Tally). t.state) tallies d none Blocked
+      (omega (arith, low, is.count)))
       ∙ state_kept d low
 
   pub wanted_told : (d : ℕ) (none : Tally) → d < length graph.nodes

@@ -12,7 +12,8 @@ use std::marker::Model;
 // What is still to be done of a plan. In each list is room for all that may come.
 #[derive(Debug, Drop)]
 pub(crate) struct Agenda {
-    // Wanted derivations that are Ready, and behind the first of them some that were and have begun.
+    // Wanted derivations that are Ready, and behind the first of them some that were and have
+    // begun.
     ring: HeapCircularBuffer<usize>,
     // Those whose users are still to be told.
     work: HeapCircularBuffer<usize>,

@@ -128,7 +128,8 @@ impl<O: Outlet> Book<O> {
         requires { IsBooksLease self.old.run self.old.history lease.job lease.number
             → MayAllRefer self.old.history.entries lease.job checked }
         ensures ok { OnOk result (IsFinishing self.old self.new lease.job lease.number checked) }
-        ensures fault { IfErr result (λ e. IsFinishFault self.old lease.job lease.number checked e.0) }
+        ensures fault { IfErr result
+            (λ e. IsFinishFault self.old lease.job lease.number checked e.0) }
         ensures back { IfErr result (λ e. (e.1 ≡ lease) × (e.2 ≡ checked)) }
         ensures same { OnErr result (self.new ≡ self.old) }
     {
@@ -146,7 +147,8 @@ impl<O: Outlet> Book<O> {
     /// job with the plan's derivation, and takes no memory.
     pub fn fail(&mut self, lease: Lease<O::Told>, reason: Reason) -> Result<(), Lease<O::Told>>
         ensures ok { OnOk result (IsFailing self.old self.new lease.job lease.number reason) }
-        ensures foreign { OnErr result (IsBooksLease self.old.run self.old.history lease.job lease.number → ⊥) }
+        ensures foreign { OnErr result
+            (IsBooksLease self.old.run self.old.history lease.job lease.number → ⊥) }
         ensures back { IfErr result (λ e. e ≡ lease) }
         ensures same { OnErr result (self.new ≡ self.old) }
     {
@@ -162,7 +164,8 @@ impl<O: Outlet> Book<O> {
     /// Ends a lease as `fail` does, since memory was refused to whoever builds its derivation.
     pub fn abandon(&mut self, lease: Lease<O::Told>) -> Result<(), Lease<O::Told>>
         ensures ok { OnOk result (IsFailing self.old self.new lease.job lease.number OutOfMemory) }
-        ensures foreign { OnErr result (IsBooksLease self.old.run self.old.history lease.job lease.number → ⊥) }
+        ensures foreign { OnErr result
+            (IsBooksLease self.old.run self.old.history lease.job lease.number → ⊥) }
         ensures back { IfErr result (λ e. e ≡ lease) }
         ensures same { OnErr result (self.new ≡ self.old) }
     {
@@ -296,7 +299,8 @@ impl<O: Outlet> Book<O> {
             → MayAllRefer self.old.history.entries lease.now.job checked.now }
         ensures ok { OnOk result
             (IsFinishing self.old self.new lease.now.job lease.now.number checked.now) }
-        ensures fault { IfErr result (IsFinishFault self.old lease.now.job lease.now.number checked.now) }
+        ensures fault { IfErr result
+            (IsFinishFault self.old lease.now.job lease.now.number checked.now) }
         ensures same { OnErr result (self.new ≡ self.old) }
     {
         let job = lease.job();

@@ -21,8 +21,8 @@ use std::alloc::Global;
 use std::marker::Model;
 
 // A plan, and where each of its derivations stands: of each a tally and the edges to its users, and
-// what is still to be done. An event costs a step for each edge along which a user is told, and each
-// edge is told along at most once.
+// what is still to be done. An event costs a step for each edge along which a user is told, and
+// each edge is told along at most once.
 #[derive(Debug, Drop)]
 pub(crate) struct Course {
     plan: Plan,
@@ -151,8 +151,8 @@ impl Course {
     }
 }
 
-// The tallies of a plan on which nothing has begun, by one pass in plan order. Costs a step for each
-// derivation and each pair of one and an input of it.
+// The tallies of a plan on which nothing has begun, by one pass in plan order. Costs a step for
+// each derivation and each pair of one and an input of it.
 fn tallies_of(
     alloc: Global,
     plan: &Plan,
@@ -161,7 +161,8 @@ fn tallies_of(
 ) -> Result<Vec<Tally>, BookFault>
     requires standings { length standings.now ≡ length plan.now.nodes }
     requires wanted { length wanted.now ≡ length plan.now.nodes }
-    ensures ok { IfOk result (λ tallies. AreOpening plan.now standings.now wanted.now tallies.items) }
+    ensures ok { IfOk result
+        (λ tallies. AreOpening plan.now standings.now wanted.now tallies.items) }
     ensures err { IfErr result (λ fault. fault ≡ NoMemory) }
 {
     let mut tallies = Vec::with_capacity(alloc, plan.len())?;

@@ -13,7 +13,7 @@
 //! | `reason` | why a derivation was not built, its state, and events |
 //! | `standing` | where a derivation stands by itself |
 //! | `course` | where each derivation of a plan stands |
-//! | `tally`, `states` | what is kept of a derivation, and what an input's state says to its users |
+//! | `tally`, `states` | what is kept of a derivation, and what an input's state says to its users|
 //! | `users` | the edges from each derivation to its users |
 //! | `agenda` | what can be begun, and of which the users are still to be told |
 //! | `spreading` | an event, and how users are told of it |

@@ -16,9 +16,9 @@ use nix_names::StorePath;
 use std::alloc::Global;
 use valid_table::{Journal, TableFault, union};
 
-/// The paths to which the outputs of a job may refer, strictly rising: what its seeds lead to, which
-/// is given so, and its own outputs. Answers `NoMemory` where memory is refused, and no other fault.
-/// Costs a copy of each path.
+/// The paths to which the outputs of a job may refer, strictly rising: what its seeds lead to,
+/// which is given so, and its own outputs. Answers `NoMemory` where memory is refused, and no other
+/// fault. Costs a copy of each path.
 pub fn permitted_beside(
     alloc: Global,
     reached: &[StorePath],

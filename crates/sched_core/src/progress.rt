@@ -64,8 +64,9 @@ impl Model for Progress {
       room = p.journal.room;
     } };
 
-    ghost invariant = { λ p. IsKept p.system.items (history_of p.opening p.journal.entries p.events.items)
-        p.course p.given (vec_capacity p.events) × (p.opening ≤ length p.journal.entries) };
+    ghost invariant = { λ p. IsKept p.system.items
+        (history_of p.opening p.journal.entries p.events.items) p.course p.given
+        (vec_capacity p.events) × (p.opening ≤ length p.journal.entries) };
 }
 
 impl Progress {

@@ -45,7 +45,8 @@ fn wanted_by_path<'a>(alloc: Global, course: &'a Course) -> Result<Vec<Wanted<'a
     ensures by_path { IfOk result
         (λ wanted. AreByPath course.now.graph.nodes (IsWantedIn course.now)
         (numbers_of wanted.items)) }
-    ensures within { IfOk result (λ wanted. AreWithin (length course.now.graph.nodes) wanted.items) }
+    ensures within { IfOk result
+        (λ wanted. AreWithin (length course.now.graph.nodes) wanted.items) }
 {
     let mut wanted = wanted_of(alloc, course)?;
     wanted.sort_unstable_by(|a, b| a.path.cmp(b.path));

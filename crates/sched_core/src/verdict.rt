@@ -105,7 +105,8 @@ fn records_of(
     requires rising { IsRising permitted.now }
     requires there { IsThere job.now answer.now }
     ensures taken { OnOk result (IsTaken job.now answer.now) }
-    ensures records { IfOk result (λ records. AreRecords job.now permitted.now answer.now records.items) }
+    ensures records { IfOk result
+        (λ records. AreRecords job.now permitted.now answer.now records.items) }
     ensures err { IfErr result (λ why. IsExamining job.now permitted.now answer.now (Err why)) }
 {
     let mut records = Vec::with_capacity(alloc, job.outputs.len())?;

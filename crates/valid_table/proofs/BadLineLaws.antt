@@ -163,7 +163,8 @@ stands_led dir bytes rest n is_dir stands =
     let leads = leads_weaker dir (λ to. Ends dir to cut.1) (λ to. Ahead to rest)
     (λ to ends. ahead_as to stands.after rest
     (subst (Ahead to) after_is (ahead_of dir MayEnd to cut.1 [] end_ahead ends)) stands.next)
-    Start cut.0 (leads_front dir MayEnd Start cut.0 cut.1 (subst (Ends dir Start) cut.2 come.1)) in (
+    Start cut.0
+    (leads_front dir MayEnd Start cut.0 cut.1 (subst (Ends dir Start) cut.2 come.1)) in (
       record {
         lines = cut.0;
         leads = leads;

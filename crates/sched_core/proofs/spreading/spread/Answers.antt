@@ -11,7 +11,8 @@ tell-requires-clause-told c =
     sym c.take.ensures.value ∙ c.in-Some.is in (
       c.requires.0,
       subst (λ (a : Agenda). IsSpreading c.requires.0 c.args.users.now
-          c.loop-input.tallies a (users_of c.args.users.now c.in-Some.input)) (sym c.take.ensures.rest)
+          c.loop-input.tallies a (users_of c.args.users.now c.in-Some.input))
+          (sym c.take.ensures.rest)
           (work_taken c.requires.0 c.args.users.now c.loop-input.tallies c.loop-input.agenda
           c.in-Some.input first (c.loop-input.invariant.told c.requires.0 c.requires.1)),
     )

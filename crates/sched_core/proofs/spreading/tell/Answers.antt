@@ -33,7 +33,8 @@ told-after-requires c =
 
 pub note-requires-clause-room : goal.note-requires-clause-room
 note-requires-clause-room c =
-    subst (λ (a : Agenda). length (noted a (edge_at c.of-edge-items.result.now c.loop-edge.edge-index).user
+    subst (λ (a : Agenda). length (noted a
+    (edge_at c.of-edge-items.result.now c.loop-edge.edge-index).user
     (tally_at c.loop-edge.tallies
     (edge_at c.of-edge-items.result.now c.loop-edge.edge-index).user) c.told-after.result).ring
     ≤ a.room)
@@ -47,7 +48,8 @@ note-requires-clause-room c =
 
 pub note-requires-clause-space : goal.note-requires-clause-space
 note-requires-clause-space c =
-    subst (λ (a : Agenda). length (noted a (edge_at c.of-edge-items.result.now c.loop-edge.edge-index).user
+    subst (λ (a : Agenda). length (noted a
+    (edge_at c.of-edge-items.result.now c.loop-edge.edge-index).user
     (tally_at c.loop-edge.tallies
     (edge_at c.of-edge-items.result.now c.loop-edge.edge-index).user) c.told-after.result).work
     ≤ a.space)
