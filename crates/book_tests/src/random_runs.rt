@@ -101,12 +101,13 @@ fn is_open(state: State) -> bool {
     matches!(state, State::Blocked | State::Ready | State::Building(_))
 }
 
-// Whether no wanted derivation has anything before it.
-fn is_settled(known: &Known, states: &[State]) -> bool {
+// How many wanted derivations have something before them.
+fn unsettled(known: &Known, states: &[State]) -> usize {
     states
         .iter()
         .zip(&known.wanted)
-        .all(|(state, wanted)| !*wanted || !is_open(*state))
+        .filter(|(state, wanted)| **wanted && is_open(**state))
+        .count()
 }
 
 // Whether no wanted derivation is ready.
@@ -149,11 +150,12 @@ struct Running {
 }
 
 impl Running {
-    // Whether the book's states are those that are known, and it is settled just where they are.
+    // Whether the book's states are those that are known, and so is how many are unsettled.
     fn agrees(&self, alloc: Global) -> Result<bool, AllocError> {
         let states = states(alloc, self.book.plan(), &self.known)?;
-        let is_settled = is_settled(&self.known, &states);
-        Ok(has_states(&self.book, &states) && self.book.settled() == is_settled)
+        let unsettled = unsettled(&self.known, &states);
+        let counts = self.book.unsettled() == unsettled && self.book.settled() == (unsettled == 0);
+        Ok(counts && has_states(&self.book, &states))
     }
 
     // Notes what became of a derivation.

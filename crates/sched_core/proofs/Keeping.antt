@@ -16,8 +16,9 @@ use Rattle.valid_table.specs.PathInfos.{PathInfo}
 use Rattle.valid_table.specs.Valid.{IsJournal}
 use Rattle.valid_table.specs.declared.entry.Entry.{Entry}
 use Rattle.sched_core.specs.Booking.{IsKept, events_left, history_of, run_over}
-use Rattle.sched_core.specs.Books.{CanBegin, IsDone, IsRunSettled}
-use Rattle.sched_core.specs.Courses.{AreStandings, AreWanted, Course, HasBegun, IsNext, IsOpen, IsSettled, course_rows, course_state}
+use Rattle.sched_core.specs.Books.{CanBegin, IsDone, IsRunSettled, IsUnsettled}
+use Rattle.sched_core.specs.Counts.{AreSoMany}
+use Rattle.sched_core.specs.Courses.{AreStandings, AreWanted, Course, HasBegun, IsNext, IsOpen, IsSettled, IsUnsettledIn, course_rows, course_state}
 use Rattle.sched_core.specs.Legal.{IsLegal, legal_begin, legal_opening, legal_done, legal_fail, begins, is_begin}
 use Rattle.sched_core.specs.Reports.{IsReportIn, IsReportOf}
 use Rattle.sched_core.specs.Runs.{History, Run, rows_of, standing_at, state_in}
@@ -29,6 +30,7 @@ use Rattle.sched_core.specs.declared.reason.State.{State}
 use Rattle.sched_core.specs.declared.reason.State.TheVariants.{Blocked, Building}
 use Rattle.sched_core.specs.declared.standing.Standing.{Standing}
 use Rattle.sched_core.specs.declared.standing.Standing.TheVariants.{AllValid, Hindered, Free}
+use Rattle.sched_core.proofs.Counts.{so_many_same}
 use Rattle.sched_core.proofs.Histories.{ready_is_idle}
 use Rattle.sched_core.proofs.RunReports.{report_in}
 use Rattle.sched_core.proofs.Seeds.{phase_push}
@@ -103,6 +105,23 @@ is_next system history course given room kept d can = (
   states_told system history course given room kept d
       ∙ can.ready,
 )
+
+pub unsettled_told : (system : List ℕ) (history : History) (course : Course) (given room : ℕ)
+    → IsKept system history course given room
+    → (count : ℕ) → AreSoMany (IsUnsettledIn course) count
+    → AreSoMany (IsUnsettled (run_over course system) history) count
+unsettled_told system history course given room kept count =
+    so_many_same (IsUnsettledIn course) (IsUnsettled (run_over course system) history) count
+    (λ d still. (
+      still.0,
+      kept.wanted.yes d still.1,
+      subst IsOpen (states_told system history course given room kept d) still.2,
+    ))
+    (λ d still. (
+      still.0,
+      kept.wanted.no d still.1,
+      subst IsOpen (sym (states_told system history course given room kept d)) still.2,
+    ))
 
 pub settled_told : (system : List ℕ) (history : History) (course : Course) (given room : ℕ)
     → IsKept system history course given room

@@ -2,6 +2,7 @@ pub mod Agendas
 pub mod Building
 pub mod Comparing
 pub mod CountedNews
+pub mod Counts
 pub mod Cycles
 pub mod DoneEntries
 pub mod Dones

@@ -9,7 +9,8 @@ use Rattle.nix_names.proofs.Lists.{Contains-nothing}
 use Rattle.drv_graph.specs.Plans.{Graph}
 use Rattle.drv_graph.specs.SoundGraphs.{IsSound}
 use Rattle.sched_core.specs.Agendas.{Agenda, AreOpening, IsAgenda, IsCourse, IsFresh, course_by, is_open, is_unsettled, phases_in, standings_in, wanted_in}
-use Rattle.sched_core.specs.Courses.{Course, IsNext, IsOpen, IsSettled, course_rows, course_state}
+use Rattle.sched_core.specs.Counts.{AreSoMany}
+use Rattle.sched_core.specs.Courses.{Course, IsNext, IsOpen, IsSettled, IsUnsettledIn, course_rows, course_state}
 use Rattle.sched_core.specs.Coursing.{kept, phase_in}
 use Rattle.sched_core.specs.Runs.{inputs_at}
 use Rattle.sched_core.specs.States.{Begun, Idle, state, table}
@@ -22,6 +23,7 @@ use Rattle.sched_core.specs.declared.standing.Standing.TheVariants.{Free}
 use Rattle.sched_core.specs.declared.tally.Tally.{Tally}
 use Rattle.sched_core.specs.declared.users.Edge.{Edge}
 use Rattle.sched_core.proofs.Agendas.{count_none, none_counted}
+use Rattle.sched_core.proofs.Counts.{tallies_counted}
 use Rattle.sched_core.proofs.Hearing.{heard_more, heard_states}
 use Rattle.sched_core.proofs.PlanInputs.{inputs_first}
 
@@ -120,7 +122,40 @@ module _ (graph : Graph) (tallies : List Tally) (users : List (List Edge)) (agen
   both_true true b is = (refl, is)
   both_true false b is = absurd (false≢true is)
 
+  -- a tally says whether its derivation is wanted and has something before it
+  unsettled_at : (d : ℕ) → IsUnsettledIn course d
+      → (tally : Tally) × (slice_get tallies d ≡ Some tally) × (is_unsettled tally ≡ true)
+  unsettled_at d still =
+      let within : d < length tallies = omega (arith, still.0, is.count) in
+      let tally : Tally = get_or tallies d unknown in
+      let w : tally.wanted ≡ true = wanted_told d unknown still.0 ∙ still.1 in
+      let o : is_open tally.state ≡ true = ap is_open (state_told d unknown still.0)
+      ∙ is_open_of (course_state course d) still.2 in
+      let both : is_unsettled tally ≡ true = cc in
+      (tally, slice_get-get_or tallies d unknown within, both)
+
+  unsettled_of : (d : ℕ) (tally : Tally) → slice_get tallies d ≡ Some tally
+      → is_unsettled tally ≡ true → IsUnsettledIn course d
+  unsettled_of d tally at both =
+      let within : d < length tallies = slice_get_within tallies d tally at in
+      let low : d < length graph.nodes = omega (arith, within, is.count) in
+      let read : get_or tallies d unknown ≡ tally =
+      get_or_from_slice_get tallies d tally unknown at in
+      let parts = both_true tally.wanted (is_open tally.state) both in
+      let wanted : slice_index_or course.wanted d false ≡ true =
+      sym (wanted_told d unknown low) ∙ ap (λ (t : Tally). t.wanted) read ∙ parts.0 in
+      let same : tally.state ≡ course_state course d =
+      ap (λ (t : Tally). t.state) (sym read) ∙ state_told d unknown low in
+      (low, wanted, subst IsOpen same (open_is tally.state parts.1))
+
   -- what the number of unsettled ones says
+  pub unsettled_told : (count : ℕ) → count ≡ agenda.unsettled
+      → AreSoMany (IsUnsettledIn course) count
+  unsettled_told count count_is =
+      subst (AreSoMany (IsUnsettledIn course))
+      (sym (count_is ∙ is.steady.told.listed.unsettled))
+      (tallies_counted is_unsettled tallies (IsUnsettledIn course) unsettled_of unsettled_at)
+
   pub settled_told : (settled : Bool) → settled ≡ (agenda.unsettled == 0)
       → IsTrue settled ↔ IsSettled course
   settled_told settled settled_is = (forward, back)
@@ -128,29 +163,15 @@ module _ (graph : Graph) (tallies : List Tally) (users : List (List Edge)) (agen
       forward : IsTrue settled → IsSettled course
       forward holds d low wanted still =
           let none : agenda.unsettled ≡ 0 = eqb-true agenda.unsettled 0 (sym settled_is ∙ holds) in
-          let within : d < length tallies = omega (arith, low, is.count) in
-          let tally : Tally = get_or tallies d unknown in
-          let w : tally.wanted ≡ true = wanted_told d unknown low ∙ wanted in
-          let o : is_open tally.state ≡ true = ap is_open (state_told d unknown low)
-          ∙ is_open_of (course_state course d) still in
-          let both : is_unsettled tally ≡ true = cc in
-          count_none is_unsettled tallies d tally (sym is.steady.told.listed.unsettled ∙ none)
-          (slice_get-get_or tallies d unknown within) both
+          let its = unsettled_at d (low, wanted, still) in
+          count_none is_unsettled tallies d its.0 (sym is.steady.told.listed.unsettled ∙ none)
+          its.1 its.2
 
       back : IsSettled course → IsTrue settled
       back settled =
           let none : agenda.unsettled ≡ 0 = is.steady.told.listed.unsettled
           ∙ none_counted is_unsettled tallies (λ d tally at both.
-          let within : d < length tallies = slice_get_within tallies d tally at in
-          let low : d < length graph.nodes = omega (arith, within, is.count) in
-          let read : get_or tallies d unknown ≡ tally =
-          get_or_from_slice_get tallies d tally unknown at in
-          let parts = both_true tally.wanted (is_open tally.state) both in
-          let wanted : slice_index_or course.wanted d false ≡ true =
-          sym (wanted_told d unknown low) ∙ ap (λ (t : Tally). t.wanted) read ∙ parts.0 in
-          let same : tally.state ≡ course_state course d =
-          ap (λ (t : Tally). t.state) (sym read) ∙ state_told d unknown low in
-          settled d low wanted (subst IsOpen same (open_is tally.state parts.1))) in
+          let still = unsettled_of d tally at both in settled d still.0 still.1 still.2) in
           settled_is ∙ eq-eqb agenda.unsettled 0 none
 
 -- ---- what has begun

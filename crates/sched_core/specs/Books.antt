@@ -44,6 +44,11 @@ pub record CanBegin (run : Run) (history : History) (d : ℕ) : Type 0 where
   pub wanted : IsWanted run history.opening d
   pub ready : state_in run history d ≡ Ready
 
+-- a derivation is wanted and has something before it
+abbrev pub IsUnsettled : Run → History → ℕ → Type 0
+IsUnsettled run history d = (d < length run.graph.nodes) × IsWanted run history.opening d
+    × IsOpen (state_in run history d)
+
 -- no wanted derivation has anything before it
 abbrev pub IsRunSettled : Run → History → Type 0
 IsRunSettled run history = (d : ℕ) → d < length run.graph.nodes → IsWanted run history.opening d

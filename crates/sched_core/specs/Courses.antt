@@ -46,6 +46,11 @@ HasBegun course d = (d < length course.graph.nodes)
 abbrev pub IsOpen : State → Type 0
 IsOpen state = (state ≡ Blocked) ⊎ (state ≡ Ready) ⊎ ((lease : ℕ) × (state ≡ Building lease))
 
+-- a derivation is wanted and has something before it
+abbrev pub IsUnsettledIn : Course → ℕ → Type 0
+IsUnsettledIn course d = (d < length course.graph.nodes)
+    × (slice_index_or course.wanted d false ≡ true) × IsOpen (course_state course d)
+
 -- no wanted derivation has anything before it
 abbrev pub IsSettled : Course → Type 0
 IsSettled course = (d : ℕ) → d < length course.graph.nodes → slice_index_or course.wanted d false

@@ -1,6 +1,7 @@
 pub mod Agendas
 pub mod Booking
 pub mod Books
+pub mod Counts
 pub mod Courses
 pub mod Coursing
 pub mod Dones

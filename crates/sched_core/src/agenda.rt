@@ -78,6 +78,13 @@ impl Agenda {
         self.unsettled == 0
     }
 
+    // How many wanted derivations have something before them.
+    pub(crate) fn unsettled(&self) -> usize
+        ensures { result ≡ self.now.unsettled }
+    {
+        self.unsettled
+    }
+
     // How many states were worked out, and edges to users followed.
     pub(crate) fn steps(&self) -> u64 {
         self.steps

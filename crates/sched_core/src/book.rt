@@ -1,7 +1,8 @@
 //! Books: what is built, and what can be.
 ghost use Rattle.std.specs.Prelude.{◌≡◌, ◌<◌, ◌↔◌, ◌⊎◌, ◌++◌, ℕ, [], IfErr, IfOk, IsTrue, MatchOption, OnErr, OnOk, length, ⊤};
 ghost use Rattle.valid_table.specs.Valid.{IsJournal};
-ghost use Rattle.sched_core.specs.Books.{ArePermittedPaths, AreSeedsValid, BuildsOver, CanBegin, IsBeginning, IsBooksLease, IsFailing, IsFinishFault, IsFinishing, IsRunSettled, IsSameRun, MayAllRefer, opened};
+ghost use Rattle.sched_core.specs.Books.{ArePermittedPaths, AreSeedsValid, BuildsOver, CanBegin, IsBeginning, IsBooksLease, IsFailing, IsFinishFault, IsFinishing, IsRunSettled, IsSameRun, IsUnsettled, MayAllRefer, opened};
+ghost use Rattle.sched_core.specs.Counts.{AreSoMany};
 ghost use Rattle.sched_core.specs.Legal.{IsLegal};
 ghost use Rattle.sched_core.specs.Reports.{IsReportIn};
 ghost use Rattle.sched_core.specs.Runs.{state_in};
@@ -220,6 +221,13 @@ impl<O: Outlet> Book<O> {
         ensures { IsTrue result ↔ IsRunSettled self.now.run self.now.history }
     {
         self.progress.settled()
+    }
+
+    /// How many wanted derivations are blocked, ready or building. Goes over none of them.
+    pub fn unsettled(&self) -> usize
+        ensures { AreSoMany (IsUnsettled self.now.run self.now.history) result }
+    {
+        self.progress.unsettled()
     }
 
     /// How much work the states of derivations were: one for each state that an event worked out,

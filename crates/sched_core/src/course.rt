@@ -2,7 +2,8 @@
 ghost use Rattle.std.specs.Prelude.{◌≡◌, ◌<◌, ◌↔◌, false, ℕ, IfErr, IfOk, IsTrue, MatchOption, length, slice_set};
 ghost use Rattle.std.specs.List.{slice_index_or};
 ghost use Rattle.sched_core.specs.Agendas.{AreOpening};
-ghost use Rattle.sched_core.specs.Courses.{HasBegun, IsNext, IsSettled, course_state};
+ghost use Rattle.sched_core.specs.Counts.{AreSoMany};
+ghost use Rattle.sched_core.specs.Courses.{HasBegun, IsNext, IsSettled, IsUnsettledIn, course_state};
 ghost use Rattle.sched_core.specs.Coursing.{phase_in};
 ghost use Rattle.sched_core.specs.States.{Begun, Broken, Ended, Idle};
 ghost use Rattle.sched_core.specs.Tallies.{Turns};
@@ -132,6 +133,13 @@ impl Course {
         ensures { IsTrue result ↔ IsSettled self.now }
     {
         self.agenda.is_settled()
+    }
+
+    // How many wanted derivations have something before them.
+    pub(crate) fn unsettled(&self) -> usize
+        ensures { AreSoMany (IsUnsettledIn self.now) result }
+    {
+        self.agenda.unsettled()
     }
 
     // How many states the events worked out, and edges to users they followed.

@@ -3,7 +3,8 @@ ghost use Rattle.std.specs.Prelude.{◌≡◌, ◌<◌, ◌≤◌, ◌↔◌, �
 ghost use Rattle.valid_table.specs.Entries.{registered_by};
 ghost use Rattle.valid_table.specs.PathInfos.{PathInfo};
 ghost use Rattle.valid_table.specs.Valid.{HasDrvPath, IsJournal};
-ghost use Rattle.sched_core.specs.Books.{ArePermittedPaths, CanBegin, IsBooksLease, IsDone, IsRunSettled, opened};
+ghost use Rattle.sched_core.specs.Books.{ArePermittedPaths, CanBegin, IsBooksLease, IsDone, IsRunSettled, IsUnsettled, opened};
+ghost use Rattle.sched_core.specs.Counts.{AreSoMany};
 ghost use Rattle.sched_core.specs.Dones.{IsDoneEntry, IsDoneFault};
 ghost use Rattle.sched_core.specs.Jobs.{IsJob};
 ghost use Rattle.sched_core.specs.Legal.{IsLegal, begins, begun, ended, failed};
@@ -147,6 +148,13 @@ impl Progress {
         ensures { IsTrue result ↔ IsRunSettled self.now.run self.now.history }
     {
         self.course.settled()
+    }
+
+    // How many wanted derivations have something before them.
+    pub(crate) fn unsettled(&self) -> usize
+        ensures { AreSoMany (IsUnsettled self.now.run self.now.history) result }
+    {
+        self.course.unsettled()
     }
 
     // How many states the events worked out, and edges to users they followed.

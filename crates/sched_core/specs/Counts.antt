@@ -1,0 +1,10 @@
+-- How many numbers are such as is asked (this product's own).
+use Rattle.std.specs.Prelude.{◌≡◌, ◌↔◌, ℕ, List, length, Contains}
+use Rattle.std.specs.List.Sorted.{IsStrictlyIncreasing}
+
+-- Just so many numbers are such: those of one rising list, which has no other.
+pub record AreSoMany (is_such : ℕ → Type 0) (count : ℕ) : Type 0 where
+  pub numbers : List ℕ
+  pub rising : IsStrictlyIncreasing numbers
+  pub just : (d : ℕ) → Contains numbers d ↔ is_such d
+  pub count_is : count ≡ length numbers
