@@ -94,7 +94,7 @@ impl<J: Naming> Feed<J> {
         Ok(())
     }
 
-    // Shows all that waits.
+    // Shows all that waits. Where nothing does, it waits for nobody.
     pub(crate) fn publish<R: Wait>(&mut self, rt: &R) -> Result<(), OutletFault>
         ensures ok { OnOk result
             ((self.new.shown ≡ self.old.shown ++ pending_of self.old)
@@ -104,7 +104,9 @@ impl<J: Naming> Feed<J> {
             × (pending_of self.new ≡ pending_of self.old)) }
     {
         self.hand_over()?;
-        self.show(rt)?;
+        if !self.line.all_shown() {
+            self.show(rt)?;
+        }
         Ok(())
     }
 
