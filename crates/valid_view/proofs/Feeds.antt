@@ -1,5 +1,5 @@
 -- What waits to be shown.
-use Rattle.std.proofs.Common.{◌≡◌, ◌∙◌, List, [], ◌∷◌, ◌++◌, append_assoc, ap, subst, sym}
+use Rattle.std.proofs.Common.{◌≡◌, ◌∙◌, Bool, true, false, List, [], ◌∷◌, ◌++◌, Ok, append_assoc, ap, refl, subst, sym}
 use Rattle.std.specs.Prelude.{All}
 use Rattle.logbook.specs.Pages.{Book}
 use Rattle.nix_names.specs.Rising.{IsRising}
@@ -8,6 +8,7 @@ use Rattle.valid_table.specs.Entries.{paths_of, registered_by}
 use Rattle.valid_table.specs.Valid.{references_of}
 use Rattle.valid_table.specs.declared.entry.Entry.{Entry}
 use Rattle.valid_view.specs.Feeding.{IsFeed}
+use Rattle.valid_view.specs.Feedings.{Takes}
 use Rattle.valid_view.specs.Handing.{entries_of}
 use Rattle.valid_view.specs.Shown.{IsShowable, MayFollow}
 use Rattle.valid_view.specs.declared.shelf.Op.{Op}
@@ -49,3 +50,16 @@ pub first_follows : (front : List Entry) (entry : Entry) (queue : List Entry)
 first_follows front entry queue showable =
     showable_front (front ++ entry ∷ []) queue
     (subst IsShowable (sym (append_assoc front (entry ∷ []) queue)) showable)
+
+-- where nothing waits, nothing is held, and the queue is empty
+pub nothing_waits : (handed held queue : List Entry) → handed ++ (held ++ queue) ≡ []
+    → (held ≡ []) × (queue ≡ [])
+nothing_waits [] [] queue none = (refl, none)
+nothing_waits [] (entry ∷ held) queue none = absurd (cc none)
+nothing_waits (entry ∷ handed) held queue none = absurd (cc none)
+
+-- nothing was taken from an empty queue
+pub nothing_taken : (old held new : List Entry) (taken : Bool) → Takes old held new (Ok taken)
+    → taken ≡ true → old ≡ [] → ⊥
+nothing_taken old held new true takes is none = cc (sym takes.2 ∙ none)
+nothing_taken old held new false takes is none = cc is

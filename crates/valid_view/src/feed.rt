@@ -1,5 +1,5 @@
 //! Entries on their way to be shown: into the one list, to the writer's end, to the readers.
-ghost use Rattle.std.specs.Prelude.{◌≡◌, ◌++◌, [], ◌∷◌, All, IfErr, OnErr, OnOk};
+ghost use Rattle.std.specs.Prelude.{◌≡◌, ◌++◌, [], ◌∷◌, All, IfErr, IsOk, OnErr, OnOk};
 ghost use Rattle.valid_table.specs.Adding.{IsNew, IsValidWith};
 ghost use Rattle.valid_table.specs.Entries.{registered_by};
 ghost use Rattle.valid_table.specs.Valid.{references_of};
@@ -94,7 +94,7 @@ impl<J: Naming> Feed<J> {
         Ok(())
     }
 
-    // Shows all that waits.
+    // Shows all that waits. Where nothing does, it waits for nobody.
     pub(crate) fn publish<R: Wait>(&mut self, rt: &R) -> Result<(), OutletFault>
         ensures ok { OnOk result
             ((self.new.shown ≡ self.old.shown ++ pending_of self.old)
@@ -102,9 +102,12 @@ impl<J: Naming> Feed<J> {
         ensures err { OnErr result
             ((self.new.shown ≡ self.old.shown)
             × (pending_of self.new ≡ pending_of self.old)) }
+        ensures nothing { pending_of self.old ≡ [] → IsOk result }
     {
         self.hand_over()?;
-        self.show(rt)?;
+        if !self.line.all_shown() {
+            self.show(rt)?;
+        }
         Ok(())
     }
 
@@ -137,6 +140,7 @@ impl<J: Naming> Feed<J> {
         ensures shown { self.new.shown ≡ self.old.shown }
         ensures pending { pending_of self.new ≡ pending_of self.old }
         ensures ok { OnOk result ((self.new.held ≡ []) × (self.new.queue ≡ [])) }
+        ensures nothing { pending_of self.old ≡ [] → IsOk result }
     {
         self.hand_held()?;
         while self.take_next()? {
@@ -151,6 +155,7 @@ impl<J: Naming> Feed<J> {
         ensures queue { self.new.queue ≡ self.old.queue }
         ensures pending { self.new.handed ++ self.new.held ≡ self.old.handed ++ self.old.held }
         ensures ok { OnOk result (self.new.held ≡ []) }
+        ensures nothing { self.old.held ≡ [] → IsOk result }
     {
         let Some(op) = self.held.take() else {
             return Ok(());
@@ -168,6 +173,7 @@ impl<J: Naming> Feed<J> {
         ensures shown { self.new.shown ≡ self.old.shown }
         ensures handed { self.new.handed ≡ self.old.handed }
         ensures taken { Takes self.old.queue self.new.held self.new.queue result }
+        ensures nothing { self.old.queue ≡ [] → IsOk result }
     {
         let Some(entry) = self.queue.pop_front() else {
             return Ok(false);

@@ -1,5 +1,5 @@
 //! The writer's end of a view, under the rule.
-ghost use Rattle.std.specs.Prelude.{◌≡◌, ◌<◌, ◌≤◌, ◌++◌, [], ◌∷◌, MatchResult, IfOk, OnErr, OnOk};
+ghost use Rattle.std.specs.Prelude.{◌≡◌, ◌<◌, ◌≤◌, ◌++◌, ◌↔◌, [], ◌∷◌, MatchResult, IfOk, IsTrue, OnErr, OnOk};
 ghost use Rattle.valid_view.specs.Shelves.{IsShelf};
 
 use crate::front::Front;
@@ -65,6 +65,13 @@ impl<J: Naming> Line<J> {
         ensures { result ≡ self.now.shown }
     {
         Front::over(self.writer.published().front.again())
+    }
+
+    // Whether all that was handed over is shown.
+    pub(crate) fn all_shown(&self) -> bool
+        ensures { IsTrue result ↔ (self.now.handed ≡ []) }
+    {
+        !self.writer.has_pending_operations()
     }
 
     // Hands over the next entry. It comes back where memory is refused.

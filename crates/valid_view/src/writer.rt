@@ -75,7 +75,8 @@ impl<J: Naming + Send, R: Wait + Drop> Outlet for ViewWriter<J, R> {
     }
 
     /// Shows what waits: each reader that asks afterwards sees it. Waits for readers that still
-    /// read what was shown before the last publication. `NoMemory` where memory is refused.
+    /// read what was shown before the last list. Where nothing waits it does nothing, and waits
+    /// for nobody. `NoMemory` where memory is refused.
     fn publish(&mut self) -> Result<(), OutletFault> {
         self.feed.publish(&self.rt)
     }
