@@ -29,18 +29,20 @@ impl<O: Outlet, B: Build> Locked<O, B> {
         }
     }
 
-    // A lease of something that is ready, for which the worker waits; none where the run ends.
-    // Each lease wakes another worker, for which something may be ready, and the end wakes all.
-    pub(crate) fn take<R: Wait>(&self, rt: &R) -> Option<Lease<O::Told>>
-        ensures { IfSome result (IsTold O.names) }
+    // A lease of something that is ready, for which the worker waits, and how many derivations are
+    // unsettled then; none where the run ends. Each lease wakes another worker, for which something
+    // may be ready, and the end wakes all.
+    pub(crate) fn take<R: Wait>(&self, rt: &R) -> Option<(Lease<O::Told>, usize)>
+        ensures { IfSome result (λ taken. IsTold O.names taken.0) }
     {
         let mut shared = self.shared.lock(rt);
         for _ in rt.forever() {
             match shared.step() {
                 Step::Build(lease) => {
+                    let unsettled = shared.unsettled();
                     drop(shared);
                     self.changed.notify_one();
-                    return Some(lease);
+                    return Some((lease, unsettled));
                 }
                 Step::Wait => shared = self.changed.wait(rt, shared),
                 Step::End => break,
@@ -52,14 +54,14 @@ impl<O: Outlet, B: Build> Locked<O, B> {
     }
 
     // Ends a lease by what was found of its job by the list that the reader saw, or gives it up
-    // where nothing was, since the view is gone.
+    // where nothing was, since the view is gone. Answers how many derivations are unsettled then.
     pub(crate) fn end<R: Wait, J: Naming>(
         &self,
         rt: &R,
         reader: &mut ViewReader<J>,
         lease: Lease<O::Told>,
         found: Option<Result<Checked, Reason>>,
-    )
+    ) -> usize
     where
         O: Tells<J>,
         requires { IfSome found (MayBeFound B.may reader.old.seen lease.job) }
@@ -69,6 +71,7 @@ impl<O: Outlet, B: Build> Locked<O, B> {
             Some(found) => shared.end(reader, lease, found),
             None => shared.end_unseen(lease),
         }
+        shared.unsettled()
     }
 
     /// The book, and why the run stopped, if it did.

@@ -1,7 +1,8 @@
 //! What the workers of a run share.
 ghost use Rattle.std.specs.Prelude.{◌≡◌, ◌⊎◌, ℕ, Err, IsTrue, None, Ok};
 ghost use Rattle.valid_view.specs.Shown.{IsShowable};
-ghost use Rattle.sched_core.specs.Books.{AreSeedsValid, IsBooksLease};
+ghost use Rattle.sched_core.specs.Books.{AreSeedsValid, IsBooksLease, IsUnsettled};
+ghost use Rattle.sched_core.specs.Counts.{AreSoMany};
 ghost use Rattle.sched_core.specs.declared.fault.BookFault.TheVariants.{NoView};
 ghost use Rattle.sched_core.specs.declared.reason.Reason.TheVariants.{OutOfMemory};
 ghost use Rattle.store_run.specs.Builders.{IsAnswered, MayComeTo};
@@ -74,6 +75,13 @@ impl<O: Outlet, B: Build> Shared<O, B> {
                 Step::End
             }
         }
+    }
+
+    /// How many wanted derivations are blocked, ready or building.
+    pub fn unsettled(&self) -> usize
+        ensures { AreSoMany (IsUnsettled self.now.book.run self.now.book.history) result }
+    {
+        self.book.unsettled()
     }
 
     /// Ends a lease by what was found of its job by the list that the reader saw: by registering

@@ -10,7 +10,8 @@ use valid_view::{Naming, Tells, ViewReader};
 /// Builds what is ready, one job after the other, until the book is settled or the run stops;
 /// waits while nothing is ready. No lock is held while the builder runs, nor while the verdict is
 /// found: what is permitted is asked of the reader, whose view is the book's outlet. A lease whose
-/// worker was refused memory is abandoned.
+/// worker was refused memory is abandoned. The builder hears, without the lock too, of each lease
+/// that was taken and of each that has ended.
 pub fn work<R: Wait, J: Naming, O: Tells<J>, B: Build>(
     rt: &R,
     alloc: Global,
@@ -19,12 +20,15 @@ pub fn work<R: Wait, J: Naming, O: Tells<J>, B: Build>(
     builder: &B,
 ) {
     for _ in rt.forever() {
-        let Some(mut lease) = locked.take(rt) else {
+        let Some((mut lease, unsettled)) = locked.take(rt) else {
             return;
         };
+        builder.begun(unsettled);
         let outcome = builder.run(lease.number(), lease.job());
         learn::<J, O>(&mut reader, &mut lease);
         let found = verdict(alloc, &mut reader, lease.job(), outcome);
-        locked.end(rt, &mut reader, lease, found);
+        let is_good = matches!(found, Some(Ok(_)));
+        let unsettled = locked.end(rt, &mut reader, lease, found);
+        builder.ended(is_good, unsettled);
     }
 }
