@@ -1,5 +1,6 @@
 //! Plans, journals and books that the tests are made of.
-ghost use Rattle.std.specs.Prelude.{◌≡◌, ◌++◌};
+ghost use Rattle.std.specs.Prelude.{◌≡◌, ◌++◌, IfOk};
+ghost use Rattle.sched_core.specs.Books.{opened};
 
 use crate::files::{FILES, File};
 use crate::hindered::HINDERED;
@@ -72,16 +73,17 @@ pub(crate) fn journal(alloc: Global, text: &[&[u8]]) -> Result<Journal, Fail> {
 }
 
 /// The system for which each run builds.
+pub(crate) const SYSTEM: &[u8] = b"x86_64-linux";
+
+/// The same, as a list of its own.
 pub(crate) fn system(alloc: Global) -> Result<Vec<u8>, AllocError> {
-    Vec::from_slice(alloc, b"x86_64-linux")
+    Vec::from_slice(alloc, SYSTEM)
 }
 
 /// The book of a run over a plan that opens with a journal, over a plain outlet.
-pub(crate) fn book_of(
-    alloc: Global,
-    plan: Plan,
-    journal: Journal,
-) -> Result<Book<ListOutlet>, Fail> {
+pub(crate) fn book_of(alloc: Global, plan: Plan, journal: Journal) -> Result<Book<ListOutlet>, Fail>
+    ensures { IfOk result (λ book. book.history ≡ opened journal.entries) }
+{
     let outlet = ListOutlet::open(alloc, &journal)?;
     let system = system(alloc)?;
     Ok(Book::open(alloc, plan, journal, system, outlet)?)

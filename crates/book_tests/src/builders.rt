@@ -33,16 +33,30 @@ fn trees(
     Ok(trees)
 }
 
-/// The answer of a builder that leaves an empty file at each output.
-pub(crate) fn empty_files(alloc: Global, job: &Job) -> Result<Answer, AllocError> {
+/// The answer of a builder that ends with a status, and leaves nothing.
+pub(crate) fn left_nothing(alloc: Global, status: i32) -> Answer {
+    Answer {
+        status: Some(status),
+        trees: Vec::new(alloc),
+    }
+}
+
+/// The answer of a builder that leaves a file with these bytes at each output.
+pub(crate) fn left(alloc: Global, job: &Job, bytes: &[u8]) -> Result<Answer, AllocError> {
     let mut trees = Vec::new(alloc);
     for _ in 0..job.outputs.len() {
-        trees.push(Some(Tree::File(Vec::new(alloc))))?;
+        let file = Vec::from_slice(alloc, bytes)?;
+        trees.push(Some(Tree::File(file)))?;
     }
     Ok(Answer {
         status: Some(0),
         trees,
     })
+}
+
+/// The answer of a builder that leaves an empty file at each output.
+pub(crate) fn empty_files(alloc: Global, job: &Job) -> Result<Answer, AllocError> {
+    left(alloc, job, b"")
 }
 
 // Whether a script is that of a job.
@@ -53,7 +67,8 @@ fn is_for(script: &Script, job: &Job) -> bool {
     }
 }
 
-fn answer(alloc: Global, job: &Job, scripts: &[Script]) -> Result<Answer, AllocError> {
+/// The answer of a builder that does as these scripts say.
+pub(crate) fn answer(alloc: Global, job: &Job, scripts: &[Script]) -> Result<Answer, AllocError> {
     let Some(script) = scripts.iter().find(|script| is_for(script, job)) else {
         return empty_files(alloc, job);
     };

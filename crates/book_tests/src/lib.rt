@@ -1,9 +1,11 @@
-//! Tests of books, of what no clause says: that calls succeed, the texts of reports and journals,
-//! and whole runs, whose builders do as they are told.
+//! Tests of books and of runs by workers, of what no clause says: that calls succeed, the texts of
+//! reports and journals, and whole runs, whose builders do as they are told.
 //!
 //! | Module | What is tried |
 //! |---|---|
-//! | `runs` | runs to their end: their reports, journals and counts of events |
+//! | `rows` | runs, with their reports, journals and counts of events |
+//! | `runs` | these runs on one thread |
+//! | `workers` | these runs and others by workers, over a view |
 //! | `causes` | derivations that ask for what is left out |
 //! | `calls` | leases, and what a book tells of itself |
 //! | `permitted` | what is permitted beside a closure |
@@ -44,4 +46,8 @@ mod random_runs;
 #[cfg(test)]
 mod refusals;
 #[cfg(test)]
+mod rows;
+#[cfg(test)]
 mod runs;
+#[cfg(test)]
+mod workers;

@@ -26,7 +26,10 @@ pub(crate) const SOURCED: u8 = b'm';
 /// With two outputs, of which the first is valid.
 pub(crate) const PARTLY: u8 = b'p';
 
-// As often as they come; `f` stands for one that can be built, but for its inputs.
+// One that can be built, but for its inputs.
+const BUILDABLE: u8 = b'f';
+
+// As often as they come.
 const LETTERS: [u8; 64] = *b"ffffffffffffffffffffffffffffffffffffffffffffffffffffrrrrrrrrskmp";
 
 /// A generator of numbers, by shifts (Marsaglia, "Xorshift RNGs", 2003).
@@ -85,15 +88,16 @@ fn empty_outputs(alloc: Global, names: &[&[u8]]) -> Result<Vec<Output>, AllocErr
     Ok(outputs)
 }
 
-// Up to three of the last paths, in order; some of them may be the same.
+// Up to so many of the last paths, in order; some of them may be the same.
 fn used(
     alloc: Global,
     paths: &[StorePath],
     random: &mut Random,
+    most: u8,
 ) -> Result<Vec<Vec<u8>>, AllocError> {
     let recent = &paths[paths.len().saturating_sub(WINDOW)..];
     let mut used = Vec::new(alloc);
-    for _ in 0..random.below(4) {
+    for _ in 0..random.below(most as usize + 1) {
         if let Some(path) = recent.get(random.below(WINDOW)) {
             used.push(Vec::from_slice(alloc, path.text())?)?;
         }
@@ -239,10 +243,15 @@ impl MadeUp {
         self.add(alloc, made)
     }
 
-    // Makes up one more derivation, with some of those before it as inputs.
-    fn push_any(&mut self, alloc: Global, random: &mut Random) -> Result<(), Fail> {
-        let letter = LETTERS[random.below(64)];
-        let inputs = inputs(alloc, used(alloc, &self.paths, random)?)?;
+    // Makes up one more derivation, with this letter and up to so many of those before it as inputs.
+    fn push_over(
+        &mut self,
+        alloc: Global,
+        random: &mut Random,
+        letter: u8,
+        most: u8,
+    ) -> Result<(), Fail> {
+        let inputs = inputs(alloc, used(alloc, &self.paths, random, most)?)?;
         let hashes = self.hashes_of(alloc, &inputs)?;
         self.push(alloc, letter, inputs, &hashes)
     }
@@ -254,9 +263,9 @@ impl MadeUp {
             (Some(path), Some(hash)) => {
                 let hashes = [*hash];
                 let inputs = one_input(alloc, path)?;
-                self.push(alloc, b'f', inputs, &hashes)
+                self.push(alloc, BUILDABLE, inputs, &hashes)
             }
-            _ => self.push(alloc, b'f', Vec::new(alloc), &[]),
+            _ => self.push(alloc, BUILDABLE, Vec::new(alloc), &[]),
         }
     }
 }
@@ -288,7 +297,18 @@ pub(crate) fn nothing(alloc: Global) -> MadeUp {
 pub(crate) fn made_up(alloc: Global, random: &mut Random, count: usize) -> Result<MadeUp, Fail> {
     let mut made_up = nothing(alloc);
     for _ in 0..count {
-        made_up.push_any(alloc, random)?;
+        let letter = LETTERS[random.below(64)];
+        made_up.push_over(alloc, random, letter, 3)?;
+    }
+    Ok(made_up)
+}
+
+// So many derivations that can be built, of which each uses up to so many of those before it.
+fn buildable(alloc: Global, count: usize, most: u8) -> Result<MadeUp, Fail> {
+    let mut random = Random { state: 271_828 };
+    let mut made_up = nothing(alloc);
+    for _ in 0..count {
+        made_up.push_over(alloc, &mut random, BUILDABLE, most)?;
     }
     Ok(made_up)
 }
@@ -327,6 +347,23 @@ pub(crate) fn random_plan(
 ) -> Result<Plan, Fail> {
     let roots = some_of(alloc, &made_up.paths, random)?;
     plan_of(alloc, made_up, &roots)
+}
+
+// The same paths, the last of them first.
+fn last_first(alloc: Global, paths: &[StorePath]) -> Result<Vec<StorePath>, Fail> {
+    let mut turned = Vec::new(alloc);
+    for path in paths.iter().rev() {
+        turned.push(path.copy(alloc)?)?;
+    }
+    Ok(turned)
+}
+
+/// The plan of so many derivations that can be built, of which each uses up to so many of those
+/// before it; all are roots, the last of them first.
+pub(crate) fn buildable_plan(alloc: Global, count: usize, most: u8) -> Result<Plan, Fail> {
+    let made_up = buildable(alloc, count, most)?;
+    let roots = last_first(alloc, &made_up.paths)?;
+    plan_of(alloc, &made_up, &roots)
 }
 
 /// The plan of these roots, which were made up.

@@ -28,7 +28,8 @@ pub record IsSeenVerdict (seen : List Entry) (job : Job) (answer : Answer)
 -- the reason why there is none.
 abbrev pub IsFoundBy : (seen : List Entry) → Job → Result Answer Reason
     → Result (List PathInfo) Reason → Type 0
-IsFoundBy seen job (Ok answer) found = (found ≡ Err OutOfMemory) ⊎ IsSeenVerdict seen job answer found
+IsFoundBy seen job (Ok answer) found = (found ≡ Err OutOfMemory)
+    ⊎ IsSeenVerdict seen job answer found
 IsFoundBy seen job (Err reason) found = found ≡ Err reason
 
 -- What may be found of a job by a list: what is found of an outcome that a builder may give, or of

@@ -15,12 +15,12 @@
 
 mod build;
 mod fault;
+#[cfg(test)]
+mod fault_tests;
 pub mod laws;
 mod lent;
 mod locked;
 mod run;
-#[cfg(test)]
-mod run_tests;
 mod shared;
 mod verdict;
 mod worker;

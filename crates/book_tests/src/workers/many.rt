@@ -1,10 +1,9 @@
-//! Tests of runs over many derivations, which are made for them.
-
-use super::builders::Double;
-use super::failing::Wild;
-use super::made::made_plan;
-use super::traces::{Traces, realised, report_of};
-use super::{BUILT, FAILED, REFUSED, doubles, gated, told_run};
+//! Runs by workers over many derivations, which are made up for them.
+use super::all_built;
+use super::builders::Wild;
+use super::traces::{Traces, realised};
+use crate::random_plans::buildable_plan;
+use crate::rows::{BUILT, FAILED, REFUSED};
 use drv_graph::Plan;
 use std::alloc::{AllocError, Global};
 use std::sync::Wait;
@@ -12,40 +11,20 @@ use std::test::*;
 use std::thread::Threads;
 use valid_table::{Entry, Journal};
 
-// How many lines of a report begin with these bytes.
-fn lines(report: &[u8], start: &[u8]) -> usize {
+/// How many lines of a report begin with these bytes.
+pub(super) fn lines(report: &[u8], start: &[u8]) -> usize {
     report
         .split(|&byte| byte == b'\n')
         .filter(|line| line.starts_with(start))
         .count()
 }
 
-// Of 64 builds none ends well before all have begun.
-#[test]
-fn sixty_four_at_once(rt: HostRuntime) -> Result<(), Fail> {
-    let plan = made_plan(rt.alloc(), 64, 0)?;
-    let report = gated(&rt, rt.alloc(), &plan, 64, 64)?;
-    assert_eq!(rt; lines(&report, BUILT), 64);
-    Ok(())
-}
-
-// The report of a run by so many workers, in which each derivation is built.
-fn all_built<R: Threads + Wait + Sync>(
-    rt: &R,
-    alloc: Global,
-    plan: &Plan,
-    workers: usize,
-) -> Result<Vec<u8>, Fail> {
-    let builders: Vec<Double> = doubles(alloc, &[], workers)?;
-    report_of(rt, alloc, plan, builders)
-}
-
 // Many derivations by one worker, and one derivation by as many workers as there may be.
 #[test]
 fn one_worker_or_one_derivation(rt: HostRuntime) -> Result<(), Fail> {
     for (count, workers) in [(64, 1), (1, 64)] {
-        let plan = made_plan(rt.alloc(), count, 0)?;
-        let report = all_built(&rt, rt.alloc(), &plan, workers)?;
+        let plan = buildable_plan(rt.alloc(), count, 0)?;
+        let report = all_built(&rt, rt.alloc(), &plan, workers)?.report;
         assert_eq!(rt; lines(&report, BUILT), count);
     }
     Ok(())
@@ -56,22 +35,12 @@ fn are_alike(some: &[Entry], others: &[Entry]) -> bool {
     some.len() == others.len() && some.iter().all(|entry| others.contains(entry))
 }
 
-// What is left of a run in which all builds end well.
-fn after_all_built<R: Threads + Wait + Sync>(
-    rt: &R,
-    alloc: Global,
-    plan: &Plan,
-    workers: usize,
-) -> Result<Traces, Fail> {
-    told_run(rt, alloc, plan, &Journal::new(alloc), &[], workers)
-}
-
 // One worker and eight end with one report, and register the same.
 #[test]
 fn one_worker_or_eight(rt: HostRuntime) -> Result<(), Fail> {
-    let plan = made_plan(rt.alloc(), 200, 3)?;
-    let alone = after_all_built(&rt, rt.alloc(), &plan, 1)?;
-    let together = after_all_built(&rt, rt.alloc(), &plan, 8)?;
+    let plan = buildable_plan(rt.alloc(), 200, 3)?;
+    let alone = all_built(&rt, rt.alloc(), &plan, 1)?;
+    let together = all_built(&rt, rt.alloc(), &plan, 8)?;
     assert_eq!(rt; lines(&alone.report, BUILT), 200);
     assert!(rt; alone.report == together.report);
     assert!(rt; are_alike(&alone.entries, &together.entries));
@@ -103,7 +72,7 @@ fn after_wild<R: Threads + Wait + Sync>(
 // the same.
 #[test]
 fn some_builds_fail(rt: HostRuntime) -> Result<(), Fail> {
-    let plan = made_plan(rt.alloc(), 300, 2)?;
+    let plan = buildable_plan(rt.alloc(), 300, 2)?;
     let alone = after_wild(&rt, rt.alloc(), &plan, 1)?;
     for start in [BUILT, FAILED, REFUSED] {
         assert!(rt; lines(&alone.report, start) > 10);

@@ -1,19 +1,19 @@
 //! A derivation that refers to an input that was built while another build was open.
 ghost use Rattle.std.specs.Prelude.{⊤};
 
-use super::builders::{left, left_nothing};
-use super::files::*;
-use super::plan;
 use super::traces::realised;
-use crate::Build;
+use crate::books::plan;
+use crate::builders::{left, left_nothing};
+use crate::files::*;
 use drv_graph::Plan;
 use sched_core::{Answer, Job, Reason};
-use std::alloc::{AllocError, Global};
+use std::alloc::Global;
 use std::sync::Wait;
 use std::sync::atomic::{AtomicU64, Ordering};
 use std::test::*;
 use std::thread;
 use std::thread::Threads;
+use store_run::Build;
 use valid_table::{Entry, Journal, Registration};
 
 // What a builder leaves for a derivation, how many stages it goes on, and which it waits for.
@@ -50,7 +50,7 @@ const TURNS: u64 = 1_000_000;
 
 // A builder that does its part; where the stage that it waits for doesn't come it ends with the
 // status 99.
-#[derive(Drop)]
+#[derive(Clone, Copy)]
 struct Staged<'a> {
     alloc: Global,
     stage: &'a AtomicU64,
@@ -64,7 +64,7 @@ impl<'a> Build for Staged<'a> {
         self.stage.fetch_add(part.goes_on, Ordering::SeqCst);
         for _ in 0..TURNS {
             if self.stage.load(Ordering::SeqCst) >= part.awaits {
-                return left(self.alloc, job, part.bytes);
+                return Ok(left(self.alloc, job, part.bytes)?);
             }
             thread::yield_now();
         }
@@ -81,18 +81,6 @@ fn part_of(job: &Job) -> Part {
     }
 }
 
-fn all_staged<'a>(
-    alloc: Global,
-    stage: &'a AtomicU64,
-    count: usize,
-) -> Result<Vec<Staged<'a>>, AllocError> {
-    let mut builders = Vec::new(alloc);
-    for _ in 0..count {
-        builders.push(Staged { alloc, stage })?;
-    }
-    Ok(builders)
-}
-
 // The journal's entries after a run by so many workers.
 fn entries<R: Threads + Wait + Sync>(
     rt: &R,
@@ -100,8 +88,8 @@ fn entries<R: Threads + Wait + Sync>(
     plan: &Plan,
     workers: usize,
 ) -> Result<Vec<Entry>, Fail> {
-    let stage = AtomicU64::new(0);
-    let builders = all_staged(alloc, &stage, workers)?;
+    let stage = &AtomicU64::new(0);
+    let builders = vec![in alloc; Staged { alloc, stage }; workers]?;
     Ok(realised(rt, alloc, plan, &Journal::new(alloc), builders)?.entries)
 }
 

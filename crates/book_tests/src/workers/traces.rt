@@ -1,8 +1,7 @@
 //! What runs leave behind, and how those end that leave no book.
 ghost use Rattle.std.specs.Prelude.{◌≡◌};
 
-use super::SYSTEM;
-use crate::{Build, Ended, RunFault, realise};
+use crate::books::SYSTEM;
 use drv_graph::Plan;
 use sched_core::{Book, Event};
 use std::alloc::Global;
@@ -10,6 +9,7 @@ use std::marker::Brand;
 use std::sync::Wait;
 use std::test::Fail;
 use std::thread::Threads;
+use store_run::{Build, Ended, RunFault, realise};
 use valid_table::{Entry, Journal, Outlet, TableFault};
 use valid_view::{Name, Naming};
 
@@ -21,14 +21,6 @@ pub(super) struct Traces {
     pub entries: Vec<Entry>,
     /// The journal's text.
     pub text: Vec<u8>,
-}
-
-// The report of a run.
-fn report<O: Outlet>(book: &Book<O>) -> Result<Vec<u8>, Fail> {
-    if !book.settled() {
-        return Err("it isn't settled".into());
-    }
-    Ok(book.report()?)
 }
 
 fn copied(alloc: Global, entries: &[Entry]) -> Result<Vec<Entry>, TableFault> {
@@ -45,7 +37,10 @@ fn parts_of(alloc: Global, journal: &Journal) -> Result<(Vec<Entry>, Vec<u8>), F
 }
 
 fn traces_of<O: Outlet>(alloc: Global, book: &Book<O>) -> Result<Traces, Fail> {
-    let report = report(book)?;
+    if !book.settled() {
+        return Err("something can still be built".into());
+    }
+    let report = book.report()?;
     let (entries, text) = parts_of(alloc, book.journal())?;
     let events = Vec::from_slice(alloc, book.events())?;
     Ok(Traces {
@@ -54,6 +49,20 @@ fn traces_of<O: Outlet>(alloc: Global, book: &Book<O>) -> Result<Traces, Fail> {
         entries,
         text,
     })
+}
+
+// The book of a run that went to its end; any other is closed.
+fn settled<O: Outlet>(
+    ended: Result<Book<O>, (RunFault, Option<Book<O>>)>,
+) -> Result<Book<O>, RunFault> {
+    let (fault, left) = match ended {
+        Ok(book) => return Ok(book),
+        Err(ended) => ended,
+    };
+    if let Some(book) = left {
+        book.close();
+    }
+    Err(fault)
 }
 
 // What a run over a view of this name leaves behind.
@@ -67,18 +76,11 @@ fn run_named<J: Naming + Send + Sync, R: Threads + Wait + Sync, B: Build + Send 
 ) -> Result<Traces, Fail>
     requires { name ≡ J.book }
 {
-    match realise::<J, R, B>(rt, alloc, name, plan, journal, SYSTEM, builders) {
-        Ok(book) => {
-            let traces = traces_of(alloc, &book);
-            book.close();
-            traces
-        }
-        Err((fault, Some(book))) => {
-            book.close();
-            Err(fault.into())
-        }
-        Err((fault, None)) => Err(fault.into()),
-    }
+    let ended: Ended<J, R> = realise(rt, alloc, name, plan, journal, SYSTEM, builders);
+    let book = settled(ended)?;
+    let traces = traces_of(alloc, &book);
+    book.close();
+    traces
 }
 
 /// What a run by these builders leaves behind.

@@ -1,0 +1,121 @@
+//! Builders of the runs by workers.
+ghost use Rattle.std.specs.Prelude.{⊤};
+
+use crate::builders::{Script, answer, left, left_nothing};
+use sched_core::{Answer, Job, Reason};
+use std::alloc::Global;
+use std::sync::atomic::{AtomicU64, Ordering};
+use std::thread;
+use store_run::Build;
+
+/// A builder that does as these scripts say.
+#[derive(Clone, Copy)]
+pub(super) struct Scripted {
+    pub alloc: Global,
+    pub scripts: &'static [Script],
+}
+
+impl Build for Scripted {
+    ghost may = { λ job outcome. ⊤ };
+
+    fn run(&self, _number: u64, job: &Job) -> Result<Answer, Reason> {
+        Ok(answer(self.alloc, job, self.scripts)?)
+    }
+}
+
+/// A builder that is refused memory.
+#[derive(Clone, Copy)]
+pub(super) struct Hungry;
+
+impl Build for Hungry {
+    ghost may = { λ job outcome. ⊤ };
+
+    fn run(&self, _number: u64, _job: &Job) -> Result<Answer, Reason> {
+        Err(Reason::OutOfMemory)
+    }
+}
+
+// How often a gate looks whether enough builds have begun.
+const TURNS: u64 = 1_000_000;
+
+/// A builder that makes a job's outputs once so many builds have begun, its own among them; after
+/// 1,000,000 looks it ends with the status 99.
+#[derive(Clone, Copy)]
+pub(super) struct Gate<'a> {
+    pub alloc: Global,
+    pub begun: &'a AtomicU64,
+    pub enough: u64,
+}
+
+impl<'a> Build for Gate<'a> {
+    ghost may = { λ job outcome. ⊤ };
+
+    fn run(&self, _number: u64, job: &Job) -> Result<Answer, Reason> {
+        self.begun.fetch_add(1, Ordering::SeqCst);
+        for _ in 0..TURNS {
+            if self.begun.load(Ordering::SeqCst) >= self.enough {
+                return Ok(left(self.alloc, job, b"")?);
+            }
+            thread::yield_now();
+        }
+        Ok(left_nothing(self.alloc, 99))
+    }
+}
+
+/// A builder of those that count their calls together, from 0: the call with this number is ended
+/// by a signal, and any other leaves empty files.
+#[derive(Clone, Copy)]
+pub(super) struct Counting<'a> {
+    pub alloc: Global,
+    pub calls: &'a AtomicU64,
+    pub fails: u64,
+}
+
+impl<'a> Build for Counting<'a> {
+    ghost may = { λ job outcome. ⊤ };
+
+    fn run(&self, _number: u64, job: &Job) -> Result<Answer, Reason> {
+        if self.calls.fetch_add(1, Ordering::SeqCst) == self.fails {
+            return Err(Reason::Killed);
+        }
+        Ok(left(self.alloc, job, b"")?)
+    }
+}
+
+/// A builder whose outcome depends on the derivation's number alone: of sixteen, one ends with a
+/// status, and five leave files that hold the path of an input. It yields up to 31 times first, by
+/// its seed and the lease's number.
+#[derive(Clone, Copy)]
+pub(super) struct Wild {
+    pub alloc: Global,
+    pub seed: u64,
+}
+
+impl Build for Wild {
+    ghost may = { λ job outcome. ⊤ };
+
+    fn run(&self, number: u64, job: &Job) -> Result<Answer, Reason> {
+        for _ in 0..next(self.seed ^ number) >> 59 {
+            thread::yield_now();
+        }
+        match next(next(job.derivation as u64)) >> 60 {
+            0 => Ok(left_nothing(self.alloc, 5)),
+            1..=5 => Ok(left(self.alloc, job, first_seed(job))?),
+            _ => Ok(left(self.alloc, job, b"")?),
+        }
+    }
+}
+
+// The next of a row of numbers that look random (Knuth's MMIX).
+fn next(seed: u64) -> u64 {
+    seed.wrapping_mul(6_364_136_223_846_793_005)
+        .wrapping_add(1_442_695_040_888_963_407)
+}
+
+// The first of the paths that a job is built from.
+fn first_seed(job: &Job) -> &[u8] {
+    match job.seeds.first() {
+        Some(path) => path.text(),
+        None => b"",
+    }
+}
