@@ -170,7 +170,7 @@ fn raced<J: Naming + Send + Sync, R: Threads + Wait + Abort + Sync>(
     Ok(())
 }
 
-// Publishes many times. Says whether each one worked.
+// Publishes what waits, and then nothing many times. Says whether each one worked.
 fn publishes<J: Naming + Send, R: Wait + Drop>(writer: &mut ViewWriter<J, R>) -> bool {
     let mut all = true;
     for _ in 0..5_000 {

@@ -213,3 +213,42 @@ fn looked<J: Naming + Send, R: Wait + Abort + Print>(
 fn looks_without_memory(rt: HostRuntime) -> Result<(), Fail> {
     looked::<Brand, _>(&rt, rt.alloc(), Name::new())
 }
+
+// Shows path 1 of these.
+fn show_next<J: Naming + Send, R: Wait + Drop>(
+    alloc: Global,
+    store: &mut Store<J, R>,
+    paths: &[StorePath],
+) -> Result<(), Fail> {
+    if !store.append(alloc, paths, 1)? {
+        return Err("memory was refused".into());
+    }
+    Ok(store.publish()?)
+}
+
+fn published_again<J: Naming + Send, R: Wait + Abort + Print>(
+    rt: &R,
+    alloc: Global,
+    name: Name,
+) -> Result<(), Fail>
+    requires { name ≡ J.book }
+{
+    let paths = all_numbered(alloc, 2)?;
+    let (mut store, _readers) = Store::<J, &R>::open(rt, alloc, name, &paths, 1)?;
+    let shown = show_next(alloc, &mut store, &paths);
+    let begins = rt.println(format_args!("memory is refused from here"));
+    let again = store.publish();
+    let ends = rt.println(format_args!("up to here; a publication of nothing"));
+    store.close();
+    shown?;
+    assert!(rt; begins.is_ok() && ends.is_ok());
+    assert!(rt; again.is_ok());
+    Ok(())
+}
+
+// Bringing the copy up that is not shown would take memory, which `tests/refused-growths` refuses
+// between the two lines that are printed.
+#[test]
+fn publishes_nothing_without_memory(rt: HostRuntime) -> Result<(), Fail> {
+    published_again::<Brand, _>(&rt, rt.alloc(), Name::new())
+}
