@@ -10,8 +10,8 @@ pub trait Builders {
     /// What is made.
     type Builder: Build + Send + Drop;
 
-    /// A builder in this store folder, for a plan of so many derivations. Want of memory is the only
-    /// error.
+    /// A builder in this store folder, for a plan of so many derivations. Want of memory is the
+    /// only error.
     fn builder(
         &self,
         alloc: Global,

@@ -35,7 +35,8 @@ where
     R: Files + AllocGlobal + Threads + Wait + Sync,
     M: Builders,
     O: Write,
-    ensures { RealiseEnds M.Builder.may request.now (O.contents out.old) (O.contents out.new) result }
+    ensures { RealiseEnds M.Builder.may request.now (O.contents out.old) (O.contents out.new)
+        result }
 {
     let journal = read_journal(rt, request.store_dir, request.journal);
     let mut source = FolderSource::new(rt);
