@@ -10,29 +10,21 @@ pub trait Builders {
     /// What is made.
     type Builder: Build + Send + Drop;
 
-    /// A builder in this store folder, for a plan of so many derivations. Want of memory is the
-    /// only error.
-    fn builder(
-        &self,
-        alloc: Global,
-        store_dir: &str,
-        count: usize,
-    ) -> Result<Self::Builder, AllocError>;
+    /// A builder in this store folder. Want of memory is the only error.
+    fn builder(&self, alloc: Global, store_dir: &str) -> Result<Self::Builder, AllocError>;
 }
 
-/// A builder for each worker that a request asks for, for a plan of so many derivations. Want of
-/// memory is the only error.
+/// A builder for each worker that a request asks for. Want of memory is the only error.
 pub fn make_all<M: Builders>(
     alloc: Global,
     make: &M,
     request: &RealiseRequest<'_>,
-    count: usize,
 ) -> Result<Vec<M::Builder>, AllocError>
     ensures { IfOk result (λ builders. length builders.items ≡ request.now.jobs) }
 {
     let mut builders = Vec::new(alloc);
     for _ in 0..request.jobs.count() {
-        builders.push(make.builder(alloc, request.store_dir, count)?)?;
+        builders.push(make.builder(alloc, request.store_dir)?)?;
     }
     Ok(builders)
 }

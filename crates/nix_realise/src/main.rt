@@ -19,7 +19,7 @@
 //! | `task` | what `realise` is over: a plan and a journal |
 //! | `settled` | what a book says at the end of a run |
 //! | `builders`, `realise` | the builders of a run; the subcommand `realise` |
-//! | `progress` | the line of progress, which tells what the builders of a run are doing |
+//! | `progress` | the line of progress, which tells how far a run is |
 //! | `printing`, `run` | what is printed; one run of the program |
 #![tactic(auto)]
 

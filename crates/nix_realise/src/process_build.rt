@@ -82,7 +82,6 @@ impl<'a, R: Files + AllocGlobal + Sync, P: Processes + Sync> Builders for ByProc
         &self,
         alloc: Global,
         store_dir: &str,
-        _count: usize,
     ) -> Result<ProcessBuild<'a, R, P>, AllocError> {
         ProcessBuild::new(alloc, self.rt, self.processes, store_dir)
     }

@@ -1,4 +1,4 @@
-//! The line of progress, which tells what the builders of a run are doing.
+//! The line of progress, which tells how far a run is.
 
 use crate::builders::Builders;
 use sched_core::{Answer, Job, Reason};
@@ -10,39 +10,65 @@ use store_run::Build;
 // What takes a terminal's line away: to its first column, and nothing from there on (ECMA-48, EL).
 const NO_LINE: &str = "\r\x1b[K";
 
-// How many builders run, and how those that ended did.
+// How many jobs run, and how those that ended did; how many derivations were to be built, and how
+// many of them have still something before them.
 #[derive(Clone, Copy)]
 struct Tally {
-    running: u64,
-    good: u64,
+    running: usize,
+    built: u64,
     failed: u64,
+    all: usize,
+    unsettled: usize,
 }
 
 impl Tally {
-    // One more builder runs.
-    fn begin(&mut self) {
-        self.running = self.running.saturating_add(1);
-    }
-
-    // A builder ended, well or not.
-    fn end(&mut self, is_good: bool) {
-        self.running = self.running.saturating_sub(1);
-        if is_good {
-            self.good = self.good.saturating_add(1);
-        } else {
-            self.failed = self.failed.saturating_add(1);
+    // Before anything is known.
+    fn new() -> Tally {
+        Tally {
+            running: 0,
+            built: 0,
+            failed: 0,
+            all: 0,
+            unsettled: usize::MAX,
         }
     }
 
-    // The line, in the place of the one before, for a plan of so many derivations.
-    fn line(&self, alloc: Global, count: usize) -> Result<String, AllocError> {
+    // One more job runs, while so many derivations are unsettled.
+    fn begin(&mut self, unsettled: usize) {
+        self.running = self.running.saturating_add(1);
+        self.learn(unsettled);
+    }
+
+    // A job ended, well or not, and so many derivations are unsettled.
+    fn end(&mut self, is_good: bool, unsettled: usize) {
+        self.running = self.running.saturating_sub(1);
+        if is_good {
+            self.built = self.built.saturating_add(1);
+        } else {
+            self.failed = self.failed.saturating_add(1);
+        }
+        self.learn(unsettled);
+    }
+
+    // Learns how many derivations are unsettled. That number only falls, so of two that come in the
+    // wrong order the less is the newer.
+    fn learn(&mut self, unsettled: usize) {
+        self.all = self.all.max(unsettled);
+        self.unsettled = self.unsettled.min(unsettled);
+    }
+
+    // The line, in the place of the one before.
+    fn line(&self, alloc: Global) -> Result<String, AllocError> {
         let Tally {
             running,
-            good,
+            built,
             failed,
+            all,
+            unsettled,
         } = self;
+        let waiting = unsettled.saturating_sub(*running);
         format!(in alloc;
-            "{NO_LINE}nix_realise: {running} running, {good} ended well, {failed} failed, {count} in the plan"
+            "{NO_LINE}nix_realise: {running} running, {built} built, {failed} failed, {waiting} waiting, of {all}"
         )
     }
 }
@@ -55,50 +81,46 @@ struct Shown<W> {
 }
 
 impl<W: Write> Shown<W> {
-    // Tells the tally while a builder runs, and else takes the line away.
-    fn tell(&mut self, alloc: Global, count: usize) {
+    // Tells the tally while a job runs, and else takes the line away.
+    fn tell(&mut self, alloc: Global) {
         // A refused write changes nothing.
-        let _ = match self.tally.line(alloc, count) {
+        let _ = match self.tally.line(alloc) {
             Ok(line) if self.tally.running > 0 => self.to.write_all(line.as_bytes()),
             _ => self.to.write_all(NO_LINE.as_bytes()),
         };
     }
 }
 
-/// The line of progress of a run: how many builders run, how many ended well, with the status 0 and
-/// outputs that could be read, how many failed, and how many derivations the plan has. It is
-/// written anew when a builder begins or ends, and gone where none runs or where there is no memory
-/// for it.
+/// The line of progress of a run: how many derivations are being built, how many were built and how
+/// many failed, how many wait, and how many were to be built when the first was begun. It is
+/// written anew when one begins or ends, and gone where none is being built or where there is no
+/// memory for it.
 #[derive(Drop)]
 pub struct Progress<W> {
     shown: Mutex<Shown<W>>,
 }
 
 impl<W: Write> Progress<W> {
-    /// Before any builder runs; the line goes to this terminal.
+    /// Before anything is built; the line goes to this terminal.
     pub fn new(to: W) -> Progress<W> {
-        let tally = Tally {
-            running: 0,
-            good: 0,
-            failed: 0,
-        };
+        let tally = Tally::new();
         Progress {
             shown: Mutex::new(Shown { tally, to }),
         }
     }
 
-    // A builder begins.
-    fn begin<R: Wait + AllocGlobal>(&self, rt: &R, count: usize) {
+    // A job begins, while so many derivations are unsettled.
+    fn begin<R: Wait + AllocGlobal>(&self, rt: &R, unsettled: usize) {
         let mut shown = self.shown.lock(rt);
-        shown.tally.begin();
-        shown.tell(rt.alloc(), count);
+        shown.tally.begin(unsettled);
+        shown.tell(rt.alloc());
     }
 
-    // A builder ended, well or not.
-    fn end<R: Wait + AllocGlobal>(&self, rt: &R, count: usize, is_good: bool) {
+    // A job ended, well or not, and so many derivations are unsettled.
+    fn end<R: Wait + AllocGlobal>(&self, rt: &R, is_good: bool, unsettled: usize) {
         let mut shown = self.shown.lock(rt);
-        shown.tally.end(is_good);
-        shown.tell(rt.alloc(), count);
+        shown.tally.end(is_good, unsettled);
+        shown.tell(rt.alloc());
     }
 }
 
@@ -108,7 +130,6 @@ pub struct Watched<'a, R, B, W> {
     rt: &'a R,
     builder: B,
     progress: &'a Progress<W>,
-    count: usize,
 }
 
 impl<R: Wait + AllocGlobal, B: Build, W: Write> Build for Watched<'_, R, B, W> {
@@ -116,18 +137,19 @@ impl<R: Wait + AllocGlobal, B: Build, W: Write> Build for Watched<'_, R, B, W> {
 
     /// Builds a job as the builder does.
     fn run(&self, number: u64, job: &Job) -> Result<Answer, Reason> {
-        self.progress.begin(self.rt, self.count);
-        let outcome = self.builder.run(number, job);
-        self.progress.end(self.rt, self.count, is_good(&outcome));
-        outcome
+        self.builder.run(number, job)
     }
-}
 
-// Whether a builder ended with the status 0.
-fn is_good(outcome: &Result<Answer, Reason>) -> bool {
-    match outcome {
-        Ok(answer) => answer.status == Some(0),
-        Err(_) => false,
+    /// Tells the line that a job begins, and the builder.
+    fn begun(&self, unsettled: usize) {
+        self.progress.begin(self.rt, unsettled);
+        self.builder.begun(unsettled);
+    }
+
+    /// Tells the line that a job's lease ended, and the builder.
+    fn ended(&self, is_good: bool, unsettled: usize) {
+        self.progress.end(self.rt, is_good, unsettled);
+        self.builder.ended(is_good, unsettled);
     }
 }
 
@@ -158,13 +180,11 @@ where
         &self,
         alloc: Global,
         store_dir: &str,
-        count: usize,
     ) -> Result<Watched<'a, R, M::Builder, W>, AllocError> {
         Ok(Watched {
             rt: self.rt,
-            builder: self.make.builder(alloc, store_dir, count)?,
+            builder: self.make.builder(alloc, store_dir)?,
             progress: self.progress,
-            count,
         })
     }
 }

@@ -41,7 +41,7 @@ where
     let journal = read_journal(rt, request.store_dir, request.journal);
     let mut source = FolderSource::new(rt);
     let task = task_of(rt.alloc(), &mut source, request, journal)?;
-    let builders = make_all(rt.alloc(), make, request, task.plan.len())?;
+    let builders = make_all(rt.alloc(), make, request)?;
     run_task(rt, request, &task, builders, out)
 }
 

@@ -54,7 +54,7 @@ impl Build for Idle {
 impl Builders for Idle {
     type Builder = Idle;
 
-    fn builder(&self, _alloc: Global, _store_dir: &str, _count: usize) -> Result<Idle, AllocError> {
+    fn builder(&self, _alloc: Global, _store_dir: &str) -> Result<Idle, AllocError> {
         Ok(Idle)
     }
 }

@@ -10,10 +10,10 @@ use std::process;
 use std::test::Fail;
 
 // What one worker writes of a diamond of which both sides fail: a line while each of the three
-// builders runs, and none behind it.
-const WRITTEN: &str = "\r\x1b[Knix_realise: 1 running, 0 ended well, 0 failed, 4 in the plan\
-    \r\x1b[K\r\x1b[Knix_realise: 1 running, 1 ended well, 0 failed, 4 in the plan\
-    \r\x1b[K\r\x1b[Knix_realise: 1 running, 1 ended well, 1 failed, 4 in the plan\
+// builders runs, and none behind it. Once the first side failed nothing waits but the other.
+const WRITTEN: &str = "\r\x1b[Knix_realise: 1 running, 0 built, 0 failed, 3 waiting, of 4\
+    \r\x1b[K\r\x1b[Knix_realise: 1 running, 1 built, 0 failed, 2 waiting, of 4\
+    \r\x1b[K\r\x1b[Knix_realise: 1 running, 1 built, 1 failed, 0 waiting, of 4\
     \r\x1b[K";
 
 // Realises such a diamond by one worker.
