@@ -49,7 +49,7 @@ const BEHIND: &[u8] = b": InputNotRealised(";
 
 const CLOSED: &[u8] = b")\n";
 
-pub(crate) static ROWS: [Row; 22] = [
+static DIAMONDS: [Row; 6] = [
     Row {
         label: "a diamond",
         roots: &[TOP],
@@ -166,6 +166,9 @@ pub(crate) static ROWS: [Row; 22] = [
             BUILT, RIGHT, END, BUILT, LEFT, END, FAILED, TOP, STATUS, BUILT, BASE, END,
         ],
     },
+];
+
+static OTHERS: [Row; 16] = [
     Row {
         label: "an output that holds the path of an input that was just built",
         roots: &[RIGHT],
@@ -407,3 +410,13 @@ pub(crate) static ROWS: [Row; 22] = [
         report: &[],
     },
 ];
+
+/// Runs over a diamond.
+pub(crate) fn diamonds() -> &'static [Row] {
+    &DIAMONDS
+}
+
+/// Other runs.
+pub(crate) fn others() -> &'static [Row] {
+    &OTHERS
+}

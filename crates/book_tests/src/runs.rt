@@ -2,7 +2,7 @@
 use crate::books::{has_journal, has_report, open};
 use crate::builders::build_all;
 use crate::files::TOP;
-use crate::rows::{ROWS, Row};
+use crate::rows::{Row, diamonds, others};
 use sched_core::{Book, Event};
 use std::alloc::Global;
 use std::test::*;
@@ -25,8 +25,16 @@ fn holds(alloc: Global, row: &Row) -> Result<bool, Fail> {
 }
 
 #[test]
-fn runs(rt: HostRuntime) -> Result<(), Fail> {
-    for row in &ROWS {
+fn runs_of_diamonds(rt: HostRuntime) -> Result<(), Fail> {
+    for row in diamonds() {
+        assert!(rt; holds(rt.alloc(), row)?, "{}", row.label);
+    }
+    Ok(())
+}
+
+#[test]
+fn other_runs(rt: HostRuntime) -> Result<(), Fail> {
+    for row in others() {
         assert!(rt; holds(rt.alloc(), row)?, "{}", row.label);
     }
     Ok(())

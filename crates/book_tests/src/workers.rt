@@ -4,7 +4,7 @@ ghost use Rattle.std.specs.Prelude.{◌≡◌};
 use crate::books::{book_of, joined, journal, plan};
 use crate::builders::Script;
 use crate::files::*;
-use crate::rows::{END, FAILED, ROWS, Row};
+use crate::rows::{END, FAILED, Row, diamonds, others};
 use builders::{Hungry, Scripted};
 use drv_graph::Plan;
 use sched_core::Event;
@@ -54,8 +54,19 @@ fn holds<R: Threads + Wait + Sync>(
 }
 
 #[test]
-fn runs(rt: HostRuntime) -> Result<(), Fail> {
-    for row in &ROWS {
+fn runs_of_diamonds(rt: HostRuntime) -> Result<(), Fail> {
+    for row in diamonds() {
+        for workers in [1, 2, 4, 64] {
+            let holds = holds(&rt, rt.alloc(), row, workers)?;
+            assert!(rt; holds, "{} by {workers}", row.label);
+        }
+    }
+    Ok(())
+}
+
+#[test]
+fn other_runs(rt: HostRuntime) -> Result<(), Fail> {
+    for row in others() {
         for workers in [1, 2, 4, 64] {
             let holds = holds(&rt, rt.alloc(), row, workers)?;
             assert!(rt; holds, "{} by {workers}", row.label);
