@@ -1,5 +1,5 @@
--- *What was given*: a run ends as one thread would whose builder gives each derivation the outcome
--- that it was given in the run; nothing is asked of the builders (this product's own).
+-- *What was given*: a run ends as one thread would whose builder gives each derivation one outcome,
+-- of which the run is answered too; nothing is asked of the builders (this product's own).
 use Rattle.std.specs.Prelude.{◌≡◌, ℕ, List, Result}
 use Rattle.sched_core.specs.Reports.{IsReportIn}
 use Rattle.sched_core.specs.Runs.{History, Run}
@@ -29,8 +29,8 @@ pub record IsDecided (may : Job → Result Answer Reason → Type 0) (run : Run)
       → IsReportIn run history a → IsReportIn run other b → a ≡ b
   pub thread : (other : History) × IsOneThread (GivesEach may outcomes) run history.opening other
 
--- what a run leaves behind that went to its end with memory enough is decided by the outcomes that
--- its builders gave
+-- what a run leaves behind that went to its end with memory enough is decided by outcomes that its
+-- builders may have given, one for each derivation
 abbrev pub OutcomesDecide : (may : Job → Result Answer Reason → Type 0) → Type 0
 OutcomesDecide may = (run : Run) (history : History) → IsEndedRun may run history
     → (outcomes : ℕ → Result Answer Reason) × IsDecided may run history outcomes

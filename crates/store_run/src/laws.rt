@@ -42,8 +42,8 @@ pub fn realised_is_whole<B: Build>()
     ensures whole { RealisedIsWhole B.may }
 {}
 
-/// What a run leaves behind that went to its end with memory enough follows from the outcomes that
-/// its builders gave, whatever they may give: one thread that is given the same leaves each
+/// What a run leaves behind that went to its end with memory enough follows from outcomes that its
+/// builders may have given, one for each derivation: one thread that is given the same leaves each
 /// derivation in the same state, each path with the same record, and the same report.
 pub fn outcomes_decide<B: Build>()
     ensures { OutcomesDecide B.may }
