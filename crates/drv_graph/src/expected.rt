@@ -16,9 +16,6 @@ use nix_names::{StoreDir, StorePath, make_path};
 use sha2::{Digest, Sha256};
 use std::alloc::{AllocError, Global};
 
-#[cfg(test)]
-mod tests;
-
 // The expected paths of the outputs of a derivation with this name and kind, by the hashes of its
 // inputs. The names of the outputs and of their paths are names, as has been tested.
 pub(crate) fn expected_paths(

@@ -28,11 +28,7 @@ mod kind_of;
 mod kinds;
 pub mod laws;
 mod load;
-#[cfg(test)]
-mod load_tests;
 mod modulo;
-#[cfg(test)]
-mod modulo_tests;
 mod node;
 mod outputs;
 mod paths;

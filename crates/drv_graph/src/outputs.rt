@@ -22,9 +22,6 @@ use nix_names::{StoreDir, StorePath, is_name};
 use sha2::{Digest, Sha256};
 use std::alloc::{AllocError, Global};
 
-#[cfg(test)]
-mod tests;
-
 // An input of a derivation: the path of its text, itself, and its modulo hash.
 #[derive(Drop)]
 pub(crate) struct UsedInput<'a> {

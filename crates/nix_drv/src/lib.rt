@@ -17,12 +17,8 @@
 #![tactic(auto)]
 
 mod check;
-#[cfg(test)]
-mod check_tests;
 mod derivation;
 mod derivation_eq;
-#[cfg(test)]
-mod derivation_tests;
 mod element;
 mod escapes;
 mod fault;
@@ -42,6 +38,3 @@ pub use reading::{MAX_LEN, read};
 pub use source::{DrvSource, SourceFault};
 pub use text_paths::text_path;
 pub use writing::{write, write_string};
-
-#[cfg(test)]
-mod tests;

@@ -61,19 +61,3 @@ impl From<AllocError> for NameFault {
         NameFault::NoMemory
     }
 }
-
-#[cfg(test)]
-mod tests {
-    use super::*;
-    use std::test::Fail;
-
-    #[test]
-    fn numbers_and_texts(rt: HostRuntime) -> Result<(), Fail> {
-        assert_eq!(rt; NameFault::BadLength.number(), 1);
-        assert_eq!(rt; NameFault::BadChar(4).number(), 2);
-        assert_eq!(rt; NameFault::NoMemory.number(), 9);
-        let text = format!(in rt.alloc(); "{}", NameFault::BadChar(4))?;
-        assert_eq!(rt; text.as_str(), "byte 4 is no base-32 digit");
-        Ok(())
-    }
-}

@@ -17,8 +17,6 @@ pub mod laws;
 mod making;
 mod name;
 pub mod path_laws;
-#[cfg(test)]
-mod path_tests;
 mod store_dir;
 mod store_path;
 

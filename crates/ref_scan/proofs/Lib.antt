@@ -1,7 +1,6 @@
 pub mod Digits
 pub mod Findings
 pub mod Folders
-pub mod Following
 pub mod HashParts
 pub mod Indexing
 pub mod Pieces

@@ -16,14 +16,10 @@ mod fault;
 mod fed;
 mod index;
 pub mod laws;
-#[cfg(test)]
-mod random_tests;
 mod references;
 mod scanner;
 mod seam;
 mod search;
-#[cfg(test)]
-mod tests;
 mod tree;
 
 pub use fault::ScanFault;

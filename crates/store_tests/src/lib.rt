@@ -9,6 +9,7 @@
 //! | `closures` | closures of small tables |
 //! | `path_lists` | outputs that are sorted, and unions of lists of paths |
 //! | `outlets` | the plain outlet |
+//! | `scans`, `random_scans` | which paths a tree refers to, and the limits of an output |
 //! | `many_paths` | thousands of entries, roots and permitted paths |
 //! | `paths` | paths and journals that the tests are made of |
 #![tactic(auto)]
@@ -28,4 +29,8 @@ mod path_lists;
 #[cfg(test)]
 mod paths;
 #[cfg(test)]
+mod random_scans;
+#[cfg(test)]
 mod registering;
+#[cfg(test)]
+mod scans;

@@ -1,5 +1,9 @@
-use super::*;
-use crate::tests::real::DERIVATIONS;
+//! Derivations at their own paths and at others, and sources of files.
+use crate::nix_derivations::DERIVATIONS;
+use nix_drv::{
+    Derivation, DrvFault, DrvSource, ListSource, ListedFile, MAX_LEN, SourceFault, check_text,
+    text_path,
+};
 use nix_names::{StoreDir, StorePath, parse_path};
 use std::alloc::{AllocError, Global};
 use std::cmp::Ordering;

@@ -1,6 +1,5 @@
 //! Tests of loading.
-use crate::kind_of::digits_of;
-use crate::{GraphFault, NodeFault, Plan};
+use drv_graph::{GraphFault, NodeFault, Plan};
 use files::*;
 use nix_drv::{DrvFault, ListSource, ListedFile, text_path};
 use nix_files::NIX_FILES;
@@ -307,6 +306,13 @@ fn each_path_is_fetched_once(rt: HostRuntime) -> Result<(), Fail> {
     assert!(rt; load(rt.alloc(), &mut source, &[BOTH, USER])?.is_ok());
     assert_eq!(rt; source.failures(), 0);
     Ok(())
+}
+
+// A digest's hex digits.
+fn digits_of(digest: &[u8; 32]) -> [u8; 64] {
+    let mut digits = [0; 64];
+    let _ = hex::encode_to_slice(digest, &mut digits);
+    digits
 }
 
 // The text of a derivation whose one output has a hash that begins with the place.

@@ -3,7 +3,7 @@ use super::files::*;
 use super::nix_files::*;
 use super::output_files::*;
 use super::{all_but, load_all};
-use crate::{Plan, fill_outputs};
+use drv_graph::{Plan, fill_outputs};
 use nix_drv::{Derivation, Parts};
 use nix_names::StoreDir;
 use std::alloc::Global;

@@ -1,6 +1,6 @@
 //! Parts taken out of derivations, texts with other inputs, and strings.
-use super::{GREET, read_ok, text_of};
-use crate::{Input, Parts, write_string};
+use crate::derivations::{GREET, read_ok, text_of};
+use nix_drv::{Input, Parts, write_string};
 use std::alloc::{AllocError, Global};
 use std::test::Fail;
 

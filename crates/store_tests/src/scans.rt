@@ -5,8 +5,8 @@ ghost use Rattle.std.specs.Cmp.Lexicographic.{slice_cmp};
 ghost use Rattle.std.specs.declared.cmp.Ordering.{Ordering};
 ghost use Rattle.nix_names.specs.Rising.{IsRising};
 
-use crate::{Member, ScanFault, Scanner, Tree, scan};
 use nix_names::{StoreDir, StorePath, parse_path};
+use ref_scan::{Member, ScanFault, Scanner, Tree, scan};
 use std::alloc::Global;
 use std::test::Fail;
 

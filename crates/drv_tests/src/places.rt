@@ -1,5 +1,5 @@
 //! Tests of finding parts of a derivation, and of equality.
-use super::*;
+use nix_drv::{Derivation, read};
 use std::alloc::Global;
 use std::test::*;
 

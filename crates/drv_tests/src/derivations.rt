@@ -1,20 +1,18 @@
+//! Derivations read, made of parts, and written.
 ghost use Rattle.std.specs.Prelude.{◌≤◌};
 
-use super::*;
-use real::DERIVATIONS;
+use crate::nix_derivations::DERIVATIONS;
+use nix_drv::{Derivation, DrvFault, EnvEntry, MAX_LEN, Parts, read, write};
 use std::alloc::{AllocError, Global};
 use std::test::*;
-
-mod parts;
-pub(crate) mod real;
 
 const NOTHING: &[u8; 28] = b"Derive([],[],[],\"\",\"\",[],[])";
 
 // A draft with an output, arguments and an environment.
-const GREET: &[u8; 97] =
+pub(crate) const GREET: &[u8; 97] =
     b"Derive([(\"out\",\"\",\"\",\"\")],[],[],\"x86_64-linux\",\"/bin/sh\",[\"-c\",\"echo hello > $out\"],[(\"out\",\"\")])";
 
-fn read_ok(alloc: Global, text: &[u8]) -> Result<Derivation, Fail> {
+pub(crate) fn read_ok(alloc: Global, text: &[u8]) -> Result<Derivation, Fail> {
     Ok(read(alloc, text).ok().ok_or("the bytes are a derivation")?)
 }
 
@@ -23,7 +21,7 @@ fn write_ok(alloc: Global, derivation: &Derivation) -> Result<Vec<u8>, Fail> {
 }
 
 // The text of the derivation that the parts make.
-fn text_of(alloc: Global, parts: Parts) -> Result<Vec<u8>, Fail> {
+pub(crate) fn text_of(alloc: Global, parts: Parts) -> Result<Vec<u8>, Fail> {
     let derivation = Derivation::new(parts).ok().ok_or("the parts are in order")?;
     write_ok(alloc, &derivation)
 }

@@ -3,7 +3,7 @@ use super::files::*;
 use super::nix_files::*;
 use super::output_files::*;
 use super::{is_blamed, load_all};
-use crate::{GraphFault, Kind, Method, NodeFault, OutputFault, Plan};
+use drv_graph::{GraphFault, Kind, Method, NodeFault, OutputFault, Plan};
 use nix_names::StorePath;
 use std::test::*;
 

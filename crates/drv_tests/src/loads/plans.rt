@@ -1,7 +1,7 @@
 //! Tests of plans that are copied and compared.
 use super::files::*;
 use super::load_all;
-use crate::Plan;
+use drv_graph::Plan;
 use std::alloc::Global;
 use std::test::*;
 

@@ -1,5 +1,5 @@
 //! Tests of modulo texts. The texts were made apart, with Python.
-use crate::modulo_text;
+use drv_graph::modulo_text;
 use nix_drv::{Derivation, read};
 use std::alloc::Global;
 use std::test::*;

@@ -1,4 +1,5 @@
-use crate::*;
+//! Store folders, and store paths parsed, made, copied and compared.
+use nix_names::{NameFault, StoreDir, StorePath, fold20, make_path, parse_path, to_base32};
 use std::alloc::Global;
 use std::collections::HashMap;
 use std::mem::size_of;

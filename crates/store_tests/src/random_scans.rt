@@ -2,8 +2,8 @@
 ghost use Rattle.std.specs.Prelude.{◌<◌, ◌++◌, ◌∷◌, [], IfOk, IsTrue};
 ghost use Rattle.nix_names.specs.Rising.{IsRising};
 
-use crate::Scanner;
 use nix_names::{StoreDir, StorePath, parse_path};
+use ref_scan::Scanner;
 use std::alloc::Global;
 use std::test::Fail;
 

@@ -1,0 +1,32 @@
+//! Tests of names, derivations and plans, of what no clause says: that calls succeed, and what they
+//! answer on texts that Nix wrote or that were made by hand.
+//!
+//! | Module | What is tried |
+//! |---|---|
+//! | `base32` | base-32 texts, and the words of the faults of names |
+//! | `store_paths` | store folders, and store paths parsed, made, copied and compared |
+//! | `derivations`, `parts`, `places` | derivations read, taken apart, made and written |
+//! | `checks` | derivations at their own paths and at others, and sources of files |
+//! | `modulo_texts` | modulo texts |
+//! | `loads` | plans loaded, what is wrong with others, and drafts filled |
+//! | `nix_derivations` | derivations that Nix wrote |
+#![tactic(auto)]
+
+#[cfg(test)]
+mod base32;
+#[cfg(test)]
+mod checks;
+#[cfg(test)]
+mod derivations;
+#[cfg(test)]
+mod loads;
+#[cfg(test)]
+mod modulo_texts;
+#[cfg(test)]
+mod nix_derivations;
+#[cfg(test)]
+mod parts;
+#[cfg(test)]
+mod places;
+#[cfg(test)]
+mod store_paths;
