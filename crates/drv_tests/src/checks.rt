@@ -1,98 +1,191 @@
-//! Derivations at their own paths and at others, and sources of files.
-use crate::nix_derivations::DERIVATIONS;
+//! Derivations at their own paths and at others, sources of files, and the numbers of faults.
+use crate::nix_derivations::derivations;
 use nix_drv::{
-    Derivation, DrvFault, DrvSource, ListSource, ListedFile, MAX_LEN, SourceFault, check_text,
-    text_path,
+    DrvFault, DrvSource, ListSource, ListedFile, MAX_LEN, SourceFault, check_text, text_path,
 };
-use nix_names::{StoreDir, StorePath, parse_path};
+use nix_names::{NameFault, StoreDir, StorePath, parse_path};
 use std::alloc::{AllocError, Global};
-use std::cmp::Ordering;
 use std::test::*;
 
-const NOTHING: &[u8; 28] = b"Derive([],[],[],\"\",\"\",[],[])";
+const NOTHING: &[u8] = b"Derive([],[],[],\"\",\"\",[],[])";
 
 // Where Nix 2.8 puts these bytes under the name `nothing.drv`.
 const NOTHING_PATH: &[u8] = b"/nix/store/5lhp9n6nphjda2gcbmin4vshljbil6kq-nothing.drv";
 
+// No file stands here.
+const MISSING: &[u8] = b"/nix/store/aaaaaaaaaaaaaaaaaaaaaaaaaaaaaaaa-x";
+
 // A derivation that Nix 2.8 made, with two sources.
 const TWO_SOURCES: &[u8] =
     b"Derive([(\"out\",\"/nix/store/nrwdc55dh6pyyfwhx6gqi2f09ydmmynh-x\",\"\",\"\")],[],[\"/nix/store/0gxgilmx7qj69as254xf7j3w4njgmjj4-b\",\"/nix/store/9c3lxr0am3d0zcv3cb6q36a3q3j4k7ma-c\"],\"s\",\"/nix/store/9c3lxr0am3d0zcv3cb6q36a3q3j4k7ma-c\",[\"/nix/store/0gxgilmx7qj69as254xf7j3w4njgmjj4-b\"],[(\"builder\",\"/nix/store/9c3lxr0am3d0zcv3cb6q36a3q3j4k7ma-c\"),(\"name\",\"x\"),(\"out\",\"/nix/store/nrwdc55dh6pyyfwhx6gqi2f09ydmmynh-x\"),(\"system\",\"s\")])";
+
+// The sources of that derivation.
+const FIRST: &[u8] = b"/nix/store/0gxgilmx7qj69as254xf7j3w4njgmjj4-b";
+
+const SECOND: &[u8] = b"/nix/store/9c3lxr0am3d0zcv3cb6q36a3q3j4k7ma-c";
 
 fn in_store(alloc: Global, text: &[u8]) -> Result<StorePath, Fail> {
     let dir = StoreDir::new(alloc, b"/nix/store")?;
     Ok(parse_path(alloc, &dir, text)?)
 }
 
-fn check(alloc: Global, path: &[u8], bytes: &[u8]) -> Result<Result<Derivation, DrvFault>, Fail> {
-    let dir = StoreDir::new(alloc, b"/nix/store")?;
-    let path = parse_path(alloc, &dir, path)?;
-    Ok(check_text(alloc, &dir, &path, bytes))
-}
-
 #[test]
 fn text_path_without_references(rt: HostRuntime) -> Result<(), Fail> {
-    let alloc = rt.alloc();
-    let dir = StoreDir::new(alloc, b"/nix/store")?;
-    let empty = text_path(alloc, &dir, b"empty", b"", &[])?;
-    assert_eq!(rt;
-        empty.text(),
-        b"/nix/store/wflv0hgb0qb1ddc5nxmsg0y9zjjhfvmh-empty".as_slice()
-    );
+    let dir = StoreDir::new(rt.alloc(), b"/nix/store")?;
+    let empty = text_path(rt.alloc(), &dir, b"empty", b"", &[])?;
+    let expected = b"/nix/store/wflv0hgb0qb1ddc5nxmsg0y9zjjhfvmh-empty".as_slice();
+    assert!(rt; empty.text() == expected);
     Ok(())
 }
 
-// The sources of the derivation with two sources.
 fn two_sources(alloc: Global) -> Result<(StorePath, StorePath), Fail> {
-    let first = in_store(alloc, b"/nix/store/0gxgilmx7qj69as254xf7j3w4njgmjj4-b")?;
-    let second = in_store(alloc, b"/nix/store/9c3lxr0am3d0zcv3cb6q36a3q3j4k7ma-c")?;
+    let first = in_store(alloc, FIRST)?;
+    let second = in_store(alloc, SECOND)?;
     Ok((first, second))
 }
 
 #[test]
 fn text_path_with_references(rt: HostRuntime) -> Result<(), Fail> {
     let (first, second) = two_sources(rt.alloc())?;
-    assert!(rt; matches!(first.cmp(&second), Ordering::Less));
+    assert!(rt; first < second);
     let dir = StoreDir::new(rt.alloc(), b"/nix/store")?;
     let own = text_path(rt.alloc(), &dir, b"x.drv", TWO_SOURCES, &[first, second])?;
-    assert_eq!(rt;
-        own.text(),
-        b"/nix/store/w5j4lp0mpmc1qm8yan4ig1ka71pqaj6q-x.drv".as_slice()
-    );
+    let expected = b"/nix/store/w5j4lp0mpmc1qm8yan4ig1ka71pqaj6q-x.drv".as_slice();
+    assert!(rt; own.text() == expected);
     Ok(())
 }
 
-// The own path of bytes that stand at another one.
-fn other_path(alloc: Global, path: &[u8], bytes: &[u8]) -> Result<StorePath, Fail> {
-    match check(alloc, path, bytes)? {
-        Err(DrvFault::TextPathMismatch(own)) => Ok(own),
-        _ => Err("the path is another one".into()),
+// What a check of bytes at a path answers: the number of the fault, or 0 if the bytes are sound,
+// and the place, the own path or the reference that the fault names.
+struct Answer {
+    number: u8,
+    place: usize,
+    named: &'static [u8],
+}
+
+const SOUND: Answer = Answer {
+    number: 0,
+    place: 0,
+    named: b"",
+};
+
+const TOO_LONG: Answer = Answer {
+    number: 12,
+    place: 0,
+    named: b"",
+};
+
+const NOT_A_DRV_NAME: Answer = Answer {
+    number: 14,
+    place: 0,
+    named: b"",
+};
+
+fn has_named(fault: &DrvFault, answer: &Answer) -> bool {
+    match fault {
+        DrvFault::Syntax(place) | DrvFault::Order(place) => *place == answer.place,
+        DrvFault::TextPathMismatch(own) => own.text() == answer.named,
+        DrvFault::BadReference(found) => found.as_slice() == answer.named,
+        _ => true,
     }
 }
 
-#[test]
-fn own_path(rt: HostRuntime) -> Result<(), Fail> {
-    assert!(rt; check(rt.alloc(), NOTHING_PATH, NOTHING)?.is_ok());
-    let elsewhere = b"/nix/store/aaaaaaaaaaaaaaaaaaaaaaaaaaaaaaaa-nothing.drv";
-    let own = other_path(rt.alloc(), elsewhere, NOTHING)?;
-    assert_eq!(rt; own.text(), NOTHING_PATH);
-    Ok(())
+// Whether a check of the bytes at the path answers so.
+fn answers(alloc: Global, path: &[u8], bytes: &[u8], answer: &Answer) -> Result<bool, Fail> {
+    let dir = StoreDir::new(alloc, b"/nix/store")?;
+    let path = parse_path(alloc, &dir, path)?;
+    match check_text(alloc, &dir, &path, bytes) {
+        Ok(_) => Ok(answer.number == 0),
+        Err(fault) => Ok(fault.number() == answer.number && has_named(&fault, answer)),
+    }
+}
+
+struct CheckRow {
+    label: &'static str,
+    path: &'static [u8],
+    text: &'static [u8],
+    answer: Answer,
+}
+
+static CHECK_ROWS: [CheckRow; 7] = [
+    CheckRow {
+        label: "the own path",
+        path: NOTHING_PATH,
+        text: NOTHING,
+        answer: SOUND,
+    },
+    CheckRow {
+        label: "another path",
+        path: b"/nix/store/aaaaaaaaaaaaaaaaaaaaaaaaaaaaaaaa-nothing.drv",
+        text: NOTHING,
+        answer: Answer {
+            number: 13,
+            place: 0,
+            named: NOTHING_PATH,
+        },
+    },
+    CheckRow {
+        label: "sources that fall",
+        path: NOTHING_PATH,
+        text: b"Derive([],[],[\"/tmp/b\",\"/tmp/a\"],\"\",\"\",[],[])",
+        answer: Answer {
+            number: 11,
+            place: 23,
+            named: b"",
+        },
+    },
+    CheckRow {
+        label: "no end",
+        path: NOTHING_PATH,
+        text: b"Derive([],[],[],\"\",\"\",[],[]",
+        answer: Answer {
+            number: 10,
+            place: 27,
+            named: b"",
+        },
+    },
+    CheckRow {
+        label: "a stray input before a stray source",
+        path: NOTHING_PATH,
+        text: b"Derive([],[(\"/tmp/i.drv\",[\"out\"])],[\"/tmp/a\"],\"\",\"\",[],[])",
+        answer: Answer {
+            number: 16,
+            place: 0,
+            named: b"/tmp/i.drv",
+        },
+    },
+    CheckRow {
+        label: "the first of two stray sources",
+        path: NOTHING_PATH,
+        text: b"Derive([],[(\"/nix/store/5lhp9n6nphjda2gcbmin4vshljbil6kq-nothing.drv\",[\"out\"])],[\"/nix/store/0gxgilmx7qj69as254xf7j3w4njgmjj4-b\",\"/tmp/a\",\"/tmp/b\"],\"\",\"\",[],[])",
+        answer: Answer {
+            number: 16,
+            place: 0,
+            named: b"/tmp/a",
+        },
+    },
+    CheckRow {
+        label: "a stray source in the folder",
+        path: NOTHING_PATH,
+        text: b"Derive([],[],[\"/nix/store/x\"],\"\",\"\",[],[])",
+        answer: Answer {
+            number: 16,
+            place: 0,
+            named: b"/nix/store/x",
+        },
+    },
+];
+
+fn check_rows() -> &'static [CheckRow] {
+    &CHECK_ROWS
 }
 
 #[test]
-fn faults_of_reading_at_a_path(rt: HostRuntime) -> Result<(), Fail> {
-    let falling = b"Derive([],[],[\"/tmp/b\",\"/tmp/a\"],\"\",\"\",[],[])";
-    assert!(rt;
-        matches!(
-            check(rt.alloc(), NOTHING_PATH, falling)?,
-            Err(DrvFault::Order(23))
-        )
-    );
-    assert!(rt;
-        matches!(
-            check(rt.alloc(), NOTHING_PATH, &NOTHING[..27])?,
-            Err(DrvFault::Syntax(27))
-        )
-    );
+fn texts_at_paths(rt: HostRuntime) -> Result<(), Fail> {
+    for row in check_rows() {
+        let holds = answers(rt.alloc(), row.path, row.text, &row.answer)?;
+        assert!(rt; holds, "{}", row.label);
+    }
     Ok(())
 }
 
@@ -103,24 +196,39 @@ fn too_long(alloc: Global) -> Result<Vec<u8>, AllocError> {
     Ok(long)
 }
 
+// Paths at which the text is too long. The name is looked at before the length.
+static LONG_ROWS: [(&[u8], Answer); 4] = [
+    (
+        b"/nix/store/aaaaaaaaaaaaaaaaaaaaaaaaaaaaaaaa-x.drv",
+        TOO_LONG,
+    ),
+    (
+        b"/nix/store/aaaaaaaaaaaaaaaaaaaaaaaaaaaaaaaa-x.dr",
+        NOT_A_DRV_NAME,
+    ),
+    (
+        b"/nix/store/aaaaaaaaaaaaaaaaaaaaaaaaaaaaaaaa-.drv",
+        NOT_A_DRV_NAME,
+    ),
+    (
+        b"/nix/store/aaaaaaaaaaaaaaaaaaaaaaaaaaaaaaaa-x.drv.x",
+        NOT_A_DRV_NAME,
+    ),
+];
+
 #[test]
 fn too_long_text(rt: HostRuntime) -> Result<(), Fail> {
     let long = too_long(rt.alloc())?;
-    let named = b"/nix/store/aaaaaaaaaaaaaaaaaaaaaaaaaaaaaaaa-x.drv";
-    assert!(rt; matches!(check(rt.alloc(), named, &long)?, Err(DrvFault::TooLong)));
+    for (path, answer) in &LONG_ROWS {
+        assert!(rt; answers(rt.alloc(), path, &long, answer)?);
+    }
     Ok(())
 }
 
 #[test]
-fn name_before_length(rt: HostRuntime) -> Result<(), Fail> {
-    let long = too_long(rt.alloc())?;
-    let paths: [&[u8]; 3] = [
-        b"/nix/store/aaaaaaaaaaaaaaaaaaaaaaaaaaaaaaaa-x.dr",
-        b"/nix/store/aaaaaaaaaaaaaaaaaaaaaaaaaaaaaaaa-.drv",
-        b"/nix/store/aaaaaaaaaaaaaaaaaaaaaaaaaaaaaaaa-x.drv.x",
-    ];
-    for path in paths {
-        assert!(rt; matches!(check(rt.alloc(), path, &long)?, Err(DrvFault::NotADrvName)));
+fn derivations_of_nix_stand_at_their_paths(rt: HostRuntime) -> Result<(), Fail> {
+    for written in derivations() {
+        assert!(rt; answers(rt.alloc(), written.path, written.text, &SOUND)?);
     }
     Ok(())
 }
@@ -131,67 +239,32 @@ const USER_PATH: &[u8] = b"/nix/store/pszp8hiyx2gjz2bjw7jlvm63x58jvx76-user-2.0.
 // Where that derivation stands once the last name in its argument `cat $a $b $c > $out` is `d`.
 const CHANGED_USER_PATH: &[u8] = b"/nix/store/g8qbdhkq7gg88dvj8xiywj8532yx7hbl-user-2.0.drv";
 
-#[test]
-fn derivations_of_nix_stand_at_their_paths(rt: HostRuntime) -> Result<(), Fail> {
-    let alloc = rt.alloc();
-    for written in &DERIVATIONS {
-        assert!(rt; check(alloc, written.path, written.text)?.is_ok());
-    }
-    Ok(())
-}
+const MOVED: Answer = Answer {
+    number: 13,
+    place: 0,
+    named: CHANGED_USER_PATH,
+};
 
 // That derivation's text with the changed name.
 fn changed_text(alloc: Global) -> Result<Vec<u8>, Fail> {
-    let user = DERIVATIONS
-        .iter()
-        .find(|written| written.path == USER_PATH)
-        .ok_or("the derivation is one of these")?;
-    let mut text = Vec::from_slice(alloc, user.text)?;
-    *text.get_mut(384).ok_or("the text is longer")? = b'd';
+    let mut text = Vec::new(alloc);
+    for written in derivations() {
+        if written.path == USER_PATH {
+            text.extend_from_slice(written.text)?;
+        }
+    }
+    if let Some(byte) = text.get_mut(384) {
+        *byte = b'd';
+    }
     Ok(text)
 }
 
 #[test]
 fn changed_text_old_path(rt: HostRuntime) -> Result<(), Fail> {
     let text = changed_text(rt.alloc())?;
-    let own = other_path(rt.alloc(), USER_PATH, &text)?;
-    assert_eq!(rt; own.text(), CHANGED_USER_PATH);
-    assert!(rt; check(rt.alloc(), CHANGED_USER_PATH, &text)?.is_ok());
+    assert!(rt; answers(rt.alloc(), USER_PATH, &text, &MOVED)?);
+    assert!(rt; answers(rt.alloc(), CHANGED_USER_PATH, &text, &SOUND)?);
     Ok(())
-}
-
-#[test]
-fn first_stray_reference(rt: HostRuntime) -> Result<(), Fail> {
-    let alloc = rt.alloc();
-    let rows: [(&[u8], &[u8]); 3] = [
-        (
-            b"Derive([],[(\"/tmp/i.drv\",[\"out\"])],[\"/tmp/a\"],\"\",\"\",[],[])",
-            b"/tmp/i.drv",
-        ),
-        (
-            b"Derive([],[(\"/nix/store/5lhp9n6nphjda2gcbmin4vshljbil6kq-nothing.drv\",[\"out\"])],[\"/nix/store/0gxgilmx7qj69as254xf7j3w4njgmjj4-b\",\"/tmp/a\",\"/tmp/b\"],\"\",\"\",[],[])",
-            b"/tmp/a",
-        ),
-        (
-            b"Derive([],[],[\"/nix/store/x\"],\"\",\"\",[],[])",
-            b"/nix/store/x",
-        ),
-    ];
-    for (text, stray) in rows {
-        match check(alloc, NOTHING_PATH, text)? {
-            Err(DrvFault::BadReference(found)) => assert_eq!(rt; found.as_slice(), stray),
-            _ => return Err("a reference is no path of the folder".into()),
-        }
-    }
-    Ok(())
-}
-
-// A file with these bytes at the path of the derivation of nothing.
-fn at_nothing(alloc: Global, bytes: &[u8]) -> Result<ListedFile, Fail> {
-    Ok(ListedFile {
-        path: Vec::from_slice(alloc, NOTHING_PATH)?,
-        bytes: Vec::from_slice(alloc, bytes)?,
-    })
 }
 
 // A source of files with these bytes, all at the path of the derivation of nothing.
@@ -203,60 +276,112 @@ fn source_of(alloc: Global, files: &[&[u8]], failing: &[u64]) -> Result<ListSour
     Ok(ListSource::new(alloc, listed, Vec::from_slice(alloc, failing)?)?)
 }
 
-// Why the source gives no bytes at the path, if it gives none.
-fn refusal(alloc: Global, source: &mut ListSource, path: &StorePath) -> Option<SourceFault> {
-    source.fetch(alloc, path).err()
+// A file with these bytes at that path.
+fn at_nothing(alloc: Global, bytes: &[u8]) -> Result<ListedFile, AllocError> {
+    let path = Vec::from_slice(alloc, NOTHING_PATH)?;
+    let bytes = Vec::from_slice(alloc, bytes)?;
+    Ok(ListedFile { path, bytes })
+}
+
+// A source's files and the fetches that fail in it, a path, and what each fetch of it in turn
+// answers: the derivation of nothing or a fault, and how many fetches have failed.
+struct FetchRow {
+    label: &'static str,
+    files: &'static [&'static [u8]],
+    failing: &'static [u64],
+    path: &'static [u8],
+    fetches: &'static [(Option<SourceFault>, u64)],
+}
+
+static FETCH_ROWS: [FetchRow; 3] = [
+    FetchRow {
+        label: "the first of two files at a path",
+        files: &[NOTHING, b""],
+        failing: &[],
+        path: NOTHING_PATH,
+        fetches: &[(None, 0)],
+    },
+    FetchRow {
+        label: "a missing file",
+        files: &[NOTHING],
+        failing: &[],
+        path: MISSING,
+        fetches: &[(Some(SourceFault::Missing), 0)],
+    },
+    FetchRow {
+        label: "a fetch that fails",
+        files: &[NOTHING],
+        failing: &[1],
+        path: NOTHING_PATH,
+        fetches: &[(None, 0), (Some(SourceFault::Device), 1), (None, 1)],
+    },
+];
+
+// Whether the next fetch answers the derivation of nothing, or this fault.
+fn fetches(
+    alloc: Global,
+    source: &mut ListSource,
+    path: &StorePath,
+    fault: Option<SourceFault>,
+) -> bool {
+    match source.fetch(alloc, path) {
+        Ok(bytes) => fault.is_none() && bytes.as_slice() == NOTHING,
+        Err(found) => fault == Some(found),
+    }
+}
+
+fn is_fetched(alloc: Global, row: &FetchRow) -> Result<bool, Fail> {
+    let path = in_store(alloc, row.path)?;
+    let mut source = source_of(alloc, row.files, row.failing)?;
+    let mut holds = true;
+    for (fault, failures) in row.fetches {
+        let is_answer = fetches(alloc, &mut source, &path, *fault);
+        holds = holds && is_answer && source.failures() == *failures;
+    }
+    Ok(holds)
 }
 
 #[test]
-fn first_file_at_a_path(rt: HostRuntime) -> Result<(), Fail> {
-    let path = in_store(rt.alloc(), NOTHING_PATH)?;
-    let mut source = source_of(rt.alloc(), &[NOTHING.as_slice(), b""], &[])?;
-    assert_eq!(rt;
-        source.fetch(rt.alloc(), &path)?.as_slice(),
-        NOTHING.as_slice()
-    );
+fn sources_of_files(rt: HostRuntime) -> Result<(), Fail> {
+    for row in &FETCH_ROWS {
+        assert!(rt; is_fetched(rt.alloc(), row)?, "{}", row.label);
+    }
     Ok(())
 }
 
-#[test]
-fn missing_file(rt: HostRuntime) -> Result<(), Fail> {
-    let missing = in_store(rt.alloc(), b"/nix/store/aaaaaaaaaaaaaaaaaaaaaaaaaaaaaaaa-x")?;
-    let mut source = source_of(rt.alloc(), &[NOTHING.as_slice()], &[])?;
-    assert_eq!(rt;
-        refusal(rt.alloc(), &mut source, &missing),
-        Some(SourceFault::Missing)
-    );
-    assert_eq!(rt; source.failures(), 0);
-    Ok(())
-}
-
-#[test]
-fn failing_fetch(rt: HostRuntime) -> Result<(), Fail> {
-    let path = in_store(rt.alloc(), NOTHING_PATH)?;
-    let mut source = source_of(rt.alloc(), &[NOTHING.as_slice()], &[1])?;
-    assert_eq!(rt; refusal(rt.alloc(), &mut source, &path), None);
-    assert_eq!(rt; source.failures(), 0);
-    assert_eq!(rt;
-        refusal(rt.alloc(), &mut source, &path),
-        Some(SourceFault::Device)
-    );
-    assert_eq!(rt; source.failures(), 1);
-    assert_eq!(rt; refusal(rt.alloc(), &mut source, &path), None);
-    Ok(())
+fn number_of(fault: DrvFault) -> u8 {
+    fault.number()
 }
 
 #[test]
 fn numbers_of_faults(rt: HostRuntime) -> Result<(), Fail> {
-    let alloc = rt.alloc();
-    assert_eq!(rt;
-        DrvFault::TextPathMismatch(in_store(alloc, NOTHING_PATH)?).number(),
-        13
-    );
-    assert_eq!(rt; DrvFault::NotADrvName.number(), 14);
-    assert_eq!(rt; DrvFault::BadReference(Vec::new(alloc)).number(), 16);
-    assert_eq!(rt; SourceFault::Missing.number(), 17);
-    assert_eq!(rt; SourceFault::Device.number(), 18);
-    assert_eq!(rt; SourceFault::NoMemory.number(), 9);
+    let path = in_store(rt.alloc(), NOTHING_PATH)?;
+    let numbers = [
+        number_of(DrvFault::NoMemory),
+        number_of(DrvFault::Syntax(0)),
+        number_of(DrvFault::Order(0)),
+        number_of(DrvFault::TooLong),
+        number_of(DrvFault::TextPathMismatch(path)),
+        number_of(DrvFault::NotADrvName),
+        number_of(DrvFault::NotSorted),
+        number_of(DrvFault::BadReference(Vec::new(rt.alloc()))),
+    ];
+    assert!(rt; numbers == [9, 10, 11, 12, 13, 14, 15, 16]);
     Ok(())
+}
+
+#[test]
+fn numbers_of_plain_faults(rt: HostRuntime) {
+    let sources = [
+        SourceFault::Missing,
+        SourceFault::Device,
+        SourceFault::NoMemory,
+    ];
+    assert!(rt; sources.map(|fault| fault.number()) == [17, 18, 9]);
+    let names = [
+        NameFault::BadLength,
+        NameFault::BadChar(4),
+        NameFault::NoMemory,
+    ];
+    assert!(rt; names.map(|fault| fault.number()) == [1, 2, 9]);
 }

@@ -128,25 +128,31 @@ static MODULO_ROWS: [ModuloRow; 12] = [
     },
 ];
 
-fn read_text(alloc: Global, text: &[u8]) -> Result<Derivation, Fail> {
-    Ok(read(alloc, text).ok().ok_or("the bytes are a derivation")?)
+fn modulo_rows() -> &'static [ModuloRow] {
+    &MODULO_ROWS
 }
 
-// Whether the derivation with the row's text has the row's modulo text.
-fn is_as_expected(alloc: Global, row: &ModuloRow) -> Result<bool, Fail> {
-    let drv = read_text(alloc, row.text)?;
+// Whether a derivation has the row's modulo text.
+fn has_modulo_text(alloc: Global, drv: &Derivation, row: &ModuloRow) -> bool {
     if row.hashes.len() != drv.inputs().len() {
-        return Ok(false);
+        return false;
     }
-    let answer = modulo_text(alloc, &drv, row.hashes, row.is_masked);
-    let text = answer.ok().ok_or("memory is ample")?;
-    Ok(text.as_slice() == row.expected)
+    match modulo_text(alloc, drv, row.hashes, row.is_masked) {
+        Ok(text) => text.as_slice() == row.expected,
+        Err(_) => false,
+    }
+}
+
+fn is_as_expected(alloc: Global, row: &ModuloRow) -> bool {
+    match read(alloc, row.text) {
+        Ok(drv) => has_modulo_text(alloc, &drv, row),
+        Err(_) => false,
+    }
 }
 
 #[test]
-fn modulo_texts(rt: HostRuntime) -> Result<(), Fail> {
-    for row in &MODULO_ROWS {
-        assert!(rt; is_as_expected(rt.alloc(), row)?, "{}", row.label);
+fn modulo_texts(rt: HostRuntime) {
+    for row in modulo_rows() {
+        assert!(rt; is_as_expected(rt.alloc(), row), "{}", row.label);
     }
-    Ok(())
 }

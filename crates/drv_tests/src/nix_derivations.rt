@@ -6,7 +6,7 @@ pub(crate) struct Written {
     pub text: &'static [u8],
 }
 
-pub(crate) static DERIVATIONS: [Written; 14] = [
+static DERIVATIONS: [Written; 14] = [
     Written {
         path: b"/nix/store/s667mngmigv270rpvh08nih0jmkw5268-both.drv",
         text: b"Derive([(\"out\",\"/nix/store/psr3lwb6shrxjh80mgb8wyam48szb03a-both\",\"\",\"\")],[(\"/nix/store/gm2q3pr4izf1xksvsj3lyc4z2g123jxl-unicode.drv\",[\"out\"]),(\"/nix/store/pszp8hiyx2gjz2bjw7jlvm63x58jvx76-user-2.0.drv\",[\"out\"]),(\"/nix/store/vb07mpin0n17j1pbgm3qjm9vkzj2sar2-split.drv\",[\"dev\",\"doc\",\"out\"])],[],\"x86_64-linux\",\"/nix/store/slm9w9qq4fqgmkf2pxk13nz5vqv0ljdf-split/bin/sh\",[\"/nix/store/5x8rvkfcnyxqvapsqn49rqnf6lwzjx48-split-dev\",\"/nix/store/slm9w9qq4fqgmkf2pxk13nz5vqv0ljdf-split\",\"/nix/store/ksxd1j7m4biszsfc1ymn8lzb1y16r4ma-split-doc\"],[(\"builder\",\"/nix/store/slm9w9qq4fqgmkf2pxk13nz5vqv0ljdf-split/bin/sh\"),(\"name\",\"both\"),(\"out\",\"/nix/store/psr3lwb6shrxjh80mgb8wyam48szb03a-both\"),(\"p\",\"/nix/store/1kafa76430j2szm2x8gb36yj7cvqlsrk-user-2.0\"),(\"q\",\"/nix/store/9wpq4q8q5r3ir0wgnsxw6x3l2c7a6ix8-unicode\"),(\"system\",\"x86_64-linux\")])",
@@ -64,3 +64,7 @@ pub(crate) static DERIVATIONS: [Written; 14] = [
         text: b"Derive([(\"out\",\"/nix/store/c52bg9hs4qnp1x7s9bbv44lmgyhgyqpi-x\",\"\",\"\")],[],[],\"x86_64-linux\",\"b\",[],[(\"builder\",\"b\"),(\"name\",\"x\"),(\"out\",\"/nix/store/c52bg9hs4qnp1x7s9bbv44lmgyhgyqpi-x\"),(\"system\",\"x86_64-linux\")])",
     },
 ];
+
+pub(crate) fn derivations() -> &'static [Written] {
+    &DERIVATIONS
+}

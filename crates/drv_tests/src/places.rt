@@ -7,10 +7,6 @@ use std::test::*;
 const TEXT: &[u8] =
     b"Derive([(\"dev\",\"/d\",\"\",\"\"),(\"doc\",\"/e\",\"\",\"\"),(\"out\",\"/o\",\"\",\"\")],[(\"/i\",[\"a\"])],[\"/s\"],\"sys\",\"/sh\",[\"z\"],[(\"a\",\"1\"),(\"a b\",\"2\"),(\"out\",\"/o\")])";
 
-fn read_text(alloc: Global, text: &[u8]) -> Result<Derivation, Fail> {
-    Ok(read(alloc, text).ok().ok_or("the bytes are a derivation")?)
-}
-
 // A name, and its place among the outputs and in the environment.
 static PLACES: [(&[u8], Option<usize>, Option<usize>); 8] = [
     (b"dev", Some(0), None),
@@ -23,21 +19,17 @@ static PLACES: [(&[u8], Option<usize>, Option<usize>); 8] = [
     (b"", None, None),
 ];
 
-#[test]
-fn places_of_names(rt: HostRuntime) -> Result<(), Fail> {
-    let drv = read_text(rt.alloc(), TEXT)?;
-    for (name, output, entry) in &PLACES {
-        assert_eq!(rt; drv.output_place(name), *output);
-        assert_eq!(rt; drv.env_place(name), *entry);
-    }
-    Ok(())
+// Whether a name has these places.
+fn has_places(drv: &Derivation, row: &(&[u8], Option<usize>, Option<usize>)) -> bool {
+    drv.output_place(row.0) == row.1 && drv.env_place(row.0) == row.2
 }
 
 #[test]
-fn copy_is_equal(rt: HostRuntime) -> Result<(), Fail> {
-    let drv = read_text(rt.alloc(), TEXT)?;
-    let copy = drv.copy(rt.alloc())?;
-    assert!(rt; copy == drv);
+fn places_of_names(rt: HostRuntime) -> Result<(), Fail> {
+    let drv = read(rt.alloc(), TEXT)?;
+    for row in &PLACES {
+        assert!(rt; has_places(&drv, row));
+    }
     Ok(())
 }
 
@@ -53,12 +45,21 @@ static OTHERS: [&[u8]; 8] = [
     b"Derive([(\"dev\",\"/d\",\"\",\"\"),(\"doc\",\"/e\",\"\",\"\"),(\"out\",\"/o\",\"\",\"\")],[(\"/i\",[\"a\"])],[\"/s\"],\"sys\",\"/sh\",[\"z\"],[(\"a\",\"1\"),(\"a b\",\"3\"),(\"out\",\"/o\")])",
 ];
 
+// Whether the text's derivation is another one.
+fn is_other(alloc: Global, drv: &Derivation, text: &[u8]) -> bool {
+    match read(alloc, text) {
+        Ok(other) => *drv != other,
+        Err(_) => false,
+    }
+}
+
 #[test]
 fn one_part_tells_derivations(rt: HostRuntime) -> Result<(), Fail> {
-    let drv = read_text(rt.alloc(), TEXT)?;
+    let drv = read(rt.alloc(), TEXT)?;
+    let copy = drv.copy(rt.alloc())?;
+    assert!(rt; copy == drv, "a copy");
     for text in &OTHERS {
-        let other = read_text(rt.alloc(), text)?;
-        assert!(rt; drv != other);
+        assert!(rt; is_other(rt.alloc(), &drv, text));
     }
     Ok(())
 }

@@ -10,6 +10,8 @@ const NOTHING: &[u8; 64] = b"e3b0c44298fc1c149afbf4c8996fb92427ae41e4649b934ca49
 
 const EMPTY: &[u8] = b"/nix/store/wi0sw9r4p5prk7acm7i0z1b97h75faw7-empty";
 
+const EMPTY_HASH: &[u8] = b"wi0sw9r4p5prk7acm7i0z1b97h75faw7";
+
 fn nothing() -> [u8; 32] {
     let mut digest = [0; 32];
     let _ = hex::decode_to_slice(NOTHING, &mut digest);
@@ -18,116 +20,60 @@ fn nothing() -> [u8; 32] {
 
 #[test]
 fn fold_of_empty(rt: HostRuntime) -> Result<(), Fail> {
-    let alloc = rt.alloc();
     let folded = fold20(&nothing());
-    assert_eq!(rt;
-        hex::encode(alloc, &folded)?.as_str(),
-        "872b570e3c69850fe2a94c9d996fb92427ae41e4"
-    );
-    assert_eq!(rt;
-        to_base32(alloc, &folded)?.as_str(),
-        "wi0sw9r4p5prk7acm7i0z1b97h75faw7"
-    );
+    let digits = hex::encode(rt.alloc(), &folded)?;
+    assert!(rt; digits.as_str() == "872b570e3c69850fe2a94c9d996fb92427ae41e4");
+    let text = to_base32(rt.alloc(), &folded)?;
+    assert!(rt; text.as_bytes() == EMPTY_HASH);
     Ok(())
 }
 
+// A text, and why it is no path in `/nix/store`, or none where it is one.
+static PARSED: [(&[u8], Option<NameFault>); 6] = [
+    (EMPTY, None),
+    (
+        b"/nix/store/wi0sw9r4p5prk7acm7i0z1b97h75faw7",
+        Some(NameFault::BadHashPart),
+    ),
+    (
+        b"/nix/store/wi0sw9r4p5prk7acm7i0z1b97h75faw7-",
+        Some(NameFault::BadName),
+    ),
+    (
+        b"/nix/store/wi0sw9r4p5prk7acm7i0z1b97h75faw7-.-x",
+        Some(NameFault::BadName),
+    ),
+    (
+        b"/nix/store/ei0sw9r4p5prk7acm7i0z1b97h75faw7-empty",
+        Some(NameFault::BadHashPart),
+    ),
+    (
+        b"/nix/stor/aaaaaaaaaaaaaaaaaaaaaaaaaaaaaaaa-x",
+        Some(NameFault::NotInStore),
+    ),
+];
+
+fn is_parsed(alloc: Global, dir: &StoreDir, text: &[u8], fault: Option<NameFault>) -> bool {
+    parse_path(alloc, dir, text).err() == fault
+}
+
 #[test]
-fn parse_path_cases(rt: HostRuntime) -> Result<(), Fail> {
-    let alloc = rt.alloc();
-    let dir = StoreDir::new(alloc, b"/nix/store")?;
-    let path = parse_path(alloc, &dir, EMPTY)?;
-    assert_eq!(rt; path.text(), EMPTY);
-    assert_eq!(rt;
-        path.hash_part(),
-        b"wi0sw9r4p5prk7acm7i0z1b97h75faw7".as_slice()
-    );
-    assert_eq!(rt; path.name(), b"empty".as_slice());
-    let cases: [(&[u8], NameFault); 5] = [
-        (
-            b"/nix/store/wi0sw9r4p5prk7acm7i0z1b97h75faw7",
-            NameFault::BadHashPart,
-        ),
-        (
-            b"/nix/store/wi0sw9r4p5prk7acm7i0z1b97h75faw7-",
-            NameFault::BadName,
-        ),
-        (
-            b"/nix/store/wi0sw9r4p5prk7acm7i0z1b97h75faw7-.-x",
-            NameFault::BadName,
-        ),
-        (
-            b"/nix/store/ei0sw9r4p5prk7acm7i0z1b97h75faw7-empty",
-            NameFault::BadHashPart,
-        ),
-        (
-            b"/nix/stor/aaaaaaaaaaaaaaaaaaaaaaaaaaaaaaaa-x",
-            NameFault::NotInStore,
-        ),
-    ];
-    for (text, fault) in cases {
-        assert_eq!(rt; parse_path(alloc, &dir, text).err(), Some(fault));
+fn texts_of_paths(rt: HostRuntime) -> Result<(), Fail> {
+    let dir = StoreDir::new(rt.alloc(), b"/nix/store")?;
+    for (text, fault) in &PARSED {
+        assert!(rt; is_parsed(rt.alloc(), &dir, text, *fault));
     }
     Ok(())
 }
 
-// The path in `/nix/store` of this type and name, with the digest of nothing.
-fn path_of(alloc: Global, kind: &[u8], name: &[u8]) -> Result<StorePath, NameFault> {
+fn is_empty_path(path: &StorePath) -> bool {
+    path.text() == EMPTY && path.hash_part() == EMPTY_HASH && path.name() == b"empty".as_slice()
+}
+
+// The path in `/nix/store` with this text.
+fn in_store(alloc: Global, text: &[u8]) -> Result<StorePath, NameFault> {
     let dir = StoreDir::new(alloc, b"/nix/store")?;
-    make_path(alloc, kind, &nothing(), &dir, name)
-}
-
-#[test]
-fn text_fingerprints(rt: HostRuntime) -> Result<(), Fail> {
-    let alloc = rt.alloc();
-    // As Nix 2.8 prints it for `builtins.toFile "empty" ""`.
-    let empty = path_of(alloc, b"text", b"empty")?;
-    assert_eq!(rt;
-        empty.text(),
-        b"/nix/store/wflv0hgb0qb1ddc5nxmsg0y9zjjhfvmh-empty".as_slice()
-    );
-    // As its `nix-store --print-fixed-path --recursive sha256` prints it.
-    let source = path_of(alloc, b"source", b"src")?;
-    assert_eq!(rt;
-        source.text(),
-        b"/nix/store/brxav88rzrya6bhi20qbzdb13b9f9sj5-src".as_slice()
-    );
-    // By sha256sum of the 185 bytes of the fingerprint.
-    let refs = b"text:/nix/store/aaaaaaaaaaaaaaaaaaaaaaaaaaaaaaaa-x\
-        :/nix/store/cccccccccccccccccccccccccccccccc-y";
-    let both = path_of(alloc, refs, b"empty")?;
-    assert_eq!(rt;
-        both.hash_part(),
-        b"9ssrlk9c7rixkm03g2jbzgw38qh9l5k7".as_slice()
-    );
-    assert_eq!(rt;
-        path_of(alloc, b"text", b"..").err(),
-        Some(NameFault::BadName)
-    );
-    Ok(())
-}
-
-#[test]
-fn store_folders(rt: HostRuntime) -> Result<(), Fail> {
-    let alloc = rt.alloc();
-    assert_eq!(rt;
-        StoreDir::new(alloc, b"/gnu/store")?.text(),
-        b"/gnu/store".as_slice()
-    );
-    let bad: [&[u8]; 6] = [
-        b"",
-        b"/",
-        b"nix",
-        b"/nix/",
-        b"/nix//store",
-        b"/nix/../store",
-    ];
-    for text in bad {
-        assert_eq!(rt;
-            StoreDir::new(alloc, text).err(),
-            Some(NameFault::BadStoreDir)
-        );
-    }
-    Ok(())
+    parse_path(alloc, &dir, text)
 }
 
 // What other threads may hold too.
@@ -137,31 +83,71 @@ fn held_by_threads<T: Send + Sync>(value: T) -> T {
 
 #[test]
 fn copies_outlive_their_path(rt: HostRuntime) -> Result<(), Fail> {
-    let alloc = rt.alloc();
-    let dir = StoreDir::new(alloc, b"/nix/store")?;
-    let path = held_by_threads(parse_path(alloc, &dir, EMPTY)?);
-    let copy = held_by_threads(path.copy(alloc)?);
+    let path = held_by_threads(in_store(rt.alloc(), EMPTY)?);
+    assert!(rt; is_empty_path(&path));
+    let copy = held_by_threads(path.copy(rt.alloc())?);
     drop(path);
-    assert_eq!(rt; copy.text(), EMPTY);
-    assert_eq!(rt; copy.name(), b"empty".as_slice());
-    assert_eq!(rt; size_of::<StorePath>(), 8);
+    assert!(rt; is_empty_path(&copy) && size_of::<StorePath>() == 8);
     Ok(())
 }
 
-// Two paths, the first of which is the lesser.
-fn two_paths(alloc: Global) -> Result<(StorePath, StorePath), NameFault> {
-    let dir = StoreDir::new(alloc, b"/nix/store")?;
-    let x = parse_path(
-        alloc,
-        &dir,
-        b"/nix/store/aaaaaaaaaaaaaaaaaaaaaaaaaaaaaaaa-x",
-    )?;
-    let y = parse_path(
-        alloc,
-        &dir,
-        b"/nix/store/cccccccccccccccccccccccccccccccc-y",
-    )?;
-    Ok((x, y))
+// The types, names and texts of paths in `/nix/store` with the digest of nothing. The first as
+// Nix 2.8 prints it for `builtins.toFile "empty" ""`, the second as its
+// `nix-store --print-fixed-path --recursive sha256` prints it, the third by sha256sum of the 185
+// bytes of the fingerprint.
+static MADE: [(&[u8], &[u8], &[u8]); 3] = [
+    (
+        b"text",
+        b"empty",
+        b"/nix/store/wflv0hgb0qb1ddc5nxmsg0y9zjjhfvmh-empty",
+    ),
+    (
+        b"source",
+        b"src",
+        b"/nix/store/brxav88rzrya6bhi20qbzdb13b9f9sj5-src",
+    ),
+    (
+        b"text:/nix/store/aaaaaaaaaaaaaaaaaaaaaaaaaaaaaaaa-x:/nix/store/cccccccccccccccccccccccccccccccc-y",
+        b"empty",
+        b"/nix/store/9ssrlk9c7rixkm03g2jbzgw38qh9l5k7-empty",
+    ),
+];
+
+#[test]
+fn paths_of_fingerprints(rt: HostRuntime) -> Result<(), Fail> {
+    let dir = StoreDir::new(rt.alloc(), b"/nix/store")?;
+    for (kind, name, text) in &MADE {
+        let path = make_path(rt.alloc(), kind, &nothing(), &dir, name)?;
+        assert!(rt; path.text() == *text);
+    }
+    let bad = make_path(rt.alloc(), b"text", &nothing(), &dir, b"..");
+    assert!(rt; bad.err() == Some(NameFault::BadName));
+    Ok(())
+}
+
+// Folders, and whether they may hold a store.
+static FOLDERS: [(&[u8], bool); 7] = [
+    (b"/gnu/store", true),
+    (b"", false),
+    (b"/", false),
+    (b"nix", false),
+    (b"/nix/", false),
+    (b"/nix//store", false),
+    (b"/nix/../store", false),
+];
+
+fn is_answered(alloc: Global, text: &[u8], is_good: bool) -> bool {
+    match StoreDir::new(alloc, text) {
+        Ok(dir) => is_good && dir.text() == text,
+        Err(fault) => !is_good && fault == NameFault::BadStoreDir,
+    }
+}
+
+#[test]
+fn store_folders(rt: HostRuntime) {
+    for (text, is_good) in &FOLDERS {
+        assert!(rt; is_answered(rt.alloc(), text, *is_good));
+    }
 }
 
 // A map that holds 1 at the path.
@@ -171,16 +157,22 @@ fn map_of(alloc: Global, path: StorePath) -> Result<HashMap<StorePath, i32>, Fai
     Ok(map)
 }
 
+fn is_lesser(x: &StorePath, y: &StorePath) -> bool {
+    x != y && x < y
+}
+
+// Whether a copy of the path is equal to it, and found in a map where the other path isn't.
+fn is_found(alloc: Global, path: &StorePath, other: &StorePath) -> Result<bool, Fail> {
+    let copy = path.copy(alloc)?;
+    let is_equal = *path == copy;
+    let seen = map_of(alloc, copy)?;
+    Ok(is_equal && seen.get(path).copied() == Some(1) && !seen.contains_key(other))
+}
+
 #[test]
 fn paths_compare_by_their_text(rt: HostRuntime) -> Result<(), Fail> {
-    let alloc = rt.alloc();
-    let (x, y) = two_paths(alloc)?;
-    let copy = x.copy(alloc)?;
-    assert!(rt; x == copy);
-    assert!(rt; x != y);
-    assert!(rt; x < y);
-    let seen = map_of(alloc, copy)?;
-    assert_eq!(rt; seen.get(&x).copied(), Some(1));
-    assert!(rt; !seen.contains_key(&y));
+    let x = in_store(rt.alloc(), b"/nix/store/aaaaaaaaaaaaaaaaaaaaaaaaaaaaaaaa-x")?;
+    let y = in_store(rt.alloc(), b"/nix/store/cccccccccccccccccccccccccccccccc-y")?;
+    assert!(rt; is_lesser(&x, &y) && is_found(rt.alloc(), &x, &y)?);
     Ok(())
 }
