@@ -3,10 +3,10 @@
 //!
 //! | Module | What is tried |
 //! |---|---|
-//! | `base32` | base-32 texts, and the words of the faults of names |
+//! | `base32` | base-32 texts, and the words of a fault of names |
 //! | `store_paths` | store folders, and store paths parsed, made, copied and compared |
 //! | `derivations`, `parts`, `places` | derivations read, taken apart, made and written |
-//! | `checks` | derivations at their own paths and at others, and sources of files |
+//! | `checks` | derivations at their own paths and at others, sources of files, and numbers of faults |
 //! | `modulo_texts` | modulo texts |
 //! | `loads` | plans loaded, what is wrong with others, and drafts filled |
 //! | `nix_derivations` | derivations that Nix wrote |

@@ -2,9 +2,9 @@
 use drv_graph::{GraphFault, NodeFault, Plan};
 use files::*;
 use nix_drv::{DrvFault, ListSource, ListedFile, text_path};
-use nix_files::NIX_FILES;
+use nix_files::nix_files;
 use nix_names::{StoreDir, StorePath, make_path, parse_path};
-use output_files::OUTPUT_FILES;
+use output_files::output_files;
 use std::alloc::{AllocError, Global};
 use std::test::*;
 
@@ -26,19 +26,16 @@ fn push_file(
     Ok(())
 }
 
-fn push_files(alloc: Global, files: &mut Vec<ListedFile>, more: &[File]) -> Result<(), AllocError> {
-    for file in more {
-        let bytes = Vec::from_slice(alloc, file.text)?;
-        push_file(alloc, files, file.path, bytes)?;
-    }
-    Ok(())
-}
-
 fn all_files(alloc: Global) -> Result<Vec<ListedFile>, AllocError> {
     let mut files = Vec::new(alloc);
-    push_files(alloc, &mut files, &FILES)?;
-    push_files(alloc, &mut files, &NIX_FILES)?;
-    push_files(alloc, &mut files, &OUTPUT_FILES)?;
+    for file in plain_files()
+        .iter()
+        .chain(nix_files())
+        .chain(output_files())
+    {
+        let bytes = Vec::from_slice(alloc, file.text)?;
+        push_file(alloc, &mut files, file.path, bytes)?;
+    }
     Ok(files)
 }
 
@@ -72,6 +69,11 @@ fn load(
 fn load_all(alloc: Global, roots: &[&[u8]]) -> Result<Result<Plan, GraphFault>, Fail> {
     let mut source = all_but(alloc, &[])?;
     load(alloc, &mut source, roots)
+}
+
+// The plan of roots among all files.
+fn plan_of(alloc: Global, roots: &[&[u8]]) -> Result<Plan, Fail> {
+    Ok(load_all(alloc, roots)??)
 }
 
 // Roots, the paths of their plan with the numbers of the inputs of each, and the roots' numbers.
@@ -159,23 +161,31 @@ fn has_nodes(plan: &Plan, nodes: &[(&[u8], &[usize])]) -> bool {
     plan.len() == nodes.len()
 }
 
+fn plan_rows() -> &'static [PlanRow] {
+    &PLAN_ROWS
+}
+
+fn has_plan(alloc: Global, row: &PlanRow) -> Result<bool, Fail> {
+    let plan = plan_of(alloc, row.roots)?;
+    Ok(has_nodes(&plan, row.nodes) && plan.roots() == row.numbers)
+}
+
 #[test]
 fn plans_of_roots(rt: HostRuntime) -> Result<(), Fail> {
-    for row in &PLAN_ROWS {
-        let answer = load_all(rt.alloc(), row.roots)?;
-        let plan = answer.ok().ok_or("the roots have a plan")?;
-        assert!(rt; has_nodes(&plan, row.nodes), "{}", row.label);
-        assert!(rt; plan.roots() == row.numbers, "{}", row.label);
+    for row in plan_rows() {
+        assert!(rt; has_plan(rt.alloc(), row)?, "{}", row.label);
     }
     Ok(())
 }
 
-// Roots, the path at which loading them finds a fault, and the fault's number.
+// Roots, the path at which loading them finds a fault, the fault's number, and the path that it
+// names: the own one of a text, or that of an earlier derivation with the same output.
 struct FaultRow {
     label: &'static str,
     roots: &'static [&'static [u8]],
     at: &'static [u8],
     number: u8,
+    named: &'static [u8],
 }
 
 static FAULT_ROWS: [FaultRow; 9] = [
@@ -184,56 +194,69 @@ static FAULT_ROWS: [FaultRow; 9] = [
         roots: &[LEAF, GONE],
         at: GONE,
         number: 20,
+        named: b"",
     },
     FaultRow {
         label: "an input of an input is missing",
         roots: &[FAR],
         at: GONE,
         number: 20,
+        named: b"",
     },
     FaultRow {
         label: "no outputs",
         roots: &[NOTHING],
         at: NOTHING,
         number: 24,
+        named: b"",
     },
     FaultRow {
         label: "the text of another path",
         roots: &[MOVED],
         at: MOVED,
         number: 13,
+        named: OWN,
     },
     FaultRow {
         label: "an output that the input hasn't",
         roots: &[LEAF, ASKING],
         at: ASKING,
         number: 25,
+        named: b"",
     },
     FaultRow {
         label: "an input with another path than its own",
         roots: &[OVER],
         at: WRONG,
         number: 23,
+        named: b"",
     },
     FaultRow {
         label: "an output of two derivations",
         roots: &[LEAF, TWIN],
         at: TWIN,
         number: 26,
+        named: LEAF,
     },
     FaultRow {
         label: "an output of two derivations in another order",
         roots: &[TWIN, TOP],
         at: LEAF,
         number: 26,
+        named: TWIN,
     },
     FaultRow {
         label: "the first of two faults",
         roots: &[OVER, FAR],
         at: WRONG,
         number: 23,
+        named: b"",
     },
 ];
+
+fn fault_rows() -> &'static [FaultRow] {
+    &FAULT_ROWS
+}
 
 // Whether loading found the fault with this number at the path.
 fn is_blamed(answer: &Result<Plan, GraphFault>, at: &[u8], number: u8) -> bool {
@@ -243,39 +266,27 @@ fn is_blamed(answer: &Result<Plan, GraphFault>, at: &[u8], number: u8) -> bool {
     }
 }
 
+// Whether what loading found names this path, or none if it is empty. Faults of outputs aside.
+fn has_named(answer: &Result<Plan, GraphFault>, path: &[u8]) -> bool {
+    match answer {
+        Err(GraphFault::At(_, NodeFault::SharedOutput(earlier))) => earlier.text() == path,
+        Err(GraphFault::At(_, NodeFault::Text(DrvFault::TextPathMismatch(own)))) => {
+            own.text() == path
+        }
+        _ => path.is_empty(),
+    }
+}
+
+fn has_fault(alloc: Global, row: &FaultRow) -> Result<bool, Fail> {
+    let answer = load_all(alloc, row.roots)?;
+    Ok(is_blamed(&answer, row.at, row.number) && has_named(&answer, row.named))
+}
+
 #[test]
 fn faults_at_paths(rt: HostRuntime) -> Result<(), Fail> {
-    for row in &FAULT_ROWS {
-        let answer = load_all(rt.alloc(), row.roots)?;
-        assert!(rt; is_blamed(&answer, row.at, row.number), "{}", row.label);
+    for row in fault_rows() {
+        assert!(rt; has_fault(rt.alloc(), row)?, "{}", row.label);
     }
-    Ok(())
-}
-
-// Whether loading found an output that the derivation at the earlier path has too.
-fn is_shared_with(answer: &Result<Plan, GraphFault>, earlier: &[u8]) -> bool {
-    match answer {
-        Err(GraphFault::At(_, NodeFault::SharedOutput(path))) => path.text() == earlier,
-        _ => false,
-    }
-}
-
-// Whether loading found a text whose own path this is.
-fn has_own_path(answer: &Result<Plan, GraphFault>, own: &[u8]) -> bool {
-    match answer {
-        Err(GraphFault::At(_, NodeFault::Text(DrvFault::TextPathMismatch(path)))) => {
-            path.text() == own
-        }
-        _ => false,
-    }
-}
-
-#[test]
-fn paths_within_faults(rt: HostRuntime) -> Result<(), Fail> {
-    let shared = load_all(rt.alloc(), &[LEAF, TWIN])?;
-    assert!(rt; is_shared_with(&shared, LEAF));
-    let moved = load_all(rt.alloc(), &[MOVED])?;
-    assert!(rt; has_own_path(&moved, OWN));
     Ok(())
 }
 
@@ -289,13 +300,20 @@ static FETCHES: [(u64, &[u8]); 6] = [
     (5, SPLIT),
 ];
 
+// Whether the fetch with this number fails once in loading `BOTH`, at the path.
+fn is_failed_fetch(alloc: Global, number: u64, path: &[u8]) -> Result<bool, Fail> {
+    let mut source = all_but(alloc, &[number])?;
+    let answer = load(alloc, &mut source, &[BOTH])?;
+    Ok(is_blamed(&answer, path, 20) && source.failures() == 1)
+}
+
 #[test]
 fn each_fetch_that_fails(rt: HostRuntime) -> Result<(), Fail> {
     for (number, path) in &FETCHES {
-        let mut source = all_but(rt.alloc(), &[*number])?;
-        let answer = load(rt.alloc(), &mut source, &[BOTH])?;
-        assert!(rt; is_blamed(&answer, path, 20), "fetch {number}");
-        assert_eq!(rt; source.failures(), 1);
+        assert!(rt;
+            is_failed_fetch(rt.alloc(), *number, path)?,
+            "fetch {number}"
+        );
     }
     Ok(())
 }
@@ -303,8 +321,8 @@ fn each_fetch_that_fails(rt: HostRuntime) -> Result<(), Fail> {
 #[test]
 fn each_path_is_fetched_once(rt: HostRuntime) -> Result<(), Fail> {
     let mut source = all_but(rt.alloc(), &[6])?;
-    assert!(rt; load(rt.alloc(), &mut source, &[BOTH, USER])?.is_ok());
-    assert_eq!(rt; source.failures(), 0);
+    let answer = load(rt.alloc(), &mut source, &[BOTH, USER])?;
+    assert!(rt; answer.is_ok() && source.failures() == 0);
     Ok(())
 }
 
@@ -380,10 +398,8 @@ fn load_chain(alloc: Global, count: u32) -> Result<Result<Plan, GraphFault>, Fai
 
 #[test]
 fn longest_chain(rt: HostRuntime) -> Result<(), Fail> {
-    let answer = load_chain(rt.alloc(), 65_536)?;
-    let plan = answer.ok().ok_or("the chain has a plan")?;
-    assert_eq!(rt; plan.len(), 65_536);
-    assert!(rt; plan.roots() == [65_535].as_slice());
+    let plan = load_chain(rt.alloc(), 65_536)??;
+    assert!(rt; plan.len() == 65_536 && plan.roots() == [65_535].as_slice());
     Ok(())
 }
 

@@ -107,7 +107,8 @@ static MADE: [(&[u8], &[u8], &[u8]); 3] = [
         b"/nix/store/brxav88rzrya6bhi20qbzdb13b9f9sj5-src",
     ),
     (
-        b"text:/nix/store/aaaaaaaaaaaaaaaaaaaaaaaaaaaaaaaa-x:/nix/store/cccccccccccccccccccccccccccccccc-y",
+        b"text:/nix/store/aaaaaaaaaaaaaaaaaaaaaaaaaaaaaaaa-x\
+            :/nix/store/cccccccccccccccccccccccccccccccc-y",
         b"empty",
         b"/nix/store/9ssrlk9c7rixkm03g2jbzgw38qh9l5k7-empty",
     ),

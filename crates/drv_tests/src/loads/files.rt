@@ -64,7 +64,7 @@ pub(crate) const SRC: &[u8] = b"/nix/store/cjq8n83qy5g1f7zaap1rwm9433s8lq8q-src.
 
 pub(crate) const GREET: &[u8] = b"/nix/store/kdc81748wrwf717c0gr4rxm3yy21gxpx-greet.drv";
 
-pub(crate) static FILES: [File; 18] = [
+static FILES: [File; 18] = [
     File {
         path: LEAF,
         text: b"Derive([(\"out\",\"/nix/store/dc3r1sz1nl2lzh0gh17nh592yg586zir-leaf\",\"r:sha256\",\"9f91161f43433e49a6de6db680d79f60159f2e4ac9172621a12846428158440b\")],[],[],\"s\",\"b\",[],[])",
@@ -138,3 +138,7 @@ pub(crate) static FILES: [File; 18] = [
         text: b"Derive([(\"out\",\"/nix/store/i0439xxk79knfdnk3nffhknwdbw7fv5y-greet\",\"\",\"\")],[],[],\"x86_64-linux\",\"/bin/sh\",[\"-c\",\"echo hello > $out\"],[(\"builder\",\"/bin/sh\"),(\"name\",\"greet\"),(\"out\",\"/nix/store/i0439xxk79knfdnk3nffhknwdbw7fv5y-greet\"),(\"system\",\"x86_64-linux\")])",
     },
 ];
+
+pub(crate) fn plain_files() -> &'static [File] {
+    &FILES
+}

@@ -21,7 +21,7 @@ pub(crate) const WITH_SOURCES: &[u8] =
 
 pub(crate) const ONLY_NAME: &[u8] = b"/nix/store/7ywbrlmzldagnn72jikhcai01g3a5ara-x.drv";
 
-pub(crate) static NIX_FILES: [File; 8] = [
+static NIX_FILES: [File; 8] = [
     File {
         path: ESCAPES,
         text: b"Derive([(\"out\",\"/nix/store/gm30713gyj2f7w11mvpbq8s9iifykcsw-escapes\",\"\",\"\")],[],[],\"x86_64-linux\",\"/bin/sh\",[\"-c\",\"printf 'a\\tb\\n\\\"q\\\" \\\\ back\\r' > $out\"],[(\"builder\",\"/bin/sh\"),(\"name\",\"escapes\"),(\"out\",\"/nix/store/gm30713gyj2f7w11mvpbq8s9iifykcsw-escapes\"),(\"system\",\"x86_64-linux\"),(\"text\",\"line\\nline\\ttab \\\"quoted\\\" \\\\ back\\r\")])",
@@ -55,3 +55,7 @@ pub(crate) static NIX_FILES: [File; 8] = [
         text: b"Derive([(\"out\",\"/nix/store/c52bg9hs4qnp1x7s9bbv44lmgyhgyqpi-x\",\"\",\"\")],[],[],\"x86_64-linux\",\"b\",[],[(\"builder\",\"b\"),(\"name\",\"x\"),(\"out\",\"/nix/store/c52bg9hs4qnp1x7s9bbv44lmgyhgyqpi-x\"),(\"system\",\"x86_64-linux\")])",
     },
 ];
+
+pub(crate) fn nix_files() -> &'static [File] {
+    &NIX_FILES
+}

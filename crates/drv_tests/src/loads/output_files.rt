@@ -80,7 +80,7 @@ pub(crate) const PATH_ASKING: &[u8] = b"/nix/store/wsspl2c8n9j2lxglvj5lk6pb4hihy
 /// Neither `RIGHT` nor `LEAF` has the output `doc`.
 pub(crate) const ASKING_TWO: &[u8] = b"/nix/store/lyx00bfv52y5i4a8iyp6zwxdncnqaf5c-some.drv";
 
-pub(crate) static OUTPUT_FILES: [File; 25] = [
+static OUTPUT_FILES: [File; 25] = [
     File {
         path: TREE,
         text: b"Derive([(\"out\",\"/nix/store/brxav88rzrya6bhi20qbzdb13b9f9sj5-src\",\"r:sha256\",\"e3b0c44298fc1c149afbf4c8996fb92427ae41e4649b934ca495991b7852b855\")],[],[],\"s\",\"b\",[],[])",
@@ -182,3 +182,7 @@ pub(crate) static OUTPUT_FILES: [File; 25] = [
         text: b"Derive([(\"out\",\"/nix/store/r123a5k0knwphqj2cp79ija7kwj69did-some\",\"\",\"\")],[(\"/nix/store/9hn5y3i0n94gfb2s1zr5z79jkx977sip-right.drv\",[\"doc\"]),(\"/nix/store/qhjk3ym55bxb3xbjjrgrjjpcm8rgrggf-leaf.drv\",[\"doc\"])],[],\"s\",\"b\",[],[])",
     },
 ];
+
+pub(crate) fn output_files() -> &'static [File] {
+    &OUTPUT_FILES
+}

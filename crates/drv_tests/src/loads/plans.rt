@@ -1,14 +1,8 @@
 //! Tests of plans that are copied and compared.
 use super::files::*;
-use super::load_all;
-use drv_graph::Plan;
+use super::plan_of;
 use std::alloc::Global;
 use std::test::*;
-
-fn plan_of(alloc: Global, roots: &[&[u8]]) -> Result<Plan, Fail> {
-    let answer = load_all(alloc, roots)?;
-    Ok(answer.ok().ok_or("the roots have a plan")?)
-}
 
 // Roots, and others that have the same plan or another one.
 struct PairRow {
@@ -69,12 +63,20 @@ static PAIR_ROWS: [PairRow; 8] = [
     },
 ];
 
+fn pair_rows() -> &'static [PairRow] {
+    &PAIR_ROWS
+}
+
+fn are_as_told(alloc: Global, row: &PairRow) -> Result<bool, Fail> {
+    let plan = plan_of(alloc, row.roots)?;
+    let other = plan_of(alloc, row.others)?;
+    Ok((plan == other) == row.is_same)
+}
+
 #[test]
 fn plans_that_are_equal(rt: HostRuntime) -> Result<(), Fail> {
-    for row in &PAIR_ROWS {
-        let plan = plan_of(rt.alloc(), row.roots)?;
-        let other = plan_of(rt.alloc(), row.others)?;
-        assert!(rt; (plan == other) == row.is_same, "{}", row.label);
+    for row in pair_rows() {
+        assert!(rt; are_as_told(rt.alloc(), row)?, "{}", row.label);
     }
     Ok(())
 }
@@ -82,8 +84,7 @@ fn plans_that_are_equal(rt: HostRuntime) -> Result<(), Fail> {
 #[test]
 fn copy_is_equal(rt: HostRuntime) -> Result<(), Fail> {
     let plan = plan_of(rt.alloc(), &[BOTH, TOP])?;
-    let copy = plan.copy(rt.alloc()).ok().ok_or("memory is ample")?;
-    assert!(rt; copy == plan);
-    assert_eq!(rt; copy.len(), 10);
+    let copy = plan.copy(rt.alloc())?;
+    assert!(rt; copy == plan && copy.len() == 10);
     Ok(())
 }
