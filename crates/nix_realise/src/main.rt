@@ -1,64 +1,10 @@
-//! The program `nix_realise`.
-//!
-//! | Module | What is in it |
-//! |---|---|
-//! | `options`, `jobs` | what a command line asks for |
-//! | `command` | the command line that `clap` reads |
-//! | `words` | the words of a command line, read by `clap` |
-//! | `store_dir` | the store folder of a command line |
-//! | `files` | files that are read |
-//! | `folder` | derivations read from the files of a folder |
-//! | `whole_file` | a file that is written whole or not at all |
-//! | `journal_file` | the journal file: its path, read and written |
-//! | `stop` | why a run ends without its report |
-//! | `fault_words`, `graph_words` | the words of faults |
-//! | `verdict`, `check` | what `check` says of one word; its lines |
-//! | `added_text`, `add_text` | what `add-text` makes of a text; the subcommand |
-//! | `added_drv`, `add_drv` | what `add-drv` makes of a draft; the subcommand |
-//! | `process_build` | a builder that runs a job's program as a process |
-//! | `task` | what `realise` is over: a plan and a journal |
-//! | `settled` | what a book says at the end of a run |
-//! | `builders`, `realise` | the builders of a run; the subcommand `realise` |
-//! | `progress` | the line of progress, which tells how far a run is |
-//! | `printing`, `run` | what is printed; one run of the program |
+//! The program `nix_realise`: the arguments, the standard streams and the builders of a run.
 #![tactic(auto)]
 
 ghost use Rattle.std.specs.Prelude.{◌≡◌, IfOk, map, string_bytes};
-ghost use Rattle.nix_realise.specs.Stops.{IsStatus};
+ghost use Rattle.subcommands.specs.Stops.{IsStatus};
 
-mod add_drv;
-mod add_text;
-mod added_drv;
-mod added_text;
-mod builders;
-mod check;
-mod command;
-mod fault_words;
-mod files;
-mod folder;
-mod graph_words;
-mod jobs;
-mod journal_file;
-mod options;
-mod printing;
-mod process_build;
-mod progress;
-mod realise;
-mod run;
-mod settled;
-mod stop;
-mod store_dir;
-mod task;
-#[cfg(test)]
-mod tests;
-mod verdict;
-mod whole_file;
-mod words;
-
-use builders::Builders;
-use process_build::ByProcesses;
-use progress::{Progress, Watching};
-use run::{print_no_memory, refuse_words, run};
+use process_build::{Builders, ByProcesses, Progress, Watching};
 use std::alloc::{AllocError, Global};
 use std::io::{BufWriter, ErrorKind, IsTerminal, Write};
 use std::process::ExitCode;
@@ -66,6 +12,7 @@ use std::rt::{Env, Files};
 use std::sync::Wait;
 use std::thread::Threads;
 use std::{env, io};
+use subcommands::{print_no_memory, refuse_words, run};
 
 fn main(rt: HostRuntime) -> ExitCode {
     let make = ByProcesses::new(&rt, &rt);

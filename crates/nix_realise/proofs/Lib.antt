@@ -1,9 +1,0 @@
-pub mod AddedTexts
-pub mod AsciiPaths
-pub mod BuilderCalls
-pub mod CommandLines
-pub mod Endings
-pub mod Registrations
-pub mod Reports
-pub mod Rows
-pub mod Tasks

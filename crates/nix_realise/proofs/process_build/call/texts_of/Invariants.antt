@@ -1,8 +1,0 @@
-use Rattle.std.proofs.Common.{◌≡◌, map, take}
-use Rattle.nix_realise.proofs.process_build.call.texts_of.Given as goal
-
--- the bytes so far are texts
-abbrev pub invariant-loop-bytes : goal.invariant-loop-bytes
-invariant-loop-bytes l = record {
-  texts : map (λ t. t.now) l.texts.items ≡ map (λ b. b.items) (take l.bytes-index l.all);
-}

@@ -1,0 +1,2 @@
+pub mod AsciiPaths
+pub mod BuilderCalls

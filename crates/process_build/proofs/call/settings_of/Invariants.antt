@@ -1,0 +1,11 @@
+use Rattle.std.proofs.Common.{◌≡◌, map, take}
+use Rattle.nix_drv.specs.Parts.{entry_of}
+use Rattle.process_build.specs.BuilderCalls.{entry_of_setting}
+use Rattle.process_build.proofs.call.settings_of.Given as goal
+
+-- the entries so far are texts
+abbrev pub invariant-loop-entry : goal.invariant-loop-entry
+invariant-loop-entry l = record {
+  settings : map entry_of_setting l.settings.items
+      ≡ map entry_of (take l.entry-index l.entries);
+}

@@ -1,0 +1,8 @@
+use Rattle.std.proofs.Common.{◌≡◌, map, take}
+use Rattle.process_build.proofs.call.texts_of.Given as goal
+
+-- the bytes so far are texts
+abbrev pub invariant-loop-bytes : goal.invariant-loop-bytes
+invariant-loop-bytes l = record {
+  texts : map (λ t. t.now) l.texts.items ≡ map (λ b. b.items) (take l.bytes-index l.all);
+}

@@ -1,0 +1,13 @@
+//! What makes the builders of a run.
+
+use std::alloc::{AllocError, Global};
+use store_run::Build;
+
+/// What makes the builders of a run.
+pub trait Builders {
+    /// What is made.
+    type Builder: Build + Send + Drop;
+
+    /// A builder in this store folder. Want of memory is the only error.
+    fn builder(&self, alloc: Global, store_dir: &str) -> Result<Self::Builder, AllocError>;
+}

@@ -1,0 +1,117 @@
+//! The texts of a job that a process is started with.
+ghost use Rattle.std.specs.Prelude.{◌≡◌, ◌⊎◌, IfErr, IfOk, map};
+ghost use Rattle.nix_drv.specs.Parts.{entry_of};
+ghost use Rattle.process_build.specs.BuilderCalls.{entry, entry_of_setting, own_entries};
+ghost use Rattle.process_build.specs.BuilderCalls.{IsProcessEntry, IsProcessKey, IsProcessText};
+ghost use Rattle.sched_core.specs.declared.reason.Reason.TheVariants.{NoStart, OutOfMemory};
+
+use nix_drv::EnvEntry;
+use sched_core::{Job, Reason};
+use std::alloc::Global;
+use std::str;
+
+/// An entry of an environment.
+#[derive(Clone, Copy)]
+pub struct Setting<'a> {
+    pub key: &'a str,
+    pub value: &'a str,
+}
+
+impl<'a> Setting<'a> {
+    /// The entry of a key and its value.
+    pub fn new(key: &'a str, value: &'a str) -> Setting<'a>
+        ensures { entry_of_setting result ≡ entry key.now value.now }
+    {
+        Setting { key, value }
+    }
+}
+
+/// A program, its arguments in order, and what its environment is to have by the derivation.
+#[derive(Drop)]
+pub struct Call<'a> {
+    pub builder: &'a str,
+    pub args: Vec<&'a str>,
+    pub env: Vec<Setting<'a>>,
+}
+
+impl<'a> Call<'a> {
+    /// The call of a job's builder. `NoStart` where a text of it isn't UTF-8 or has a zero byte, or
+    /// where a key of the environment is empty or has a `=`.
+    pub fn of(alloc: Global, job: &'a Job) -> Result<Call<'a>, Reason>
+        ensures builder { IfOk result (λ call. call.builder.now ≡ job.now.builder.items) }
+        ensures args { IfOk result (λ call.
+            map (λ a. a.now) call.args.items ≡ map (λ a. a.items) job.now.args.items) }
+        ensures env { IfOk result (λ call.
+            map entry_of_setting call.env.items ≡ own_entries job.now) }
+        ensures refused { IfErr result (λ reason. (reason ≡ OutOfMemory) ⊎ (reason ≡ NoStart)) }
+    {
+        Ok(Call {
+            builder: text_of(&job.builder)?,
+            args: texts_of(alloc, &job.args)?,
+            env: settings_of(alloc, &job.env)?,
+        })
+    }
+}
+
+// Some bytes as texts.
+fn texts_of(alloc: Global, all: &[Vec<u8>]) -> Result<Vec<&str>, Reason>
+    ensures texts { IfOk result (λ texts.
+        map (λ t. t.now) texts.items ≡ map (λ b. b.items) all.now) }
+    ensures refused { IfErr result (λ reason. (reason ≡ OutOfMemory) ⊎ (reason ≡ NoStart)) }
+{
+    let mut texts = Vec::new(alloc);
+    for bytes in all {
+        texts.push(text_of(bytes)?)?;
+    }
+    Ok(texts)
+}
+
+// The entries of an environment as texts.
+fn settings_of(alloc: Global, entries: &[EnvEntry]) -> Result<Vec<Setting<'_>>, Reason>
+    ensures settings { IfOk result (λ settings.
+        map entry_of_setting settings.items ≡ map entry_of entries.now) }
+    ensures refused { IfErr result (λ reason. (reason ≡ OutOfMemory) ⊎ (reason ≡ NoStart)) }
+{
+    let mut settings = Vec::new(alloc);
+    for entry in entries {
+        settings.push(setting_of(entry)?)?;
+    }
+    Ok(settings)
+}
+
+// An entry of an environment as texts.
+fn setting_of(entry: &EnvEntry) -> Result<Setting<'_>, Reason>
+    ensures setting { IfOk result (λ setting. entry_of_setting setting ≡ entry_of entry.now) }
+    ensures good { IfOk result (λ _. IsProcessEntry (entry_of entry.now)) }
+    ensures refused { IfErr result (λ reason.
+        (reason ≡ NoStart) × (¬ (IsProcessEntry (entry_of entry.now)))) }
+{
+    Ok(Setting {
+        key: key_of(&entry.key)?,
+        value: text_of(&entry.value)?,
+    })
+}
+
+// Bytes as the name of a variable.
+fn key_of(bytes: &[u8]) -> Result<&str, Reason>
+    ensures text { IfOk result (λ text. (text.now ≡ bytes.now) × IsProcessKey bytes.now) }
+    ensures refused { IfErr result (λ reason.
+        (reason ≡ NoStart) × (¬ (IsProcessKey bytes.now))) }
+{
+    if bytes.is_empty() || bytes.contains(&b'=') {
+        return Err(Reason::NoStart);
+    }
+    text_of(bytes)
+}
+
+// Bytes as a text that a process can be given.
+fn text_of(bytes: &[u8]) -> Result<&str, Reason>
+    ensures text { IfOk result (λ text. (text.now ≡ bytes.now) × IsProcessText bytes.now) }
+    ensures refused { IfErr result (λ reason.
+        (reason ≡ NoStart) × (¬ (IsProcessText bytes.now))) }
+{
+    match str::from_utf8(bytes) {
+        Ok(text) if !bytes.contains(&0) => Ok(text),
+        _ => Err(Reason::NoStart),
+    }
+}

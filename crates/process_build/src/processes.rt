@@ -1,0 +1,113 @@
+//! A builder that runs a job's program as a process.
+
+use crate::builders::Builders;
+use crate::call::Call;
+use crate::files::file_path;
+use crate::reading::read_outputs;
+use crate::reasons::no_start;
+use crate::removal::remove;
+use crate::start::run_builder;
+use sched_core::{Answer, Job, Reason};
+use std::alloc::{AllocError, Global};
+use std::fs;
+use std::process::Processes;
+use std::rt::Files;
+use store_run::Build;
+
+/// Builds each job by a process of its own, in a folder of its own within the store folder.
+///
+/// What lies at the job's output paths and at the build folder's is removed first. The builder then
+/// runs in the build folder, its standard input empty, what it prints not shown. Where its exit
+/// status is 0, what it left at the output paths is read. The build folder is removed at the end.
+#[derive(Drop)]
+pub struct ProcessBuild<'a, R, P> {
+    rt: &'a R,
+    processes: &'a P,
+    store_dir: String,
+}
+
+impl<'a, R, P> ProcessBuild<'a, R, P> {
+    /// Builds in this store folder, with the files and memory of a runtime and these processes.
+    /// Want of memory is the only error.
+    pub fn new(
+        alloc: Global,
+        rt: &'a R,
+        processes: &'a P,
+        store_dir: &str,
+    ) -> Result<ProcessBuild<'a, R, P>, AllocError> {
+        Ok(ProcessBuild {
+            rt,
+            processes,
+            store_dir: String::from_str(alloc, store_dir)?,
+        })
+    }
+}
+
+/// Makes builders that build by processes.
+#[derive(Drop)]
+pub struct ByProcesses<'a, R, P> {
+    rt: &'a R,
+    processes: &'a P,
+}
+
+impl<'a, R, P> ByProcesses<'a, R, P> {
+    /// With the files and memory of a runtime and these processes.
+    pub fn new(rt: &'a R, processes: &'a P) -> ByProcesses<'a, R, P> {
+        ByProcesses { rt, processes }
+    }
+}
+
+impl<'a, R: Files + AllocGlobal + Sync, P: Processes + Sync> Builders for ByProcesses<'a, R, P> {
+    type Builder = ProcessBuild<'a, R, P>;
+
+    fn builder(
+        &self,
+        alloc: Global,
+        store_dir: &str,
+    ) -> Result<ProcessBuild<'a, R, P>, AllocError> {
+        ProcessBuild::new(alloc, self.rt, self.processes, store_dir)
+    }
+}
+
+impl<R: Files + AllocGlobal, P: Processes> Build for ProcessBuild<'_, R, P> {
+    // Nothing is promised of what a builder does.
+    ghost may = { λ _ _. Unit {0} };
+
+    /// Builds a job. `NoStart` where it has a text that no process can be started with, which
+    /// leaves all files as they are, or where making room for the builder or its start fails.
+    /// `ReadFault` and `TooLarge` where an output can't be read or passes a limit. `OutOfMemory`
+    /// where memory was refused.
+    fn run(&self, number: u64, job: &Job) -> Result<Answer, Reason> {
+        let alloc = self.rt.alloc();
+        let call = Call::of(alloc, job)?;
+        let folder = format!(in alloc; "{}/.build-{number}", self.store_dir)?;
+        let answer = self.build(folder.as_str(), &call, job);
+        // The answer stands, be the folder removed or not.
+        let _ = remove(self.rt, folder.as_str());
+        answer
+    }
+}
+
+impl<R: Files + AllocGlobal, P: Processes> ProcessBuild<'_, R, P> {
+    // Makes room, runs the builder, and reads what it left, if its exit status is 0.
+    fn build(&self, folder: &str, call: &Call<'_>, job: &Job) -> Result<Answer, Reason> {
+        self.make_room(folder, job)?;
+        let alloc = self.rt.alloc();
+        let status = run_builder(alloc, self.processes, self.store_dir.as_str(), folder, call)?;
+        let trees = match status {
+            Some(0) => read_outputs(self.rt, job)?,
+            _ => Vec::new(alloc),
+        };
+        Ok(Answer { status, trees })
+    }
+
+    // Removes what lies at the outputs' paths and at the build folder's, and makes the folder.
+    fn make_room(&self, folder: &str, job: &Job) -> Result<(), Reason> {
+        for output in &job.outputs {
+            let path = file_path(&output.path).map_err(no_start)?;
+            remove(self.rt, path).map_err(no_start)?;
+        }
+        remove(self.rt, folder).map_err(no_start)?;
+        fs::create_dir(self.rt, folder).map_err(no_start)
+    }
+}

@@ -1,0 +1,97 @@
+//! A builder that is started and waited for.
+ghost use Rattle.std.specs.Prelude.{◌≡◌, ◌++◌, [], IfOk, OnOk, Some, map, string_bytes};
+ghost use Rattle.std.specs.Process.{command_args, command_dir, command_program};
+ghost use Rattle.std.specs.Process.{SameDir, SameEnv, SameProgramAndArgs};
+ghost use Rattle.process_build.specs.BuilderCalls.{entries_in_order, entry_of_setting};
+ghost use Rattle.process_build.specs.BuilderCalls.{program_of, Runs};
+
+use crate::call::Call;
+use crate::environment::{set_environment, settings};
+use crate::reasons::no_start;
+use sched_core::Reason;
+use std::alloc::{AllocError, Global};
+use std::os::unix::process::CommandExt;
+use std::process::{Command, Processes, Stdio};
+
+/// Runs a builder in its folder, and gives its exit status, none where a signal ended it. It waits
+/// for the builder alone, and not for what that one has started.
+pub fn run_builder<P: Processes>(
+    alloc: Global,
+    processes: &P,
+    store_dir: &str,
+    folder: &str,
+    call: &Call<'_>,
+) -> Result<Option<i32>, Reason> {
+    let mut command = command(alloc, store_dir, folder, call)?;
+    let status = command.status(processes).map_err(no_start)?;
+    Ok(status.code())
+}
+
+// The command that runs a builder in its folder, in silence.
+fn command(
+    alloc: Global,
+    store_dir: &str,
+    folder: &str,
+    call: &Call<'_>,
+) -> Result<Command, AllocError>
+    ensures { IfOk result (Runs (program_of call.now.builder.now)
+        (map (λ a. a.now) call.now.args.items)
+        (entries_in_order store_dir.now folder.now (map entry_of_setting call.now.env.items))
+        folder.now) }
+{
+    let mut command = in_folder(alloc, folder, call.builder)?;
+    set_args(&mut command, &call.args)?;
+    let settings = settings(alloc, store_dir, folder, &call.env)?;
+    set_environment(&mut command, &settings)?;
+    be_silent(&mut command);
+    Ok(command)
+}
+
+// The command that runs a builder in its folder, before anything else is said of it.
+fn in_folder(alloc: Global, folder: &str, builder: &str) -> Result<Command, AllocError>
+    ensures program { IfOk result (λ c. command_program c ≡ program_of builder.now) }
+    ensures args { IfOk result (λ c. command_args c ≡ []) }
+    ensures dir { IfOk result (λ c. command_dir c ≡ Some folder.now) }
+{
+    let mut command = Command::new(alloc, program(alloc, builder)?)?;
+    command.arg0(builder)?.current_dir(folder)?;
+    Ok(command)
+}
+
+// The path of a builder's program. One without a slash would be looked for in the folders of its
+// `PATH`.
+fn program(alloc: Global, builder: &str) -> Result<String, AllocError>
+    ensures { IfOk result (λ path. string_bytes path ≡ program_of builder.now) }
+{
+    if builder.as_bytes().contains(&b'/') {
+        String::from_str(alloc, builder)
+    } else {
+        format!(in alloc; "./{builder}")
+    }
+}
+
+// Gives a command these arguments.
+fn set_args(command: &mut Command, args: &[&str]) -> Result<(), AllocError>
+    ensures args { OnOk result (command_args command.new
+        ≡ command_args command.old ++ map (λ a. a.now) args.now) }
+    ensures program { OnOk result (command_program command.new ≡ command_program command.old) }
+    ensures env { OnOk result (SameEnv command.old command.new) }
+    ensures dir { OnOk result (SameDir command.old command.new) }
+{
+    for arg in args {
+        command.arg(*arg)?;
+    }
+    Ok(())
+}
+
+// Gives a command no input, and shows nothing that it prints.
+fn be_silent(command: &mut Command)
+    ensures call { SameProgramAndArgs command.old command.new }
+    ensures env { SameEnv command.old command.new }
+    ensures dir { SameDir command.old command.new }
+{
+    command
+        .stdin(Stdio::null())
+        .stdout(Stdio::null())
+        .stderr(Stdio::null());
+}

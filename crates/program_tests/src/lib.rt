@@ -1,0 +1,50 @@
+//! Tests of the program, of what no clause says: printed texts, statuses, files on disk, refused
+//! writes, builders that run as processes.
+//!
+//! | Module | What is tried |
+//! |---|---|
+//! | `runs` | command lines, and what is printed of a usage mistake |
+//! | `lines` | the lines of `check` |
+//! | `files` | derivations that are read from files |
+//! | `added_texts`, `journals` | `add-text`, and the journal file that it writes |
+//! | `drvs` | `add-drv` |
+//! | `realising`, `realisations`, `many` | `realise`: its faults, its reports, many derivations |
+//! | `progress` | the line of progress |
+//! | `starts`, `folders`, `outputs` | a builder's start, its folder, what is read of its outputs |
+//! | `running`, `scene`, `store`, `sites` | runs and store folders that the tests are made of |
+#![tactic(auto)]
+
+#[cfg(test)]
+mod added_texts;
+#[cfg(test)]
+mod drvs;
+#[cfg(test)]
+mod files;
+#[cfg(test)]
+mod folders;
+#[cfg(test)]
+mod journals;
+#[cfg(test)]
+mod lines;
+#[cfg(test)]
+mod many;
+#[cfg(test)]
+mod outputs;
+#[cfg(test)]
+mod progress;
+#[cfg(test)]
+mod realisations;
+#[cfg(test)]
+mod realising;
+#[cfg(test)]
+mod running;
+#[cfg(test)]
+mod runs;
+#[cfg(test)]
+mod scene;
+#[cfg(test)]
+mod sites;
+#[cfg(test)]
+mod starts;
+#[cfg(test)]
+mod store;

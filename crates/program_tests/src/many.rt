@@ -1,0 +1,151 @@
+//! `realise` over many derivations: one worker beside eight.
+use crate::running::{Host, Outcome, run_by};
+use crate::scene::{Drv, put_drv, scene};
+use crate::store::Store;
+use nix_names::StoreDir;
+use process_build::{Builders, ByProcesses};
+use std::alloc::{AllocError, Global};
+use std::test::Fail;
+use std::{fs, process};
+use valid_table::Journal;
+
+// How many derivations there are, how many of them each one uses at most, and how far before it
+// those stand; so they stand in many layers.
+const COUNT: usize = 200;
+
+const MOST_INPUTS: usize = 3;
+
+const WINDOW: usize = 10;
+
+// The next of a row of numbers that look random (Knuth's MMIX).
+fn next(seed: u64) -> u64 {
+    seed.wrapping_mul(6_364_136_223_846_793_005)
+        .wrapping_add(1_442_695_040_888_963_407)
+}
+
+// The derivations that the next one uses, by their paths, each once.
+fn picks<'a>(alloc: Global, seed: &mut u64, drvs: &'a [Drv]) -> Result<Vec<&'a Drv>, AllocError> {
+    let mut picked: Vec<&Drv> = Vec::new(alloc);
+    for _ in 0..MOST_INPUTS {
+        *seed = next(*seed);
+        let back = (*seed >> 33) as usize % WINDOW;
+        if let Some(drv) = drvs.iter().rev().nth(back) {
+            picked.push(drv)?;
+        }
+    }
+    picked.sort_unstable_by(|one, other| one.path.cmp(&other.path));
+    picked.dedup_by(|one, other| one.path == other.path);
+    Ok(picked)
+}
+
+// What a draft says of the derivations that it uses: its inputs, and its script, which writes down
+// the paths of their outputs.
+fn draft_parts(alloc: Global, picked: &[&Drv]) -> Result<(String, String), AllocError> {
+    let mut inputs = Vec::new(alloc);
+    let mut outputs = Vec::new(alloc);
+    for drv in picked {
+        inputs.push(format!(in alloc; r#"("{}",["out"])"#, drv.path)?)?;
+        outputs.push(String::from_str(alloc, drv.output())?)?;
+    }
+    let script = format!(in alloc; "echo {} > $out", outputs.join(alloc, " ")?)?;
+    Ok((inputs.join(alloc, ",")?, script))
+}
+
+// Puts a derivation that uses these.
+fn put_user<R: Host>(rt: &R, store: &Store, number: usize, picked: &[&Drv]) -> Result<Drv, Fail> {
+    let (inputs, script) = draft_parts(rt.alloc(), picked)?;
+    let name = format!(in rt.alloc(); "d{number}")?;
+    let parts = [inputs.as_str(), "", "x86_64-linux"];
+    put_drv(rt, store, name.as_str(), parts, script.as_str())
+}
+
+// Puts a derivation that uses some of these.
+fn put_next<R: Host>(rt: &R, store: &Store, seed: &mut u64, drvs: &[Drv]) -> Result<Drv, Fail> {
+    let picked = picks(rt.alloc(), seed, drvs)?;
+    put_user(rt, store, drvs.len(), &picked)
+}
+
+// Puts the derivations.
+fn put_all<R: Host>(rt: &R, store: &Store) -> Result<Vec<Drv>, Fail> {
+    let mut drvs = Vec::new(rt.alloc());
+    let mut seed = 1;
+    for _ in 0..COUNT {
+        let drv = put_next(rt, store, &mut seed, &drvs)?;
+        drvs.push(drv)?;
+    }
+    Ok(drvs)
+}
+
+// Runs `realise` on the derivations, by so many workers.
+fn realise_all<R: Host, M: Builders>(
+    rt: &R,
+    make: &M,
+    store: &Store,
+    drvs: &[Drv],
+    jobs: &str,
+) -> Result<Outcome, AllocError> {
+    let folder = store.folder.as_str();
+    let start = [
+        "nix_realise",
+        "realise",
+        "--store-dir",
+        folder,
+        "--jobs",
+        jobs,
+    ];
+    let mut words = Vec::from_slice(rt.alloc(), &start)?;
+    for drv in drvs {
+        words.push(drv.path.as_str())?;
+    }
+    Ok(run_by(rt, make, &words))
+}
+
+// What a run by so many workers did, and the journal that it left, which is taken away.
+fn after<R: Host, M: Builders>(
+    rt: &R,
+    make: &M,
+    store: &Store,
+    drvs: &[Drv],
+    jobs: &str,
+) -> Result<(Outcome, Journal), Fail> {
+    let ran = realise_all(rt, make, store, drvs, jobs)?;
+    let journal = take_journal(rt, store)?;
+    Ok((ran, journal))
+}
+
+// The journal of a store folder, whose file is removed.
+fn take_journal<R: Host>(rt: &R, store: &Store) -> Result<Journal, Fail> {
+    let dir = StoreDir::new(rt.alloc(), store.folder.as_bytes())?;
+    let bytes = fs::read(rt, store.journal.as_str())?;
+    fs::remove_file(rt, store.journal.as_str())?;
+    Ok(Journal::read(rt.alloc(), &dir, &bytes)?)
+}
+
+// Whether two runs built all, printed the same, and left the same entries, in whatever order.
+fn are_alike(alone: &(Outcome, Journal), together: &(Outcome, Journal)) -> bool {
+    let (entries, others) = (alone.1.entries(), together.1.entries());
+    alone.0.status == 0
+        && together.0.status == 0
+        && alone.0.out == together.0.out
+        && entries.len() == COUNT
+        && others.len() == COUNT
+        && entries.iter().all(|entry| others.contains(entry))
+}
+
+// Whether one worker and eight come to the same.
+fn come_to_the_same<R: Host, M: Builders>(rt: &R, make: &M, store: &Store) -> Result<bool, Fail> {
+    let drvs = put_all(rt, store)?;
+    let alone = after(rt, make, store, &drvs, "1")?;
+    let together = after(rt, make, store, &drvs, "8")?;
+    Ok(are_alike(&alone, &together))
+}
+
+#[test]
+fn one_worker_or_eight(rt: HostRuntime) -> Result<(), Fail> {
+    let make = ByProcesses::new(&rt, &rt);
+    let store = scene(&rt, process::id(rt.process()), "many")?;
+    assert!(rt; come_to_the_same(&rt, &make, &store)?);
+    // The file, the derivations and their outputs.
+    assert!(rt; store.held(&rt, 401)?);
+    Ok(())
+}

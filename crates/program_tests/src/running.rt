@@ -1,0 +1,98 @@
+//! Runs of the program on command lines, and what a run needs.
+
+use process_build::Builders;
+use sched_core::{Answer, Job, Reason};
+use std::alloc::{AllocError, Global};
+use std::io::Write;
+use std::rt::{Env, Files};
+use std::sync::Wait;
+use std::thread::Threads;
+use std::{env, fs, io};
+use store_run::Build;
+use subcommands::run;
+
+/// The derivation of which nothing is set.
+pub const NOTHING: &[u8; 28] = b"Derive([],[],[],\"\",\"\",[],[])";
+
+/// A run's status, and what it wrote.
+#[derive(Drop)]
+pub struct Outcome {
+    /// The status.
+    pub status: u8,
+    /// What it wrote to standard output.
+    pub out: Vec<u8>,
+    /// What it wrote to standard error.
+    pub err: Vec<u8>,
+}
+
+/// What a run needs of its host.
+pub trait Host: Files + AllocGlobal + Threads + Wait + Sync {}
+
+impl<R: Files + AllocGlobal + Threads + Wait + Sync> Host for R {}
+
+/// A builder that starts nothing.
+#[derive(Drop)]
+pub struct Idle;
+
+impl Build for Idle {
+    ghost may = { λ _ _. Unit {0} };
+
+    fn run(&self, _number: u64, _job: &Job) -> Result<Answer, Reason> {
+        Err(Reason::NoStart)
+    }
+}
+
+impl Builders for Idle {
+    type Builder = Idle;
+
+    fn builder(&self, _alloc: Global, _store_dir: &str) -> Result<Idle, AllocError> {
+        Ok(Idle)
+    }
+}
+
+/// Runs the program on a command line, with builders that start nothing.
+pub fn run_words<'a, R: Host>(rt: &R, words: &'a [&'a str]) -> Outcome {
+    run_by(rt, &Idle, words)
+}
+
+/// Runs the program on a command line, with the builders that are made so.
+pub fn run_by<'a, R: Host, M: Builders>(rt: &R, make: &M, words: &'a [&'a str]) -> Outcome {
+    let mut out = Vec::new(rt.alloc());
+    let mut err = Vec::new(rt.alloc());
+    let status = run(rt, make, words, &mut out, &mut err);
+    Outcome { status, out, err }
+}
+
+/// A folder of its own for each process and test.
+pub fn new_folder<R: Env + Files + AllocGlobal>(
+    rt: &R,
+    process: u32,
+    test: &str,
+) -> io::Result<String> {
+    let temporary = env::temp_dir(rt)?;
+    let folder = format!(in rt.alloc(); "{}/nufreld-{process}-{test}", temporary.display())?;
+    fs::create_dir(rt, folder.as_str())?;
+    Ok(folder)
+}
+
+/// A writer that holds so many bytes, and refuses the next one.
+#[derive(Drop)]
+pub struct Narrow {
+    /// How many bytes it still holds.
+    pub room: usize,
+}
+
+impl Write for Narrow {
+    fn write(&mut self, buf: &[u8]) -> io::Result<usize> {
+        if self.room == 0 {
+            return Err(io::Error::other("no room"));
+        }
+        let taken = buf.len().min(self.room);
+        self.room -= taken;
+        Ok(taken)
+    }
+
+    fn flush(&mut self) -> io::Result<()> {
+        Ok(())
+    }
+}

@@ -1,0 +1,25 @@
+use Rattle.std.proofs.Common.{inl, inr, refl}
+use Rattle.std.proofs.lemmas.Result.{err_from_is_err_and}
+use Rattle.subcommands.specs.AddedText.{FileBytes, file_bytes}
+use Rattle.subcommands.proofs.add_drv.add_drv.Goals as goal
+
+pub returns-in_err-added : goal.returns-in_err-added
+returns-in_err-added g c =
+    let gave : FileBytes = file_bytes c.read_text-draft.result in
+    let e = err_from_is_err_and c.from_residual.result c.from_residual.ensures.1 in
+    (gave, rw (e.1, e.2) (inl (refl, c.in_err-added.ensures)))
+
+pub returns-in_err-put : goal.returns-in_err-put
+returns-in_err-put g c =
+    let gave : FileBytes = file_bytes c.read_text-draft.result in
+    let step = c.from_residual-in_err-put in
+    let e = err_from_is_err_and step.result step.ensures.1 in (
+      gave,
+      rw (e.1, e.2) (inr (c.in_ok-added.added, c.in_ok-added.ensures, c.in_err-put.ensures.err)),
+    )
+
+pub returns : goal.returns
+returns g c = (
+  file_bytes c.read_text-draft.result,
+  (refl, (c.in_ok-added.added, c.in_ok-added.ensures, c.in_ok-put.ensures.ok)),
+)

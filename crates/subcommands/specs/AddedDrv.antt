@@ -1,0 +1,74 @@
+-- What `add-drv` makes of its request and of what its file gave: the filled derivation's path and
+-- text, or the first of its faults.
+use Rattle.std.specs.Prelude.{◌≡◌, ◌≢◌, ◌⊎◌, ℕ, List, Result, Ok, Err}
+use Rattle.std.specs.Borrow.{Bor}
+use Rattle.nix_names.specs.Names.{IsStoreDir}
+use Rattle.nix_drv.specs.Derivation.{Drv, IsDrvText}
+use Rattle.nix_drv.specs.Outcome.{IsReading}
+use Rattle.nix_drv.specs.Sources.{Answer}
+use Rattle.nix_drv.specs.declared.fault.DrvFault.{DrvFault}
+use Rattle.nix_drv.specs.declared.fault.DrvFault.TheVariants as drv
+use Rattle.drv_graph.specs.Filling.{IsFilling}
+use Rattle.drv_graph.specs.declared.fault.GraphFault.{GraphFault}
+use Rattle.drv_graph.specs.declared.fault.GraphFault.TheVariants as graph
+use Rattle.drv_graph.specs.declared.fault.NodeFault.TheVariants as node
+use Rattle.subcommands.specs.AddedText.{FileBytes}
+use Rattle.subcommands.specs.StoreDirs.{IsStoreDirOf}
+use Rattle.subcommands.specs.declared.added_drv.AddedDrv.{AddedDrv}
+use Rattle.subcommands.specs.declared.files.FileFault.TheVariants as file
+use Rattle.subcommands.specs.declared.options.AddDrvRequest.{AddDrvRequest}
+use Rattle.subcommands.specs.declared.stop.Stop.{Stop}
+use Rattle.subcommands.specs.declared.stop.Stop.TheVariants.{BadDraft, BadDrv, BadName}
+use Rattle.subcommands.specs.declared.stop.Stop.TheVariants.{NoMemory, Unreadable}
+
+-- What is answered for the draft's bytes: the draft, or what is wrong with its text.
+abbrev pub IsDraftRead : Bor (List ℕ) → (bytes : List ℕ) → Result Drv Stop → Type 0
+IsDraftRead path bytes (Ok draft) = IsReading bytes (Ok draft)
+IsDraftRead path bytes (Err stop) =
+    (stop ≡ NoMemory)
+    ⊎ ((fault : DrvFault) × (stop ≡ BadDraft path (node.Text fault)) × (fault ≢ drv.NoMemory)
+    × IsReading bytes (Err fault))
+
+-- What is answered for what FILE gave.
+abbrev pub IsDraftOf : Bor (List ℕ) → FileBytes → Result Drv Stop → Type 0
+IsDraftOf path (Ok bytes) answer = IsDraftRead path bytes answer
+IsDraftOf path (Err file.Unreadable) answer = answer ≡ Err (Unreadable path)
+IsDraftOf path (Err file.NoMemory) answer = answer ≡ Err NoMemory
+
+-- What ends a run where filling its draft answers a fault: one of the draft is blamed on FILE, one
+-- of another derivation on its path.
+abbrev pub fill_stop : AddDrvRequest → GraphFault → Stop
+fill_stop request graph.NoMemory = NoMemory
+fill_stop request (graph.At path fault) = BadDrv path fault
+fill_stop request (graph.Draft fault) = BadDraft request.file fault
+fill_stop request graph.Name = BadName request.name
+
+-- What is answered where the draft is filled in a folder, by a source.
+abbrev pub IsFillingOf : (dir : List ℕ) → (gives : List ℕ → Answer → Type 0) → AddDrvRequest → Drv
+    → Result (Drv × List ℕ) Stop → Type 0
+IsFillingOf dir gives request draft (Ok made) = IsFilling dir gives request.name.now draft (Ok made)
+IsFillingOf dir gives request draft (Err stop) =
+    (fault : GraphFault) × (stop ≡ fill_stop request fault)
+    × IsFilling dir gives request.name.now draft (Err fault)
+
+-- The store folder is one, and FILE gave the draft's text.
+abbrev pub HasDraft : AddDrvRequest → FileBytes → Drv → Type 0
+HasDraft request gave draft =
+    IsStoreDir request.store_dir.now × IsDraftOf request.file gave (Ok draft)
+
+-- What is answered: the path and the text of the filled draft, or the first that is wrong of the
+-- store folder, FILE, the draft's text and its filling. Want of memory may come in the place of all
+-- but a refused folder.
+abbrev pub IsAddingDrv : (gives : List ℕ → Answer → Type 0) → AddDrvRequest → FileBytes
+    → Result AddedDrv Stop → Type 0
+IsAddingDrv gives request gave (Ok added) =
+    (draft : Drv) × HasDraft request gave draft
+    × ((filled : Drv) × IsFilling request.store_dir.now gives request.name.now draft
+    (Ok (filled, added.path))
+    × IsDrvText filled added.text.items)
+IsAddingDrv gives request gave (Err stop) =
+    IsStoreDirOf request.store_dir (Err stop)
+    ⊎ ((IsStoreDir request.store_dir.now × IsDraftOf request.file gave (Err stop))
+    ⊎ (((draft : Drv) × HasDraft request gave draft
+    × IsFillingOf request.store_dir.now gives request draft (Err stop))
+    ⊎ ((stop ≡ NoMemory) × IsStoreDir request.store_dir.now)))

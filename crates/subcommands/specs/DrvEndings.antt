@@ -1,0 +1,35 @@
+-- How a run of `add-drv` ends: what standard output got, and what may not have been written.
+use Rattle.std.specs.Prelude.{◌≡◌, ◌⊎◌, ℕ, List, Option, Result, Ok, Err}
+use Rattle.std.specs.Io.KnownBytes.{Appends}
+use Rattle.subcommands.specs.AddedDrv.{IsAddingDrv}
+use Rattle.subcommands.specs.AddedText.{FileBytes}
+use Rattle.subcommands.specs.Endings.{path_line}
+use Rattle.subcommands.specs.Folders.{may_give}
+use Rattle.subcommands.specs.declared.added_drv.AddedDrv.{AddedDrv}
+use Rattle.subcommands.specs.declared.options.AddDrvRequest.{AddDrvRequest}
+use Rattle.subcommands.specs.declared.stop.Stop.{Stop}
+use Rattle.subcommands.specs.declared.stop.Stop.TheVariants.{NoMemory, NotWritten, Unwritable}
+
+-- The file of the derivation is not written, and nothing is printed; or the line of its path is
+-- refused.
+abbrev pub IsNotPut : (path : List ℕ) → (before after : Option (List ℕ)) → Stop → Type 0
+IsNotPut path before after stop =
+    ((after ≡ before) × ((stop ≡ NoMemory) ⊎ (stop ≡ NotWritten path))) ⊎ (stop ≡ Unwritable)
+
+-- How a run ends, by what FILE gave; of the files of the folder nothing is known. Nothing is
+-- printed where the draft is refused.
+abbrev pub DrvEndsBy : AddDrvRequest → FileBytes → (before after : Option (List ℕ))
+    → Result ℕ Stop → Type 0
+DrvEndsBy request gave before after (Ok status) =
+    (status ≡ 0)
+    × ((added : AddedDrv) × IsAddingDrv (λ _ answer. may_give answer) request gave (Ok added)
+    × Appends before after (path_line added.path))
+DrvEndsBy request gave before after (Err stop) =
+    ((after ≡ before) × IsAddingDrv (λ _ answer. may_give answer) request gave (Err stop))
+    ⊎ ((added : AddedDrv) × IsAddingDrv (λ _ answer. may_give answer) request gave (Ok added)
+    × IsNotPut added.path before after stop)
+
+-- how a run ends: nothing is known of what FILE gave
+abbrev pub DrvEnds : AddDrvRequest → (before after : Option (List ℕ)) → Result ℕ Stop → Type 0
+DrvEnds request before after result =
+    (gave : FileBytes) × DrvEndsBy request gave before after result

@@ -1,0 +1,53 @@
+-- How a run of `add-text` ends: what standard output got, and what may not have been written.
+use Rattle.std.specs.Prelude.{◌≡◌, ◌∷◌, ◌++◌, [], ℕ, List, Option, Result, Ok, Err, IsSome}
+use Rattle.std.specs.Io.KnownBytes.{Appends}
+use Rattle.nix_names.specs.Names.{IsStoreDir}
+use Rattle.subcommands.specs.AddedText.{FileBytes, IsAddingText}
+use Rattle.subcommands.specs.declared.added_text.AddedText.{AddedText}
+use Rattle.subcommands.specs.declared.options.AddTextRequest.{AddTextRequest}
+use Rattle.subcommands.specs.declared.stop.Stop.{Stop}
+use Rattle.subcommands.specs.declared.stop.Stop.TheVariants.{NotWritten, JournalNotWritten}
+use Rattle.subcommands.specs.declared.stop.Stop.TheVariants.{NoMemory, Unwritable}
+
+-- the line of a path
+abbrev pub path_line : List ℕ → List ℕ
+path_line path = path ++ 10 ∷ []
+
+-- Which files are not written, where one is not: the text at its path, or behind it the journal;
+-- there is something to be written.
+abbrev pub IsWriteFault : AddedText → Stop → Type 0
+IsWriteFault added (NotWritten path) = (path ≡ added.path) × IsSome added.journal
+IsWriteFault added JournalNotWritten = IsSome added.journal
+IsWriteFault added NoMemory = Unit {0}
+IsWriteFault added stop = ⊥
+
+-- The text was accepted, and the line of its path was printed.
+abbrev pub IsPrinted : AddTextRequest → (gave journal : FileBytes)
+    → (before after : Option (List ℕ)) → AddedText → Type 0
+IsPrinted request gave journal before after added =
+    IsAddingText request gave journal (Ok added) × Appends before after (path_line added.path)
+
+-- How a run ends, by what the two files gave. Nothing is printed where the text is refused; else
+-- the path is, and then a file may not be written. Of a refused line it is said that the text is
+-- not refused, of want of memory that the folder is not.
+abbrev pub EndsBy : AddTextRequest → (gave journal : FileBytes)
+    → (before after : Option (List ℕ)) → Result ℕ Stop → Type 0
+EndsBy request gave journal before after (Ok status) =
+    (status ≡ 0) × ((added : AddedText) × IsPrinted request gave journal before after added)
+EndsBy request gave journal before after (Err (NotWritten path)) =
+    (added : AddedText) × IsPrinted request gave journal before after added
+    × IsWriteFault added (NotWritten path)
+EndsBy request gave journal before after (Err JournalNotWritten) =
+    (added : AddedText) × IsPrinted request gave journal before after added
+    × IsWriteFault added JournalNotWritten
+EndsBy request gave journal before after (Err Unwritable) =
+    (added : AddedText) × IsAddingText request gave journal (Ok added)
+EndsBy request gave journal before after (Err NoMemory) =
+    ¬ (¬ (IsStoreDir request.store_dir.now))
+EndsBy request gave journal before after (Err stop) =
+    (after ≡ before) × IsAddingText request gave journal (Err stop)
+
+-- how a run ends: nothing is known of what the files gave
+abbrev pub Ends : AddTextRequest → (before after : Option (List ℕ)) → Result ℕ Stop → Type 0
+Ends request before after result =
+    (gave : FileBytes) × (journal : FileBytes) × EndsBy request gave journal before after result

@@ -1,0 +1,16 @@
+pub mod AddedDrv
+pub mod AddedText
+pub mod CheckLines
+pub mod CommandLine
+pub mod DrvEndings
+pub mod Endings
+pub mod FaultWords
+pub mod Folders
+pub mod GraphWords
+pub mod JournalFiles
+pub mod Realising
+pub mod Registering
+pub mod Requests
+pub mod Stops
+pub mod StoreDirs
+pub mod Tasks

@@ -1,0 +1,77 @@
+-- How a run of `realise` ends: its status, and what standard output got.
+use Rattle.std.specs.Prelude.{◌≡◌, ◌⊎◌, ℕ, List, Option, Result, Ok, Err, if◌then◌else◌}
+use Rattle.std.specs.Io.KnownBytes.{Appends}
+use Rattle.std.specs.List.{list_all}
+use Rattle.sched_core.specs.Books.{Ledger}
+use Rattle.sched_core.specs.Reports.{IsReportIn}
+use Rattle.sched_core.specs.Runs.{History, Run as RunOver, state_in}
+use Rattle.sched_core.specs.States.{is_good}
+use Rattle.sched_core.specs.declared.job.Answer.{Answer}
+use Rattle.sched_core.specs.declared.job.Job.{Job}
+use Rattle.sched_core.specs.declared.reason.Reason.{Reason}
+use Rattle.store_run.specs.Realising.{IsRealised, IsRunFault}
+use Rattle.store_run.specs.declared.fault.RunFault.{RunFault}
+use Rattle.subcommands.specs.AddedText.{FileBytes}
+use Rattle.subcommands.specs.Folders.{may_give}
+use Rattle.subcommands.specs.Tasks.{IsTaking}
+use Rattle.subcommands.specs.declared.options.RealiseRequest.{RealiseRequest}
+use Rattle.subcommands.specs.declared.stop.Stop.{Stop}
+use Rattle.subcommands.specs.declared.stop.Stop.TheVariants.{JournalNotWritten, NoMemory, Run}
+use Rattle.subcommands.specs.declared.stop.Stop.TheVariants.{Unwritable}
+use Rattle.subcommands.specs.declared.task.Task.{Task}
+
+-- the status: 0 where each root was built or reused, else 1
+abbrev pub roots_status : RunOver → History → ℕ
+roots_status run history =
+    if list_all (λ d. is_good (state_in run history d)) run.graph.roots then 0 else 1
+
+-- what a builder may give for a job
+abbrev pub May : Type 1
+May = Job → Result Answer Reason → Type 0
+
+-- the workers settled a book over the plan and the journal
+abbrev pub IsSettledBook : May → RealiseRequest → Task → Ledger → Type 0
+IsSettledBook may request task book =
+    IsRealised may task.plan request.system.now task.journal.entries request.jobs book
+
+-- the workers gave no settled book, for this fault
+abbrev pub IsFallingShort : May → RealiseRequest → Task → RunFault → Type 0
+IsFallingShort may request task fault = (book : Option Ledger)
+    × IsRunFault may task.plan request.system.now task.journal.entries request.jobs fault book
+
+-- How a run ends with a settled book: standard output gets its report, and nothing where the
+-- journal cannot be written.
+abbrev pub BookEnds : Ledger → (before after : Option (List ℕ)) → Result ℕ Stop → Type 0
+BookEnds book before after (Ok status) =
+    ((text : List ℕ) × IsReportIn book.run book.history text × Appends before after text)
+    × (status ≡ roots_status book.run book.history)
+BookEnds book before after (Err JournalNotWritten) = after ≡ before
+BookEnds book before after (Err NoMemory) = after ≡ before
+BookEnds book before after (Err Unwritable) = Unit {0}
+BookEnds book before after (Err stop) = ⊥
+
+-- How a run ends over a plan and a journal: with a settled book, or with the workers' fault and
+-- nothing printed.
+abbrev pub RunEnds : May → RealiseRequest → Task → (before after : Option (List ℕ))
+    → Result ℕ Stop → Type 0
+RunEnds may request task before after result =
+    ((book : Ledger) × IsSettledBook may request task book × BookEnds book before after result)
+    ⊎ ((fault : RunFault) × (result ≡ Err (Run fault)) × (after ≡ before)
+    × IsFallingShort may request task fault)
+
+-- How a run ends, by what the journal file gave. Nothing is printed where the request is refused,
+-- or where there is no memory for the builders.
+abbrev pub RealiseEndsBy : May → RealiseRequest → (gave : FileBytes)
+    → (before after : Option (List ℕ)) → Result ℕ Stop → Type 0
+RealiseEndsBy may request gave before after result =
+    ((stop : Stop) × (result ≡ Err stop) × (after ≡ before)
+    × IsTaking (λ _ answer. may_give answer) request gave (Err stop))
+    ⊎ ((task : Task) × IsTaking (λ _ answer. may_give answer) request gave (Ok task)
+    × (RunEnds may request task before after result
+    ⊎ ((result ≡ Err NoMemory) × (after ≡ before))))
+
+-- how a run ends: nothing is known of what the journal file gave
+abbrev pub RealiseEnds : May → RealiseRequest → (before after : Option (List ℕ)) → Result ℕ Stop
+    → Type 0
+RealiseEnds may request before after result =
+    (gave : FileBytes) × RealiseEndsBy may request gave before after result

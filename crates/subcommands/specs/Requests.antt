@@ -1,0 +1,78 @@
+-- What a command line asks for: the subcommand that `clap` meets, and its words and options, with
+-- the defaults where none stand (the documentation of clap 4, `ArgMatches`).
+use Rattle.std.specs.Prelude.{◌≡◌, ℕ, List, [], Option, Some, None, codes, map, option_map}
+use Rattle.std.specs.Prelude.{unwrap_or}
+use Rattle.std.specs.Str.Parse.{IsNumeral, digits_value, without_leading_plus}
+use Rattle.clap.specs.Words.{Row, all_of, first_of, one_of, subcommand_of}
+use Rattle.subcommands.specs.CommandLine.{command_line}
+use Rattle.subcommands.specs.declared.options.AddDrvRequest.{AddDrvRequest}
+use Rattle.subcommands.specs.declared.options.AddTextRequest.{AddTextRequest}
+use Rattle.subcommands.specs.declared.options.CheckRequest.{CheckRequest}
+use Rattle.subcommands.specs.declared.options.RealiseRequest.{RealiseRequest}
+use Rattle.subcommands.specs.declared.options.Request.{Request}
+use Rattle.subcommands.specs.declared.options.Request.TheVariants.{Check, AddText, AddDrv, Realise}
+
+-- the store folder among what was found
+abbrev pub store_dir_in : List Row → List ℕ
+store_dir_in rows = unwrap_or (first_of (codes "store-dir") rows) (codes "/nix/store")
+
+-- the system
+abbrev pub system_in : List Row → List ℕ
+system_in rows = unwrap_or (first_of (codes "system") rows) (codes "x86_64-linux")
+
+-- the word with this name
+abbrev pub word_in : (name : List ℕ) → List Row → List ℕ
+word_in name rows = unwrap_or (first_of name rows) []
+
+-- the words DRV, in their order
+abbrev pub drvs_in : List Row → List (List ℕ)
+drvs_in rows = unwrap_or (all_of (codes "DRV") rows) []
+
+-- the text is this number in decimal
+abbrev pub IsNumber : Option (List ℕ) → ℕ → Type 0
+IsNumber None number = ⊥
+IsNumber (Some text) number =
+    let digits : List ℕ = without_leading_plus text in
+    IsNumeral 10 digits × (number ≡ digits_value 10 digits)
+
+-- what is asked of `check`
+pub record IsCheck (rows : List Row) (request : CheckRequest) : Type 0 where
+  pub store_dir : request.store_dir.now ≡ store_dir_in rows
+  pub drvs : map (λ w. w.now) request.drvs.items ≡ drvs_in rows
+
+-- what is asked of `add-text`
+pub record IsAddText (rows : List Row) (request : AddTextRequest) : Type 0 where
+  pub store_dir : request.store_dir.now ≡ store_dir_in rows
+  pub journal : option_map (λ f. f.now) request.journal ≡ first_of (codes "journal") rows
+  pub name : request.name.now ≡ word_in (codes "NAME") rows
+  pub file : request.file.now ≡ word_in (codes "FILE") rows
+
+-- what is asked of `add-drv`
+pub record IsAddDrv (rows : List Row) (request : AddDrvRequest) : Type 0 where
+  pub store_dir : request.store_dir.now ≡ store_dir_in rows
+  pub name : request.name.now ≡ word_in (codes "NAME") rows
+  pub file : request.file.now ≡ word_in (codes "FILE") rows
+
+-- what is asked of `realise`
+pub record IsRealise (rows : List Row) (request : RealiseRequest) : Type 0 where
+  pub store_dir : request.store_dir.now ≡ store_dir_in rows
+  pub journal : option_map (λ f. f.now) request.journal ≡ first_of (codes "journal") rows
+  pub system : request.system.now ≡ system_in rows
+  pub jobs : IsNumber (one_of (codes "jobs") rows) request.jobs
+  pub drvs : map (λ w. w.now) request.drvs.items ≡ drvs_in rows
+
+-- what is asked by a subcommand with this name, with what was found behind it
+abbrev pub IsAskedBy : (name : List ℕ) → List Row → Request → Type 0
+IsAskedBy name rows (Check request) = (name ≡ codes "check") × IsCheck rows request
+IsAskedBy name rows (AddText request) = (name ≡ codes "add-text") × IsAddText rows request
+IsAskedBy name rows (AddDrv request) = (name ≡ codes "add-drv") × IsAddDrv rows request
+IsAskedBy name rows (Realise request) = (name ≡ codes "realise") × IsRealise rows request
+
+-- the same of the subcommand that was met, if there is one
+abbrev pub IsAskedIn : Option (List ℕ × List Row) → Request → Type 0
+IsAskedIn None request = ⊥
+IsAskedIn (Some (name, rows)) request = IsAskedBy name rows request
+
+-- what is asked by the words of a command line, whose first one is the program's own name
+abbrev pub IsRequest : List (List ℕ) → Request → Type 0
+IsRequest words request = IsAskedIn (subcommand_of command_line words) request

@@ -1,0 +1,128 @@
+-- What ends a run: its line, the number of the fault, and the status of the run.
+use Rattle.std.specs.Prelude.{◌≡◌, ◌⊎◌, ℕ, List, [], ◌∷◌, ◌++◌, Option, codes}
+use Rattle.std.specs.Io.KnownBytes.{Appends}
+use Rattle.clap.specs.declared.error.kind.ErrorKind.{ErrorKind}
+use Rattle.clap.specs.declared.error.kind.ErrorKind.TheVariants.{DisplayHelp, DisplayVersion}
+use Rattle.clap.specs.declared.error.kind.ErrorKind.TheVariants.{OutOfMemory}
+use Rattle.drv_graph.specs.Faults.{node_number_of}
+use Rattle.nix_names.specs.Faults.{number_of as name_number_of}
+use Rattle.nix_names.specs.Names.{IsStoreDir}
+use Rattle.store_run.specs.Numbers.{fault_number_of as run_number_of}
+use Rattle.valid_table.specs.Faults.{number_of as table_number_of}
+use Rattle.valid_table.specs.declared.fault.TableFault.{TableFault}
+use Rattle.valid_table.specs.declared.fault.TableFault.TheVariants as table
+use Rattle.subcommands.specs.FaultWords.{name_fault_words, run_fault_words, table_fault_words}
+use Rattle.subcommands.specs.GraphWords.{node_fault_words}
+use Rattle.subcommands.specs.declared.stop.Stop.{Stop}
+use Rattle.subcommands.specs.declared.stop.Stop.TheVariants.{BadStoreDir, Unreadable, TooLong}
+use Rattle.subcommands.specs.declared.stop.Stop.TheVariants.{BadDraft, BadDrv}
+use Rattle.subcommands.specs.declared.stop.Stop.TheVariants.{BadName, JournalUnreadable, BadJournal}
+use Rattle.subcommands.specs.declared.stop.Stop.TheVariants.{NotWritten, JournalNotWritten}
+use Rattle.subcommands.specs.declared.stop.Stop.TheVariants.{NoPath, Run}
+use Rattle.subcommands.specs.declared.stop.Stop.TheVariants.{NoMemory, Unwritable}
+
+-- what ends a run on whose journal this fault is answered
+abbrev pub stop_of : TableFault → Stop
+stop_of table.NoMemory = NoMemory
+stop_of fault = BadJournal fault
+
+-- the number in the table of faults
+abbrev pub number_of : Stop → ℕ
+number_of (BadName name) = 6
+number_of (BadStoreDir dir) = 7
+number_of NoMemory = 9
+number_of (TooLong file) = 12
+number_of (Unreadable file) = 20
+number_of JournalUnreadable = 20
+number_of (BadJournal fault) = table_number_of fault
+number_of (NoPath word fault) = name_number_of fault
+number_of (Run fault) = run_number_of fault
+number_of (BadDraft file fault) = node_number_of fault
+number_of (BadDrv path fault) = node_number_of fault
+number_of (NotWritten path) = 74
+number_of JournalNotWritten = 74
+number_of Unwritable = 74
+
+-- what the fault is found in: a word as it was given, a path, the journal or the run
+abbrev pub blamed_of : Stop → List ℕ
+blamed_of (BadStoreDir dir) = dir.now
+blamed_of (Unreadable file) = file.now
+blamed_of (TooLong file) = file.now
+blamed_of (BadDraft file fault) = file.now
+blamed_of (BadName name) = name.now
+blamed_of (NoPath word fault) = word.now
+blamed_of (BadDrv path fault) = path
+blamed_of JournalUnreadable = codes "journal"
+blamed_of (BadJournal fault) = codes "journal"
+blamed_of (NotWritten path) = path
+blamed_of JournalNotWritten = codes "journal"
+blamed_of (Run fault) = codes "run"
+blamed_of NoMemory = codes "run"
+blamed_of Unwritable = codes "run"
+
+-- the fault's name and its value
+abbrev pub stop_fault_words : Stop → List ℕ
+stop_fault_words (BadStoreDir dir) = codes "BadStoreDir"
+stop_fault_words (Unreadable file) = codes "Unreadable"
+stop_fault_words (TooLong file) = codes "TooLong"
+stop_fault_words (BadDraft file fault) = node_fault_words fault
+stop_fault_words (BadName name) = codes "BadName"
+stop_fault_words (NoPath word fault) = name_fault_words fault
+stop_fault_words (BadDrv path fault) = node_fault_words fault
+stop_fault_words JournalUnreadable = codes "Unreadable"
+stop_fault_words (BadJournal fault) = table_fault_words fault
+stop_fault_words (NotWritten path) = codes "Unwritable"
+stop_fault_words JournalNotWritten = codes "Unwritable"
+stop_fault_words (Run fault) = run_fault_words fault
+stop_fault_words NoMemory = codes "NoMemory"
+stop_fault_words Unwritable = codes "Unwritable"
+
+-- the line on standard error
+abbrev pub stop_line : Stop → List ℕ
+stop_line stop =
+    codes "nix_realise: " ++ blamed_of stop ++ codes ": " ++ stop_fault_words stop ++ 10 ∷ []
+
+-- the status: 2 where what was given is refused, 3 for a journal that can't be read, workers that
+-- end too early, want of memory and a refused write
+abbrev pub status_of : Stop → ℕ
+status_of (BadStoreDir dir) = 2
+status_of (Unreadable file) = 2
+status_of (TooLong file) = 2
+status_of (BadDraft file fault) = 2
+status_of (BadName name) = 2
+status_of (NoPath word fault) = 2
+status_of (BadDrv path fault) = 2
+status_of (BadJournal fault) = 2
+status_of JournalUnreadable = 3
+status_of (Run fault) = 3
+status_of (NotWritten path) = 3
+status_of JournalNotWritten = 3
+status_of NoMemory = 3
+status_of Unwritable = 3
+
+-- A run ends with the line and the status of what ends it, or with status 3 where the line could
+-- not be made or written.
+abbrev pub IsTold : (before after : Option (List ℕ)) → Stop → (status : ℕ) → Type 0
+IsTold before after stop status =
+    ((status ≡ status_of stop) × Appends before after (stop_line stop)) ⊎ (status ≡ 3)
+
+-- the status of a run: all well, a root that was not realised, something refused, or nothing to be
+-- said
+abbrev pub IsStatus : ℕ → Type 0
+IsStatus status = (status ≡ 0) ⊎ (status ≡ 1) ⊎ (status ≡ 2) ⊎ (status ≡ 3)
+
+-- the status of a run that ends with `clap`'s text: 0 for help and the version, 2 for a mistake in
+-- the words; 3 for want of memory, or where the text is refused
+abbrev pub IsUsageStatus : ErrorKind → ℕ → Type 0
+IsUsageStatus DisplayHelp status = (status ≡ 0) ⊎ (status ≡ 3)
+IsUsageStatus DisplayVersion status = (status ≡ 0) ⊎ (status ≡ 3)
+IsUsageStatus OutOfMemory status = status ≡ 3
+IsUsageStatus kind status = (status ≡ 2) ⊎ (status ≡ 3)
+
+-- what `check` ends with in place of its report: a folder that is none, want of memory, or a folder
+-- and a refused write
+abbrev pub IsStopOf : List ℕ → Stop → Type 0
+IsStopOf given (BadStoreDir dir) = (dir.now ≡ given) × ¬ (IsStoreDir given)
+IsStopOf given NoMemory = Unit {0}
+IsStopOf given Unwritable = IsStoreDir given
+IsStopOf given stop = ⊥

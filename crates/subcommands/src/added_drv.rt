@@ -1,0 +1,112 @@
+//! What `add-drv` makes of a draft: the filled derivation's path and its text. No file is reached
+//! here but through the source.
+ghost use Rattle.std.specs.Prelude.{◌≡◌, IfErr, IfOk};
+ghost use Rattle.nix_drv.specs.Derivation.{IsDrvText};
+ghost use Rattle.subcommands.specs.AddedDrv.{IsAddingDrv, IsDraftOf, IsDraftRead, IsFillingOf};
+ghost use Rattle.subcommands.specs.AddedDrv.{fill_stop};
+ghost use Rattle.subcommands.specs.AddedText.{file_bytes};
+
+use crate::files::FileFault;
+use crate::options::AddDrvRequest;
+use crate::stop::Stop;
+use crate::store_dir::store_dir;
+use drv_graph::{GraphFault, NodeFault, fill_outputs};
+use nix_drv::{Derivation, DrvFault, DrvSource, read, write};
+use nix_names::{StoreDir, StorePath};
+use std::alloc::Global;
+
+/// A derivation that is put into a store.
+#[derive(Debug, Drop)]
+pub struct AddedDrv {
+    /// The path of its file.
+    pub path: StorePath,
+    /// The bytes of its file.
+    pub text: Vec<u8>,
+}
+
+/// The derivation of a draft under the request's folder and name, its outputs filled; the source
+/// gives the derivations that it reaches. `draft` is what the draft's file gave. In this order:
+/// `BadStoreDir`, `Unreadable`, `BadDraft` with the fault of the draft's text, then those of
+/// `fill_outputs`: `BadName` for its `Name`, `BadDraft` for a fault of the draft, `BadDrv` for one
+/// of a derivation that it reaches. `NoMemory` may come in the place of all but the first.
+///
+/// The draft is read once, and its filled text written twice.
+pub fn added_drv<'a, S: DrvSource>(
+    alloc: Global,
+    source: &mut S,
+    request: &AddDrvRequest<'a>,
+    draft: Result<Vec<u8>, FileFault>,
+) -> Result<AddedDrv, Stop<'a>>
+    ensures { IsAddingDrv (S.gives source.old) request.now (file_bytes draft) result }
+{
+    let dir = store_dir(alloc, request.store_dir)?;
+    let draft = draft_of(alloc, request.file, draft)?;
+    let (filled, path) = filled(alloc, source, &dir, request, &draft)?;
+    let text = text_of(alloc, &filled)?;
+    Ok(AddedDrv { path, text })
+}
+
+// The draft whose text the file gave.
+fn draft_of<'a>(
+    alloc: Global,
+    file: &'a str,
+    gave: Result<Vec<u8>, FileFault>,
+) -> Result<Derivation, Stop<'a>>
+    ensures { IsDraftOf file.entry (file_bytes gave) result }
+{
+    match gave {
+        Ok(bytes) => read_draft(alloc, file, &bytes),
+        Err(FileFault::NoMemory) => Err(Stop::NoMemory),
+        Err(FileFault::Unreadable) => Err(Stop::Unreadable(file)),
+    }
+}
+
+// The draft with this text.
+fn read_draft<'a>(alloc: Global, file: &'a str, bytes: &[u8]) -> Result<Derivation, Stop<'a>>
+    ensures { IsDraftRead file.entry bytes.now result }
+{
+    match read(alloc, bytes) {
+        Ok(draft) => Ok(draft),
+        Err(DrvFault::NoMemory) => Err(Stop::NoMemory),
+        Err(fault) => Err(Stop::BadDraft(file, NodeFault::Text(fault))),
+    }
+}
+
+// The filled draft, and the path of its text.
+fn filled<'a, S: DrvSource>(
+    alloc: Global,
+    source: &mut S,
+    dir: &StoreDir,
+    request: &AddDrvRequest<'a>,
+    draft: &Derivation,
+) -> Result<(Derivation, StorePath), Stop<'a>>
+    ensures { IsFillingOf dir.now (S.gives source.old) request.now draft.now result }
+{
+    match fill_outputs(alloc, source, dir, request.name.as_bytes(), draft) {
+        Ok(filled) => Ok(filled),
+        Err(fault) => Err(stop_of(request, fault)),
+    }
+}
+
+// What ends a run where filling its draft answers a fault.
+fn stop_of<'a>(request: &AddDrvRequest<'a>, fault: GraphFault) -> Stop<'a>
+    ensures { result ≡ fill_stop request.now fault }
+{
+    match fault {
+        GraphFault::NoMemory => Stop::NoMemory,
+        GraphFault::At(path, fault) => Stop::BadDrv(path, fault),
+        GraphFault::Draft(fault) => Stop::BadDraft(request.file, fault),
+        GraphFault::Name => Stop::BadName(request.name),
+    }
+}
+
+// A derivation's text.
+fn text_of<'a>(alloc: Global, drv: &Derivation) -> Result<Vec<u8>, Stop<'a>>
+    ensures ok { IfOk result (λ text. IsDrvText drv.now text.items) }
+    ensures err { IfErr result (λ stop. stop ≡ Stop.NoMemory) }
+{
+    match write(alloc, drv) {
+        Ok(text) => Ok(text),
+        Err(_) => Err(Stop::NoMemory),
+    }
+}

@@ -1,0 +1,148 @@
+//! What `add-text` makes of a text: its path, and the journal with it. No file is reached here.
+ghost use Rattle.std.specs.Prelude.{◌≡◌, [], ℕ, List, IfOk, IfErr, IsTrue, if◌then◌else◌};
+ghost use Rattle.sha2.specs.Sha256.{sha256};
+ghost use Rattle.nix_names.specs.Names.{is_name};
+ghost use Rattle.nix_drv.specs.OwnPath.{text_path};
+ghost use Rattle.subcommands.specs.AddedText.{IsAddingText, IsJournalOf, IsRenewing};
+ghost use Rattle.subcommands.specs.AddedText.{IsTextOf, file_bytes};
+ghost use Rattle.subcommands.specs.Registering.{IsRegistering};
+
+use crate::files::FileFault;
+use crate::options::AddTextRequest;
+use crate::stop::Stop;
+use crate::store_dir::store_dir;
+use nix_drv::MAX_LEN;
+use nix_names::{NameFault, StoreDir, StorePath, make_path};
+use sha2::{Digest, Sha256};
+use std::alloc::Global;
+use valid_table::{Journal, Record, TableFault};
+
+/// A text that is put into a store.
+#[derive(Debug, Drop)]
+pub struct AddedText {
+    /// Its path.
+    pub path: StorePath,
+    /// Its bytes.
+    pub text: Vec<u8>,
+    /// The bytes of the journal with the text's entry; none where the path is valid already.
+    pub journal: Option<Vec<u8>>,
+}
+
+/// The path of a text without references under the request's folder and name, and the journal's
+/// bytes with one entry more, behind all others: the path, with SHA-256 of the text's bytes. Where
+/// the path is valid already there are none.
+///
+/// `text` and `journal` are what the text's file and the journal file gave. In this order:
+/// `BadStoreDir`, `Unreadable`, `TooLong` for more than 4,194,304 bytes, `BadName`,
+/// `JournalUnreadable`, `BadJournal` with the fault of `Journal::read`. `NoMemory` may come in the
+/// place of all but the first.
+///
+/// Costs one SHA-256 over the text's bytes, and one reading of the journal, which is written once
+/// where the path is new.
+pub fn added_text<'a>(
+    alloc: Global,
+    request: &AddTextRequest<'a>,
+    text: Result<Vec<u8>, FileFault>,
+    journal: Result<Vec<u8>, FileFault>,
+) -> Result<AddedText, Stop<'a>>
+    ensures { IsAddingText request.now (file_bytes text) (file_bytes journal) result }
+{
+    let dir = store_dir(alloc, request.store_dir)?;
+    let text = text_within(request.file, text)?;
+    let digest = Sha256::digest(&text);
+    let path = path_of(alloc, &dir, request.name, &digest)?;
+    let journal = renewed_journal(alloc, &dir, journal, &path, digest)?;
+    Ok(AddedText {
+        path,
+        text,
+        journal,
+    })
+}
+
+// The text's bytes, which are at most as many as a text may have.
+fn text_within<'a>(file: &'a str, text: Result<Vec<u8>, FileFault>) -> Result<Vec<u8>, Stop<'a>>
+    ensures { IsTextOf file.entry (file_bytes text) result }
+{
+    match text {
+        Ok(bytes) if bytes.len() > MAX_LEN => Err(Stop::TooLong(file)),
+        Ok(bytes) => Ok(bytes),
+        Err(FileFault::NoMemory) => Err(Stop::NoMemory),
+        Err(FileFault::Unreadable) => Err(Stop::Unreadable(file)),
+    }
+}
+
+// The path of a text without references, whose bytes have this digest.
+#[tactic(auto, using(crate::proofs::AddedTexts::text_path_of_digest))]
+fn path_of<'a>(
+    alloc: Global,
+    dir: &StoreDir,
+    name: &'a str,
+    digest: &[u8; 32],
+) -> Result<StorePath, Stop<'a>>
+    ensures ok { (bytes : List ℕ) → digest.now ≡ sha256 bytes
+        → IfOk result (λ path.
+        IsTrue (is_name name.now) × (path ≡ text_path dir.now name.now bytes [])) }
+    ensures err { IfErr result (λ stop.
+        stop ≡ (if is_name name.now then Stop.NoMemory else Stop.BadName name.entry)) }
+{
+    match make_path(alloc, b"text", digest, dir, name.as_bytes()) {
+        Ok(path) => Ok(path),
+        Err(NameFault::NoMemory) => Err(Stop::NoMemory),
+        Err(_) => Err(Stop::BadName(name)),
+    }
+}
+
+// The journal's bytes with the entry of a text, or none where its path is valid.
+fn renewed_journal<'a>(
+    alloc: Global,
+    dir: &StoreDir,
+    journal: Result<Vec<u8>, FileFault>,
+    path: &StorePath,
+    digest: [u8; 32],
+) -> Result<Option<Vec<u8>>, Stop<'a>>
+    ensures { IsRenewing dir.now (file_bytes journal) path.now digest result }
+{
+    let mut journal = journal_of(alloc, dir, journal)?;
+    if !register_text(alloc, &mut journal, path, digest)? {
+        return Ok(None);
+    }
+    Ok(Some(journal.write(alloc)?))
+}
+
+/// The journal whose text the journal file gave. In this order: `JournalUnreadable`, `BadJournal`
+/// with the fault of `Journal::read`; `NoMemory` may come in the place of each.
+pub fn journal_of<'a>(
+    alloc: Global,
+    dir: &StoreDir,
+    journal: Result<Vec<u8>, FileFault>,
+) -> Result<Journal, Stop<'a>>
+    ensures { IsJournalOf dir.now (file_bytes journal) result }
+{
+    match journal {
+        Ok(bytes) => Ok(Journal::read(alloc, dir, &bytes)?),
+        Err(FileFault::NoMemory) => Err(Stop::NoMemory),
+        Err(FileFault::Unreadable) => Err(Stop::JournalUnreadable),
+    }
+}
+
+// Registers a text without references under its path, with the digest of its bytes, and says
+// whether it did: a path that is valid stays as it is. `NoMemory` is the only fault, and changes
+// nothing.
+fn register_text(
+    alloc: Global,
+    journal: &mut Journal,
+    path: &StorePath,
+    digest: [u8; 32],
+) -> Result<bool, TableFault>
+    ensures { IsRegistering journal.old.entries journal.new.entries path.now digest result }
+{
+    if journal.registers(path) {
+        return Ok(false);
+    }
+    let Ok(path) = path.copy(alloc) else {
+        return Err(TableFault::NoMemory);
+    };
+    let info = Record::new(Vec::new(alloc), Some(digest))?;
+    journal.add(path, info)?;
+    Ok(true)
+}

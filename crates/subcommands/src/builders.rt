@@ -1,0 +1,21 @@
+//! The builders of a run.
+ghost use Rattle.std.specs.Prelude.{◌≡◌, IfOk, length};
+
+use crate::options::RealiseRequest;
+use process_build::Builders;
+use std::alloc::{AllocError, Global};
+
+/// A builder for each worker that a request asks for. Want of memory is the only error.
+pub fn make_all<M: Builders>(
+    alloc: Global,
+    make: &M,
+    request: &RealiseRequest<'_>,
+) -> Result<Vec<M::Builder>, AllocError>
+    ensures { IfOk result (λ builders. length builders.items ≡ request.now.jobs) }
+{
+    let mut builders = Vec::new(alloc);
+    for _ in 0..request.jobs.count() {
+        builders.push(make.builder(alloc, request.store_dir)?)?;
+    }
+    Ok(builders)
+}

@@ -1,0 +1,36 @@
+//! The lines of `check`.
+ghost use Rattle.std.specs.Prelude.{◌≡◌, IfOk, IfErr, map};
+ghost use Rattle.nix_drv.specs.Sources.{GivesSame};
+ghost use Rattle.subcommands.specs.CheckLines.{IsReport};
+
+use crate::verdict::{judge, write_line};
+use nix_drv::{DrvFault, DrvSource};
+use nix_names::StoreDir;
+use std::alloc::Global;
+
+/// One line for each word in the order given, `ok WORD` or `bad WORD: FAULT`, and the status: 0
+/// where no line is bad, else 2. `NoMemory` is the only error. Each file is fetched and passed over
+/// once.
+pub fn check_lines<S: DrvSource>(
+    alloc: Global,
+    source: &mut S,
+    dir: &StoreDir,
+    words: &[&str],
+) -> Result<(Vec<u8>, u8), DrvFault>
+    ensures keeps { GivesSame (S.gives source.old) (S.gives source.new) }
+    ensures report { IfOk result (λ r.
+        IsReport (S.gives source.old) dir.now (map (λ w. w.now) words.now) r.0.items r.1) }
+    ensures only { IfErr result (λ e. e ≡ DrvFault.NoMemory) }
+{
+    let mut lines = Vec::new(alloc);
+    let mut status = 0;
+    for word in words {
+        let word = word.as_bytes();
+        let verdict = judge(alloc, source, dir, word)?;
+        if !verdict.is_good() {
+            status = 2;
+        }
+        write_line(word, &verdict, &mut lines)?;
+    }
+    Ok((lines, status))
+}

@@ -1,0 +1,201 @@
+//! The command line that `clap` reads: its subcommands, and the words and options of each.
+ghost use Rattle.std.specs.Prelude.{◌≡◌, IfOk, false};
+ghost use Rattle.clap.specs.Words.{app_of, new_app, rule_of, with_subcommand};
+ghost use Rattle.subcommands.specs.CommandLine.{add_drv_line, add_text_line, check_line};
+ghost use Rattle.subcommands.specs.CommandLine.{command_line, drv_words, jobs_option};
+ghost use Rattle.subcommands.specs.CommandLine.{journal_option, realise_line, store_dir_option};
+ghost use Rattle.subcommands.specs.CommandLine.{system_option, top_line};
+ghost use Rattle.subcommands.specs.CommandLine.{required_word};
+
+use clap::{Arg, ArgAction, Command};
+use std::alloc::{AllocError, Global};
+
+// The version of this crate.
+const VERSION: &str = "0.1.0";
+
+pub const STORE_DIR: &str = "store-dir";
+
+pub const JOURNAL: &str = "journal";
+
+pub const SYSTEM: &str = "system";
+
+pub const JOBS: &str = "jobs";
+
+pub const DRVS: &str = "DRV";
+
+pub const NAME: &str = "NAME";
+
+pub const FILE: &str = "FILE";
+
+pub const CHECK: &str = "check";
+
+pub const ADD_TEXT: &str = "add-text";
+
+pub const ADD_DRV: &str = "add-drv";
+
+pub const REALISE: &str = "realise";
+
+pub const DEFAULT_STORE_DIR: &str = "/nix/store";
+
+pub const DEFAULT_SYSTEM: &str = "x86_64-linux";
+
+const DEFAULT_JOBS: &str = "1";
+
+/// The program's command line.
+pub fn command<'a>(alloc: Global) -> Result<Command<'a>, AllocError>
+    ensures { IfOk result (λ command. app_of command ≡ command_line) }
+{
+    let command = top(alloc).subcommand(check_command(alloc)?)?;
+    with_adding(alloc, command)?.subcommand(realise_command(alloc)?)
+}
+
+// The command line without its subcommands.
+fn top<'a>(alloc: Global) -> Command<'a>
+    ensures { app_of result ≡ top_line }
+{
+    Command::new(alloc, "nix_realise")
+        .version(VERSION)
+        .about("Checks and realises store derivations, and adds texts and derivations to a store")
+        .subcommand_required(true)
+}
+
+// A command with the subcommands that add to a store, too.
+fn with_adding<'a>(alloc: Global, command: Command<'a>) -> Result<Command<'a>, AllocError>
+    ensures { IfOk result (λ more. app_of more ≡ with_subcommand
+        (with_subcommand (app_of command.entry) add_text_line.top) add_drv_line.top) }
+{
+    command
+        .subcommand(add_text_command(alloc)?)?
+        .subcommand(add_drv_command(alloc)?)
+}
+
+// The subcommand `check`.
+fn check_command<'a>(alloc: Global) -> Result<Command<'a>, AllocError>
+    ensures { IfOk result (λ command. app_of command ≡ check_line) }
+{
+    subcommand(
+        alloc,
+        CHECK,
+        "Checks that each text is a store derivation and stands under its own path",
+    )
+    .arg(store_dir(alloc))?
+    .arg(drvs(alloc, "Paths of derivations, checked in this order"))
+}
+
+// The subcommand `add-text`.
+fn add_text_command<'a>(alloc: Global) -> Result<Command<'a>, AllocError>
+    ensures { IfOk result (λ command. app_of command ≡ add_text_line) }
+{
+    subcommand(
+        alloc,
+        ADD_TEXT,
+        "Prints the store path of a text, writes it there and registers it in the journal",
+    )
+    .arg(store_dir(alloc))?
+    .arg(journal(alloc))?
+    .arg(word(alloc, NAME, "The name that the text gets in the store"))?
+    .arg(word(alloc, FILE, "The file whose bytes are the text"))
+}
+
+// The subcommand `add-drv`.
+fn add_drv_command<'a>(alloc: Global) -> Result<Command<'a>, AllocError>
+    ensures { IfOk result (λ command. app_of command ≡ add_drv_line) }
+{
+    subcommand(
+        alloc,
+        ADD_DRV,
+        "Fills the outputs of a draft, writes the derivation and prints its path",
+    )
+    .arg(store_dir(alloc))?
+    .arg(word(alloc, NAME, "The name of the derivation"))?
+    .arg(word(alloc, FILE, "The file whose bytes are the draft"))
+}
+
+// The subcommand `realise`.
+fn realise_command<'a>(alloc: Global) -> Result<Command<'a>, AllocError>
+    ensures { IfOk result (λ command. app_of command ≡ realise_line) }
+{
+    subcommand(
+        alloc,
+        REALISE,
+        "Builds what is wanted of derivations, and tells what became of it",
+    )
+    .arg(store_dir(alloc))?
+    .arg(journal(alloc))?
+    .arg(system(alloc))?
+    .arg(jobs(alloc))?
+    .arg(drvs(alloc, "Paths of derivations whose outputs are wanted"))
+}
+
+// A subcommand without arguments.
+fn subcommand<'a>(alloc: Global, name: &'a str, about: &'a str) -> Command<'a>
+    ensures { app_of result ≡ new_app name.entry.now }
+{
+    Command::new(alloc, name).about(about)
+}
+
+// The option that names the store folder.
+fn store_dir<'a>(alloc: Global) -> Arg<'a>
+    ensures rule { rule_of result ≡ store_dir_option }
+    ensures local { result.global ≡ false }
+{
+    Arg::new(alloc, STORE_DIR)
+        .long(STORE_DIR)
+        .value_name("D")
+        .help("The store folder, in paths and on disk")
+        .default_value(DEFAULT_STORE_DIR)
+}
+
+// The option that names the journal file.
+fn journal<'a>(alloc: Global) -> Arg<'a>
+    ensures rule { rule_of result ≡ journal_option }
+    ensures local { result.global ≡ false }
+{
+    Arg::new(alloc, JOURNAL).long(JOURNAL).value_name("F").help(
+        "The journal file [default: realiser-journal in the store folder]",
+    )
+}
+
+// The option that names the system for which derivations are built.
+fn system<'a>(alloc: Global) -> Arg<'a>
+    ensures rule { rule_of result ≡ system_option }
+    ensures local { result.global ≡ false }
+{
+    Arg::new(alloc, SYSTEM)
+        .long(SYSTEM)
+        .value_name("S")
+        .help("The system for which derivations are built")
+        .default_value(DEFAULT_SYSTEM)
+}
+
+// The option that says how many builders run at a time.
+fn jobs<'a>(alloc: Global) -> Arg<'a>
+    ensures rule { rule_of result ≡ jobs_option }
+    ensures local { result.global ≡ false }
+{
+    Arg::new(alloc, JOBS)
+        .long(JOBS)
+        .value_name("N")
+        .help("How many builders run at a time, from 1 to 64")
+        .default_value(DEFAULT_JOBS)
+        .value_parser(clap::value_parser!(u8).range(1..=64))
+}
+
+// The words that are paths of derivations, one or more.
+fn drvs<'a>(alloc: Global, help: &'a str) -> Arg<'a>
+    ensures rule { rule_of result ≡ drv_words }
+    ensures local { result.global ≡ false }
+{
+    Arg::new(alloc, DRVS)
+        .help(help)
+        .required(true)
+        .action(ArgAction::Append)
+}
+
+// A word that has to be given.
+fn word<'a>(alloc: Global, id: &'a str, help: &'a str) -> Arg<'a>
+    ensures rule { rule_of result ≡ required_word id.entry.now }
+    ensures local { result.global ≡ false }
+{
+    Arg::new(alloc, id).help(help).required(true)
+}

@@ -1,0 +1,87 @@
+//! Derivations read from the files of a folder.
+ghost use Rattle.std.specs.Prelude.{◌≡◌, ◌≢◌, ◌≤◌, ◌↔◌, Err, IfOk, None, length};
+ghost use Rattle.std.specs.IoError.{error_kind, raw_os_error};
+ghost use Rattle.nix_drv.specs.Sources.{IsCounted};
+ghost use Rattle.subcommands.specs.Folders.{may_give};
+
+use crate::files::{MAX_READ, read_start};
+use nix_drv::{DrvSource, SourceFault};
+use nix_names::StorePath;
+use process_build::file_path;
+use std::alloc::Global;
+use std::io;
+use std::io::ErrorKind;
+use std::marker::Model;
+use std::rt::Files;
+
+/// The files on disk, each under the text of its path. A contract sees how often one could not be
+/// read.
+#[derive(Drop)]
+pub struct FolderSource<'a, R> {
+    files: &'a R,
+    failures: u64,
+}
+
+impl<'a, R> Model for FolderSource<'a, R> {
+    ghost use Rattle.std.specs.Prelude.{ℕ};
+
+    ghost Value = { ℕ };
+
+    ghost view = { λ source. source.failures };
+}
+
+impl<'a, R> FolderSource<'a, R> {
+    /// The files that a runtime reaches. Nothing has failed yet.
+    pub fn new(files: &'a R) -> FolderSource<'a, R>
+        ensures { result ≡ 0 }
+    {
+        FolderSource { files, failures: 0 }
+    }
+
+    /// How often a file could not be read though it is there; the count stops at `u64::MAX`.
+    pub fn failures(&self) -> u64
+        ensures { result ≡ self.now }
+    {
+        self.failures
+    }
+
+    // What a failed read answers, counted where the device is to blame.
+    fn fault_of(&mut self, error: &io::Error) -> SourceFault
+        ensures missing { (result ≡ SourceFault.Missing)
+            ↔ (error_kind error.now ≡ ErrorKind.NotFound) }
+        ensures memory { (result ≡ SourceFault.NoMemory)
+            ↔ ((error_kind error.now ≡ ErrorKind.OutOfMemory) × (raw_os_error error.now ≡ None)) }
+        ensures counted { IsCounted self.old self.new (Err result) }
+        ensures counts { self.old ≤ self.new }
+        ensures same { result ≢ SourceFault.Device → self.new ≡ self.old }
+    {
+        match error.kind() {
+            ErrorKind::NotFound => SourceFault::Missing,
+            ErrorKind::OutOfMemory if error.raw_os_error().is_none() => SourceFault::NoMemory,
+            _ => {
+                self.failures = self.failures.saturating_add(1);
+                SourceFault::Device
+            }
+        }
+    }
+}
+
+impl<R: Files> DrvSource for FolderSource<'_, R> {
+    ghost gives = { λ _ _ answer. may_give answer };
+
+    ghost failures = { λ failures. failures };
+
+    fn fetch(&mut self, alloc: Global, path: &StorePath) -> Result<Vec<u8>, SourceFault> {
+        match read_store_file(alloc, self.files, path) {
+            Ok(bytes) => Ok(bytes),
+            Err(error) => Err(self.fault_of(&error)),
+        }
+    }
+}
+
+// The first bytes of the file at a store path.
+fn read_store_file<R: Files>(alloc: Global, files: &R, path: &StorePath) -> io::Result<Vec<u8>>
+    ensures { IfOk result (λ bytes. length bytes.items ≤ 4194305) }
+{
+    read_start(alloc, files, file_path(path)?, MAX_READ)
+}

@@ -1,0 +1,51 @@
+//! The subcommands of the program `nix_realise`, from a command line to the status of the run.
+//!
+//! | Module | What is in it |
+//! |---|---|
+//! | `options`, `jobs` | what a command line asks for |
+//! | `command` | the command line that `clap` reads |
+//! | `words` | the words of a command line, read by `clap` |
+//! | `store_dir` | the store folder of a command line |
+//! | `files` | files that are read |
+//! | `folder` | derivations read from the files of a folder |
+//! | `whole_file` | a file that is written whole or not at all |
+//! | `journal_file` | the journal file: its path, read and written |
+//! | `stop` | why a run ends without its report |
+//! | `fault_words`, `graph_words` | the words of faults |
+//! | `verdict`, `check` | what `check` says of one word; its lines |
+//! | `added_text`, `add_text` | what `add-text` makes of a text; the subcommand |
+//! | `added_drv`, `add_drv` | what `add-drv` makes of a draft; the subcommand |
+//! | `task` | what `realise` is over: a plan and a journal |
+//! | `settled` | what a book says at the end of a run |
+//! | `builders`, `realise` | the builders of a run; the subcommand `realise` |
+//! | `printing`, `program` | what is printed; one run of the program |
+#![tactic(auto)]
+
+mod add_drv;
+mod add_text;
+mod added_drv;
+mod added_text;
+mod builders;
+mod check;
+mod command;
+mod fault_words;
+mod files;
+mod folder;
+mod graph_words;
+mod jobs;
+mod journal_file;
+mod options;
+mod printing;
+mod program;
+mod realise;
+mod settled;
+mod stop;
+mod store_dir;
+mod task;
+mod verdict;
+mod whole_file;
+mod words;
+
+pub use check::check_lines;
+pub use folder::FolderSource;
+pub use program::{print_no_memory, refuse_words, run};

@@ -1,0 +1,165 @@
+//! One run of the program.
+ghost use Rattle.std.specs.Prelude.{◌≡◌, ◌⊎◌, IfErr, IfOk, List, ℕ, map};
+ghost use Rattle.std.specs.Io.KnownBytes.{Appends};
+ghost use Rattle.clap.specs.Words.{kind_of};
+ghost use Rattle.nix_names.specs.Names.{IsStoreDir};
+ghost use Rattle.subcommands.specs.CheckLines.{IsReport};
+ghost use Rattle.subcommands.specs.Folders.{may_give};
+ghost use Rattle.subcommands.specs.Stops.{IsStatus, IsStopOf, IsTold, IsUsageStatus};
+
+use crate::add_drv::add_drv;
+use crate::add_text::add_text;
+use crate::check::check_lines;
+use crate::fault_words::stop_line;
+use crate::folder::FolderSource;
+use crate::options::{CheckRequest, Request};
+use crate::printing::{print_bytes, print_text};
+use crate::realise::realise;
+use crate::stop::Stop;
+use crate::store_dir::store_dir;
+use crate::words::{not_text, request};
+use clap::error::ErrorKind;
+use process_build::Builders;
+use std::alloc::Global;
+use std::io::Write;
+use std::rt::Files;
+use std::sync::Wait;
+use std::thread::Threads;
+
+// The line of a run that ends for want of memory.
+const NO_MEMORY_LINE: &[u8; 27] = b"nix_realise: run: NoMemory\n";
+
+/// Runs the program on a command line, whose first word is the program's own name, and gives the
+/// status: 0; 1 where a root of `realise` was not realised; 2 where the input was refused or a word
+/// of `check` is bad; 3 for want of memory, workers that end too early or a refused write, be it to
+/// standard output or to a file.
+pub fn run<'a, R, M, O, E>(rt: &R, make: &M, words: &'a [&'a str], out: &mut O, err: &mut E) -> u8
+where
+    R: Files + Threads + Wait + Sync + AllocGlobal,
+    M: Builders,
+    O: Write,
+    E: Write,
+    ensures { IsStatus result }
+{
+    match request(rt.alloc(), words) {
+        Ok(request) => run_request(rt, make, &request, out, err),
+        Err(fault) => print_usage(rt.alloc(), &fault, out, err),
+    }
+}
+
+// Runs a subcommand, and ends with its status or with the line that tells why it stopped.
+fn run_request<R, M, O, E>(rt: &R, make: &M, request: &Request<'_>, out: &mut O, err: &mut E) -> u8
+where
+    R: Files + Threads + Wait + Sync + AllocGlobal,
+    M: Builders,
+    O: Write,
+    E: Write,
+    ensures { IsStatus result }
+{
+    let outcome = match request {
+        Request::Check(request) => check(rt, request, out),
+        Request::AddText(request) => add_text(rt, request, out),
+        Request::AddDrv(request) => add_drv(rt, request, out),
+        Request::Realise(request) => realise(rt, make, request, out),
+    };
+    match outcome {
+        Ok(status) => status,
+        Err(stop) => print_stop(rt.alloc(), &stop, err),
+    }
+}
+
+/// Ends a run on a command line that has a word which is not UTF-8.
+pub fn refuse_words<O: Write, E: Write>(alloc: Global, out: &mut O, err: &mut E) -> u8
+    ensures { (result ≡ 2) ⊎ (result ≡ 3) }
+{
+    match not_text(alloc) {
+        Ok(fault) => print_usage(alloc, &fault, out, err),
+        Err(_) => print_no_memory(err),
+    }
+}
+
+/// Ends a run with a line that names the fault, and gives its status. Where there is no memory for
+/// the line, or it is refused, the status is 3.
+pub fn print_stop<E: Write>(alloc: Global, stop: &Stop<'_>, err: &mut E) -> u8
+    ensures { IsTold (E.contents err.old) (E.contents err.new) stop.now result }
+{
+    let Ok(line) = stop_line(alloc, stop) else {
+        return print_no_memory(err);
+    };
+    match print_bytes(&line, err) {
+        Ok(()) => stop.status(),
+        Err(_) => 3,
+    }
+}
+
+/// Ends a run for want of memory: status 3, and takes none.
+pub fn print_no_memory<E: Write>(err: &mut E) -> u8
+    ensures { result ≡ 3 }
+{
+    // The status is the same where the line is refused.
+    let _ = print_bytes(NO_MEMORY_LINE, err);
+    3
+}
+
+// Ends a run with the text of `clap`: a mistake in the words, or the help or version that was asked
+// for.
+fn print_usage<O: Write, E: Write>(
+    alloc: Global,
+    fault: &clap::Error,
+    out: &mut O,
+    err: &mut E,
+) -> u8
+    ensures { IsUsageStatus (kind_of fault.now) result }
+{
+    if fault.kind() == ErrorKind::OutOfMemory {
+        return print_no_memory(err);
+    }
+    if fault.use_stderr() {
+        return match print_text(fault, err) {
+            Ok(()) => 2,
+            Err(_) => 3,
+        };
+    }
+    match print_text(fault, out) {
+        Ok(()) => 0,
+        Err(_) => print_stop(alloc, &Stop::Unwritable, err),
+    }
+}
+
+// The subcommand `check`: prints its lines and gives its status.
+fn check<'a, R: Files + AllocGlobal, O: Write>(
+    rt: &R,
+    request: &CheckRequest<'a>,
+    out: &mut O,
+) -> Result<u8, Stop<'a>>
+    ensures report { IfOk result (λ status. (text : List ℕ)
+        × IsReport (λ _ answer. may_give answer) request.now.store_dir.now
+        (map (λ w. w.now) request.now.drvs.items) text status
+        × Appends (O.contents out.old) (O.contents out.new) text) }
+    ensures stop { IfErr result (IsStopOf request.now.store_dir.now) }
+{
+    let (lines, status) = report(rt, request)?;
+    match print_bytes(&lines, out) {
+        Ok(()) => Ok(status),
+        Err(_) => Err(Stop::Unwritable),
+    }
+}
+
+// The lines of `check` over files on disk, and its status.
+fn report<'a, R: Files + AllocGlobal>(
+    rt: &R,
+    request: &CheckRequest<'a>,
+) -> Result<(Vec<u8>, u8), Stop<'a>>
+    ensures report { IfOk result (λ r.
+        IsReport (λ _ answer. may_give answer) request.now.store_dir.now
+        (map (λ w. w.now) request.now.drvs.items) r.0.items r.1) }
+    ensures is_dir { IfOk result (λ _. IsStoreDir request.now.store_dir.now) }
+    ensures stop { IfErr result (IsStopOf request.now.store_dir.now) }
+{
+    let dir = store_dir(rt.alloc(), request.store_dir)?;
+    let mut source = FolderSource::new(rt);
+    match check_lines(rt.alloc(), &mut source, &dir, &request.drvs) {
+        Ok(report) => Ok(report),
+        Err(_) => Err(Stop::NoMemory),
+    }
+}

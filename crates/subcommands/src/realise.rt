@@ -1,0 +1,154 @@
+//! The subcommand `realise`.
+ghost use Rattle.std.specs.Prelude.{◌≡◌, ◌⊎◌, IfErr, length};
+ghost use Rattle.sched_core.specs.Books.{IsRunSettled};
+ghost use Rattle.subcommands.specs.Realising.{BookEnds, RealiseEnds, RunEnds};
+
+use crate::builders::make_all;
+use crate::folder::FolderSource;
+use crate::journal_file::{read_journal, write_journal};
+use crate::options::RealiseRequest;
+use crate::printing::print_bytes;
+use crate::settled::{journal_bytes, report_of, roots_status};
+use crate::stop::Stop;
+use crate::task::{Task, task_of};
+use process_build::Builders;
+use sched_core::Book;
+use std::io::Write;
+use std::marker::Brand;
+use std::rt::Files;
+use std::sync::Wait;
+use std::thread::Threads;
+use store_run::{Build, RunFault};
+use valid_table::Outlet;
+use valid_view::{Name, Naming};
+
+/// Builds what is wanted of the request's derivations, writes the journal and prints the report.
+/// What is refused, and in which order, is the answer of `task_of`; nothing is run then. Once the
+/// workers gave a book the journal is written, whatever became of them; nothing is printed where
+/// they ended before all was settled, or where the journal is not written.
+pub fn realise<'a, R, M, O>(
+    rt: &R,
+    make: &M,
+    request: &RealiseRequest<'a>,
+    out: &mut O,
+) -> Result<u8, Stop<'a>>
+where
+    R: Files + AllocGlobal + Threads + Wait + Sync,
+    M: Builders,
+    O: Write,
+    ensures { RealiseEnds M.Builder.may request.now (O.contents out.old) (O.contents out.new)
+        result }
+{
+    let journal = read_journal(rt, request.store_dir, request.journal);
+    let mut source = FolderSource::new(rt);
+    let task = task_of(rt.alloc(), &mut source, request, journal)?;
+    let builders = make_all(rt.alloc(), make, request)?;
+    run_task(rt, request, &task, builders, out)
+}
+
+/// Builds what is wanted of a task, by one worker for each builder, writes the journal and prints
+/// the report.
+pub fn run_task<'a, R, B, O>(
+    rt: &R,
+    request: &RealiseRequest<'a>,
+    task: &Task,
+    builders: Vec<B>,
+    out: &mut O,
+) -> Result<u8, Stop<'a>>
+where
+    R: Files + AllocGlobal + Threads + Wait + Sync,
+    B: Build + Send + Drop,
+    O: Write,
+    requires { length builders.items ≡ request.now.jobs }
+    ensures { RunEnds B.may request.now task.now (O.contents out.old) (O.contents out.new) result }
+{
+    run_named::<Brand, _, _, _>(rt, Name::new(), request, task, builders, out)
+}
+
+// Does what `run_task` does, over a view of this name.
+fn run_named<'a, J, R, B, O>(
+    rt: &R,
+    name: Name,
+    request: &RealiseRequest<'a>,
+    task: &Task,
+    builders: Vec<B>,
+    out: &mut O,
+) -> Result<u8, Stop<'a>>
+where
+    J: Naming + Send + Sync,
+    R: Files + AllocGlobal + Threads + Wait + Sync,
+    B: Build + Send + Drop,
+    O: Write,
+    requires named { name ≡ J.book }
+    requires jobs { length builders.items ≡ request.now.jobs }
+    ensures { RunEnds B.may request.now task.now (O.contents out.old) (O.contents out.new) result }
+{
+    let system = request.system.as_bytes();
+    let (plan, journal) = (&task.plan, &task.journal);
+    match store_run::realise::<J, R, B>(rt, rt.alloc(), name, plan, journal, system, builders) {
+        Ok(book) => end(rt, request, book, out),
+        Err((fault, book)) => Err(fall_short(rt, request, fault, book)),
+    }
+}
+
+// Ends a run with its settled book.
+fn end<'a, R: Files + AllocGlobal, V: Outlet, O: Write>(
+    rt: &R,
+    request: &RealiseRequest<'a>,
+    book: Book<V>,
+    out: &mut O,
+) -> Result<u8, Stop<'a>>
+    requires { IsRunSettled book.run book.history }
+    ensures { BookEnds book (O.contents out.old) (O.contents out.new) result }
+{
+    let ended = tell(rt, request, &book, out);
+    book.close();
+    ended
+}
+
+// Ends a run for a fault of its workers; where they left a book its journal is written.
+fn fall_short<'a, R: Files + AllocGlobal, V: Outlet>(
+    rt: &R,
+    request: &RealiseRequest<'a>,
+    fault: RunFault,
+    book: Option<Book<V>>,
+) -> Stop<'a>
+    ensures { result ≡ Stop.Run fault }
+{
+    if let Some(book) = book {
+        // The first fault is the one that is told.
+        let _ = write_book(rt, request, &book);
+        book.close();
+    }
+    Stop::Run(fault)
+}
+
+// Writes the journal of a settled book, and prints its report.
+fn tell<'a, R: Files + AllocGlobal, V: Outlet, O: Write>(
+    rt: &R,
+    request: &RealiseRequest<'a>,
+    book: &Book<V>,
+    out: &mut O,
+) -> Result<u8, Stop<'a>>
+    requires { IsRunSettled book.now.run book.now.history }
+    ensures { BookEnds book.now (O.contents out.old) (O.contents out.new) result }
+{
+    write_book(rt, request, book)?;
+    let report = report_of(book)?;
+    match print_bytes(&report, out) {
+        Ok(()) => Ok(roots_status(book)),
+        Err(_) => Err(Stop::Unwritable),
+    }
+}
+
+// Puts the journal of a book in the place of the one that is there.
+fn write_book<'a, R: Files + AllocGlobal, V: Outlet>(
+    rt: &R,
+    request: &RealiseRequest<'a>,
+    book: &Book<V>,
+) -> Result<(), Stop<'a>>
+    ensures { IfErr result (λ stop. (stop ≡ Stop.NoMemory) ⊎ (stop ≡ Stop.JournalNotWritten)) }
+{
+    let bytes = journal_bytes(rt.alloc(), book)?;
+    write_journal(rt, request.store_dir, request.journal, &bytes)
+}

@@ -1,0 +1,57 @@
+//! What the book of a run says at its end: the status, the journal's bytes and the report.
+ghost use Rattle.std.specs.Prelude.{◌≡◌, IfErr, IfOk};
+ghost use Rattle.valid_table.specs.Texts.{text as journal_text};
+ghost use Rattle.sched_core.specs.Books.{IsRunSettled};
+ghost use Rattle.sched_core.specs.Reports.{IsReportIn};
+ghost use Rattle.sched_core.specs.States.{is_good};
+ghost use Rattle.subcommands.specs.Realising.{roots_status};
+
+use crate::stop::Stop;
+use sched_core::{Book, State};
+use std::alloc::Global;
+use valid_table::Outlet;
+
+/// The status of a run with this book: 0 where each root was built or reused, else 1.
+pub fn roots_status<O: Outlet>(book: &Book<O>) -> u8
+    ensures { result ≡ roots_status book.now.run book.now.history }
+{
+    let plan = book.plan();
+    let count = plan.len();
+    'roots: for root in plan.roots() {
+        prove!(*root < count);
+        if !is_realised(book.state(*root)) {
+            return 1;
+        }
+    }
+    0
+}
+
+// Whether a derivation in this state was built or reused.
+fn is_realised(state: State) -> bool
+    ensures { result ≡ is_good state }
+{
+    matches!(state, State::Done | State::Reused)
+}
+
+/// The text of the journal of a book.
+pub fn journal_bytes<'a, O: Outlet>(alloc: Global, book: &Book<O>) -> Result<Vec<u8>, Stop<'a>>
+    ensures ok { IfOk result (λ bytes. bytes.items ≡ journal_text book.now.history.entries) }
+    ensures err { IfErr result (λ stop. stop ≡ Stop.NoMemory) }
+{
+    match book.journal().write(alloc) {
+        Ok(bytes) => Ok(bytes),
+        Err(_) => Err(Stop::NoMemory),
+    }
+}
+
+/// The report of a book that is settled.
+pub fn report_of<'a, O: Outlet>(book: &Book<O>) -> Result<Vec<u8>, Stop<'a>>
+    requires { IsRunSettled book.now.run book.now.history }
+    ensures ok { IfOk result (λ text. IsReportIn book.now.run book.now.history text.items) }
+    ensures err { IfErr result (λ stop. stop ≡ Stop.NoMemory) }
+{
+    match book.report() {
+        Ok(text) => Ok(text),
+        Err(_) => Err(Stop::NoMemory),
+    }
+}

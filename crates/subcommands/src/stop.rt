@@ -1,0 +1,135 @@
+//! Why a run ends without its report.
+ghost use Rattle.std.specs.Prelude.{◌≡◌};
+ghost use Rattle.subcommands.specs.Stops.{blamed_of, number_of, status_of};
+
+use drv_graph::NodeFault;
+use nix_names::{NameFault, StorePath};
+use std::alloc::{AllocError, AllocFailed};
+use store_run::RunFault;
+use valid_table::TableFault;
+
+/// Why a run ends without its report.
+#[derive(Drop)]
+pub enum Stop<'a> {
+    /// This text, given as the store folder, is none.
+    BadStoreDir(&'a str),
+    /// The file with this path, as it was given, cannot be read.
+    Unreadable(&'a str),
+    /// The file with this path, as it was given, has more than 4,194,304 bytes.
+    TooLong(&'a str),
+    /// The file with this path, as it was given, is no draft that can be filled.
+    BadDraft(&'a str, NodeFault),
+    /// This text, given as a name, is none.
+    BadName(&'a str),
+    /// This text, given as the path of a derivation, is no path of the store folder.
+    NoPath(&'a str, NameFault),
+    /// The derivation at this path, which a draft or a plan reaches, is refused.
+    BadDrv(StorePath, NodeFault),
+    /// The journal file is there and cannot be read.
+    JournalUnreadable,
+    /// The journal file's bytes are no journal.
+    BadJournal(TableFault),
+    /// The file at this path cannot be written.
+    NotWritten(StorePath),
+    /// The journal file cannot be written.
+    JournalNotWritten,
+    /// The workers gave no settled book.
+    Run(RunFault),
+    /// Memory was refused.
+    NoMemory,
+    /// Standard output refused a write.
+    Unwritable,
+}
+
+impl Stop<'_> {
+    /// The fault's number in the table of faults.
+    pub fn number(&self) -> u8
+        ensures { result ≡ number_of self.now }
+    {
+        match self {
+            Stop::BadName(_) => 6,
+            Stop::NoPath(_, fault) => fault.number(),
+            Stop::BadStoreDir(_) => 7,
+            Stop::NoMemory => 9,
+            Stop::TooLong(_) => 12,
+            Stop::Unreadable(_) | Stop::JournalUnreadable => 20,
+            Stop::BadJournal(fault) => fault.number(),
+            Stop::Run(fault) => fault.number(),
+            Stop::BadDraft(_, fault) | Stop::BadDrv(_, fault) => fault.number(),
+            Stop::NotWritten(_) | Stop::JournalNotWritten | Stop::Unwritable => 74,
+        }
+    }
+
+    /// The status of the run: 2 where the input is refused, else 3.
+    pub fn status(&self) -> u8
+        ensures { result ≡ status_of self.now }
+    {
+        match self {
+            Stop::BadStoreDir(_)
+            | Stop::Unreadable(_)
+            | Stop::TooLong(_)
+            | Stop::BadDraft(..)
+            | Stop::BadName(_)
+            | Stop::NoPath(..)
+            | Stop::BadDrv(..)
+            | Stop::BadJournal(_) => 2,
+            Stop::JournalUnreadable
+            | Stop::Run(_)
+            | Stop::NotWritten(_)
+            | Stop::JournalNotWritten
+            | Stop::NoMemory
+            | Stop::Unwritable => 3,
+        }
+    }
+
+    /// What the fault is found in: a word as it was given, a path, the journal or the run.
+    pub fn blamed(&self) -> &[u8]
+        ensures { result.now ≡ blamed_of self.now }
+    {
+        match self {
+            Stop::BadStoreDir(word)
+            | Stop::Unreadable(word)
+            | Stop::TooLong(word)
+            | Stop::BadDraft(word, _)
+            | Stop::BadName(word)
+            | Stop::NoPath(word, _) => word.as_bytes(),
+            Stop::BadDrv(path, _) | Stop::NotWritten(path) => path.text(),
+            Stop::JournalUnreadable | Stop::BadJournal(_) | Stop::JournalNotWritten => b"journal",
+            Stop::Run(_) | Stop::NoMemory | Stop::Unwritable => b"run",
+        }
+    }
+}
+
+impl From<AllocError> for Stop<'_> {
+    ghost use Rattle.subcommands.specs.declared.stop.Stop.TheVariants.{NoMemory};
+
+    ghost from_gives = { λ _ stop. stop ≡ NoMemory };
+
+    fn from(_: AllocError) -> Self {
+        Stop::NoMemory
+    }
+}
+
+impl<T: Drop> From<AllocFailed<T>> for Stop<'_> {
+    ghost use Rattle.subcommands.specs.declared.stop.Stop.TheVariants.{NoMemory};
+
+    ghost from_gives = { λ _ stop. stop ≡ NoMemory };
+
+    fn from(_: AllocFailed<T>) -> Self {
+        Stop::NoMemory
+    }
+}
+
+// A fault on the journal of a run.
+impl From<TableFault> for Stop<'_> {
+    ghost use Rattle.subcommands.specs.Stops.{stop_of};
+
+    ghost from_gives = { λ fault stop. stop ≡ stop_of fault };
+
+    fn from(fault: TableFault) -> Self {
+        match fault {
+            TableFault::NoMemory => Stop::NoMemory,
+            fault => Stop::BadJournal(fault),
+        }
+    }
+}

@@ -1,0 +1,172 @@
+//! The words of a command line, read by `clap`.
+ghost use Rattle.std.specs.Prelude.{◌≡◌, IfOk, IfSome, codes, map, option_map};
+ghost use Rattle.clap.specs.Words.{first_of, found_of, kind_of, one_of, rows_of};
+ghost use Rattle.subcommands.specs.Requests.{IsAddDrv, IsAddText, IsAskedBy, IsCheck, IsNumber};
+ghost use Rattle.subcommands.specs.Requests.{IsRealise, IsRequest, drvs_in, store_dir_in};
+ghost use Rattle.subcommands.specs.Requests.{system_in, word_in};
+
+use crate::command::{
+    ADD_DRV, ADD_TEXT, CHECK, DEFAULT_STORE_DIR, DEFAULT_SYSTEM, DRVS, FILE, JOBS, JOURNAL, NAME,
+    REALISE, STORE_DIR, SYSTEM, command,
+};
+use crate::jobs::Jobs;
+use crate::options::{AddDrvRequest, AddTextRequest, CheckRequest, RealiseRequest, Request};
+use clap::error::ErrorKind;
+use clap::{ArgMatches, Error};
+use std::alloc::{AllocError, Global};
+
+/// Reads a command line, whose first word is the program's own name. An error is a mistake in the
+/// words, a request for help or the version, or want of memory; its text is `clap`'s.
+pub fn request<'a>(alloc: Global, words: &'a [&'a str]) -> Result<Request<'a>, Error>
+    ensures { IfOk result (IsRequest (map (λ w. w.now) words.entry.now)) }
+{
+    let matches = command(alloc)?.try_get_matches_from(words)?;
+    match matches.subcommand() {
+        Some((name, found)) => subcommand_request(alloc, name, found),
+        None => Err(no_subcommand(alloc)?),
+    }
+}
+
+// What the matches of the subcommand with this name say.
+fn subcommand_request<'a>(
+    alloc: Global,
+    name: &str,
+    found: &ArgMatches<'a>,
+) -> Result<Request<'a>, Error>
+    ensures { IfOk result (IsAskedBy name.now (rows_of (found_of found.now))) }
+{
+    match name {
+        CHECK => Ok(Request::Check(check_request(alloc, found)?)),
+        ADD_TEXT => Ok(Request::AddText(add_text_request(found))),
+        ADD_DRV => Ok(Request::AddDrv(add_drv_request(found))),
+        REALISE => Ok(Request::Realise(realise_request(alloc, found)?)),
+        _ => Err(no_subcommand(alloc)?),
+    }
+}
+
+// The usage fault of a command line without a subcommand.
+fn no_subcommand(alloc: Global) -> Result<Error, AllocError>
+    ensures { IfOk result (λ e. kind_of e ≡ ErrorKind.MissingSubcommand) }
+{
+    command(alloc)?.error(ErrorKind::MissingSubcommand, "a subcommand is required")
+}
+
+// The usage fault of a command line whose number of builders is none.
+fn no_jobs(alloc: Global) -> Result<Error, AllocError>
+    ensures { IfOk result (λ e. kind_of e ≡ ErrorKind.ValueValidation) }
+{
+    command(alloc)?.error(
+        ErrorKind::ValueValidation,
+        "--jobs takes a number from 1 to 64",
+    )
+}
+
+/// The usage fault of a command line that has a word which is not UTF-8.
+pub fn not_text(alloc: Global) -> Result<Error, AllocError>
+    ensures { IfOk result (λ e. kind_of e ≡ ErrorKind.ValueValidation) }
+{
+    command(alloc)?.error(
+        ErrorKind::ValueValidation,
+        "invalid UTF-8 was detected in one or more arguments",
+    )
+}
+
+// What the matches of `check` say.
+fn check_request<'a>(alloc: Global, found: &ArgMatches<'a>) -> Result<CheckRequest<'a>, AllocError>
+    ensures { IfOk result (IsCheck (rows_of (found_of found.now))) }
+{
+    Ok(CheckRequest {
+        store_dir: store_dir_of(found),
+        drvs: drvs_of(alloc, found)?,
+    })
+}
+
+// What the matches of `add-text` say.
+fn add_text_request<'a>(found: &ArgMatches<'a>) -> AddTextRequest<'a>
+    ensures { IsAddText (rows_of (found_of found.now)) result }
+{
+    AddTextRequest {
+        store_dir: store_dir_of(found),
+        journal: journal_of(found),
+        name: word_of(found, NAME),
+        file: word_of(found, FILE),
+    }
+}
+
+// What the matches of `add-drv` say.
+fn add_drv_request<'a>(found: &ArgMatches<'a>) -> AddDrvRequest<'a>
+    ensures { IsAddDrv (rows_of (found_of found.now)) result }
+{
+    AddDrvRequest {
+        store_dir: store_dir_of(found),
+        name: word_of(found, NAME),
+        file: word_of(found, FILE),
+    }
+}
+
+// What the matches of `realise` say.
+fn realise_request<'a>(alloc: Global, found: &ArgMatches<'a>) -> Result<RealiseRequest<'a>, Error>
+    ensures { IfOk result (IsRealise (rows_of (found_of found.now))) }
+{
+    let Some(jobs) = jobs_of(found) else {
+        return Err(no_jobs(alloc)?);
+    };
+    Ok(RealiseRequest {
+        store_dir: store_dir_of(found),
+        journal: journal_of(found),
+        system: system_of(found),
+        jobs,
+        drvs: drvs_of(alloc, found)?,
+    })
+}
+
+// The store folder that the matches give, or the usual one.
+#[tactic(auto, using(crate::proofs::Rows::first_row))]
+fn store_dir_of<'a>(found: &ArgMatches<'a>) -> &'a str
+    ensures { result.now ≡ store_dir_in (rows_of (found_of found.now)) }
+{
+    found.get_str(STORE_DIR).unwrap_or(DEFAULT_STORE_DIR)
+}
+
+// The system that the matches give, or the usual one.
+#[tactic(auto, using(crate::proofs::Rows::first_row))]
+fn system_of<'a>(found: &ArgMatches<'a>) -> &'a str
+    ensures { result.now ≡ system_in (rows_of (found_of found.now)) }
+{
+    found.get_str(SYSTEM).unwrap_or(DEFAULT_SYSTEM)
+}
+
+// The path of the journal file, where the matches give one.
+#[tactic(auto, using(crate::proofs::Rows::first_row))]
+fn journal_of<'a>(found: &ArgMatches<'a>) -> Option<&'a str>
+    ensures { option_map (λ s. s.now) result
+        ≡ first_of (codes "journal") (rows_of (found_of found.now)) }
+{
+    found.get_str(JOURNAL)
+}
+
+// The word with this id.
+#[tactic(auto, using(crate::proofs::Rows::first_row))]
+fn word_of<'a>(found: &ArgMatches<'a>, id: &str) -> &'a str
+    ensures { result.now ≡ word_in id.now (rows_of (found_of found.now)) }
+{
+    found.get_str(id).unwrap_or("")
+}
+
+// The words that are paths of derivations, in their order.
+#[tactic(auto, using(crate::proofs::Rows::all_row))]
+fn drvs_of<'a>(alloc: Global, found: &ArgMatches<'a>) -> Result<Vec<&'a str>, AllocError>
+    ensures { IfOk result (λ drvs.
+        map (λ w. w.now) drvs.items ≡ drvs_in (rows_of (found_of found.now))) }
+{
+    Vec::from_slice(alloc, found.get_strs(DRVS).unwrap_or(&[]))
+}
+
+// How many builders the matches ask for; none where that is no number from 1 to 64, which `clap`
+// refuses before.
+fn jobs_of(found: &ArgMatches<'_>) -> Option<Jobs>
+    ensures { IfSome result (λ jobs.
+        IsNumber (one_of (codes "jobs") (rows_of (found_of found.now))) jobs) }
+{
+    Jobs::new(found.get_one::<u8>(JOBS)?)
+}
