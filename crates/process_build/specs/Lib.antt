@@ -1,1 +1,2 @@
 pub mod BuilderCalls
+pub mod Errors

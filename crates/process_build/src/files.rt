@@ -1,6 +1,6 @@
 //! Paths of files, and errors of the system.
-ghost use Rattle.std.specs.Prelude.{◌≡◌, ◌↔◌, IsOkAnd, IsTrue, None};
-ghost use Rattle.std.specs.IoError.{error_kind, raw_os_error};
+ghost use Rattle.std.specs.Prelude.{◌≡◌, ◌↔◌, IsOkAnd, IsTrue};
+ghost use Rattle.process_build.specs.Errors.{IsNoMemory};
 
 use nix_names::StorePath;
 use std::io::ErrorKind;
@@ -18,8 +18,7 @@ pub fn file_path(path: &StorePath) -> io::Result<&str>
 
 /// Whether an error is this program's own want of memory, and none of the system's faults.
 pub fn is_no_memory(error: &io::Error) -> bool
-    ensures { IsTrue result ↔
-        ((error_kind error.now ≡ ErrorKind.OutOfMemory) × (raw_os_error error.now ≡ None)) }
+    ensures { IsTrue result ↔ IsNoMemory error.now }
 {
     match error.kind() {
         ErrorKind::OutOfMemory => error.raw_os_error().is_none(),

@@ -1,5 +1,6 @@
 //! What an error of the system means for a build.
-ghost use Rattle.std.specs.Prelude.{◌≡◌, ◌⊎◌};
+ghost use Rattle.std.specs.Prelude.{◌≡◌};
+ghost use Rattle.process_build.specs.Errors.{IsNoMemory};
 ghost use Rattle.sched_core.specs.declared.reason.Reason.TheVariants.{NoStart, OutOfMemory};
 ghost use Rattle.sched_core.specs.declared.reason.Reason.TheVariants.{ReadFault};
 
@@ -9,7 +10,8 @@ use std::io;
 
 /// The reason of an error before the builder has started.
 pub fn no_start(error: io::Error) -> Reason
-    ensures { (result ≡ NoStart) ⊎ (result ≡ OutOfMemory) }
+    ensures no_memory { IsNoMemory error → result ≡ OutOfMemory }
+    ensures other { ¬ IsNoMemory error → result ≡ NoStart }
 {
     if is_no_memory(&error) {
         Reason::OutOfMemory
@@ -20,7 +22,8 @@ pub fn no_start(error: io::Error) -> Reason
 
 /// The reason of an error in the reading of an output.
 pub fn read_fault(error: io::Error) -> Reason
-    ensures { (result ≡ ReadFault) ⊎ (result ≡ OutOfMemory) }
+    ensures no_memory { IsNoMemory error → result ≡ OutOfMemory }
+    ensures other { ¬ IsNoMemory error → result ≡ ReadFault }
 {
     if is_no_memory(&error) {
         Reason::OutOfMemory
