@@ -1,6 +1,6 @@
 -- What a builder is started with (Nix manual, "Store Derivation" and "Building").
 use Rattle.std.specs.Prelude.{◌≡◌, ◌≢◌, ℕ, List, [], ◌∷◌, ◌++◌, IsUtf8, Option, None, Some, true}
-use Rattle.std.specs.Prelude.{false, ◌==◌, bytes_eq, codes, fold, if◌then◌else◌, map, option_map}
+use Rattle.std.specs.Prelude.{All, false, ◌==◌, bytes_eq, codes, fold, if◌then◌else◌, map, option_map}
 use Rattle.std.specs.List.{list_any}
 use Rattle.std.specs.Process.{clears_env, command_args, command_dir, command_program, command_var}
 use Rattle.std.specs.declared.alloc.Global.{Global}
@@ -57,6 +57,12 @@ IsProcessKey key =
 
 abbrev pub IsProcessEntry : EnvEntry → Type 0
 IsProcessEntry e = IsProcessKey e.key × IsProcessText e.value
+
+-- a job's builder, arguments and entries are such texts
+pub record IsCallable (job : Job) : Type 0 where
+  pub is_builder : IsProcessText job.builder.items
+  pub are_args : All (λ a. IsProcessText a.items) job.args.items
+  pub are_entries : All (λ e. IsProcessEntry (entry_of e)) job.env.items
 
 -- the program of a builder: its text as it stands, which is looked for in no folder of a `PATH`;
 -- without a slash it is a file of the folder in which the builder runs

@@ -1,8 +1,9 @@
 //! The texts of a job that a process is started with.
-ghost use Rattle.std.specs.Prelude.{◌≡◌, ◌⊎◌, IfErr, IfOk, map};
+ghost use Rattle.std.specs.Prelude.{◌≡◌, ◌⊎◌, All, IfErr, IfOk, map};
 ghost use Rattle.nix_drv.specs.Parts.{entry_of};
 ghost use Rattle.process_build.specs.BuilderCalls.{entry, entry_of_setting, own_entries};
-ghost use Rattle.process_build.specs.BuilderCalls.{IsProcessEntry, IsProcessKey, IsProcessText};
+ghost use Rattle.process_build.specs.BuilderCalls.{IsCallable, IsProcessEntry, IsProcessKey};
+ghost use Rattle.process_build.specs.BuilderCalls.{IsProcessText};
 ghost use Rattle.sched_core.specs.declared.reason.Reason.TheVariants.{NoStart, OutOfMemory};
 
 use nix_drv::EnvEntry;
@@ -43,7 +44,9 @@ impl<'a> Call<'a> {
             map (λ a. a.now) call.args.items ≡ map (λ a. a.items) job.now.args.items) }
         ensures env { IfOk result (λ call.
             map entry_of_setting call.env.items ≡ own_entries job.now) }
-        ensures refused { IfErr result (λ reason. (reason ≡ OutOfMemory) ⊎ (reason ≡ NoStart)) }
+        ensures callable { IfOk result (λ _. IsCallable job.now) }
+        ensures refused { IfErr result (λ reason.
+            (reason ≡ OutOfMemory) ⊎ ((reason ≡ NoStart) × (¬ (IsCallable job.now)))) }
     {
         Ok(Call {
             builder: text_of(&job.builder)?,
@@ -57,7 +60,9 @@ impl<'a> Call<'a> {
 fn texts_of(alloc: Global, all: &[Vec<u8>]) -> Result<Vec<&str>, Reason>
     ensures texts { IfOk result (λ texts.
         map (λ t. t.now) texts.items ≡ map (λ b. b.items) all.now) }
-    ensures refused { IfErr result (λ reason. (reason ≡ OutOfMemory) ⊎ (reason ≡ NoStart)) }
+    ensures good { IfOk result (λ _. All (λ b. IsProcessText b.items) all.now) }
+    ensures refused { IfErr result (λ reason. (reason ≡ OutOfMemory)
+        ⊎ ((reason ≡ NoStart) × (¬ (All (λ b. IsProcessText b.items) all.now)))) }
 {
     let mut texts = Vec::new(alloc);
     for bytes in all {
@@ -70,7 +75,9 @@ fn texts_of(alloc: Global, all: &[Vec<u8>]) -> Result<Vec<&str>, Reason>
 fn settings_of(alloc: Global, entries: &[EnvEntry]) -> Result<Vec<Setting<'_>>, Reason>
     ensures settings { IfOk result (λ settings.
         map entry_of_setting settings.items ≡ map entry_of entries.now) }
-    ensures refused { IfErr result (λ reason. (reason ≡ OutOfMemory) ⊎ (reason ≡ NoStart)) }
+    ensures good { IfOk result (λ _. All (λ e. IsProcessEntry (entry_of e)) entries.now) }
+    ensures refused { IfErr result (λ reason. (reason ≡ OutOfMemory)
+        ⊎ ((reason ≡ NoStart) × (¬ (All (λ e. IsProcessEntry (entry_of e)) entries.now)))) }
 {
     let mut settings = Vec::new(alloc);
     for entry in entries {
