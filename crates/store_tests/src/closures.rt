@@ -1,5 +1,6 @@
-//! Closures of a small table.
-use crate::paths::{all_numbered, numbered, read};
+//! Closures of small tables.
+use crate::journal_texts::{CYCLE, TWO_PATHS};
+use crate::paths::*;
 use std::alloc::Global;
 use std::test::Fail;
 use valid_table::{Table, TableFault};
@@ -21,42 +22,103 @@ R /nix/store/00000000000000000000000000000000-x
 R /nix/store/00000000000000000000000000000004-x
 ";
 
-// Roots, and all that they lead to.
-const CLOSURES: [(&[usize], &[usize]); 7] = [
-    (&[], &[]),
-    (&[0], &[0]),
-    (&[2], &[1, 2]),
-    (&[3], &[1, 2, 3]),
-    (&[4], &[4]),
-    (&[5], &[0, 4, 5]),
-    (&[4, 3, 4, 0], &[0, 1, 2, 3, 4]),
+const X: &[u8] = b"/nix/store/aaaaaaaaaaaaaaaaaaaaaaaaaaaaaaaa-x";
+
+const Y: &[u8] = b"/nix/store/cccccccccccccccccccccccccccccccc-y";
+
+// The text of a table's journal, roots, all that they lead to, and the first root that is not
+// valid, if any.
+struct Closing {
+    journal: &'static [u8],
+    roots: &'static [&'static [u8]],
+    all: &'static [&'static [u8]],
+    missing: &'static [u8],
+}
+
+static CLOSINGS: [Closing; 10] = [
+    Closing {
+        journal: SIX_PATHS,
+        roots: &[],
+        all: &[],
+        missing: b"",
+    },
+    Closing {
+        journal: SIX_PATHS,
+        roots: &[P0],
+        all: &[P0],
+        missing: b"",
+    },
+    Closing {
+        journal: SIX_PATHS,
+        roots: &[P2],
+        all: &[P1, P2],
+        missing: b"",
+    },
+    Closing {
+        journal: SIX_PATHS,
+        roots: &[P3],
+        all: &[P1, P2, P3],
+        missing: b"",
+    },
+    Closing {
+        journal: SIX_PATHS,
+        roots: &[P4],
+        all: &[P4],
+        missing: b"",
+    },
+    Closing {
+        journal: SIX_PATHS,
+        roots: &[P5],
+        all: &[P0, P4, P5],
+        missing: b"",
+    },
+    Closing {
+        journal: SIX_PATHS,
+        roots: &[P4, P3, P4, P0],
+        all: &[P0, P1, P2, P3, P4],
+        missing: b"",
+    },
+    // Two roots that are not valid: the first is told.
+    Closing {
+        journal: SIX_PATHS,
+        roots: &[P1, P7, P8],
+        all: &[],
+        missing: P7,
+    },
+    // An added path refers to another.
+    Closing {
+        journal: TWO_PATHS,
+        roots: &[Y],
+        all: &[X, Y],
+        missing: b"",
+    },
+    // The outputs of one derivation refer to each other.
+    Closing {
+        journal: CYCLE,
+        roots: &[X],
+        all: &[X, Y],
+        missing: b"",
+    },
 ];
 
-fn six_paths(alloc: Global) -> Result<Table, TableFault> {
-    Table::replay(alloc, &read(alloc, SIX_PATHS)?)
+fn closings() -> &'static [Closing] {
+    &CLOSINGS
 }
 
-// Whether the closure of these roots is this list of paths.
-fn is_closure(alloc: Global, table: &Table, roots: &[usize], all: &[usize]) -> Result<bool, Fail> {
-    let closure = table.closure(alloc, &all_numbered(alloc, roots)?)?;
-    Ok(closure == all_numbered(alloc, all)?)
-}
-
-#[test]
-fn closed_roots(rt: HostRuntime) -> Result<(), Fail> {
-    let alloc = rt.alloc();
-    let table = six_paths(alloc)?;
-    for (roots, all) in CLOSURES {
-        assert!(rt; is_closure(alloc, &table, roots, all)?, "of {roots:?}");
+// Whether the closure is as the row says.
+fn is_closed(alloc: Global, row: &Closing) -> Result<bool, Fail> {
+    let table = Table::replay(alloc, &read(alloc, row.journal)?)?;
+    match table.closure(alloc, &all_paths(alloc, row.roots)?) {
+        Ok(all) => Ok(row.missing.is_empty() && are(&all, row.all)),
+        Err(TableFault::NotValid(root)) => Ok(root.text() == row.missing),
+        Err(_) => Ok(false),
     }
-    Ok(())
 }
 
 #[test]
-fn first_root_that_is_not_valid(rt: HostRuntime) -> Result<(), Fail> {
-    let alloc = rt.alloc();
-    let seventh = numbered(alloc, 7)?;
-    let answer = six_paths(alloc)?.closure(alloc, &all_numbered(alloc, &[1, 7, 8])?);
-    assert!(rt; matches!(&answer, Err(TableFault::NotValid(root)) if *root == seventh));
+fn closures_of_roots(rt: HostRuntime) -> Result<(), Fail> {
+    for row in closings() {
+        assert!(rt; is_closed(rt.alloc(), row)?, "of {:?}", row.roots);
+    }
     Ok(())
 }

@@ -1,9 +1,9 @@
-//! Journals of a few paths, their copies and their tables.
-use crate::paths::{path, record};
+//! A journal of two paths, its copy and its table.
+use crate::paths::{add, are, path, registration};
 use nix_names::is_drv_name;
 use std::alloc::Global;
 use std::test::Fail;
-use valid_table::{Entry, Journal, Outputs, Registration, Table, TableFault};
+use valid_table::{Entry, Journal, Outputs, Table};
 
 const X: &[u8] = b"/nix/store/aaaaaaaaaaaaaaaaaaaaaaaaaaaaaaaa-x";
 
@@ -13,91 +13,68 @@ const Z: &[u8] = b"/nix/store/cccccccccccccccccccccccccccccccc-z";
 
 const Z_DRV: &[u8] = b"/nix/store/dddddddddddddddddddddddddddddddd-z.drv";
 
-// A path with one reference.
-fn referring(alloc: Global, text: &[u8], reference: &[u8]) -> Result<Registration, Fail> {
-    let info = record(alloc, Some(path(alloc, reference)?))?;
-    let path = path(alloc, text)?;
-    Ok(Registration { path, info })
+// Whether X, which refers to nothing, is added, and then Y, which refers to X.
+fn has_two_paths(alloc: Global, journal: &mut Journal) -> Result<bool, Fail> {
+    let first = add(alloc, journal, X, &[])?;
+    let second = add(alloc, journal, Y, &[X])?;
+    Ok(first == 0 && second == 0)
 }
 
-// The one output with this path, which refers to itself.
-fn output(alloc: Global, text: &[u8]) -> Result<Outputs, Fail> {
-    let output = referring(alloc, text, text)?;
-    Ok(Outputs::new(vec![in alloc; output]?))
+// Whether X is refused again, and a path whose reference is not valid.
+fn refuses_paths(alloc: Global, journal: &mut Journal) -> Result<bool, Fail> {
+    let again = add(alloc, journal, X, &[Y])?;
+    let open = add(alloc, journal, Z_DRV, &[Z])?;
+    Ok(again == 37 && open == 36 && journal.entries().len() == 2)
 }
 
-// Adds a path with its record.
-fn add(journal: &mut Journal, added: Registration) -> Result<(), TableFault> {
-    let Registration { path, info } = added;
-    journal.add(path, info)?;
-    Ok(())
-}
-
-fn number(answer: Result<(), TableFault>) -> u8 {
-    match answer {
-        Ok(()) => 0,
-        Err(fault) => fault.number(),
-    }
-}
-
-// X, which refers to nothing.
-fn one_path(alloc: Global) -> Result<Journal, Fail> {
-    let mut journal = Journal::new(alloc);
-    journal.add(path(alloc, X)?, record(alloc, None)?)?;
-    Ok(journal)
-}
-
-// X, and Y which refers to it.
-fn two_paths(alloc: Global) -> Result<Journal, Fail> {
-    let mut journal = one_path(alloc)?;
-    add(&mut journal, referring(alloc, Y, X)?)?;
-    Ok(journal)
-}
-
-#[test]
-fn refused_paths(rt: HostRuntime) -> Result<(), Fail> {
-    let alloc = rt.alloc();
-    let mut journal = two_paths(alloc)?;
-    let again = add(&mut journal, referring(alloc, X, Y)?);
-    assert_eq!(rt; number(again), 37);
-    let open = add(&mut journal, referring(alloc, Z_DRV, Z)?);
-    assert_eq!(rt; number(open), 36);
-    assert_eq!(rt; journal.entries().len(), 2);
-    Ok(())
-}
-
-#[test]
-fn output_of_a_derivation(rt: HostRuntime) -> Result<(), Fail> {
-    let alloc = rt.alloc();
-    let mut journal = two_paths(alloc)?;
-    let deriver = path(alloc, Z_DRV)?;
-    assert!(rt; is_drv_name(deriver.name()));
-    assert!(rt; journal.append(deriver, output(alloc, Z)?).is_ok());
-    assert_eq!(rt; journal.entries().len(), 3);
-    Ok(())
-}
-
-#[test]
-fn copied_journal(rt: HostRuntime) -> Result<(), Fail> {
-    let alloc = rt.alloc();
-    let journal = two_paths(alloc)?;
-    assert!(rt; journal.copy(alloc)?.entries() == journal.entries());
-    let other = Entry::Add(referring(alloc, X, Y)?);
-    assert!(rt; journal.entries().iter().all(|entry| *entry != other));
-    Ok(())
+// Whether the copy has the same entries, of which none adds X as one that refers to Y.
+fn is_copied(alloc: Global, journal: &Journal) -> Result<bool, Fail> {
+    let same = journal.copy(alloc)?.entries() == journal.entries();
+    let other = Entry::Add(registration(alloc, X, &[Y])?);
+    Ok(same && !journal.entries().contains(&other))
 }
 
 // Whether the table says of Y that it refers to X alone, and nothing of Z.
-fn is_table_of_two(alloc: Global, table: &Table) -> Result<bool, Fail> {
-    let info = table.get(&path(alloc, Y)?).ok_or("no row")?;
-    let is_y = info.references().len() == 1 && info.references()[0].text() == X;
+fn is_table_of_two(alloc: Global, journal: &Journal) -> Result<bool, Fail> {
+    let table = Table::replay(alloc, journal)?;
+    let is_y = match table.get(&path(alloc, Y)?) {
+        Some(info) => are(info.references(), &[X]),
+        None => false,
+    };
     Ok(is_y && table.get(&path(alloc, Z)?).is_none())
 }
 
+// The one output of a derivation, Z, which refers to itself.
+fn output(alloc: Global) -> Result<Outputs, Fail> {
+    let output = registration(alloc, Z, &[Z])?;
+    Ok(Outputs::new(vec![in alloc; output]?))
+}
+
+// Whether the output of a derivation is one more entry.
+fn takes_output(alloc: Global, journal: &mut Journal) -> Result<bool, Fail> {
+    let deriver = path(alloc, Z_DRV)?;
+    let outputs = output(alloc)?;
+    if !is_drv_name(deriver.name()) {
+        return Ok(false);
+    }
+    let answer = journal.append(deriver, outputs);
+    Ok(answer.is_ok() && journal.entries().len() == 3)
+}
+
 #[test]
-fn table_of_two_paths(rt: HostRuntime) -> Result<(), Fail> {
-    let alloc = rt.alloc();
-    let table = Table::replay(alloc, &two_paths(alloc)?)?;
-    assert!(rt; is_table_of_two(alloc, &table)?);
+fn journal_of_two_paths(rt: HostRuntime) -> Result<(), Fail> {
+    let mut journal = Journal::new(rt.alloc());
+    assert!(rt; has_two_paths(rt.alloc(), &mut journal)?);
+    assert!(rt; refuses_paths(rt.alloc(), &mut journal)?);
+    assert!(rt; is_copied(rt.alloc(), &journal)?);
+    Ok(())
+}
+
+#[test]
+fn table_and_output(rt: HostRuntime) -> Result<(), Fail> {
+    let mut journal = Journal::new(rt.alloc());
+    assert!(rt; has_two_paths(rt.alloc(), &mut journal)?);
+    assert!(rt; is_table_of_two(rt.alloc(), &journal)?);
+    assert!(rt; takes_output(rt.alloc(), &mut journal)?);
     Ok(())
 }

@@ -1,8 +1,5 @@
 //! Thousands of entries, roots and permitted paths.
-ghost use Rattle.std.specs.Prelude.{IfOk};
-ghost use Rattle.nix_names.specs.Rising.{IsRising};
-
-use crate::paths::{all_numbered, is_written_as, numbered, read, record};
+use crate::paths::{P0, add, all_paths, are, is_written_as, path, read};
 use nix_names::StorePath;
 use ref_scan::{Tree, scan};
 use std::alloc::{AllocError, Global};
@@ -10,6 +7,21 @@ use std::test::Fail;
 use valid_table::{Journal, Table};
 
 const MANY: usize = 5_000;
+
+// Path 2500, and the last one.
+const MIDDLE: &[u8] = b"/nix/store/00000000000000000000000000002500-x";
+
+const LAST: &[u8] = b"/nix/store/00000000000000000000000000004999-x";
+
+const THREE_PARTS: &[u8] = b"00000000000000000000000000004999
+00000000000000000000000000000000
+00000000000000000000000000002500
+";
+
+// The text of path n: its hash part is the number in 32 digits, and its name `x`.
+fn text(alloc: Global, n: usize) -> Result<String, AllocError> {
+    format!(in alloc; "/nix/store/{n:032}-x")
+}
 
 // The text of a journal of many paths, each but the first with the one before it as its reference.
 fn chain_text(alloc: Global) -> Result<String, AllocError> {
@@ -23,17 +35,39 @@ fn chain_text(alloc: Global) -> Result<String, AllocError> {
     Ok(text)
 }
 
+// Adds path n, which refers to the path before it: the number of the fault, or 0.
+fn add_link(alloc: Global, journal: &mut Journal, n: usize) -> Result<u8, Fail> {
+    let before = text(alloc, n.saturating_sub(1))?;
+    let text = text(alloc, n)?;
+    add(alloc, journal, text.as_bytes(), &[before.as_bytes()])
+}
+
 // The journal that is written so, path by path.
 fn chain(alloc: Global) -> Result<Journal, Fail> {
     let mut journal = Journal::new(alloc);
-    for n in 0..MANY {
-        let before = match n.checked_sub(1) {
-            Some(before) => Some(numbered(alloc, before)?),
-            None => None,
-        };
-        journal.add(numbered(alloc, n)?, record(alloc, before)?)?;
+    add(alloc, &mut journal, P0, &[])?;
+    for n in 1..MANY {
+        add_link(alloc, &mut journal, n)?;
     }
     Ok(journal)
+}
+
+// Whether the text is read as many entries and written as it was, and the journal that is made
+// path by path is written so.
+fn is_chain(alloc: Global, text: &[u8]) -> Result<bool, Fail> {
+    let journal = read(alloc, text)?;
+    Ok(
+        journal.entries().len() == MANY
+            && is_written_as(alloc, &journal, text)
+            && is_written_as(alloc, &chain(alloc)?, text),
+    )
+}
+
+#[test]
+fn many_entries(rt: HostRuntime) -> Result<(), Fail> {
+    let text = chain_text(rt.alloc())?;
+    assert!(rt; is_chain(rt.alloc(), text.as_bytes())?);
+    Ok(())
 }
 
 // The table of that journal, as it is read.
@@ -46,68 +80,31 @@ fn chain_table(alloc: Global) -> Result<Table, Fail> {
 fn chain_paths(alloc: Global) -> Result<Vec<StorePath>, Fail> {
     let mut paths = Vec::new(alloc);
     for n in 0..MANY {
-        paths.push(numbered(alloc, n)?)?;
+        let text = text(alloc, n)?;
+        paths.push(path(alloc, text.as_bytes())?)?;
     }
     Ok(paths)
 }
 
-#[test]
-fn many_entries_read(rt: HostRuntime) -> Result<(), Fail> {
-    let alloc = rt.alloc();
-    let text = chain_text(alloc)?;
-    let journal = read(alloc, text.as_bytes())?;
-    assert_eq!(rt; journal.entries().len(), MANY);
-    assert!(rt; is_written_as(alloc, &journal, text.as_bytes())?);
-    Ok(())
+// Whether all paths lead to all paths, and so does the last one alone.
+fn leads_to_all(alloc: Global, table: &Table, paths: &[StorePath]) -> Result<bool, Fail> {
+    let of_all = table.closure(alloc, paths)?;
+    let of_last = table.closure(alloc, &all_paths(alloc, &[LAST])?)?;
+    Ok(of_all.as_slice() == paths && of_last.as_slice() == paths)
+}
+
+// Whether a file that holds the hash parts of three paths refers to just these, of all paths.
+fn finds_three(alloc: Global, table: &Table) -> Result<bool, Fail> {
+    let permitted = table.closure(alloc, &all_paths(alloc, &[LAST])?)?;
+    let tree = Tree::File(THREE_PARTS.to_vec(alloc)?);
+    let found = scan(alloc, &tree, &permitted)?;
+    Ok(are(&found, &[P0, MIDDLE, LAST]))
 }
 
 #[test]
-fn many_entries_added(rt: HostRuntime) -> Result<(), Fail> {
-    let alloc = rt.alloc();
-    let text = chain_text(alloc)?;
-    assert!(rt; is_written_as(alloc, &chain(alloc)?, text.as_bytes())?);
-    Ok(())
-}
-
-#[test]
-fn closure_of_many_roots(rt: HostRuntime) -> Result<(), Fail> {
-    let alloc = rt.alloc();
-    let paths = chain_paths(alloc)?;
-    let closure = chain_table(alloc)?.closure(alloc, &paths)?;
-    assert!(rt; closure == paths);
-    Ok(())
-}
-
-#[test]
-fn closure_of_a_long_chain(rt: HostRuntime) -> Result<(), Fail> {
-    let alloc = rt.alloc();
-    let roots = all_numbered(alloc, &[MANY - 1])?;
-    let closure = chain_table(alloc)?.closure(alloc, &roots)?;
-    assert_eq!(rt; closure.len(), MANY);
-    Ok(())
-}
-
-// All paths of the journal, in rising order.
-fn permitted(alloc: Global) -> Result<Vec<StorePath>, Fail>
-    ensures { IfOk result (λ paths. IsRising paths.items) }
-{
-    let roots = all_numbered(alloc, &[MANY - 1])?;
-    Ok(chain_table(alloc)?.closure(alloc, &roots)?)
-}
-
-// What a file with these bytes refers to, of all paths of the journal.
-fn found_in(alloc: Global, bytes: &[u8]) -> Result<Vec<StorePath>, Fail> {
-    let tree = Tree::File(bytes.to_vec(alloc)?);
-    Ok(scan(alloc, &tree, &permitted(alloc)?)?)
-}
-
-#[test]
-fn many_permitted_paths(rt: HostRuntime) -> Result<(), Fail> {
-    let alloc = rt.alloc();
-    let text = b"00000000000000000000000000004999
-00000000000000000000000000000000
-00000000000000000000000000002500
-";
-    assert!(rt; found_in(alloc, text)? == all_numbered(alloc, &[0, 2_500, 4_999])?);
+fn many_roots_and_permitted_paths(rt: HostRuntime) -> Result<(), Fail> {
+    let table = chain_table(rt.alloc())?;
+    assert!(rt; leads_to_all(rt.alloc(), &table, &chain_paths(rt.alloc())?)?);
+    assert!(rt; finds_three(rt.alloc(), &table)?);
     Ok(())
 }

@@ -1,8 +1,39 @@
-//! Paths and journals that the tests are made of.
+//! Paths, registrations and journals that the tests are made of.
+ghost use Rattle.std.specs.Prelude.{◌++◌, ◌∷◌, [], IfOk, IsTrue};
+ghost use Rattle.nix_names.specs.Rising.{IsRising};
+
 use nix_names::{StoreDir, StorePath, parse_path};
 use std::alloc::Global;
 use std::test::Fail;
 use valid_table::{Journal, Record, Registration, TableFault};
+
+// Paths whose hash part is a number in 32 digits.
+pub(crate) const P0: &[u8] = b"/nix/store/00000000000000000000000000000000-x";
+
+pub(crate) const P1: &[u8] = b"/nix/store/00000000000000000000000000000001-x";
+
+pub(crate) const P2: &[u8] = b"/nix/store/00000000000000000000000000000002-x";
+
+pub(crate) const P3: &[u8] = b"/nix/store/00000000000000000000000000000003-x";
+
+pub(crate) const P4: &[u8] = b"/nix/store/00000000000000000000000000000004-x";
+
+pub(crate) const P5: &[u8] = b"/nix/store/00000000000000000000000000000005-x";
+
+pub(crate) const P6: &[u8] = b"/nix/store/00000000000000000000000000000006-x";
+
+pub(crate) const P7: &[u8] = b"/nix/store/00000000000000000000000000000007-x";
+
+pub(crate) const P8: &[u8] = b"/nix/store/00000000000000000000000000000008-x";
+
+pub(crate) const P9: &[u8] = b"/nix/store/00000000000000000000000000000009-x";
+
+pub(crate) const P10: &[u8] = b"/nix/store/00000000000000000000000000000010-x";
+
+pub(crate) const P100: &[u8] = b"/nix/store/00000000000000000000000000000100-x";
+
+// The text of a path, and the one to which it refers.
+pub(crate) type Pair = (&'static [u8], &'static [u8]);
 
 // The path of the store with this text.
 pub(crate) fn path(alloc: Global, text: &[u8]) -> Result<StorePath, Fail> {
@@ -10,7 +41,7 @@ pub(crate) fn path(alloc: Global, text: &[u8]) -> Result<StorePath, Fail> {
     Ok(parse_path(alloc, &dir, text)?)
 }
 
-// The paths of the store with these texts.
+// The paths with these texts, in any order.
 pub(crate) fn all_paths(alloc: Global, texts: &[&[u8]]) -> Result<Vec<StorePath>, Fail> {
     let mut paths = Vec::new(alloc);
     for text in texts {
@@ -19,50 +50,71 @@ pub(crate) fn all_paths(alloc: Global, texts: &[&[u8]]) -> Result<Vec<StorePath>
     Ok(paths)
 }
 
-// Path n: its hash part is the number in 32 digits, and its name `x`.
-pub(crate) fn numbered(alloc: Global, n: usize) -> Result<StorePath, Fail> {
-    let text = format!(in alloc; "/nix/store/{n:032}-x")?;
-    path(alloc, text.as_bytes())
+// Whether a path is greater than the last one of a list.
+pub(crate) fn follows(paths: &[StorePath], path: &StorePath) -> bool
+    ensures { IsTrue result → IsRising paths.now → IsRising (paths.now ++ path.now ∷ []) }
+{
+    match paths.last() {
+        None => true,
+        Some(last) => last.text().cmp(path.text()).is_lt(),
+    }
 }
 
-// The paths with these numbers.
-pub(crate) fn all_numbered(alloc: Global, numbers: &[usize]) -> Result<Vec<StorePath>, Fail> {
+// The paths with these texts, which rise: one that does not follow is left out.
+pub(crate) fn rising(alloc: Global, texts: &[&[u8]]) -> Result<Vec<StorePath>, Fail>
+    ensures { IfOk result (λ paths. IsRising paths.items) }
+{
     let mut paths = Vec::new(alloc);
-    for n in numbers {
-        paths.push(numbered(alloc, *n)?)?;
+    for text in texts {
+        let path = path(alloc, text)?;
+        if follows(&paths, &path) {
+            paths.push(path)?;
+        }
     }
     Ok(paths)
 }
 
-// The record of a folder without references, or with this one.
-pub(crate) fn record(alloc: Global, reference: Option<StorePath>) -> Result<Record, Fail> {
-    match reference {
-        Some(path) => Ok(Record::new(vec![in alloc; path]?, None)?),
-        None => Ok(Record::new(Vec::new(alloc), None)?),
-    }
+// Whether the paths have these texts.
+pub(crate) fn are(paths: &[StorePath], texts: &[&[u8]]) -> bool {
+    paths.len() == texts.len()
+        && paths
+            .iter()
+            .zip(texts)
+            .all(|(path, text)| path.text() == *text)
 }
 
-// Path n with a record whose one reference is the path of another number.
+// A folder's path with these references.
 pub(crate) fn registration(
     alloc: Global,
-    n: usize,
-    reference: usize,
+    text: &[u8],
+    references: &[&[u8]],
 ) -> Result<Registration, Fail> {
-    let info = record(alloc, Some(numbered(alloc, reference)?))?;
-    let path = numbered(alloc, n)?;
+    let info = Record::new(rising(alloc, references)?, None)?;
+    let path = path(alloc, text)?;
     Ok(Registration { path, info })
 }
 
-// The same of each path with its reference.
-pub(crate) fn registrations(
-    alloc: Global,
-    pairs: &[(usize, usize)],
-) -> Result<Vec<Registration>, Fail> {
+// Each path with its one reference.
+pub(crate) fn registrations(alloc: Global, pairs: &[Pair]) -> Result<Vec<Registration>, Fail> {
     let mut all = Vec::new(alloc);
-    for (n, reference) in pairs {
-        all.push(registration(alloc, *n, *reference)?)?;
+    for (text, reference) in pairs {
+        all.push(registration(alloc, text, &[*reference])?)?;
     }
     Ok(all)
+}
+
+// Adds a path with its references to a journal: the number of the fault, or 0.
+pub(crate) fn add(
+    alloc: Global,
+    journal: &mut Journal,
+    text: &[u8],
+    references: &[&[u8]],
+) -> Result<u8, Fail> {
+    let Registration { path, info } = registration(alloc, text, references)?;
+    match journal.add(path, info) {
+        Ok(_) => Ok(0),
+        Err(fault) => Ok(fault.number()),
+    }
 }
 
 // The journal of the store with this text.
@@ -74,6 +126,9 @@ pub(crate) fn read(alloc: Global, text: &[u8]) -> Result<Journal, TableFault> {
 }
 
 // Whether a journal is written as this text.
-pub(crate) fn is_written_as(alloc: Global, journal: &Journal, text: &[u8]) -> Result<bool, Fail> {
-    Ok(journal.write(alloc)?.as_slice() == text)
+pub(crate) fn is_written_as(alloc: Global, journal: &Journal, text: &[u8]) -> bool {
+    match journal.write(alloc) {
+        Ok(written) => written.as_slice() == text,
+        Err(_) => false,
+    }
 }

@@ -1,8 +1,9 @@
 //! The scanner against a plain search, over random lists in random pieces.
-ghost use Rattle.std.specs.Prelude.{◌<◌, ◌++◌, ◌∷◌, [], IfOk, IsTrue};
+ghost use Rattle.std.specs.Prelude.{◌<◌, IfOk};
 ghost use Rattle.nix_names.specs.Rising.{IsRising};
 
-use nix_names::{StoreDir, StorePath, parse_path};
+use crate::paths::{follows, path};
+use nix_names::StorePath;
 use ref_scan::Scanner;
 use std::alloc::Global;
 use std::test::Fail;
@@ -49,24 +50,13 @@ fn path_text(number: usize) -> [u8; 45] {
     text
 }
 
-// Whether a path is greater than the last one of a list.
-fn follows(paths: &[StorePath], path: &StorePath) -> bool
-    ensures { IsTrue result → IsRising paths.now → IsRising (paths.now ++ path.now ∷ []) }
-{
-    match paths.last() {
-        None => true,
-        Some(last) => last.text().cmp(path.text()).is_lt(),
-    }
-}
-
 // So many paths, in order.
 fn rising_paths(alloc: Global, count: usize) -> Result<Vec<StorePath>, Fail>
     ensures { IfOk result (λ paths. IsRising paths.items) }
 {
-    let store = StoreDir::new(alloc, b"/nix/store")?;
     let mut paths = Vec::new(alloc);
     for number in 0..count {
-        let path = parse_path(alloc, &store, &path_text(number))?;
+        let path = path(alloc, &path_text(number))?;
         if follows(&paths, &path) {
             paths.push(path)?;
         }
@@ -159,11 +149,9 @@ fn are_found(found: &[StorePath], paths: &[StorePath], lists: &[Vec<u8>]) -> boo
 
 #[test]
 fn same_as_a_plain_search(rt: HostRuntime) -> Result<(), Fail> {
-    let alloc = rt.alloc();
-    let mut random = Random { state: 1 };
-    let paths = rising_paths(alloc, PATHS)?;
-    assert_eq!(rt; paths.len(), PATHS);
-    assert!(rt; agrees(alloc, &mut random, &paths)?);
+    let paths = rising_paths(rt.alloc(), PATHS)?;
+    assert!(rt; paths.len() == PATHS);
+    assert!(rt; agrees(rt.alloc(), &mut Random { state: 1 }, &paths)?);
     Ok(())
 }
 

@@ -1,6 +1,6 @@
 use Rattle.std.proofs.Common.{◌∙◌, sym, refl}
 use Rattle.store_tests.proofs.Following.{rising_after, less_from}
-use Rattle.store_tests.proofs.random_scans.follows.Goals as goal
+use Rattle.store_tests.proofs.paths.follows.Goals as goal
 
 pub returns-in-Some : goal.returns-in-Some
 returns-in-Some c = λ less.
