@@ -1,189 +1,174 @@
 //! `add-text` over files on disk.
-use crate::running::{Host, Idle, Narrow, new_folder, run_words};
-use crate::store::{GREETING, Store, has, has_written};
-use std::rt::{Env, Files};
+use crate::scene::first_fault;
+use crate::steps::{Row, Step};
+use process_build::ByProcesses;
+use std::process;
 use std::test::Fail;
-use std::{fs, io, process};
-use subcommands::run;
 
-// Whether the file's bytes under a name in a folder that is none get this path: it is printed, and
-// no file is written.
-fn meets_no_folder<R: Host>(rt: &R, store: &Store, path: &str) -> io::Result<bool> {
-    let words = [
-        "nix_realise",
-        "add-text",
-        "--store-dir=/dev/null",
-        "--journal",
-        store.journal.as_str(),
-        store.name.as_str(),
-        store.file.as_str(),
-    ];
-    let out = format!(in rt.alloc(); "{path}\n")?;
-    let err = format!(in rt.alloc(); "nix_realise: {path}: Unwritable\n")?;
-    Ok(has_written(&run_words(rt, &words), out.as_str(), err.as_str(), 3))
+const GREETING: &str = "hello\n";
+
+const FILE: &str = "<dir>/file";
+
+const JOURNAL: &str = "<dir>/realiser-journal";
+
+const ADD: &str = "nix_realise add-text --store-dir <dir> greeting <dir>/file";
+
+// Each path is what a program of another language made of the rule of text paths.
+static WRITTEN: [Row; 4] = [
+    // The path is printed, and no file is written, where the folder is none.
+    Row {
+        name: "printed-before-it-is-written",
+        steps: &[
+            Step::Write(FILE, GREETING),
+            Step::Run(
+                "nix_realise add-text --store-dir=/dev/null --journal <dir>/realiser-journal \
+                    greeting <dir>/file",
+                "/dev/null/2g2phl5n70b95bmal4z8dw7px7x9jiib-greeting\n",
+                "nix_realise: /dev/null/2g2phl5n70b95bmal4z8dw7px7x9jiib-greeting: Unwritable\n",
+                3,
+            ),
+            Step::Left(1),
+        ],
+    },
+    Row {
+        name: "longest-text",
+        steps: &[
+            Step::Fill(FILE, b'x', 4_194_304),
+            Step::Run(
+                "nix_realise add-text --store-dir=/dev/null --journal <dir>/realiser-journal \
+                    longest <dir>/file",
+                "/dev/null/8nkv2d6s7df7mi87w3gy4rchysg3h3rz-longest\n",
+                "nix_realise: /dev/null/8nkv2d6s7df7mi87w3gy4rchysg3h3rz-longest: Unwritable\n",
+                3,
+            ),
+            Step::Left(1),
+        ],
+    },
+    // The first run finds nothing, the second another file, the third a link, each no journal; a
+    // name that another run left behind is passed over.
+    Row {
+        name: "replaced",
+        steps: &[
+            Step::Write(FILE, GREETING),
+            Step::TextPath("text", "greeting", GREETING),
+            Step::Write("<dir>/.nix_realise-0", ".nix_realise-0"),
+            Step::Write("<dir>/other", "other"),
+            Step::Run(ADD, "<text>\n", "", 0),
+            Step::Holds("<text>", GREETING),
+            Step::Remove("<text>"),
+            Step::Remove(JOURNAL),
+            Step::Write("<text>", "old"),
+            Step::Run(ADD, "<text>\n", "", 0),
+            Step::Holds("<text>", GREETING),
+            Step::Remove("<text>"),
+            Step::Remove(JOURNAL),
+            Step::Link("<dir>/other", "<text>"),
+            Step::Run(ADD, "<text>\n", "", 0),
+            Step::Holds("<text>", GREETING),
+            Step::Remove("<text>"),
+            Step::Remove(JOURNAL),
+            Step::Holds("<dir>/.nix_realise-0", ".nix_realise-0"),
+            Step::Holds("<dir>/other", "other"),
+            Step::Left(3),
+        ],
+    },
+    Row {
+        name: "folder-in-place-of-the-text",
+        steps: &[
+            Step::Write(FILE, GREETING),
+            Step::TextPath("text", "greeting", GREETING),
+            Step::Folder("<text>"),
+            Step::Run(ADD, "<text>\n", "nix_realise: <text>: Unwritable\n", 3),
+            Step::Left(2),
+        ],
+    },
+];
+
+static REFUSED: [Row; 3] = [
+    // The folder is looked at before the file, the file before the name.
+    Row {
+        name: "refused-words",
+        steps: &[
+            Step::Write(FILE, GREETING),
+            Step::Run(
+                "nix_realise add-text --store-dir store . /dev/null/x",
+                "",
+                "nix_realise: store: BadStoreDir\n",
+                2,
+            ),
+            Step::Run(
+                "nix_realise add-text --store-dir <dir> . /dev/null/x",
+                "",
+                "nix_realise: /dev/null/x: Unreadable\n",
+                2,
+            ),
+            Step::Run(
+                "nix_realise add-text --store-dir <dir> . /dev",
+                "",
+                "nix_realise: /dev: Unreadable\n",
+                2,
+            ),
+            Step::Run(
+                "nix_realise add-text --store-dir <dir> . <dir>/file",
+                "",
+                "nix_realise: .: BadName\n",
+                2,
+            ),
+            Step::Run(
+                "nix_realise add-text --store-dir <dir> a/b <dir>/file",
+                "",
+                "nix_realise: a/b: BadName\n",
+                2,
+            ),
+            Step::Left(1),
+        ],
+    },
+    // A text of one byte too many is looked at before the name.
+    Row {
+        name: "refused-text",
+        steps: &[
+            Step::Fill(FILE, b'x', 4_194_305),
+            Step::Run(
+                "nix_realise add-text --store-dir <dir> . <dir>/file",
+                "",
+                "nix_realise: <dir>/file: TooLong\n",
+                2,
+            ),
+            Step::Left(1),
+        ],
+    },
+    // Standard output refuses each byte of the path's line in turn: no file is written.
+    Row {
+        name: "refused-path",
+        steps: &[
+            Step::Write(FILE, GREETING),
+            Step::TextPath("text", "greeting", GREETING),
+            Step::Rooms(ADD, "<text>\n", "nix_realise: run: Unwritable\n", 3),
+            Step::Left(1),
+        ],
+    },
+];
+
+fn written() -> &'static [Row] {
+    &WRITTEN
 }
 
-// The path is what a program of another language made of the rule of text paths, as the next one.
+fn refused() -> &'static [Row] {
+    &REFUSED
+}
+
 #[test]
-fn printed_before_it_is_written(rt: HostRuntime) -> Result<(), Fail> {
-    let store = Store::greeting(&rt, process::id(rt.process()), "printed")?;
-    let path = "/dev/null/2g2phl5n70b95bmal4z8dw7px7x9jiib-greeting";
-    assert!(rt; meets_no_folder(&rt, &store, path)?);
-    assert!(rt; store.held(&rt, 1)?);
+fn written_texts(rt: HostRuntime) -> Result<(), Fail> {
+    let make = ByProcesses::new(&rt, &rt);
+    let fault = first_fault(&rt, &make, process::id(rt.process()), written())?;
+    assert_eq!(rt; fault, None);
     Ok(())
 }
 
-// A store folder beside a text of so many bytes.
-fn long_text<R: Env + Files + AllocGlobal>(
-    rt: &R,
-    process: u32,
-    test: &str,
-    length: usize,
-) -> Result<Store, Fail> {
-    let bytes = vec![in rt.alloc(); b'x'; length]?;
-    Store::new(rt, new_folder(rt, process, test)?, "longest", &bytes)
-}
-
 #[test]
-fn longest_text(rt: HostRuntime) -> Result<(), Fail> {
-    let store = long_text(&rt, process::id(rt.process()), "longest", 4_194_304)?;
-    let path = "/dev/null/8nkv2d6s7df7mi87w3gy4rchysg3h3rz-longest";
-    assert!(rt; meets_no_folder(&rt, &store, path)?);
-    assert!(rt; store.held(&rt, 1)?);
-    Ok(())
-}
-
-// Puts what a run finds at the text's path: nothing, another file, a link to `other`.
-fn put_before<R: Host>(rt: &R, store: &Store, before: &str) -> io::Result<()> {
-    match before {
-        "a file" => fs::write(rt, store.path.as_str(), b"old"),
-        "a link" => rt.symlink(store.at(rt, "other")?.as_str(), store.path.as_str()),
-        _ => Ok(()),
-    }
-}
-
-// Whether a run that finds this at the text's path puts the text in its place; the text and the
-// journal are removed again.
-fn replaces<R: Host>(rt: &R, store: &Store, before: &str) -> io::Result<bool> {
-    put_before(rt, store, before)?;
-    let replaced = puts_text(rt, store)?;
-    fs::remove_file(rt, store.path.as_str())?;
-    fs::remove_file(rt, store.journal.as_str()).map(|()| replaced)
-}
-
-// Whether a run prints the text's path, and puts the text there.
-fn puts_text<R: Host>(rt: &R, store: &Store) -> io::Result<bool> {
-    let printed = store.is_printed(rt, &run_words(rt, &store.words()))?;
-    Ok(printed && has(rt, store.path.as_str(), GREETING)?)
-}
-
-// Writes a file in the store folder, whose text is its name.
-fn put<R: Host>(rt: &R, store: &Store, name: &str) -> io::Result<()> {
-    fs::write(rt, store.at(rt, name)?.as_str(), name)
-}
-
-// A store folder with a file that another run left behind and one that a link may lead to.
-fn with_others<R: Env + Host>(rt: &R, process: u32) -> Result<Store, Fail> {
-    let store = Store::greeting(rt, process, "replaced")?;
-    put(rt, &store, ".nix_realise-0")?;
-    put(rt, &store, "other")?;
-    Ok(store)
-}
-
-// The first run finds nothing, the second another file, the third a link, each no journal; a name
-// that another run left behind is passed over.
-#[test]
-fn replaced(rt: HostRuntime) -> Result<(), Fail> {
-    let store = with_others(&rt, process::id(rt.process()))?;
-    for before in ["nothing", "a file", "a link"] {
-        assert!(rt; replaces(&rt, &store, before)?, "at {before}");
-    }
-    assert!(rt; stands(&rt, &store, ".nix_realise-0"));
-    assert!(rt; stands(&rt, &store, "other"));
-    assert!(rt; store.held(&rt, 3)?);
-    Ok(())
-}
-
-// Whether a file in the store folder has its name as its text.
-fn stands<R: Host>(rt: &R, store: &Store, name: &str) -> bool {
-    match store.at(rt, name) {
-        Ok(file) => has(rt, file.as_str(), name).unwrap_or(false),
-        Err(_) => false,
-    }
-}
-
-// Whether a run prints the path and cannot write the text at it, where a folder stands.
-fn is_unwritten<R: Host>(rt: &R, store: &Store) -> io::Result<bool> {
-    fs::create_dir(rt, store.path.as_str())?;
-    let err = format!(in rt.alloc(); "nix_realise: {}: Unwritable\n", store.path)?;
-    let ran = run_words(rt, &store.words());
-    Ok(has_written(&ran, store.line(rt)?.as_str(), err.as_str(), 3))
-}
-
-#[test]
-fn folder_in_place_of_the_text(rt: HostRuntime) -> Result<(), Fail> {
-    let store = Store::greeting(&rt, process::id(rt.process()), "in-place")?;
-    assert!(rt; is_unwritten(&rt, &store)?);
-    assert!(rt; store.held(&rt, 2)?);
-    Ok(())
-}
-
-// Whether a run on these words is refused by this fault, found in the word.
-fn refuses<R: Host>(rt: &R, words: [&str; 3], word: &str, fault: &str) -> io::Result<bool> {
-    let [dir, name, file] = words;
-    let ran = run_words(
-        rt,
-        &["nix_realise", "add-text", "--store-dir", dir, name, file],
-    );
-    let err = format!(in rt.alloc(); "nix_realise: {word}: {fault}\n")?;
-    Ok(has_written(&ran, "", err.as_str(), 2))
-}
-
-// The folder is looked at before the file, the file before the name.
-#[test]
-fn refused_words(rt: HostRuntime) -> Result<(), Fail> {
-    let store = Store::greeting(&rt, process::id(rt.process()), "refused")?;
-    let (folder, file) = (store.folder.as_str(), store.file.as_str());
-    for (dir, name, file, word, fault) in [
-        ("store", ".", "/dev/null/x", "store", "BadStoreDir"),
-        (folder, ".", "/dev/null/x", "/dev/null/x", "Unreadable"),
-        (folder, ".", "/dev", "/dev", "Unreadable"),
-        (folder, ".", file, ".", "BadName"),
-        (folder, "a/b", file, "a/b", "BadName"),
-    ] {
-        assert!(rt;
-            refuses(&rt, [dir, name, file], word, fault)?,
-            "at {word}: {fault}"
-        );
-    }
-    assert!(rt; store.held(&rt, 1)?);
-    Ok(())
-}
-
-// A text of one byte too many is looked at before the name.
-#[test]
-fn refused_text(rt: HostRuntime) -> Result<(), Fail> {
-    let store = long_text(&rt, process::id(rt.process()), "too-long", 4_194_305)?;
-    let file = store.file.as_str();
-    let words = [store.folder.as_str(), ".", file];
-    assert!(rt; refuses(&rt, words, file, "TooLong")?);
-    assert!(rt; store.held(&rt, 1)?);
-    Ok(())
-}
-
-// Standard output refuses each byte of the path's line in turn: no file is written.
-#[test]
-fn refused_path(rt: HostRuntime) -> Result<(), Fail> {
-    let store = Store::greeting(&rt, process::id(rt.process()), "no-path")?;
-    for room in 0..store.path.len().saturating_add(1) {
-        let mut err = Vec::new(rt.alloc());
-        let status = run(&rt, &Idle, &store.words(), &mut Narrow { room }, &mut err);
-        assert_eq!(rt; status, 3, "at {room}");
-        assert_eq!(rt;
-            err.as_slice(),
-            b"nix_realise: run: Unwritable\n".as_slice()
-        );
-    }
-    assert!(rt; store.held(&rt, 1)?);
+fn refused_texts(rt: HostRuntime) -> Result<(), Fail> {
+    let make = ByProcesses::new(&rt, &rt);
+    let fault = first_fault(&rt, &make, process::id(rt.process()), refused())?;
+    assert_eq!(rt; fault, None);
     Ok(())
 }

@@ -1,99 +1,89 @@
-//! `check` over files on disk.
-use crate::running::{Host, NOTHING, new_folder, run_words};
-use nix_drv::{DrvSource, SourceFault, text_path};
-use nix_names::{StoreDir, StorePath};
-use std::rt::{Env, Files};
+//! Files of a store folder: how they are written, and what is found of them.
+use crate::running::Host;
+use crate::scene::Scene;
+use std::fs;
+use std::fs::Permissions;
+use std::os::unix::fs::PermissionsExt;
 use std::test::Fail;
-use std::{fs, io, process, str};
-use subcommands::FolderSource;
 
-// A folder, and the path of the derivation of which nothing is set.
-fn folder_and_path<R: Env + Files + AllocGlobal>(
-    rt: &R,
-    process: u32,
-    test: &str,
-) -> Result<(String, StorePath), Fail> {
-    let folder = new_folder(rt, process, test)?;
-    let dir = StoreDir::new(rt.alloc(), folder.as_bytes())?;
-    let path = text_path(rt.alloc(), &dir, b"nothing.drv", NOTHING, &[])?;
-    Ok((folder, path))
-}
-
-// The line of a word, with its newline.
-fn line<R: AllocGlobal>(rt: &R, path: &str, fault: &str) -> io::Result<String> {
-    let line = match fault {
-        "" => format!(in rt.alloc(); "ok {path}\n")?,
-        _ => format!(in rt.alloc(); "bad {path}: {fault}\n")?,
-    };
-    Ok(line)
-}
-
-// Whether `check` of a path prints this fault and has this status.
-fn is_told<R: Host>(rt: &R, folder: &str, path: &str, fault: &str, status: u8) -> io::Result<bool> {
-    let ran = run_words(rt, &["nix_realise", "check", "--store-dir", folder, path]);
-    Ok(ran.out.as_slice() == line(rt, path, fault)?.as_bytes() && ran.status == status)
-}
-
-// Whether `check` of a path whose file has these bytes prints this fault and has this status.
-fn is_checked<R: Host>(
-    rt: &R,
-    folder: &str,
-    path: &StorePath,
-    bytes: &[u8],
-    fault: &str,
-) -> Result<bool, Fail> {
-    let path = str::from_utf8(path.text())?;
-    fs::write(rt, path, bytes)?;
-    let status = if fault.is_empty() { 0 } else { 2 };
-    Ok(is_told(rt, folder, path, fault, status)?)
-}
-
-#[test]
-fn files_on_disk(rt: HostRuntime) -> Result<(), Fail> {
-    let (folder, path) = folder_and_path(&rt, process::id(rt.process()), "files")?;
-    let long = [b'x'; 100];
-    let cases: [(&[u8], &str); 3] = [
-        (NOTHING, ""),
-        (&NOTHING[..27], "Syntax(27)"),
-        (&long, "Syntax(0)"),
-    ];
-    for (bytes, fault) in &cases {
-        assert!(rt;
-            is_checked(&rt, folder.as_str(), &path, bytes, fault)?,
-            "at {fault}"
-        );
+// Each path and each text may have words in angle brackets.
+impl Scene {
+    pub(crate) fn write<R: Host>(&self, rt: &R, file: &str, text: &str) -> Result<bool, Fail> {
+        let file = self.said(rt.alloc(), file)?;
+        let text = self.said(rt.alloc(), text)?;
+        Ok(fs::write(rt, file.as_str(), text.as_bytes()).map(|()| true)?)
     }
-    fs::remove_dir_all(&rt, folder.as_str())?;
-    Ok(())
-}
 
-// A file of two bytes too many is not read whole.
-#[test]
-fn long_file(rt: HostRuntime) -> Result<(), Fail> {
-    let (folder, path) = folder_and_path(&rt, process::id(rt.process()), "long-file")?;
-    let long = vec![in rt.alloc(); b'x'; 4_194_306]?;
-    assert!(rt; is_checked(&rt, folder.as_str(), &path, &long, "TooLong")?);
-    let _ = fs::remove_dir_all(&rt, folder.as_str());
-    Ok(())
-}
+    pub(crate) fn fill<R: Host>(
+        &self,
+        rt: &R,
+        file: &str,
+        byte: u8,
+        length: usize,
+    ) -> Result<bool, Fail> {
+        let file = self.said(rt.alloc(), file)?;
+        let bytes = vec![in rt.alloc(); byte; length]?;
+        Ok(fs::write(rt, file.as_str(), bytes).map(|()| true)?)
+    }
 
-// Whether a folder in the place of a path's file is a failure of the device, and is told.
-fn is_failure<R: Host>(rt: &R, folder: &str, path: &StorePath) -> Result<bool, Fail> {
-    let word = str::from_utf8(path.text())?;
-    fs::create_dir(rt, word)?;
-    let mut source = FolderSource::new(rt);
-    let failed = matches!(source.fetch(rt.alloc(), path), Err(SourceFault::Device));
-    Ok(failed && source.failures() == 1 && is_told(rt, folder, word, "Unreadable", 2)?)
-}
+    pub(crate) fn make_folder<R: Host>(&self, rt: &R, path: &str) -> Result<bool, Fail> {
+        let path = self.said(rt.alloc(), path)?;
+        Ok(fs::create_dir_all(rt, path.as_str()).map(|()| true)?)
+    }
 
-// A missing file is no failure of the device, a folder in its place is one.
-#[test]
-fn folder_in_place_of_a_file(rt: HostRuntime) -> Result<(), Fail> {
-    let (folder, path) = folder_and_path(&rt, process::id(rt.process()), "folder")?;
-    let mut source = FolderSource::new(&rt);
-    assert!(rt; matches!(source.fetch(rt.alloc(), &path), Err(SourceFault::Missing)));
-    assert_eq!(rt; source.failures(), 0);
-    assert!(rt; is_failure(&rt, folder.as_str(), &path)?);
-    fs::remove_dir_all(&rt, folder.as_str())?;
-    Ok(())
+    pub(crate) fn set_mode<R: Host>(&self, rt: &R, path: &str, mode: u32) -> Result<bool, Fail> {
+        let path = self.said(rt.alloc(), path)?;
+        Ok(fs::set_permissions(rt, path.as_str(), Permissions::from_mode(mode)).map(|()| true)?)
+    }
+
+    pub(crate) fn link<R: Host>(&self, rt: &R, to: &str, at: &str) -> Result<bool, Fail> {
+        let (to, at) = (self.said(rt.alloc(), to)?, self.said(rt.alloc(), at)?);
+        Ok(rt.symlink(to.as_str(), at.as_str()).map(|()| true)?)
+    }
+
+    pub(crate) fn rename<R: Host>(&self, rt: &R, from: &str, to: &str) -> Result<bool, Fail> {
+        let (from, to) = (self.said(rt.alloc(), from)?, self.said(rt.alloc(), to)?);
+        Ok(fs::rename(rt, from.as_str(), to.as_str()).map(|()| true)?)
+    }
+
+    pub(crate) fn remove<R: Host>(&self, rt: &R, file: &str) -> Result<bool, Fail> {
+        let file = self.said(rt.alloc(), file)?;
+        Ok(fs::remove_file(rt, file.as_str()).map(|()| true)?)
+    }
+
+    // Whether a file has this text.
+    pub(crate) fn holds<R: Host>(&self, rt: &R, file: &str, text: &str) -> Result<bool, Fail> {
+        let file = self.said(rt.alloc(), file)?;
+        let text = self.said(rt.alloc(), text)?;
+        Ok(fs::read(rt, file.as_str())?.as_slice() == text.as_bytes())
+    }
+
+    // Whether a file's text ends so.
+    pub(crate) fn ends<R: Host>(&self, rt: &R, file: &str, text: &str) -> Result<bool, Fail> {
+        let file = self.said(rt.alloc(), file)?;
+        let text = self.said(rt.alloc(), text)?;
+        Ok(fs::read(rt, file.as_str())?.ends_with(text.as_bytes()))
+    }
+
+    // Whether a link stands at a path.
+    pub(crate) fn is_link<R: Host>(&self, rt: &R, path: &str) -> Result<bool, Fail> {
+        let path = self.said(rt.alloc(), path)?;
+        Ok(fs::symlink_metadata(rt, path.as_str())?.is_symlink())
+    }
+
+    // Whether something lies at a path, be it a link that leads nowhere.
+    pub(crate) fn stands<R: Host>(&self, rt: &R, path: &str) -> Result<bool, Fail> {
+        let path = self.said(rt.alloc(), path)?;
+        Ok(fs::symlink_metadata(rt, path.as_str()).is_ok())
+    }
+
+    // Whether so many files and folders stand in the store folder.
+    pub(crate) fn left<R: Host>(&self, rt: &R, wanted: usize) -> Result<bool, Fail> {
+        let mut count = 0usize;
+        for entry in fs::read_dir(rt, self.site.folder.as_str())? {
+            entry?;
+            count = count.saturating_add(1);
+        }
+        Ok(count == wanted)
+    }
 }

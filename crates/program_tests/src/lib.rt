@@ -5,17 +5,23 @@
 //! |---|---|
 //! | `runs` | command lines, and what is printed of a usage mistake |
 //! | `lines` | the lines of `check` |
-//! | `files` | derivations that are read from files |
+//! | `checks` | derivations that are read from files |
 //! | `added_texts`, `journals` | `add-text`, and the journal file that it writes |
 //! | `drvs` | `add-drv` |
 //! | `realising`, `realisations`, `many` | `realise`: its faults, its reports, many derivations |
 //! | `progress` | the line of progress |
 //! | `starts`, `folders`, `outputs` | a builder's start, its folder, what is read of its outputs |
-//! | `running`, `scene`, `store`, `sites` | runs and store folders that the tests are made of |
+//! | `steps`, `scene` | the steps of which most rows are made, and how they are taken |
+//! | `texts`, `files`, `commands`, `sites` | paths, files, command lines and builders of a step |
+//! | `running` | runs of the program |
 #![tactic(auto)]
 
 #[cfg(test)]
 mod added_texts;
+#[cfg(test)]
+mod checks;
+#[cfg(test)]
+mod commands;
 #[cfg(test)]
 mod drvs;
 #[cfg(test)]
@@ -47,4 +53,6 @@ mod sites;
 #[cfg(test)]
 mod starts;
 #[cfg(test)]
-mod store;
+mod steps;
+#[cfg(test)]
+mod texts;

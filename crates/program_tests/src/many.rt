@@ -1,7 +1,7 @@
 //! `realise` over many derivations: one worker beside eight.
+use crate::commands::{outputs_of, put_draft};
 use crate::running::{Host, Outcome, run_by};
-use crate::scene::{Drv, put_drv, scene};
-use crate::store::Store;
+use crate::scene::Scene;
 use nix_names::StoreDir;
 use process_build::{Builders, ByProcesses};
 use std::alloc::{AllocError, Global};
@@ -16,6 +16,13 @@ const COUNT: usize = 200;
 const MOST_INPUTS: usize = 3;
 
 const WINDOW: usize = 10;
+
+// A derivation: the path of its file, and of its output.
+#[derive(Drop)]
+struct Drv {
+    path: String,
+    output: String,
+}
 
 // The next of a row of numbers that look random (Knuth's MMIX).
 fn next(seed: u64) -> u64 {
@@ -45,46 +52,60 @@ fn draft_parts(alloc: Global, picked: &[&Drv]) -> Result<(String, String), Alloc
     let mut outputs = Vec::new(alloc);
     for drv in picked {
         inputs.push(format!(in alloc; r#"("{}",["out"])"#, drv.path)?)?;
-        outputs.push(String::from_str(alloc, drv.output())?)?;
+        outputs.push(String::from_str(alloc, drv.output.as_str())?)?;
     }
     let script = format!(in alloc; "echo {} > $out", outputs.join(alloc, " ")?)?;
     Ok((inputs.join(alloc, ",")?, script))
 }
 
-// Puts a derivation that uses these.
-fn put_user<R: Host>(rt: &R, store: &Store, number: usize, picked: &[&Drv]) -> Result<Drv, Fail> {
-    let (inputs, script) = draft_parts(rt.alloc(), picked)?;
+// Puts the derivation of such a draft, the next one behind so many.
+fn put_user<R: Host>(
+    rt: &R,
+    folder: &str,
+    number: usize,
+    inputs: &str,
+    script: &str,
+) -> Result<Drv, Fail> {
+    let build = format!(in rt.alloc(); r#""x86_64-linux","/bin/sh",["-c","{script}"]"#)?;
+    let draft = format!(in rt.alloc();
+        r#"Derive([("out","","","")],[{inputs}],[],{build},[("out","")])"#
+    )?;
     let name = format!(in rt.alloc(); "d{number}")?;
-    let parts = [inputs.as_str(), "", "x86_64-linux"];
-    put_drv(rt, store, name.as_str(), parts, script.as_str())
+    drv_at(rt, put_draft(rt, folder, name.as_str(), draft.as_str())?)
 }
 
-// Puts a derivation that uses some of these.
-fn put_next<R: Host>(rt: &R, store: &Store, seed: &mut u64, drvs: &[Drv]) -> Result<Drv, Fail> {
-    let picked = picks(rt.alloc(), seed, drvs)?;
-    put_user(rt, store, drvs.len(), &picked)
+// The derivation in a file.
+fn drv_at<R: Host>(rt: &R, path: String) -> Result<Drv, Fail> {
+    match outputs_of(rt, path.as_str())?.pop() {
+        Some((_, output)) => Ok(Drv { path, output }),
+        None => Err(Fail::new("no output")),
+    }
 }
 
-// Puts the derivations.
-fn put_all<R: Host>(rt: &R, store: &Store) -> Result<Vec<Drv>, Fail> {
+// Puts the derivations, each of which uses some of those before it.
+fn put_all<R: Host>(rt: &R, folder: &str) -> Result<Vec<Drv>, Fail> {
     let mut drvs = Vec::new(rt.alloc());
     let mut seed = 1;
-    for _ in 0..COUNT {
-        let drv = put_next(rt, store, &mut seed, &drvs)?;
-        drvs.push(drv)?;
+    for number in 0..COUNT {
+        let (inputs, script) = next_parts(rt.alloc(), &mut seed, &drvs)?;
+        drvs.push(put_user(rt, folder, number, inputs.as_str(), script.as_str())?)?;
     }
     Ok(drvs)
+}
+
+// What the draft behind these derivations says.
+fn next_parts(alloc: Global, seed: &mut u64, drvs: &[Drv]) -> Result<(String, String), AllocError> {
+    draft_parts(alloc, &picks(alloc, seed, drvs)?)
 }
 
 // Runs `realise` on the derivations, by so many workers.
 fn realise_all<R: Host, M: Builders>(
     rt: &R,
     make: &M,
-    store: &Store,
+    folder: &str,
     drvs: &[Drv],
     jobs: &str,
 ) -> Result<Outcome, AllocError> {
-    let folder = store.folder.as_str();
     let start = [
         "nix_realise",
         "realise",
@@ -100,24 +121,25 @@ fn realise_all<R: Host, M: Builders>(
     Ok(run_by(rt, make, &words))
 }
 
-// What a run by so many workers did, and the journal that it left, which is taken away.
+// What a run by so many workers did, and the journal that it left, whose file is removed.
 fn after<R: Host, M: Builders>(
     rt: &R,
     make: &M,
-    store: &Store,
+    folder: &str,
     drvs: &[Drv],
     jobs: &str,
 ) -> Result<(Outcome, Journal), Fail> {
-    let ran = realise_all(rt, make, store, drvs, jobs)?;
-    let journal = take_journal(rt, store)?;
+    let ran = realise_all(rt, make, folder, drvs, jobs)?;
+    let journal = take_journal(rt, folder)?;
     Ok((ran, journal))
 }
 
 // The journal of a store folder, whose file is removed.
-fn take_journal<R: Host>(rt: &R, store: &Store) -> Result<Journal, Fail> {
-    let dir = StoreDir::new(rt.alloc(), store.folder.as_bytes())?;
-    let bytes = fs::read(rt, store.journal.as_str())?;
-    fs::remove_file(rt, store.journal.as_str())?;
+fn take_journal<R: Host>(rt: &R, folder: &str) -> Result<Journal, Fail> {
+    let file = format!(in rt.alloc(); "{folder}/realiser-journal")?;
+    let bytes = fs::read(rt, file.as_str())?;
+    fs::remove_file(rt, file.as_str())?;
+    let dir = StoreDir::new(rt.alloc(), folder.as_bytes())?;
     Ok(Journal::read(rt.alloc(), &dir, &bytes)?)
 }
 
@@ -133,19 +155,19 @@ fn are_alike(alone: &(Outcome, Journal), together: &(Outcome, Journal)) -> bool 
 }
 
 // Whether one worker and eight come to the same.
-fn come_to_the_same<R: Host, M: Builders>(rt: &R, make: &M, store: &Store) -> Result<bool, Fail> {
-    let drvs = put_all(rt, store)?;
-    let alone = after(rt, make, store, &drvs, "1")?;
-    let together = after(rt, make, store, &drvs, "8")?;
+fn come_to_the_same<R: Host, M: Builders>(rt: &R, make: &M, folder: &str) -> Result<bool, Fail> {
+    let drvs = put_all(rt, folder)?;
+    let alone = after(rt, make, folder, &drvs, "1")?;
+    let together = after(rt, make, folder, &drvs, "8")?;
     Ok(are_alike(&alone, &together))
 }
 
 #[test]
 fn one_worker_or_eight(rt: HostRuntime) -> Result<(), Fail> {
     let make = ByProcesses::new(&rt, &rt);
-    let store = scene(&rt, process::id(rt.process()), "many")?;
-    assert!(rt; come_to_the_same(&rt, &make, &store)?);
+    let scene = Scene::new(&rt, process::id(rt.process()), "many")?;
+    assert!(rt; come_to_the_same(&rt, &make, scene.site.folder.as_str())?);
     // The file, the derivations and their outputs.
-    assert!(rt; store.held(&rt, 401)?);
-    Ok(())
+    assert!(rt; scene.left(&rt, 401)?);
+    scene.close(&rt)
 }

@@ -26,9 +26,9 @@ pub struct Outcome {
 }
 
 /// What a run needs of its host.
-pub trait Host: Files + AllocGlobal + Threads + Wait + Sync {}
+pub trait Host: Files + AllocGlobal + Threads + Wait + Sync + Clone + Drop {}
 
-impl<R: Files + AllocGlobal + Threads + Wait + Sync> Host for R {}
+impl<R: Files + AllocGlobal + Threads + Wait + Sync + Clone + Drop> Host for R {}
 
 /// A builder that starts nothing.
 #[derive(Drop)]
@@ -48,11 +48,6 @@ impl Builders for Idle {
     fn builder(&self, _alloc: Global, _store_dir: &str) -> Result<Idle, AllocError> {
         Ok(Idle)
     }
-}
-
-/// Runs the program on a command line, with builders that start nothing.
-pub fn run_words<'a, R: Host>(rt: &R, words: &'a [&'a str]) -> Outcome {
-    run_by(rt, &Idle, words)
 }
 
 /// Runs the program on a command line, with the builders that are made so.

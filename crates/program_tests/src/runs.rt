@@ -1,76 +1,230 @@
 //! Runs that need no files: usage, help, a bad folder, refused writes.
-use crate::running::{Idle, Narrow, run_words};
+use crate::running::{Idle, Narrow};
+use crate::scene::first_fault;
+use crate::steps::{Row, Step};
+use process_build::ByProcesses;
+use std::process;
 use std::test::Fail;
 use subcommands::{refuse_words, run};
 
-#[test]
-fn check_outside_store(rt: HostRuntime) {
-    let ran = run_words(&rt, &["nix_realise", "check", "/tmp/x", "/nix/store/x"]);
-    let lines = b"bad /tmp/x: NotInStore\nbad /nix/store/x: BadHashPart\n";
-    assert_eq!(rt; ran.out.as_slice(), lines.as_slice());
-    assert_eq!(rt; ran.err.len(), 0);
-    assert_eq!(rt; ran.status, 2);
+const UNWRITABLE: &str = "nix_realise: run: Unwritable\n";
+
+static LINES: [Row; 5] = [
+    Row {
+        name: "check-outside-store",
+        steps: &[Step::Run(
+            "nix_realise check /tmp/x /nix/store/x",
+            "bad /tmp/x: NotInStore\nbad /nix/store/x: BadHashPart\n",
+            "",
+            2,
+        )],
+    },
+    Row {
+        name: "help-and-version",
+        steps: &[
+            Step::Run(
+                "nix_realise --help",
+                "Checks and realises store derivations, and adds texts and derivations to a \
+                    store\n\nUsage: nix_realise <COMMAND>\n…",
+                "",
+                0,
+            ),
+            Step::Run("nix_realise --version", "nix_realise 0.1.0\n", "", 0),
+        ],
+    },
+    Row {
+        name: "no-store-folder",
+        steps: &[Step::Run(
+            "nix_realise check --store-dir=nix//store -- -x",
+            "",
+            "nix_realise: nix//store: BadStoreDir\n",
+            2,
+        )],
+    },
+    // The report has 23 bytes; standard output refuses each of them in turn.
+    Row {
+        name: "refused-report",
+        steps: &[
+            Step::Rooms(
+                "nix_realise check /tmp/x",
+                "bad /tmp/x: NotInStore\n",
+                UNWRITABLE,
+                3,
+            ),
+            Step::Room("nix_realise check /tmp/x", 23, "", 2),
+        ],
+    },
+    Row {
+        name: "refused-help",
+        steps: &[Step::Room("nix_realise --help", 9, UNWRITABLE, 3)],
+    },
+];
+
+static USAGE_FAULTS: [Row; 2] = [
+    Row {
+        name: "usage-faults",
+        steps: &[
+            Step::Run(
+                "nix_realise",
+                "",
+                "error: 'nix_realise' requires a subcommand but one was not provided\n…",
+                2,
+            ),
+            Step::Run(
+                "nix_realise frob",
+                "",
+                "error: unrecognized subcommand 'frob'\n…",
+                2,
+            ),
+            Step::Run(
+                "nix_realise check",
+                "",
+                "error: the following required arguments were not provided:\n  <DRV>...\n…",
+                2,
+            ),
+            Step::Run(
+                "nix_realise add-text x",
+                "",
+                "error: the following required arguments were not provided:\n  <FILE>\n…",
+                2,
+            ),
+            Step::Run(
+                "nix_realise check -x",
+                "",
+                "error: unexpected argument '-x' found\n…",
+                2,
+            ),
+            Step::Run(
+                "nix_realise check --jobs 2 /a",
+                "",
+                "error: unexpected argument '--jobs' found\n…",
+                2,
+            ),
+            Step::Run(
+                "nix_realise check --store-dir /a --store-dir /a /b",
+                "",
+                "error: the argument '--store-dir <D>' cannot be used multiple times\n…",
+                2,
+            ),
+        ],
+    },
+    Row {
+        name: "usage-faults-of-realise",
+        steps: &[
+            Step::Run(
+                "nix_realise realise",
+                "",
+                "error: the following required arguments were not provided:\n  <DRV>...\n…",
+                2,
+            ),
+            Step::Run(
+                "nix_realise realise --system",
+                "",
+                "error: a value is required for '--system <S>' but none was supplied\n…",
+                2,
+            ),
+            Step::Run(
+                "nix_realise realise --jobs 1 --jobs 2 x",
+                "",
+                "error: the argument '--jobs <N>' cannot be used multiple times\n…",
+                2,
+            ),
+        ],
+    },
+];
+
+static JOBS: [Row; 2] = [
+    // The number of builders is from 1 to 64, and is looked at before anything else.
+    Row {
+        name: "refused-jobs",
+        steps: &[
+            Step::Run(
+                "nix_realise realise --store-dir x --jobs 0 x",
+                "",
+                "error: invalid value '0' for '--jobs <N>': 0 is not in 1..=64\n…",
+                2,
+            ),
+            Step::Run(
+                "nix_realise realise --store-dir x --jobs 65 x",
+                "",
+                "error: invalid value '65' for '--jobs <N>': 65 is not in 1..=64\n…",
+                2,
+            ),
+            Step::Run(
+                "nix_realise realise --store-dir x --jobs x x",
+                "",
+                "error: invalid value 'x' for '--jobs <N>': invalid digit found in string\n…",
+                2,
+            ),
+            Step::Run(
+                // The number is an empty word.
+                "nix_realise realise --store-dir x --jobs  x",
+                "",
+                "error: invalid value '' for '--jobs <N>': cannot parse integer from empty string\n\
+                    …",
+                2,
+            ),
+        ],
+    },
+    // The least and the greatest number of builders are taken; the folder is refused then.
+    Row {
+        name: "accepted-jobs",
+        steps: &[
+            Step::Run(
+                "nix_realise realise --store-dir x --jobs 1 x",
+                "",
+                "nix_realise: x: BadStoreDir\n",
+                2,
+            ),
+            Step::Run(
+                "nix_realise realise --store-dir x --jobs 64 x",
+                "",
+                "nix_realise: x: BadStoreDir\n",
+                2,
+            ),
+            Step::Run(
+                "nix_realise realise --store-dir x --jobs +7 x",
+                "",
+                "nix_realise: x: BadStoreDir\n",
+                2,
+            ),
+        ],
+    },
+];
+
+fn lines() -> &'static [Row] {
+    &LINES
+}
+
+fn usage_faults() -> &'static [Row] {
+    &USAGE_FAULTS
+}
+
+fn jobs() -> &'static [Row] {
+    &JOBS
 }
 
 #[test]
-fn help(rt: HostRuntime) {
-    let ran = run_words(&rt, &["nix_realise", "--help"]);
-    assert!(rt;
-        ran.out.starts_with(
-            b"Checks and realises store derivations, and adds texts and derivations to a store\n\n\
-                Usage: nix_realise <COMMAND>\n"
-        )
-    );
-    assert_eq!(rt; ran.err.len(), 0);
-    assert_eq!(rt; ran.status, 0);
+fn runs_without_files(rt: HostRuntime) -> Result<(), Fail> {
+    let make = ByProcesses::new(&rt, &rt);
+    let fault = first_fault(&rt, &make, process::id(rt.process()), lines())?;
+    assert_eq!(rt; fault, None);
+    Ok(())
 }
 
 #[test]
-fn version(rt: HostRuntime) {
-    let ran = run_words(&rt, &["nix_realise", "--version"]);
-    assert_eq!(rt; ran.out.as_slice(), b"nix_realise 0.1.0\n".as_slice());
-    assert_eq!(rt; ran.err.len(), 0);
-    assert_eq!(rt; ran.status, 0);
+fn usage_mistakes(rt: HostRuntime) -> Result<(), Fail> {
+    let make = ByProcesses::new(&rt, &rt);
+    let fault = first_fault(&rt, &make, process::id(rt.process()), usage_faults())?;
+    assert_eq!(rt; fault, None);
+    Ok(())
 }
 
 #[test]
-fn usage_faults(rt: HostRuntime) -> Result<(), Fail> {
-    for (line, text) in [
-        (
-            "nix_realise",
-            "error: 'nix_realise' requires a subcommand but one was not provided\n",
-        ),
-        (
-            "nix_realise frob",
-            "error: unrecognized subcommand 'frob'\n",
-        ),
-        (
-            "nix_realise check",
-            "error: the following required arguments were not provided:\n  <DRV>...\n",
-        ),
-        (
-            "nix_realise add-text x",
-            "error: the following required arguments were not provided:\n  <FILE>\n",
-        ),
-        (
-            "nix_realise check -x",
-            "error: unexpected argument '-x' found\n",
-        ),
-        (
-            "nix_realise check --jobs 2 /a",
-            "error: unexpected argument '--jobs' found\n",
-        ),
-        (
-            "nix_realise check --store-dir /a --store-dir /a /b",
-            "error: the argument '--store-dir <D>' cannot be used multiple times\n",
-        ),
-    ] {
-        let words: Vec<&str> = line.split(' ').collect(rt.alloc())?;
-        let ran = run_words(&rt, &words);
-        assert!(rt; ran.err.starts_with(text.as_bytes()), "at {line}");
-        assert_eq!(rt; ran.out.len(), 0);
-        assert_eq!(rt; ran.status, 2);
-    }
+fn numbers_of_builders(rt: HostRuntime) -> Result<(), Fail> {
+    let make = ByProcesses::new(&rt, &rt);
+    let fault = first_fault(&rt, &make, process::id(rt.process()), jobs())?;
+    assert_eq!(rt; fault, None);
     Ok(())
 }
 
@@ -78,70 +232,18 @@ fn usage_faults(rt: HostRuntime) -> Result<(), Fail> {
 fn words_that_are_not_text(rt: HostRuntime) {
     let mut out = Vec::new(rt.alloc());
     let mut err = Vec::new(rt.alloc());
-    assert_eq!(rt; refuse_words(rt.alloc(), &mut out, &mut err), 2);
+    assert!(rt; refuse_words(rt.alloc(), &mut out, &mut err) == 2);
     assert!(rt; err.starts_with(b"error: invalid UTF-8 was detected in one or more arguments\n"));
-    assert_eq!(rt; out.len(), 0);
+    assert!(rt; out.is_empty());
 }
 
+// Standard error has room for 5 bytes.
 #[test]
-fn no_store_folder(rt: HostRuntime) {
-    let ran = run_words(
-        &rt,
-        &["nix_realise", "check", "--store-dir=nix//store", "--", "-x"],
-    );
-    assert_eq!(rt;
-        ran.err.as_slice(),
-        b"nix_realise: nix//store: BadStoreDir\n".as_slice()
-    );
-    assert_eq!(rt; ran.out.len(), 0);
-    assert_eq!(rt; ran.status, 2);
-}
-
-// The report has 23 bytes; standard output refuses each of them in turn.
-#[test]
-fn refused_report(rt: HostRuntime) {
-    let words = ["nix_realise", "check", "/tmp/x"];
-    for room in 0..24 {
-        let mut out = Narrow { room };
-        let mut err = Vec::new(rt.alloc());
-        let status = run(&rt, &Idle, &words, &mut out, &mut err);
-        if room < 23 {
-            assert_eq!(rt; status, 3, "at {room}");
-            assert_eq!(rt;
-                err.as_slice(),
-                b"nix_realise: run: Unwritable\n".as_slice()
-            );
-        } else {
-            assert_eq!(rt; status, 2);
-            assert_eq!(rt; err.len(), 0);
-        }
-    }
-}
-
-#[test]
-fn refused_texts(rt: HostRuntime) {
-    let mut err = Vec::new(rt.alloc());
-    let help = run(
-        &rt,
-        &Idle,
-        &["nix_realise", "--help"],
-        &mut Narrow { room: 9 },
-        &mut err,
-    );
-    assert_eq!(rt; help, 3);
-    assert_eq!(rt;
-        err.as_slice(),
-        b"nix_realise: run: Unwritable\n".as_slice()
-    );
-    for words in [
-        ["nix_realise", "check", "--frob"],
-        ["nix_realise", "check", "--store-dir=x y"],
-    ] {
+fn refused_mistakes(rt: HostRuntime) {
+    for word in ["--frob", "--store-dir=x y"] {
+        let words = ["nix_realise", "check", word];
         let mut out = Vec::new(rt.alloc());
-        assert_eq!(rt;
-            run(&rt, &Idle, &words, &mut out, &mut Narrow { room: 5 }),
-            3
-        );
-        assert_eq!(rt; out.len(), 0);
+        let status = run(&rt, &Idle, &words, &mut out, &mut Narrow { room: 5 });
+        assert!(rt; status == 3 && out.is_empty(), "at {word}");
     }
 }

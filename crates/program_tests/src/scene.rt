@@ -1,159 +1,151 @@
-//! A store folder with derivations, and runs of `realise` over it.
-use crate::running::{Host, Outcome, new_folder, run_by, run_words};
-use crate::store::{Store, has_written};
-use nix_drv::read;
+//! A store folder in which the steps of a row are taken.
+use crate::running::{Host, new_folder};
+use crate::sites::Site;
+use crate::steps::{Row, Step};
+use crate::texts::Names;
 use process_build::Builders;
 use std::alloc::Global;
+use std::fs;
+use std::process::Processes;
 use std::rt::Env;
 use std::test::Fail;
-use std::{fs, str};
 
-/// A derivation in a store folder.
+/// A store folder of its own, and what the words in angle brackets stand for.
 #[derive(Drop)]
-pub struct Drv {
-    /// The path of its file.
-    pub path: String,
-    /// The paths of its outputs, in its text's order.
-    pub outputs: Vec<String>,
+pub struct Scene {
+    pub site: Site,
+    pub names: Names,
 }
 
-impl Drv {
-    /// The path of its first output.
-    pub fn output(&self) -> &str {
-        match self.outputs.first() {
-            Some(output) => output.as_str(),
-            None => "",
+impl Scene {
+    /// An empty store folder, which the word `<dir>` stands for.
+    pub fn new<R: Env + Host>(rt: &R, process: u32, name: &str) -> Result<Scene, Fail> {
+        let folder = new_folder(rt, process, name)?;
+        let names = Names::of(rt.alloc(), folder.as_str())?;
+        let site = Site { folder };
+        Ok(Scene { site, names })
+    }
+
+    /// Takes these steps, one after another, until one does not do as it says. How many did.
+    pub fn take<R: Host + Processes, M: Builders>(
+        &mut self,
+        rt: &R,
+        make: &M,
+        steps: &[Step],
+    ) -> Result<usize, Fail> {
+        let mut taken = 0usize;
+        for step in steps {
+            if !self.takes(rt, make, step)? {
+                return Ok(taken);
+            }
+            taken = taken.saturating_add(1);
+        }
+        Ok(taken)
+    }
+
+    // Whether a step does as it says.
+    fn takes<R: Host + Processes, M: Builders>(
+        &mut self,
+        rt: &R,
+        make: &M,
+        step: &Step,
+    ) -> Result<bool, Fail> {
+        match step {
+            Step::Run(line, out, err, status) => self.runs(rt, make, line, [out, err], *status),
+            Step::Realise(line, told, outputs, status) => {
+                self.realises(rt, make, line, told, outputs, *status)
+            }
+            Step::Put(name, draft) => self.put(rt, name, draft),
+            Step::Start(call, made) => self.starts(rt, call, made),
+            Step::Script(script, outputs, made) => self.builds(rt, script, outputs, made),
+            other => self.takes_narrow(rt, make, other),
         }
     }
-}
 
-/// A store folder that holds one file, of which nothing is registered.
-pub fn scene<R: Env + Host>(rt: &R, process: u32, test: &str) -> Result<Store, Fail> {
-    Store::new(rt, new_folder(rt, process, test)?, "x", b"")
-}
-
-/// Puts the derivation of a draft with one output into the store folder. The draft has these
-/// inputs and sources, this system, and a script for `/bin/sh`.
-pub fn put_drv<R: Host>(
-    rt: &R,
-    store: &Store,
-    name: &str,
-    parts: [&str; 3],
-    script: &str,
-) -> Result<Drv, Fail> {
-    let [inputs, sources, system] = parts;
-    let build = format!(in rt.alloc(); r#""{system}","/bin/sh",["-c","{script}"]"#)?;
-    let draft = format!(in rt.alloc();
-        r#"Derive([("out","","","")],[{inputs}],[{sources}],{build},[("out","")])"#
-    )?;
-    put_draft(rt, store, name, draft.as_str())
-}
-
-/// Puts the derivation of a draft into the store folder.
-pub fn put_draft<R: Host>(rt: &R, store: &Store, name: &str, draft: &str) -> Result<Drv, Fail> {
-    fs::write(rt, store.file.as_str(), draft.as_bytes())?;
-    let (folder, file) = (store.folder.as_str(), store.file.as_str());
-    let words = ["nix_realise", "add-drv", "--store-dir", folder, name, file];
-    let path = line_of(rt.alloc(), &run_words(rt, &words))?;
-    let outputs = outputs_of(rt, path.as_str())?;
-    Ok(Drv { path, outputs })
-}
-
-// The line that a run printed, without its newline.
-fn line_of(alloc: Global, ran: &Outcome) -> Result<String, Fail> {
-    Ok(String::from_str(alloc, str::from_utf8(&ran.out)?.trim_end())?)
-}
-
-// The paths of the outputs of the derivation in a file.
-fn outputs_of<R: Host>(rt: &R, file: &str) -> Result<Vec<String>, Fail> {
-    let drv = read(rt.alloc(), &fs::read(rt, file)?)?;
-    let mut outputs = Vec::new(rt.alloc());
-    for output in drv.outputs() {
-        outputs.push(text_of(rt.alloc(), &output.path)?)?;
+    // The same of a step with a narrow writer, or one that names a path.
+    fn takes_narrow<R: Host, M: Builders>(
+        &mut self,
+        rt: &R,
+        make: &M,
+        step: &Step,
+    ) -> Result<bool, Fail> {
+        match step {
+            Step::Room(line, room, err, status) => {
+                self.runs_in(rt, make, line, *room, err, *status)
+            }
+            Step::Rooms(line, out, err, status) => {
+                self.runs_in_less(rt, make, line, out, err, *status)
+            }
+            Step::TextPath(word, name, text) => self.name_text(rt.alloc(), word, name, text),
+            Step::OutputPath(word, name, draft) => self.name_output(rt.alloc(), word, name, draft),
+            Step::Order(one, other) => self.order(rt.alloc(), one, other),
+            other => self.changes(rt, other),
+        }
     }
-    Ok(outputs)
+
+    // The same of a step that changes a file.
+    fn changes<R: Host>(&self, rt: &R, step: &Step) -> Result<bool, Fail> {
+        match step {
+            Step::Write(file, text) => self.write(rt, file, text),
+            Step::Fill(file, byte, length) => self.fill(rt, file, *byte, *length),
+            Step::Folder(path) => self.make_folder(rt, path),
+            Step::Mode(path, mode) => self.set_mode(rt, path, *mode),
+            Step::Link(to, at) => self.link(rt, to, at),
+            Step::Move(from, to) => self.rename(rt, from, to),
+            Step::Remove(file) => self.remove(rt, file),
+            other => self.finds(rt, other),
+        }
+    }
+
+    // The same of a step that looks at a file.
+    fn finds<R: Host>(&self, rt: &R, step: &Step) -> Result<bool, Fail> {
+        match step {
+            Step::Holds(file, text) => self.holds(rt, file, text),
+            Step::Ends(file, text) => self.ends(rt, file, text),
+            Step::IsLink(path) => self.is_link(rt, path),
+            Step::Stands(path, wanted) => Ok(self.stands(rt, path)? == *wanted),
+            Step::Left(count) => self.left(rt, *count),
+            _ => Ok(false),
+        }
+    }
+
+    /// A text in which each word in angle brackets is what it stands for.
+    pub fn said(&self, alloc: Global, text: &str) -> Result<String, Fail> {
+        Ok(self.names.said(alloc, text)?)
+    }
+
+    /// Removes the store folder.
+    pub fn close<R: Host>(self, rt: &R) -> Result<(), Fail> {
+        Ok(fs::remove_dir_all(rt, self.site.folder.as_str())?)
+    }
 }
 
-// Bytes as a text.
-fn text_of(alloc: Global, bytes: &[u8]) -> Result<String, Fail> {
-    Ok(String::from_str(alloc, str::from_utf8(bytes)?)?)
-}
-
-/// Runs `realise` on a derivation.
-pub fn realise<R: Host, M: Builders>(rt: &R, make: &M, store: &Store, drv: &Drv) -> Outcome {
-    realise_for(rt, make, store, drv, "x86_64-linux")
-}
-
-/// Runs `realise` on a derivation, for a system.
-pub fn realise_for<R: Host, M: Builders>(
+/// The first of these rows of which a step does not do as it says, and the number of that step,
+/// counted from 0.
+pub fn first_fault<'a, R: Env + Host + Processes, M: Builders>(
     rt: &R,
     make: &M,
-    store: &Store,
-    drv: &Drv,
-    system: &str,
-) -> Outcome {
-    let (folder, path) = (store.folder.as_str(), drv.path.as_str());
-    run_by(
-        rt,
-        make,
-        &[
-            "nix_realise",
-            "realise",
-            "--store-dir",
-            folder,
-            "--system",
-            system,
-            path,
-        ],
-    )
+    process: u32,
+    rows: &'a [Row],
+) -> Result<Option<(&'a str, usize)>, Fail> {
+    for row in rows {
+        let taken = play(rt, make, process, row)?;
+        if taken < row.steps.len() {
+            return Ok(Some((row.name, taken)));
+        }
+    }
+    Ok(None)
 }
 
-/// Runs `realise` on two derivations, or on one that is named twice, by so many workers.
-pub fn realise_both<'x, R: Host, M: Builders>(
+// How many steps of a row do as they say. Its folder is removed.
+fn play<R: Env + Host + Processes, M: Builders>(
     rt: &R,
     make: &M,
-    store: &'x Store,
-    jobs: &'x str,
-    first: &'x Drv,
-    other: &'x Drv,
-) -> Outcome {
-    let words = [
-        "nix_realise",
-        "realise",
-        "--store-dir",
-        store.folder.as_str(),
-        "--jobs",
-        jobs,
-        first.path.as_str(),
-        other.path.as_str(),
-    ];
-    run_by(rt, make, &words)
-}
-
-/// Whether a run told of a derivation that it was built or reused, and of each output.
-pub fn is_realised<R: Host>(rt: &R, ran: &Outcome, word: &str, drv: &Drv) -> Result<bool, Fail> {
-    let mut report = format!(in rt.alloc(); "{word} {}\n", drv.path)?;
-    for output in &drv.outputs {
-        report.push_str("output ")?;
-        push_line(&mut report, output)?;
-    }
-    Ok(has_written(ran, report.as_str(), "", 0))
-}
-
-// Adds a line.
-fn push_line(text: &mut String, line: &str) -> Result<(), Fail> {
-    text.push_str(line)?;
-    Ok(text.push('\n')?)
-}
-
-/// Whether a run told of a derivation alone that it failed or was refused, and why.
-pub fn is_left<R: Host>(
-    rt: &R,
-    ran: &Outcome,
-    word: &str,
-    drv: &Drv,
-    why: &str,
-) -> Result<bool, Fail> {
-    let report = format!(in rt.alloc(); "{word} {}: {why}\n", drv.path)?;
-    Ok(has_written(ran, report.as_str(), "", 1))
+    process: u32,
+    row: &Row,
+) -> Result<usize, Fail> {
+    let mut scene = Scene::new(rt, process, row.name)?;
+    let taken = scene.take(rt, make, row.steps)?;
+    scene.close(rt)?;
+    Ok(taken)
 }

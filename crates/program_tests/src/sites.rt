@@ -1,21 +1,51 @@
 //! Store folders in which builders run as processes.
-
-use crate::running::new_folder;
+use crate::running::Host;
+use crate::scene::Scene;
 use drv_graph::Kind;
 use nix_drv::EnvEntry;
 use nix_names::{StoreDir, parse_path};
 use process_build::ProcessBuild;
-use ref_scan::Tree;
+use ref_scan::{Member, Tree};
 use sched_core::{Answer, Job, JobOutput, Reason};
-use std::alloc::Global;
+use std::alloc::{AllocError, Global};
 use std::process::Processes;
-use std::rt::{Env, Files};
+use std::str;
 use std::test::Fail;
-use std::{fs, io};
 use store_run::Build;
 
-/// Where the scripts' programs are.
-pub const PROGRAMS: &str = "/usr/bin:/bin";
+/// The entry of an environment by which a script finds its programs.
+pub const PATH: (&[u8], &[u8]) = (b"PATH", b"/usr/bin:/bin");
+
+/// How a builder is called: its path, its arguments, the entries of its environment behind those
+/// of its outputs, and its outputs.
+pub struct Call {
+    pub builder: &'static [u8],
+    pub args: &'static [&'static [u8]],
+    pub env: &'static [(&'static [u8], &'static [u8])],
+    pub outputs: &'static [&'static str],
+}
+
+/// What comes of a builder.
+pub enum Made {
+    /// Whatever it is.
+    Any,
+    /// An answer, whatever it is.
+    Answered,
+    /// It fails for this reason.
+    Failed(Reason),
+    /// An answer with this exit status, if it has one.
+    Ended(Option<i32>),
+    /// An answer that has so many trees, of which so many are none.
+    Trees(usize, usize),
+    /// A file that holds this text.
+    File(&'static str),
+    /// A file that holds a line for each number from 1 to this one.
+    Lines(u32),
+    /// A file in pieces of so many bytes.
+    Pieces(&'static [usize]),
+    /// A folder with members of these names, each followed by a slash.
+    Folder(&'static str),
+}
 
 /// A store folder of its own.
 #[derive(Drop)]
@@ -25,27 +55,6 @@ pub struct Site {
 }
 
 impl Site {
-    /// The store folder of a test.
-    pub fn new<R: Env + Files + AllocGlobal>(
-        rt: &R,
-        process: u32,
-        test: &str,
-    ) -> Result<Site, Fail> {
-        Ok(Site {
-            folder: new_folder(rt, process, test)?,
-        })
-    }
-
-    /// The path of a file in the store folder.
-    pub fn at(&self, alloc: Global, name: &str) -> io::Result<String> {
-        Ok(format!(in alloc; "{}/{name}", self.folder)?)
-    }
-
-    /// The path of an output.
-    pub fn path_of(&self, alloc: Global, output: &str) -> io::Result<String> {
-        Ok(format!(in alloc; "{}/cccccccccccccccccccccccccccccccc-{output}", self.folder)?)
-    }
-
     /// A job that is to make these outputs, with an entry for each in its environment.
     pub fn job(&self, alloc: Global, builder: &[u8], outputs: &[&str]) -> Result<Job, Fail> {
         let mut job = Job {
@@ -65,90 +74,147 @@ impl Site {
 
     // Adds an output to a job, and its path to the job's environment.
     fn add_output(&self, alloc: Global, job: &mut Job, name: &str) -> Result<(), Fail> {
+        let path = format!(in alloc; "{}/cccccccccccccccccccccccccccccccc-{name}", self.folder)?;
         let dir = StoreDir::new(alloc, self.folder.as_bytes())?;
-        let path = self.path_of(alloc, name)?;
-        job.env
-            .push(entry(alloc, name.as_bytes(), path.as_bytes())?)?;
-        job.outputs.push(JobOutput {
-            name: name.as_bytes().to_vec(alloc)?,
-            path: parse_path(alloc, &dir, path.as_bytes())?,
-        })?;
-        Ok(())
+        let path = parse_path(alloc, &dir, path.as_bytes())?;
+        job.env.push(entry(alloc, name.as_bytes(), path.text())?)?;
+        let name = name.as_bytes().to_vec(alloc)?;
+        Ok(job.outputs.push(JobOutput { name, path })?)
     }
 
-    /// A job of a script that is to make these outputs, and finds the usual programs.
-    pub fn script(&self, alloc: Global, script: &str, outputs: &[&str]) -> Result<Job, Fail> {
-        let mut job = self.job(alloc, b"/bin/sh", outputs)?;
-        for arg in ["-c", script] {
-            job.args.push(arg.as_bytes().to_vec(alloc)?)?;
-        }
-        job.env.push(entry(alloc, b"PATH", PROGRAMS.as_bytes())?)?;
-        Ok(job)
-    }
-
-    /// Builds a job as the first one.
-    pub fn run<R: Files + Processes + AllocGlobal>(
-        &self,
-        rt: &R,
-        job: &Job,
-    ) -> Result<Answer, Reason> {
+    // Builds a job as the first one.
+    fn run<R: Host + Processes>(&self, rt: &R, job: &Job) -> Result<Answer, Reason> {
         ProcessBuild::new(rt.alloc(), rt, rt, self.folder.as_str())?.run(0, job)
-    }
-
-    /// Builds what a script makes at the output `out`.
-    pub fn build<R: Files + Processes + AllocGlobal>(
-        &self,
-        rt: &R,
-        script: &str,
-    ) -> Result<Result<Answer, Reason>, Fail> {
-        Ok(self.run(rt, &self.script(rt.alloc(), script, &["out"])?))
-    }
-
-    /// Why what a script makes at the output `out` can't be taken.
-    pub fn reason<R: Files + Processes + AllocGlobal>(
-        &self,
-        rt: &R,
-        script: &str,
-    ) -> Result<Option<Reason>, Fail> {
-        Ok(self.build(rt, script)?.err())
-    }
-
-    /// The file that a script makes at the output `out`, if it does.
-    pub fn file<R: Files + Processes + AllocGlobal>(
-        &self,
-        rt: &R,
-        script: &str,
-    ) -> Result<Option<Vec<u8>>, Fail> {
-        match self.build(rt, script)? {
-            Ok(answer) => Ok(text_of(rt.alloc(), &answer)?),
-            Err(_) => Ok(None),
-        }
-    }
-
-    /// Whether something lies under a name in the store folder, be it a link that leads nowhere.
-    pub fn has<R: Files + AllocGlobal>(&self, rt: &R, name: &str) -> io::Result<bool> {
-        let path = self.at(rt.alloc(), name)?;
-        Ok(fs::symlink_metadata(rt, path.as_str()).is_ok())
-    }
-
-    /// Removes the store folder.
-    pub fn close<R: Files + AllocGlobal>(self, rt: &R) -> io::Result<()> {
-        fs::remove_dir_all(rt, self.folder.as_str())
     }
 }
 
-/// An entry of an environment.
-pub fn entry(alloc: Global, key: &[u8], value: &[u8]) -> Result<EnvEntry, Fail> {
+impl Scene {
+    // Whether a call of a builder makes this.
+    pub(crate) fn starts<R: Host + Processes>(
+        &self,
+        rt: &R,
+        call: &Call,
+        made: &Made,
+    ) -> Result<bool, Fail> {
+        let builder = self.bytes(rt.alloc(), call.builder)?;
+        let mut job = self.site.job(rt.alloc(), &builder, call.outputs)?;
+        add_call(rt.alloc(), &mut job, call.args, call.env)?;
+        self.is_made(rt.alloc(), &self.site.run(rt, &job), made)
+    }
+
+    // Bytes, in which words are what they stand for where they are a text.
+    fn bytes(&self, alloc: Global, bytes: &[u8]) -> Result<Vec<u8>, Fail> {
+        match str::from_utf8(bytes) {
+            Ok(text) => Ok(self.said(alloc, text)?.into_bytes()),
+            Err(_) => Ok(bytes.to_vec(alloc)?),
+        }
+    }
+
+    // Whether a script, which finds the usual programs, makes this.
+    pub(crate) fn builds<R: Host + Processes>(
+        &self,
+        rt: &R,
+        script: &str,
+        outputs: &[&str],
+        made: &Made,
+    ) -> Result<bool, Fail> {
+        let mut job = self.site.job(rt.alloc(), b"/bin/sh", outputs)?;
+        let (args, env) = ([b"-c".as_slice(), script.as_bytes()], [PATH]);
+        add_call(rt.alloc(), &mut job, &args, &env)?;
+        self.is_made(rt.alloc(), &self.site.run(rt, &job), made)
+    }
+
+    // Whether this came of a builder.
+    fn is_made(
+        &self,
+        alloc: Global,
+        came: &Result<Answer, Reason>,
+        made: &Made,
+    ) -> Result<bool, Fail> {
+        match (came, made) {
+            (_, Made::Any) => Ok(true),
+            (Ok(answer), Made::File(text)) => {
+                is_file(alloc, answer, self.said(alloc, text)?.as_bytes())
+            }
+            (Ok(answer), Made::Lines(last)) => is_file(alloc, answer, &lines_to(alloc, *last)?),
+            (Ok(answer), made) => is_answer(alloc, answer, made),
+            (Err(reason), Made::Failed(wanted)) => Ok(reason == wanted),
+            (Err(_), _) => Ok(false),
+        }
+    }
+}
+
+// Adds arguments, and entries of the environment, to a job.
+fn add_call(
+    alloc: Global,
+    job: &mut Job,
+    args: &[&[u8]],
+    env: &[(&[u8], &[u8])],
+) -> Result<(), Fail> {
+    for arg in args {
+        job.args.push(arg.to_vec(alloc)?)?;
+    }
+    for (key, value) in env {
+        job.env.push(entry(alloc, key, value)?)?;
+    }
+    Ok(())
+}
+
+// An entry of an environment.
+fn entry(alloc: Global, key: &[u8], value: &[u8]) -> Result<EnvEntry, AllocError> {
+    let key = key.to_vec(alloc)?;
     Ok(EnvEntry {
-        key: key.to_vec(alloc)?,
+        key,
         value: value.to_vec(alloc)?,
     })
 }
 
-/// The bytes of the first output, if it is a file.
-pub fn text_of(alloc: Global, answer: &Answer) -> Result<Option<Vec<u8>>, Fail> {
-    match answer.trees.as_slice() {
-        [Some(Tree::Pieces(pieces)), ..] => Ok(Some(pieces.concat(alloc)?)),
-        _ => Ok(None),
+// A line for each number up to this one.
+fn lines_to(alloc: Global, last: u32) -> Result<Vec<u8>, Fail> {
+    let mut lines = Vec::new(alloc);
+    for line in 1..=last {
+        lines.extend_from_slice(format!(in alloc; "{line}\n")?.as_bytes())?;
     }
+    Ok(lines)
+}
+
+// Whether the first output is a file with these bytes.
+fn is_file(alloc: Global, answer: &Answer, bytes: &[u8]) -> Result<bool, Fail> {
+    match answer.trees.as_slice() {
+        [Some(Tree::Pieces(pieces)), ..] => Ok(pieces.concat(alloc)?.as_slice() == bytes),
+        _ => Ok(false),
+    }
+}
+
+// Whether an answer is this.
+fn is_answer(alloc: Global, answer: &Answer, made: &Made) -> Result<bool, Fail> {
+    match (made, answer.trees.as_slice()) {
+        (Made::Answered, _) => Ok(true),
+        (Made::Ended(status), _) => Ok(answer.status == *status),
+        (Made::Trees(trees, none), found) => {
+            let missing = found.iter().filter(|tree| tree.is_none()).count();
+            Ok(found.len() == *trees && missing == *none)
+        }
+        (Made::Pieces(sizes), [Some(Tree::Pieces(pieces))]) => Ok(have_sizes(pieces, sizes)),
+        (Made::Folder(names), [Some(Tree::Dir(members))]) => {
+            Ok(names_of(alloc, members)?.as_slice() == names.as_bytes())
+        }
+        _ => Ok(false),
+    }
+}
+
+// Whether there are as many pieces as sizes, each of its size.
+fn have_sizes(pieces: &[Vec<u8>], sizes: &[usize]) -> bool {
+    let found = pieces.iter().map(|piece| piece.len());
+    pieces.len() == sizes.len() && found.zip(sizes.iter()).all(|(one, other)| one == *other)
+}
+
+// The names of a folder's members, each followed by a slash.
+fn names_of(alloc: Global, members: &[Member]) -> Result<Vec<u8>, AllocError> {
+    let mut names = Vec::new(alloc);
+    for member in members {
+        names.extend_from_slice(&member.name)?;
+        names.push(b'/')?;
+    }
+    Ok(names)
 }

@@ -1,0 +1,97 @@
+//! Words in angle brackets, and what they stand for.
+use crate::scene::Scene;
+use nix_drv::text_path;
+use nix_names::{StoreDir, StorePath, make_path};
+use sha2::{Digest, Sha256};
+use std::alloc::{AllocError, Global};
+use std::str;
+use std::test::Fail;
+
+/// Words in angle brackets, and what they stand for.
+#[derive(Drop)]
+pub struct Names {
+    names: Vec<(String, String)>,
+}
+
+impl Names {
+    /// The word `<dir>` for a folder.
+    pub fn of(alloc: Global, folder: &str) -> Result<Names, AllocError> {
+        let names = Vec::new(alloc);
+        let mut names = Names { names };
+        names.bind(alloc, "dir", String::from_str(alloc, folder)?)?;
+        Ok(names)
+    }
+
+    /// Lets a word stand for a text.
+    pub fn bind(&mut self, alloc: Global, word: &str, text: String) -> Result<(), AllocError> {
+        let word = format!(in alloc; "<{word}>")?;
+        Ok(self.names.push((word, text))?)
+    }
+
+    /// A text in which each word is what it stands for.
+    pub fn said(&self, alloc: Global, text: &str) -> Result<String, AllocError> {
+        let mut said = String::from_str(alloc, text)?;
+        for (word, meant) in &self.names {
+            said = replaced(alloc, said.as_str(), word, meant)?;
+        }
+        Ok(said)
+    }
+}
+
+// A text with another in the place of each word.
+fn replaced(alloc: Global, text: &str, word: &str, meant: &str) -> Result<String, AllocError> {
+    let parts: Vec<&str> = text.split(word).collect(alloc)?;
+    parts.join(alloc, meant)
+}
+
+/// Bytes as a text.
+pub fn text_of(alloc: Global, bytes: &[u8]) -> Result<String, Fail> {
+    Ok(String::from_str(alloc, str::from_utf8(bytes)?)?)
+}
+
+impl Scene {
+    // Names the path that a text gets under a name, by the rule alone.
+    pub(crate) fn name_text(
+        &mut self,
+        alloc: Global,
+        word: &str,
+        name: &str,
+        text: &str,
+    ) -> Result<bool, Fail> {
+        let text = self.said(alloc, text)?;
+        let dir = StoreDir::new(alloc, self.site.folder.as_bytes())?;
+        let path = text_path(alloc, &dir, name.as_bytes(), text.as_bytes(), &[])?;
+        self.name_path(alloc, word, &path)
+    }
+
+    // Names the path of a draft's output, by the rule alone.
+    pub(crate) fn name_output(
+        &mut self,
+        alloc: Global,
+        word: &str,
+        name: &str,
+        draft: &str,
+    ) -> Result<bool, Fail> {
+        let dir = StoreDir::new(alloc, self.site.folder.as_bytes())?;
+        let digest = Sha256::digest(draft.as_bytes());
+        let path = make_path(alloc, b"output:out", &digest, &dir, name.as_bytes())?;
+        self.name_path(alloc, word, &path)
+    }
+
+    fn name_path(&mut self, alloc: Global, word: &str, path: &StorePath) -> Result<bool, Fail> {
+        let path = text_of(alloc, path.text())?;
+        Ok(self.names.bind(alloc, word, path).map(|()| true)?)
+    }
+
+    // Names the lesser and the greater of two paths.
+    pub(crate) fn order(&mut self, alloc: Global, one: &str, other: &str) -> Result<bool, Fail> {
+        let (one, other) = (self.said(alloc, one)?, self.said(alloc, other)?);
+        let (lesser, greater) = if one < other {
+            (one, other)
+        } else {
+            (other, one)
+        };
+        self.names.bind(alloc, "lesser", lesser)?;
+        Ok(self.names.bind(alloc, "greater", greater).map(|()| true)?)
+    }
+}
