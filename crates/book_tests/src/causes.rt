@@ -5,6 +5,7 @@ use crate::hindered::{HINDERED, Hindered};
 use sched_core::{Book, BookFault, Refusal};
 use std::alloc::Global;
 use std::test::*;
+use store_run::RunFault;
 use valid_table::ListOutlet;
 
 // Whether a book that began with nothing left to do has this report, and no events.
@@ -66,4 +67,17 @@ fn numbers(rt: HostRuntime) {
     assert_eq!(rt; BookFault::NoView.number(), 40);
     assert_eq!(rt; BookFault::ForeignLease.number(), 65);
     assert_eq!(rt; BookFault::NotLawful.number(), 66);
+}
+
+#[test]
+fn numbers_of_runs(rt: HostRuntime) {
+    for (fault, number) in [
+        (RunFault::NoView, 40),
+        (RunFault::NoWorkers, 70),
+        (RunFault::ThreadFault, 71),
+        (RunFault::NoMemory, 72),
+        (RunFault::ForeignPlan, 73),
+    ] {
+        assert_eq!(rt; fault.number(), number);
+    }
 }

@@ -39,6 +39,18 @@ pub(crate) const TWO_DEV: &[u8] = b"/nix/store/0qdxrhz2k1y2kf9hd44ck3ccn61gyd61-
 
 pub(crate) const TWO_OUT: &[u8] = b"/nix/store/8q7dp30dcjpjjh6wsac0q6sa6nr84c57-two";
 
+/// Two outputs, of which the second one's path is the lesser.
+pub(crate) const TURNED: &[u8] = b"/nix/store/dc73kgcgmp44frwsmzwzl782l9iginqg-turned.drv";
+
+pub(crate) const TURNED_DEV: &[u8] = b"/nix/store/fzasir13an74vk4d3c1dmkpqyajjliy6-turned-dev";
+
+pub(crate) const TURNED_OUT: &[u8] = b"/nix/store/5hccl9j0b7qq02gvcaswyabfwsg0wc9f-turned";
+
+/// One output, with the digest of no bytes.
+pub(crate) const FLAT: &[u8] = b"/nix/store/3amfg5wkizj5j7zbcxv9mnvsgvc78mm6-flat.drv";
+
+pub(crate) const FLAT_OUT: &[u8] = b"/nix/store/jafr3l9gcgc9kss6avik01b7k153scmh-flat";
+
 /// With the source `SRC`.
 pub(crate) const SOURCED: &[u8] = b"/nix/store/p8aybn13ahfa1kqwybh131bvza4i7sai-sourced.drv";
 
@@ -59,7 +71,7 @@ pub(crate) const FOURTH: &[u8] = b"/nix/store/bfxxqzj4h82wyxhhx6g784hriy9fkddd-f
 /// A source, of which there is no file.
 pub(crate) const SRC: &[u8] = b"/nix/store/aaaaaaaaaaaaaaaaaaaaaaaaaaaaaaaa-src";
 
-pub(crate) static FILES: [File; 12] = [
+pub(crate) static FILES: [File; 14] = [
     File {
         path: BASE,
         text: b"Derive([(\"out\",\"/nix/store/i73x2qwb221ly8r0xpzlngmrfjzb9dr1-base\",\"\",\"\")],[],[],\"x86_64-linux\",\"/bin/sh\",[],[])",
@@ -83,6 +95,14 @@ pub(crate) static FILES: [File; 12] = [
     File {
         path: TWO,
         text: b"Derive([(\"dev\",\"/nix/store/0qdxrhz2k1y2kf9hd44ck3ccn61gyd61-two-dev\",\"\",\"\"),(\"out\",\"/nix/store/8q7dp30dcjpjjh6wsac0q6sa6nr84c57-two\",\"\",\"\")],[],[],\"x86_64-linux\",\"/bin/sh\",[],[])",
+    },
+    File {
+        path: TURNED,
+        text: b"Derive([(\"dev\",\"/nix/store/fzasir13an74vk4d3c1dmkpqyajjliy6-turned-dev\",\"\",\"\"),(\"out\",\"/nix/store/5hccl9j0b7qq02gvcaswyabfwsg0wc9f-turned\",\"\",\"\")],[],[],\"x86_64-linux\",\"/bin/sh\",[],[])",
+    },
+    File {
+        path: FLAT,
+        text: b"Derive([(\"out\",\"/nix/store/jafr3l9gcgc9kss6avik01b7k153scmh-flat\",\"sha256\",\"e3b0c44298fc1c149afbf4c8996fb92427ae41e4649b934ca495991b7852b855\")],[],[],\"x86_64-linux\",\"/bin/sh\",[],[])",
     },
     File {
         path: SOURCED,

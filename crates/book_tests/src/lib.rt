@@ -8,8 +8,10 @@
 //! | `workers` | these runs and others by workers, over a view |
 //! | `causes` | derivations that ask for what is left out |
 //! | `calls` | leases, and what a book tells of itself |
+//! | `verdicts` | the verdict on an answer |
 //! | `permitted` | what is permitted beside a closure |
 //! | `refusals` | leases of another book, records of another job |
+//! | `example` | the run of the example in the definitions, by its laws and by workers |
 //! | `growths` | memory that is refused while a lease ends |
 //! | `costs` | what events cost |
 //! | `random_runs` | random plans and answers, beside states that the test works out |
@@ -30,6 +32,8 @@ mod causes;
 #[cfg(test)]
 mod costs;
 #[cfg(test)]
+mod example;
+#[cfg(test)]
 mod files;
 #[cfg(test)]
 mod growths;
@@ -49,5 +53,7 @@ mod refusals;
 mod rows;
 #[cfg(test)]
 mod runs;
+#[cfg(test)]
+mod verdicts;
 #[cfg(test)]
 mod workers;

@@ -2,13 +2,15 @@
 ghost use Rattle.std.specs.Prelude.{IfOk};
 ghost use Rattle.sched_core.specs.Books.{MayAllRefer};
 
-use crate::books::{has_report, open};
-use crate::builders::{build, build_all, empty_files, lease, verdict};
+use crate::books::{Pieces, has_journal, has_report, open};
+use crate::builders::{build, build_all, lease, verdict};
 use crate::files::*;
+use drv_graph::Kind;
 use nix_drv::EnvEntry;
 use nix_names::StorePath;
-use sched_core::{Book, BookFault, Checked, Event, Job, JobOutput, Lease, Reason, examine};
-use std::alloc::Global;
+use ref_scan::Tree;
+use sched_core::{Answer, Book, BookFault, Checked, Event, Job, JobOutput, Lease, Reason, examine};
+use std::alloc::{AllocError, Global};
 use std::test::*;
 use valid_table::ListOutlet;
 
@@ -122,6 +124,72 @@ fn foreign_lease(rt: HostRuntime) -> Result<(), Fail> {
     Ok(())
 }
 
+// The run of a root, for whose first lease records are refused that were found under another job:
+// some of the lease's outputs, by their places, without a declared digest. What the run's report
+// and journal are when it goes on from there, with empty files.
+struct Other {
+    root: &'static [u8],
+    places: &'static [usize],
+    report: Pieces,
+    journal: Pieces,
+}
+
+// SHA-256 of no bytes (FIPS 180-4).
+const EMPTY: &[u8] = b" e3b0c44298fc1c149afbf4c8996fb92427ae41e4649b934ca495991b7852b855\n";
+
+static OTHERS: [Other; 4] = [
+    // One output more.
+    Other {
+        root: BASE,
+        places: &[0, 0],
+        report: &[b"built ", BASE, b"\noutput ", BASE_OUT, b"\n"],
+        journal: &[b"realiser-journal 1\nD ", BASE, b"\nO ", BASE_OUT, EMPTY],
+    },
+    // None.
+    Other {
+        root: BASE,
+        places: &[],
+        report: &[b"built ", BASE, b"\noutput ", BASE_OUT, b"\n"],
+        journal: &[b"realiser-journal 1\nD ", BASE, b"\nO ", BASE_OUT, EMPTY],
+    },
+    // Each holds its own path; taken in another order, the two make a cycle. The second one's path
+    // is the lesser, so it is registered first.
+    Other {
+        root: TURNED,
+        places: &[1, 0],
+        report: &[
+            b"built ",
+            TURNED,
+            b"\noutput ",
+            TURNED_DEV,
+            b"\noutput ",
+            TURNED_OUT,
+            b"\n",
+        ],
+        journal: &[
+            b"realiser-journal 1\nD ",
+            TURNED,
+            b"\nO ",
+            TURNED_OUT,
+            EMPTY,
+            b"O ",
+            TURNED_DEV,
+            EMPTY,
+        ],
+    },
+    // It hasn't the declared digest.
+    Other {
+        root: FLAT,
+        places: &[0],
+        report: &[b"built ", FLAT, b"\noutput ", FLAT_OUT, b"\n"],
+        journal: &[b"realiser-journal 1\nD ", FLAT, b"\nO ", FLAT_OUT, EMPTY],
+    },
+];
+
+fn others() -> &'static [Other] {
+    &OTHERS
+}
+
 fn output(alloc: Global, path: &StorePath) -> Result<JobOutput, Fail> {
     Ok(JobOutput {
         name: Vec::new(alloc),
@@ -129,11 +197,13 @@ fn output(alloc: Global, path: &StorePath) -> Result<JobOutput, Fail> {
     })
 }
 
-// A job with the outputs of another one, and its first output once more.
-fn wider(alloc: Global, job: &Job) -> Result<Job, Fail> {
+// A job that is to make the outputs of another one that are at these places.
+fn job_of(alloc: Global, job: &Job, places: &[usize]) -> Result<Job, Fail> {
     let mut outputs = Vec::new(alloc);
-    for one in job.outputs.iter().chain(job.outputs.first()) {
-        outputs.push(output(alloc, &one.path)?)?;
+    for place in places {
+        if let Some(one) = job.outputs.get(*place) {
+            outputs.push(output(alloc, &one.path)?)?;
+        }
     }
     Ok(Job {
         derivation: job.derivation,
@@ -141,24 +211,38 @@ fn wider(alloc: Global, job: &Job) -> Result<Job, Fail> {
         args: Vec::new(alloc),
         env: Vec::<EnvEntry>::new(alloc),
         outputs,
-        kind: job.kind,
+        kind: Kind::Addressed,
         seeds: Vec::new(alloc),
     })
 }
 
-// What is found of empty files at the outputs of a job that has one output more than the lease's.
-fn wider_verdict(
+// The answer of a builder that leaves at each output a file with the output's path.
+fn own_paths(alloc: Global, job: &Job) -> Result<Answer, AllocError> {
+    let mut trees = Vec::new(alloc);
+    for output in &job.outputs {
+        let text = Vec::from_slice(alloc, output.path.text())?;
+        trees.push(Some(Tree::File(text)))?;
+    }
+    Ok(Answer {
+        status: Some(0),
+        trees,
+    })
+}
+
+// What is found of such files under the job with the lease's outputs that are at these places.
+fn other_verdict(
     alloc: Global,
     book: &Book<ListOutlet>,
     lease: &Lease<usize>,
+    places: &[usize],
 ) -> Result<Result<Checked, Reason>, Fail>
     ensures { IfOk result
         (λ verdict.
         IfOk verdict (λ checked. MayAllRefer book.now.history.entries lease.now.job checked)) }
 {
     let permitted = book.permitted(lease)?;
-    let job = wider(alloc, lease.job())?;
-    let answer = empty_files(alloc, &job)?;
+    let job = job_of(alloc, lease.job(), places)?;
+    let answer = own_paths(alloc, &job)?;
     Ok(examine(alloc, &job, &permitted, answer))
 }
 
@@ -167,13 +251,14 @@ fn unlawful(
     book: &mut Book<ListOutlet>,
     lease: Lease<usize>,
     checked: Checked,
+    count: usize,
 ) -> Option<Lease<usize>>
     requires { MayAllRefer book.old.history.entries lease.job checked }
 {
     match book.finish(lease, checked) {
         Ok(()) => None,
         Err((fault, lease, checked)) => {
-            if fault == BookFault::NotLawful && checked.records().len() == 2 {
+            if fault == BookFault::NotLawful && checked.records().len() == count {
                 Some(lease)
             } else {
                 lease.give_up();
@@ -183,11 +268,15 @@ fn unlawful(
     }
 }
 
-// The first lease, once records of a job with one output more were refused for it, where they are.
-fn refused_lease(alloc: Global, book: &mut Book<ListOutlet>) -> Result<Option<Lease<usize>>, Fail> {
+// The first lease, once records of another job were refused for it, where they are.
+fn refused_lease(
+    alloc: Global,
+    book: &mut Book<ListOutlet>,
+    places: &[usize],
+) -> Result<Option<Lease<usize>>, Fail> {
     let lease = lease(book)?;
-    match wider_verdict(alloc, book, &lease) {
-        Ok(Ok(checked)) => Ok(unlawful(book, lease, checked)),
+    match other_verdict(alloc, book, &lease, places) {
+        Ok(Ok(checked)) => Ok(unlawful(book, lease, checked, places.len())),
         Ok(Err(_)) => {
             lease.give_up();
             Ok(None)
@@ -200,22 +289,32 @@ fn refused_lease(alloc: Global, book: &mut Book<ListOutlet>) -> Result<Option<Le
 }
 
 // Whether a book stays as it is when it refuses such records, and goes on under that lease.
-fn stays_with_lease(alloc: Global, book: &mut Book<ListOutlet>) -> Result<bool, Fail> {
-    let Some(lease) = refused_lease(alloc, book)? else {
+fn stays_with_lease(
+    alloc: Global,
+    book: &mut Book<ListOutlet>,
+    other: &Other,
+) -> Result<bool, Fail> {
+    let Some(lease) = refused_lease(alloc, book, other.places)? else {
         return Ok(false);
     };
     let stays = book.events() == [Event::Begin(0, 0)].as_slice()
         && book.journal().entries().is_empty();
     build(alloc, book, lease, &[])?;
-    build_all(alloc, book, &[])?;
-    Ok(stays && has_report(alloc, book, &ALL_BUILT)?)
+    Ok(stays && has_report(alloc, book, other.report)? && has_journal(alloc, book, other.journal)?)
+}
+
+// The same of the book of such a run.
+fn is_refused(alloc: Global, other: &Other) -> Result<bool, Fail> {
+    let mut book = open(alloc, &[other.root], &[])?;
+    let stays = stays_with_lease(alloc, &mut book, other);
+    book.close();
+    stays
 }
 
 #[test]
-fn verdict_of_another_job(rt: HostRuntime) -> Result<(), Fail> {
-    let mut book = open(rt.alloc(), &[TOP], &[])?;
-    let stays = stays_with_lease(rt.alloc(), &mut book);
-    book.close();
-    assert!(rt; stays?);
+fn verdicts_of_other_jobs(rt: HostRuntime) -> Result<(), Fail> {
+    for other in others() {
+        assert!(rt; is_refused(rt.alloc(), other)?, "{:?}", other.places);
+    }
     Ok(())
 }

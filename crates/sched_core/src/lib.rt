@@ -32,8 +32,6 @@ mod checked;
 mod course;
 mod cycle;
 mod done_entry;
-#[cfg(test)]
-mod done_entry_tests;
 mod fault;
 mod has_seeds;
 mod is_job;
@@ -53,11 +51,7 @@ mod standings;
 mod states;
 mod tally;
 mod users;
-#[cfg(test)]
-mod users_tests;
 mod verdict;
-#[cfg(test)]
-mod verdict_tests;
 mod walk;
 mod wanted;
 mod words;

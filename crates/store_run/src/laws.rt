@@ -13,9 +13,6 @@ ghost use Rattle.store_run.specs.Scheduling.{AnySchedule, HasOneThread, IsWholeR
 
 use crate::build::Build;
 
-#[cfg(test)]
-mod example_tests;
-
 /// What a whole run leaves behind, one that had memory and whose builders may give one outcome to
 /// each derivation, is alike with what one thread would leave behind: each derivation in the same
 /// state, each path with the same record; and the report is the same.

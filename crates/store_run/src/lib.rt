@@ -15,8 +15,6 @@
 
 mod build;
 mod fault;
-#[cfg(test)]
-mod fault_tests;
 pub mod laws;
 mod lent;
 mod locked;

@@ -37,6 +37,3 @@ pub use reader::ViewReader;
 pub use seen::Seen;
 pub use tells::Tells;
 pub use writer::ViewWriter;
-
-#[cfg(test)]
-mod tests;

@@ -1,0 +1,175 @@
+//! Runs over the plan of the example of a whole run, by a builder that does what the example says.
+ghost use Rattle.std.specs.Prelude.{◌≡◌, ℕ, Result};
+ghost use Rattle.sched_core.specs.declared.job.Answer.{Answer as Given};
+ghost use Rattle.sched_core.specs.declared.reason.Reason.{Reason as Why};
+ghost use Rattle.store_run.specs.GivenOutcomes.{IsDecided};
+ghost use Rattle.store_run.specs.ScheduleExample.{both, in_turn, may_leave, side_by_side};
+ghost use Rattle.store_run.specs.Scheduling.{AreAlike};
+
+use drv_graph::Plan;
+use nix_drv::{ListSource, ListedFile};
+use nix_names::{StoreDir, StorePath, parse_path};
+use ref_scan::Tree;
+use sched_core::{Answer, Book, Job, Reason};
+use std::alloc::{AllocError, Global};
+use std::marker::Brand;
+use std::sync::Wait;
+use std::test::*;
+use std::thread::Threads;
+use store_run::laws::{any_schedule, builds_may_overlap, outcomes_decide};
+use store_run::{Build, Ended, realise};
+use valid_table::{Journal, Outlet};
+use valid_view::{Name, Naming};
+
+// The paths were computed apart, with Python's hashlib.
+const LEFT: &[u8] = b"/nix/store/jbgzpvl5d32l046pn5l2g0zdhnnw9lvb-left.drv";
+
+const LEFT_TEXT: &[u8] =
+    b"Derive([(\"out\",\"/nix/store/7i5zz7smgzka8dky51y14cz7qmvmkgni-left\",\"\",\"\")],[],[],\"x86_64-linux\",\"/bin/false\",[],[(\"builder\",\"/bin/false\"),(\"name\",\"left\"),(\"out\",\"/nix/store/7i5zz7smgzka8dky51y14cz7qmvmkgni-left\"),(\"system\",\"x86_64-linux\")])";
+
+const RIGHT: &[u8] = b"/nix/store/m03z95idp2zpb6jp4mgsl7hrcw1lprr8-right.drv";
+
+const RIGHT_TEXT: &[u8] =
+    b"Derive([(\"out\",\"/nix/store/p97i2xxx6v7p6xyy2x3cky78y1s290zm-right\",\"\",\"\")],[],[],\"x86_64-linux\",\"/bin/sh\",[\"-c\",\"/bin/mkdir $out\"],[(\"builder\",\"/bin/sh\"),(\"name\",\"right\"),(\"out\",\"/nix/store/p97i2xxx6v7p6xyy2x3cky78y1s290zm-right\"),(\"system\",\"x86_64-linux\")])";
+
+const REPORT: &[u8] =
+    b"failed /nix/store/jbgzpvl5d32l046pn5l2g0zdhnnw9lvb-left.drv: ExitStatus(1)\nbuilt /nix/store/m03z95idp2zpb6jp4mgsl7hrcw1lprr8-right.drv\noutput /nix/store/p97i2xxx6v7p6xyy2x3cky78y1s290zm-right\n";
+
+/// `/bin/false` fails, any other program makes an empty folder.
+#[derive(Drop)]
+struct Program {
+    alloc: Global,
+}
+
+impl Build for Program {
+    ghost may = { may_leave };
+
+    fn run(&self, _number: u64, job: &Job) -> Result<Answer, Reason> {
+        if job.builder.as_slice() == b"/bin/false".as_slice() {
+            return Ok(Answer {
+                status: Some(1),
+                trees: Vec::new(self.alloc),
+            });
+        }
+        let mut trees = Vec::new(self.alloc);
+        trees.push(Some(Tree::Dir(Vec::new(self.alloc))))?;
+        Ok(Answer {
+            status: Some(0),
+            trees,
+        })
+    }
+}
+
+// The law at this builder: both histories of the example are alike.
+fn alike()
+    ensures { AreAlike both side_by_side in_turn }
+{
+    any_schedule::<Program>();
+    builds_may_overlap();
+}
+
+// What was given decides what the example leaves.
+fn decided()
+    ensures { (outcomes : ℕ → Result Given Why) × IsDecided may_leave both side_by_side outcomes }
+{
+    outcomes_decide::<Program>();
+    builds_may_overlap();
+}
+
+fn file(alloc: Global, path: &[u8], bytes: &[u8]) -> Result<ListedFile, AllocError> {
+    let path = Vec::from_slice(alloc, path)?;
+    let bytes = Vec::from_slice(alloc, bytes)?;
+    Ok(ListedFile { path, bytes })
+}
+
+fn source(alloc: Global) -> Result<ListSource, Fail> {
+    let mut files = Vec::new(alloc);
+    for (path, text) in [(LEFT, LEFT_TEXT), (RIGHT, RIGHT_TEXT)] {
+        files.push(file(alloc, path, text)?)?;
+    }
+    Ok(ListSource::new(alloc, files, Vec::new(alloc))?)
+}
+
+fn roots(alloc: Global, dir: &StoreDir) -> Result<Vec<StorePath>, Fail> {
+    let mut roots = Vec::new(alloc);
+    for root in [LEFT, RIGHT] {
+        roots.push(parse_path(alloc, dir, root)?)?;
+    }
+    Ok(roots)
+}
+
+fn plan(alloc: Global) -> Result<Plan, Fail> {
+    let dir = StoreDir::new(alloc, b"/nix/store")?;
+    let roots = roots(alloc, &dir)?;
+    let mut source = source(alloc)?;
+    Ok(Plan::load(alloc, &mut source, &dir, &roots)?)
+}
+
+fn programs(alloc: Global, count: usize) -> Result<Vec<Program>, AllocError> {
+    let mut programs = Vec::new(alloc);
+    for _ in 0..count {
+        programs.push(Program { alloc })?;
+    }
+    Ok(programs)
+}
+
+// The report of a run.
+fn report<O: Outlet>(book: &Book<O>) -> Result<Vec<u8>, Fail> {
+    if !book.settled() {
+        return Err("it isn't settled".into());
+    }
+    Ok(book.report()?)
+}
+
+// The report of a run that went to its end; its book is closed, as is that of any other.
+fn report_at_end<J: Naming + Send, R: Wait>(ended: Ended<J, R>) -> Result<Vec<u8>, Fail> {
+    match ended {
+        Ok(book) => {
+            let report = report(&book);
+            book.close();
+            report
+        }
+        Err((fault, Some(book))) => {
+            book.close();
+            Err(fault.into())
+        }
+        Err((fault, None)) => Err(fault.into()),
+    }
+}
+
+// The report of a run by so many workers over a view of this name.
+fn report_named<J: Naming + Send + Sync, R: Threads + Wait + Sync>(
+    rt: &R,
+    alloc: Global,
+    name: Name,
+    workers: usize,
+) -> Result<Vec<u8>, Fail>
+    requires { name ≡ J.book }
+{
+    let plan = plan(alloc)?;
+    let journal = Journal::new(alloc);
+    let builders = programs(alloc, workers)?;
+    let ended: Ended<J, R> = realise(rt, alloc, name, &plan, &journal, b"x86_64-linux", builders);
+    report_at_end(ended)
+}
+
+// The report of a run by so many workers.
+fn report_by<R: Threads + Wait + Sync>(
+    rt: &R,
+    alloc: Global,
+    workers: usize,
+) -> Result<Vec<u8>, Fail> {
+    report_named::<Brand, _>(rt, alloc, Name::new(), workers)
+}
+
+// The report is that of the example, by one worker and by two.
+#[test]
+fn report_of_the_example(rt: HostRuntime) -> Result<(), Fail> {
+    alike();
+    decided();
+    for workers in [1, 2] {
+        let report = report_by(&rt, rt.alloc(), workers)?;
+        assert_eq!(rt; report.as_slice(), REPORT);
+    }
+    Ok(())
+}

@@ -1,0 +1,185 @@
+//! What readers of a view are answered, before and after a path is shown.
+ghost use Rattle.std.specs.Prelude.{◌≡◌, ◌++◌};
+
+use crate::stores::path;
+use nix_names::{StoreDir, StorePath};
+use std::alloc::Global;
+use std::marker::Brand;
+use std::process::Abort;
+use std::sync::Wait;
+use std::test::*;
+use std::thread::{Threads, join};
+use valid_table::{Entry, Journal, Outlet, Record, Registration};
+use valid_view::{Name, Naming, Seen, ViewFault, ViewReader, ViewWriter, open};
+
+const X: &[u8] = b"/nix/store/aaaaaaaaaaaaaaaaaaaaaaaaaaaaaaaa-x";
+
+const Y: &[u8] = b"/nix/store/cccccccccccccccccccccccccccccccc-y";
+
+const JOURNAL: &[u8] = b"realiser-journal 1
+A /nix/store/aaaaaaaaaaaaaaaaaaaaaaaaaaaaaaaa-x -
+";
+
+#[test]
+fn shown_once_published(rt: HostRuntime) -> Result<(), Fail> {
+    asked_at_each_step::<Brand, _>(&rt, rt.alloc(), Name::new())
+}
+
+#[test]
+fn closure_of_a_reader(rt: HostRuntime) -> Result<(), Fail> {
+    asked_for_closures::<Brand, _>(&rt, rt.alloc(), Name::new())
+}
+
+#[test]
+fn asked_beside_a_writer(rt: HostRuntime) -> Result<(), Fail> {
+    raced::<Brand, _>(&rt, rt.alloc(), Name::new())
+}
+
+// The journal that has x.
+fn opening(alloc: Global) -> Result<Journal, Fail> {
+    let dir = StoreDir::new(alloc, b"/nix/store")?;
+    Ok(Journal::read(alloc, &dir, JOURNAL)?)
+}
+
+// The entry that adds y, which refers to x.
+fn added_y(alloc: Global) -> Result<Entry, Fail> {
+    let info = Record::new(vec![in alloc; path(alloc, X)?]?, None)?;
+    let path = path(alloc, Y)?;
+    Ok(Entry::Add(Registration { path, info }))
+}
+
+// Appends y to what waits behind the journal.
+fn append_y<J: Naming, R>(
+    alloc: Global,
+    journal: &Journal,
+    writer: &mut ViewWriter<J, R>,
+) -> Result<(), Fail>
+    requires { writer.old.shown ++ writer.old.pending ≡ journal.now.entries }
+{
+    let entry = added_y(alloc)?;
+    if let Some(_) = journal.table().obstacle(&entry) {
+        return Err(Fail::from("y may come next"));
+    }
+    Ok(writer.append(entry)?)
+}
+
+fn asked_at_each_step<J: Naming + Send, R: Wait + Abort>(
+    rt: &R,
+    alloc: Global,
+    name: Name,
+) -> Result<(), Fail>
+    requires { name ≡ J.book }
+{
+    let journal = opening(alloc)?;
+    let x = path(alloc, X)?;
+    let (mut writer, mut readers) = open::<J, &R>(alloc, rt, name, &journal, 1)?;
+    let answers = answers(alloc, &journal, &mut writer, &mut readers[0]);
+    writer.close();
+    let gone = readers[0].look(&x);
+    let (absent, valid) = (Seen::Absent, Seen::Valid(None));
+    assert_eq!(rt; answers?, [absent, absent, valid, valid]);
+    assert!(rt; matches!(gone, Err(ViewFault::NoView)));
+    Ok(())
+}
+
+// What a reader is answered of y: at first, once it waits, once it was told of, and again.
+fn answers<J: Naming + Send, R: Wait + Drop>(
+    alloc: Global,
+    journal: &Journal,
+    writer: &mut ViewWriter<J, R>,
+    reader: &mut ViewReader<J>,
+) -> Result<[Seen; 4], Fail>
+    requires { writer.old.shown ++ writer.old.pending ≡ journal.now.entries }
+{
+    let y = path(alloc, Y)?;
+    let first = reader.look(&y)?;
+    append_y(alloc, journal, writer)?;
+    let waiting = reader.look(&y)?;
+    writer.publish()?;
+    reader.learn(writer.tell());
+    Ok([first, waiting, reader.look(&y)?, reader.look(&y)?])
+}
+
+fn asked_for_closures<J: Naming + Send, R: Wait + Abort>(
+    rt: &R,
+    alloc: Global,
+    name: Name,
+) -> Result<(), Fail>
+    requires { name ≡ J.book }
+{
+    let journal = opening(alloc)?;
+    let (mut writer, mut readers) = open::<J, &R>(alloc, rt, name, &journal, 64)?;
+    let answers = closures(alloc, &journal, &mut writer, &mut readers[63]);
+    writer.close();
+    let (early, late) = answers?;
+    let (x, y) = (path(alloc, X)?, path(alloc, Y)?);
+    assert!(rt; matches!(&early, Err(ViewFault::NotValid(root)) if *root == y));
+    assert!(rt; late? == vec![in alloc; x, y]?);
+    Ok(())
+}
+
+// The closure of x and y before y is shown, and that of y behind it.
+fn closures<J: Naming + Send, R: Wait + Drop>(
+    alloc: Global,
+    journal: &Journal,
+    writer: &mut ViewWriter<J, R>,
+    reader: &mut ViewReader<J>,
+) -> Result<
+    (
+        Result<Vec<StorePath>, ViewFault>,
+        Result<Vec<StorePath>, ViewFault>,
+    ),
+    Fail,
+>
+    requires { writer.old.shown ++ writer.old.pending ≡ journal.now.entries }
+{
+    let early = reader.closure(alloc, &vec![in alloc; path(alloc, X)?, path(alloc, Y)?]?);
+    append_y(alloc, journal, writer)?;
+    writer.publish()?;
+    let late = reader.closure(alloc, &vec![in alloc; path(alloc, Y)?]?);
+    Ok((early, late))
+}
+
+fn raced<J: Naming + Send + Sync, R: Threads + Wait + Abort + Sync>(
+    rt: &R,
+    alloc: Global,
+    name: Name,
+) -> Result<(), Fail>
+    requires { name ≡ J.book }
+{
+    let journal = opening(alloc)?;
+    let y = path(alloc, Y)?;
+    let (mut writer, mut readers) = open::<J, &R>(alloc, rt, name, &journal, 2)?;
+    let appended = append_y(alloc, &journal, &mut writer);
+    let reader = &mut readers[1];
+    let (published, wrong) = join(rt, || publishes(&mut writer), || forgets(reader, &y));
+    let learnt = writer.tell();
+    writer.close();
+    appended?;
+    assert!(rt; published);
+    assert_eq!(rt; wrong, 0);
+    assert_eq!(rt; learnt.len(), 2);
+    Ok(())
+}
+
+// Publishes what waits, and then nothing many times. Says whether each one worked.
+fn publishes<J: Naming + Send, R: Wait + Drop>(writer: &mut ViewWriter<J, R>) -> bool {
+    let mut all = true;
+    for _ in 0..5_000 {
+        all = writer.publish().is_ok() && all;
+    }
+    all
+}
+
+// Counts how often a path that was valid isn't any more.
+fn forgets<J: Naming>(reader: &mut ViewReader<J>, path: &StorePath) -> u32 {
+    let (mut last, mut wrong) = (Seen::Absent, 0u32);
+    for _ in 0..50_000 {
+        let Ok(seen) = reader.look(path) else {
+            return u32::MAX;
+        };
+        wrong = wrong.wrapping_add((seen == Seen::Absent && last != Seen::Absent) as u32);
+        last = seen;
+    }
+    wrong
+}
