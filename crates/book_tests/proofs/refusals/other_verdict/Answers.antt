@@ -11,5 +11,5 @@ returns c =
     let paths = c.deref.result.now in
     let lent = subst (λ (ps : List (List ℕ)). ArePermittedPaths entries job ps)
     (sym c.deref.ensures.value) c.in_ok-permitted.ensures.ok in
-    may_refer_by_permitted entries job c.in_ok-job_of.job paths c.in_ok-answer.answer c.examine.result
+    may_refer_by_permitted entries job c.in_ok-job.job paths c.in_ok-answer.answer c.examine.result
     lent c.examine.ensures
