@@ -1,7 +1,7 @@
 -- Reading a form part by part, each with the fixed bytes before it.
 use Rattle.std.proofs.Common.{◌≡◌, ℕ, List, [], ◌∷◌, Result, Ok, Err, refl}
 use Rattle.nix_drv.specs.declared.fault.Stop.{Stop}
-use Rattle.nix_drv.specs.declared.fault.Stop.TheVariants.{Memory, Left}
+use Rattle.nix_drv.specs.declared.fault.Stop.TheVariants.{NoMemory, Left}
 use Rattle.std.specs.Prelude.{codes}
 use Rattle.nix_drv.specs.Derivation.{comma, entry_form, input_form, build_form}
 use Rattle.nix_drv.specs.Grammar.{ListOrder, Rising, Free, Grammar, Value, Fixed, Str, Then, Many}
@@ -54,7 +54,7 @@ list_then bytes order g b s = after_fixed (fixed_at bytes s) (read (Many order g
 
 fails_on : {X Y : Type 0} (stop : Stop) (r : Result X ℕ) (f : X → Result Y ℕ) → Fails stop r
     → Fails stop (r >>= f)
-fails_on Memory r f fails = tt
+fails_on NoMemory r f fails = tt
 fails_on (Left left) r f fails = rw fails refl
 
 -- ---- fixed bytes

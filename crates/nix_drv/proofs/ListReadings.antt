@@ -3,7 +3,7 @@ use Rattle.std.proofs.Common.{◌≡◌, ℕ, suc, ◌≤◌, eqb, List, [], ◌
 use Rattle.std.proofs.lemmas.Bool.{cases_Bool}
 use Rattle.std.proofs.lemmas.List.{map-append}
 use Rattle.nix_drv.specs.declared.fault.Stop.{Stop}
-use Rattle.nix_drv.specs.declared.fault.Stop.TheVariants.{Memory, Left}
+use Rattle.nix_drv.specs.declared.fault.Stop.TheVariants.{NoMemory, Left}
 use Rattle.nix_drv.specs.declared.element.Next.{Next}
 use Rattle.nix_drv.specs.declared.element.Next.TheVariants.{Comma, End}
 use Rattle.nix_drv.specs.Grammar.{Grammar, Free, Many, IsClear}
@@ -72,7 +72,7 @@ pub element_fails : {A : Type 0} (one : List ℕ → Result (A × List ℕ) ℕ)
     → ((s : List ℕ) → left_of (one s) ≤ length s)
     → (stop : Stop) (items : List A) (s : List ℕ) (total : Result (List A × List ℕ) ℕ)
     → before items (elements_of one s) ≡ total → Fails stop (one s) → Fails stop total
-element_fails one h Memory items s total so_far fails = tt
+element_fails one h NoMemory items s total so_far fails = tt
 element_fails {A} one h (Left left) items s total so_far fails = sym so_far
     ∙ ap (before items)
     (open_sign one h s ∙ ap (λ (r : Result (A × List ℕ) ℕ). r >>= with_sign one) fails)
@@ -93,7 +93,7 @@ pub sign_fails : {A : Type 0} (one : List ℕ → Result (A × List ℕ) ℕ)
     (total : Result (List A × List ℕ) ℕ)
     → before items (elements_of one s) ≡ total → one s ≡ Ok (v, after) → Fails stop (sign_at after)
     → Fails stop total
-sign_fails one h Memory items s v after total so_far e fails = tt
+sign_fails one h NoMemory items s v after total so_far e fails = tt
 sign_fails {A} one h (Left left) items s v after total so_far e fails =
     sym (after_element one h items s v after total so_far e)
     ∙ ap (λ (r : Result (Next × List ℕ) ℕ). before items (r >>= follow (elements_of one) v))

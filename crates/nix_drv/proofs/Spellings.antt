@@ -1,19 +1,25 @@
 -- Strings are spelled by runs of plain bytes and single bytes; how long their texts are.
-use Rattle.std.proofs.Common.{◌≡◌, ℕ, zero, suc, ◌+◌, ◌-◌, ◌<◌, ◌≤◌, true, List, [], ◌∷◌, ◌++◌, length, get_or, take, drop, Option, Some, None, is_some, cond, Result, Ok, Err, refl, sym, ap, subst, ◌∙◌, append_assoc, arith, OnOk}
-use Rattle.std.specs.Prelude.{if◌then◌else◌, count_by}
+use Rattle.std.proofs.Common.{◌≡◌, ℕ, zero, suc, ◌+◌, ◌-◌, ◌<◌, ◌≤◌, true, List, [], ◌∷◌, ◌++◌, length, get_or, take, drop, Option, Some, None, is_some, cond, Result, refl, sym, ap, ◌∙◌, append_assoc, arith, OnOk}
+use Rattle.std.specs.Prelude.{if◌then◌else◌, count_by, is_ok}
 use Rattle.std.specs.List.{flat_map}
-use Rattle.std.specs.Io.KnownBytes.{Appends}
-use Rattle.std.proofs.KnownBytes.{Appends-trans}
 use Rattle.std.proofs.lemmas.List.{append-nil, length-append, nil_from_length, take_all}
 use Rattle.std.proofs.lemmas.List.Sums.{sum_by-cons}
 use Rattle.nix_drv.specs.Strings.{spelled, spelling, is_plain, letter, string_text}
 use Rattle.nix_drv.specs.Passing.{behind}
 use Rattle.nix_drv.proofs.Strings.{spelling-plain}
+use Rattle.nix_drv.proofs.FormTexts.{added_last}
 use Rattle.nix_drv.proofs.Runs.{is_plain-true}
 
 pub by_letter_of : (b : ℕ) (l : Option ℕ) → l ≡ letter b → spelled b l ≡ spelling b
 unfolding spelling
 by_letter_of b l e = ap (spelled b) e
+
+-- a byte's spelling is added
+pub byte_added : {E : Type 0} (r : Result (Unit {0}) E) (old new : List ℕ) (b : ℕ) (l : Option ℕ)
+    → l ≡ letter b → new ≡ (if is_ok r then old ++ spelled b l else old)
+    → OnOk r (new ≡ old ++ spelling b)
+byte_added r old new b l e is = added_last r old new (spelled b l) (old ++ spelling b)
+    (ap (λ (t : List ℕ). old ++ t) (by_letter_of b l e)) is
 
 -- a run of plain bytes is spelled as itself
 pub spelled_run : (n : ℕ) (s : List ℕ) → n ≤ length s
@@ -81,42 +87,27 @@ last_spelled part rest run special n total fits plain so_far run_is special_is s
     ∙ ap (λ (t : List ℕ). take n rest ++ flat_map spelling t) none ∙ append-nil (take n rest) in
     ap (λ (t : List ℕ). part ++ t) (run_is ∙ sym whole) ∙ so_far
 
--- of a string the quote and some spellings are written, and the rest is left
-pub record IsBegun (old new : Option (List ℕ)) (rest bytes : List ℕ) : Type 0 where
-  pub part : List ℕ
-  pub written : Appends old new part
-  pub left : part ++ flat_map spelling rest ≡ 34 ∷ flat_map spelling bytes
-
--- a run and the byte behind it were written
-pub run_written : (a b c d : Option (List ℕ)) (rest bytes run special : List ℕ) (n byte : ℕ)
-    → IsBegun a b rest bytes → n ≤ length rest
+-- a run and the byte behind it were added
+pub run_written : (old added new rest run special : List ℕ) (n byte : ℕ) (total : List ℕ)
+    → old ++ flat_map spelling rest ≡ total → n ≤ length rest
     → ((k : ℕ) → k < n → is_plain (get_or rest k 0) ≡ true)
     → run ≡ take n rest → special ≡ drop n rest → 1 ≤ length special → byte ≡ get_or special 0 0
-    → Appends b c run → Appends c d (spelling byte)
-    → IsBegun a d (take (length special - 1) (drop 1 special)) bytes
-run_written a b c d rest bytes run special n byte begun fits plain run_is special_is long byte_is
-    more new = record {
-      part = begun.part ++ run ++ spelling byte;
-      written = Appends-trans a c d (begun.part ++ run) (spelling byte)
-          (Appends-trans a b c begun.part run begun.written more) new;
-      left = run_spelled begun.part rest run special n byte (34 ∷ flat_map spelling bytes) fits
-          plain begun.left run_is special_is long byte_is;
-    }
+    → added ≡ old ++ run → new ≡ added ++ spelling byte
+    → new ++ flat_map spelling (take (length special - 1) (drop 1 special)) ≡ total
+run_written old added new rest run special n byte total begun fits plain run_is special_is long
+    byte_is added_is new_is = rw (new_is, added_is)
+    (run_spelled old rest run special n byte total fits plain begun run_is special_is long byte_is)
 
--- the last run and the quote were written, where nothing failed
-pub last_written : {E : Type 0} (r : Result (Unit {0}) E) (a b c d : Option (List ℕ))
-    (rest bytes run special : List ℕ) (n : ℕ) → IsBegun a b rest bytes → n ≤ length rest
+-- the last run and the quote behind it are the string's
+pub last_written : (base old added rest bytes run special : List ℕ) (n : ℕ)
+    → old ++ flat_map spelling rest ≡ base ++ (34 ∷ flat_map spelling bytes) → n ≤ length rest
     → ((k : ℕ) → k < n → is_plain (get_or rest k 0) ≡ true)
-    → run ≡ take n rest → special ≡ drop n rest → length special < 1 → Appends b c run
-    → OnOk r (Appends c d (34 ∷ []))
-    → OnOk r (Appends a d (string_text bytes))
-last_written (Ok x) a b c d rest bytes run special n begun fits plain run_is special_is short more
-    new =
-    let all : begun.part ++ run ≡ 34 ∷ flat_map spelling bytes =
-    last_spelled begun.part rest run special n (34 ∷ flat_map spelling bytes) fits plain
-    begun.left run_is special_is short in
-    subst (λ (t : List ℕ). Appends a d (t ++ 34 ∷ [])) all
-    (Appends-trans a c d (begun.part ++ run) (34 ∷ [])
-    (Appends-trans a b c begun.part run begun.written more) new)
-last_written (Err x) a b c d rest bytes run special n begun fits plain run_is special_is short more
-    new = tt
+    → run ≡ take n rest → special ≡ drop n rest → length special < 1 → added ≡ old ++ run
+    → added ++ 34 ∷ [] ≡ base ++ string_text bytes
+last_written base old added rest bytes run special n begun fits plain run_is special_is short
+    added_is =
+    let all : old ++ run ≡ base ++ (34 ∷ flat_map spelling bytes) =
+    last_spelled old rest run special n (base ++ (34 ∷ flat_map spelling bytes)) fits plain begun
+    run_is special_is short in
+    ap (λ (t : List ℕ). t ++ 34 ∷ []) (added_is ∙ all)
+    ∙ append_assoc base (34 ∷ flat_map spelling bytes) (34 ∷ [])

@@ -1,11 +1,11 @@
 -- What a function of the program returned, beside what reading the same bytes gives.
 use Rattle.std.specs.Prelude.{◌≡◌, ℕ, Result, Ok, Err}
 use Rattle.nix_drv.specs.declared.fault.Stop.{Stop}
-use Rattle.nix_drv.specs.declared.fault.Stop.TheVariants.{Memory, Left}
+use Rattle.nix_drv.specs.declared.fault.Stop.TheVariants.{NoMemory, Left}
 
 -- it stopped where reading does, unless memory was refused
 abbrev pub Fails : {Y : Type 0} → Stop → Result Y ℕ → Type 0
-Fails Memory reading = Unit {0}
+Fails NoMemory reading = Unit {0}
 Fails (Left left) reading = reading ≡ Err left
 
 -- it gave what reading gives, seen by view, unless memory was refused

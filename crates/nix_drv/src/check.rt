@@ -11,7 +11,7 @@ use crate::derivation::Derivation;
 use crate::element::Element;
 use crate::fault::DrvFault;
 use crate::reading::read;
-use crate::text_paths::text_path;
+use crate::text_paths::named_text_path;
 use nix_names::{NameFault, StoreDir, StorePath, is_drv_name, parse_path};
 use std::alloc::Global;
 
@@ -55,11 +55,7 @@ fn own_path(
     ensures err { IfErr result (IsStrayFault dir.now (paths_of drv.now)) }
 {
     let refs = references(alloc, dir, drv)?;
-    match text_path(alloc, dir, name, bytes, &refs) {
-        Ok(own) => Ok(own),
-        // Under a name only memory can be refused.
-        Err(_) => Err(DrvFault::NoMemory),
-    }
+    Ok(named_text_path(alloc, dir, name, bytes, &refs)?)
 }
 
 /// The paths of a derivation's inputs and sources, as references of its text: rising, each once.
@@ -110,7 +106,9 @@ fn parse_reference(alloc: Global, dir: &StoreDir, text: &[u8]) -> Result<StorePa
 {
     match parse_path(alloc, dir, text) {
         Ok(path) => Ok(path),
-        Err(fault) if fault == NameFault::NoMemory => Err(DrvFault::NoMemory),
-        Err(_) => Err(DrvFault::BadReference(Vec::from_slice(alloc, text)?)),
+        Err(fault) => match fault {
+            NameFault::NoMemory => Err(DrvFault::NoMemory),
+            _ => Err(DrvFault::BadReference(Vec::from_slice(alloc, text)?)),
+        },
     }
 }

@@ -1,8 +1,6 @@
 //! Why bytes are no derivation, or none that stands at its own path.
 ghost use Rattle.std.specs.Prelude.{◌≡◌};
 ghost use Rattle.nix_drv.specs.Outcome.{number_of};
-ghost use Rattle.nix_drv.specs.declared.fault.DrvFault.TheVariants.{NoMemory};
-ghost use Rattle.nix_drv.specs.declared.fault.Stop.TheVariants.{Memory};
 
 use nix_names::StorePath;
 use std::alloc::{AllocError, AllocFailed};
@@ -12,30 +10,30 @@ use thiserror::Error;
 #[derive(Debug, Drop, Error)]
 pub enum DrvFault {
     /// Memory was refused.
-    #[error("out of memory")]
+    #[error("memory was refused")]
     NoMemory,
     /// The bytes are no text of the language. The place is the length of their longest
     /// beginning that can still become one.
-    #[error("no derivation from byte {0} on")]
+    #[error("the text is no derivation from byte {0} on")]
     Syntax(usize),
     /// The element at the place isn't greater than the one before it, as its list demands. It is
     /// the first such element of the text.
-    #[error("out of order at byte {0}")]
+    #[error("the element at byte {0} is out of order")]
     Order(usize),
     /// The text is longer than 4,194,304 bytes.
-    #[error("longer than 4,194,304 bytes")]
+    #[error("the text has more than 4,194,304 bytes")]
     TooLong,
     /// The text's own path, which is not the path at which it stands.
     #[error("the derivation stands at another path than its own")]
     TextPathMismatch(StorePath),
     /// The path's name is not that of a derivation's file.
-    #[error("the name is no derivation's name")]
+    #[error("the name is not that of a derivation's file")]
     NotADrvName,
     /// The parts break an order rule.
     #[error("the parts are not sorted")]
     NotSorted,
     /// The first reference that is no path of the store folder, as it stands in the text.
-    #[error("a reference is no path of the store folder")]
+    #[error("a reference is not a path of the store folder")]
     BadReference(Vec<u8>),
 }
 
@@ -58,6 +56,8 @@ impl DrvFault {
 }
 
 impl From<AllocError> for DrvFault {
+    ghost use Rattle.nix_drv.specs.declared.fault.DrvFault.TheVariants.{NoMemory};
+
     ghost from_gives = { λ _ e. e ≡ NoMemory };
 
     fn from(_e: AllocError) -> DrvFault {
@@ -66,6 +66,8 @@ impl From<AllocError> for DrvFault {
 }
 
 impl<T: Drop> From<AllocFailed<T>> for DrvFault {
+    ghost use Rattle.nix_drv.specs.declared.fault.DrvFault.TheVariants.{NoMemory};
+
     ghost from_gives = { λ _ e. e ≡ NoMemory };
 
     fn from(_e: AllocFailed<T>) -> DrvFault {
@@ -77,23 +79,27 @@ impl<T: Drop> From<AllocFailed<T>> for DrvFault {
 #[derive(Debug, Drop)]
 pub(crate) enum Stop {
     // Memory was refused.
-    Memory,
+    NoMemory,
     // So many bytes lie behind the longest beginning that can still become a text.
     Left(usize),
 }
 
 impl From<AllocError> for Stop {
-    ghost from_gives = { λ _ e. e ≡ Memory };
+    ghost use Rattle.nix_drv.specs.declared.fault.Stop.TheVariants.{NoMemory};
+
+    ghost from_gives = { λ _ e. e ≡ NoMemory };
 
     fn from(_e: AllocError) -> Stop {
-        Stop::Memory
+        Stop::NoMemory
     }
 }
 
 impl<T: Drop> From<AllocFailed<T>> for Stop {
-    ghost from_gives = { λ _ e. e ≡ Memory };
+    ghost use Rattle.nix_drv.specs.declared.fault.Stop.TheVariants.{NoMemory};
+
+    ghost from_gives = { λ _ e. e ≡ NoMemory };
 
     fn from(_e: AllocFailed<T>) -> Stop {
-        Stop::Memory
+        Stop::NoMemory
     }
 }

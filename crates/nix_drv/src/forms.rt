@@ -16,7 +16,7 @@ use crate::derivation::{EnvEntry, Input, Output, Parts};
 use crate::element::{Element, Order, copy_list, pass_list, read_list, write_list};
 use crate::fault::Stop;
 use crate::reading::{fixed_of, str_of};
-use crate::writing::{pass_str, write_str};
+use crate::writing::{pass_str, write_string};
 use std::alloc::{AllocError, Global};
 
 // A string behind the bytes that are wanted.
@@ -64,7 +64,7 @@ fn write_str_behind(mark: &[u8], bytes: &[u8], out: &mut Vec<u8>) -> Result<(), 
         (out.new.items ≡ out.old.items ++ (mark.now ++ string_text bytes.now)) }
 {
     out.extend_from_slice(mark)?;
-    write_str(bytes, out)
+    write_string(out, bytes)
 }
 
 // Adds the mark and the strings' texts with a comma between.
@@ -116,7 +116,7 @@ impl Element for Vec<u8> {
 
     #[tactic(auto, unfolding(crate::specs::Grammar::text))]
     fn write(&self, out: &mut Vec<u8>) -> Result<(), AllocError> {
-        write_str(self, out)
+        write_string(out, self)
     }
 
     fn copy(&self, alloc: Global) -> Result<Self, AllocError> {

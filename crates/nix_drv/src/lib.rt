@@ -36,5 +36,5 @@ pub use fault::DrvFault;
 pub use listing::{ListSource, ListedFile};
 pub use reading::{MAX_LEN, read};
 pub use source::{DrvSource, SourceFault};
-pub use text_paths::text_path;
+pub use text_paths::{named_text_path, text_path};
 pub use writing::{write, write_string};

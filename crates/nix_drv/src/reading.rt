@@ -109,6 +109,6 @@ pub fn read(alloc: Global, input: &[u8]) -> Result<Derivation, DrvFault>
             }
         }
         Err(Stop::Left(left)) => Err(DrvFault::Syntax(input.len() - left)),
-        Err(Stop::Memory) => Err(DrvFault::NoMemory),
+        Err(Stop::NoMemory) => Err(DrvFault::NoMemory),
     }
 }

@@ -1,18 +1,17 @@
 //! The store path of a text with references.
-ghost use Rattle.std.specs.Prelude.{◌≡◌, Some, None, IfOk, if◌then◌else◌};
+ghost use Rattle.std.specs.Prelude.{◌≡◌, Some, None, IfOk, IsTrue, if◌then◌else◌};
 ghost use Rattle.nix_names.specs.Answers.{Answers};
 ghost use Rattle.nix_names.specs.Names.{is_name};
 ghost use Rattle.nix_names.specs.Rising.{IsRising};
 ghost use Rattle.nix_drv.specs.OwnPath.{text_kind, text_path};
 
-use nix_names::{NameFault, StoreDir, StorePath, is_name, make_path};
+use nix_names::{NameFault, StoreDir, StorePath, is_name, make_named_path};
 use sha2::{Digest, Sha256};
 use std::alloc::{AllocError, Global};
 
 /// The path of a text in a store folder: its name, its bytes, and its references in rising order,
 /// each once. `BadName` where the name is none. Costs one SHA-256 over the bytes, one over the
 /// fingerprint, which holds the references, and one copy of the references.
-#[tactic(auto, unfolding(crate::specs::OwnPath::text_path))]
 pub fn text_path(
     alloc: Global,
     dir: &StoreDir,
@@ -27,8 +26,24 @@ pub fn text_path(
     if !is_name(name) {
         return Err(NameFault::BadName);
     }
+    Ok(named_text_path(alloc, dir, name, bytes, refs)?)
+}
+
+/// The path of `text_path`, of a name that is known to be one. Costs the same.
+#[tactic(auto, unfolding(crate::specs::OwnPath::text_path))]
+pub fn named_text_path(
+    alloc: Global,
+    dir: &StoreDir,
+    name: &[u8],
+    bytes: &[u8],
+    refs: &[StorePath],
+) -> Result<StorePath, AllocError>
+    requires rising { IsRising refs.now }
+    requires named { IsTrue (is_name name.now) }
+    ensures { IfOk result (λ path. path ≡ text_path dir.now name.now bytes.now refs.now) }
+{
     let kind = text_kind(alloc, refs)?;
-    make_path(alloc, &kind, &Sha256::digest(bytes), dir, name)
+    make_named_path(alloc, &kind, &Sha256::digest(bytes), dir, name)
 }
 
 // The type of a text path: `text`, then each reference behind a colon.

@@ -1,7 +1,6 @@
 //! Writing a derivation's text.
 
 ghost use Rattle.std.specs.Prelude.{◌≡◌, ◌++◌, OnOk, is_some, length, count_by};
-ghost use Rattle.std.specs.Io.KnownBytes.{Appends};
 ghost use Rattle.nix_drv.specs.Strings.{spelling, string_text, letter};
 ghost use Rattle.nix_drv.specs.Passing.{behind};
 ghost use Rattle.nix_drv.specs.Outcome.{IsWriting};
@@ -10,44 +9,34 @@ use crate::derivation::Derivation;
 use crate::escapes::{letter_of, plain_len};
 use crate::fault::DrvFault;
 use std::alloc::{AllocError, Global};
-use std::io::{self, Write};
 
-// Writes the byte as a string spells it.
-fn write_byte<W: Write>(out: &mut W, byte: u8) -> io::Result<()>
-    ensures { OnOk result (Appends (W.contents out.old) (W.contents out.new) (spelling byte)) }
+// Adds the byte as a string spells it.
+fn write_byte(out: &mut Vec<u8>, byte: u8) -> Result<(), AllocError>
+    ensures { OnOk result (out.new.items ≡ out.old.items ++ spelling byte) }
 {
     match letter_of(byte) {
-        Some(letter) => out.write_all(&[b'\\', letter]),
-        None => out.write_all(&[byte]),
+        Some(letter) => out.extend_from_slice(&[b'\\', letter]),
+        None => out.extend_from_slice(&[byte]),
     }
 }
 
-/// Writes a string as a derivation's text spells it, with its quotes. Takes time in proportion to
-/// the bytes, and refuses only where the writer does.
-pub fn write_string<W: Write>(out: &mut W, bytes: &[u8]) -> io::Result<()>
-    ensures { OnOk result
-        (Appends (W.contents out.old) (W.contents out.new) (string_text bytes.now)) }
+/// Adds a string as a derivation's text spells it, with its quotes. Takes time in proportion to the
+/// bytes. Want of memory is its only fault.
+pub fn write_string(out: &mut Vec<u8>, bytes: &[u8]) -> Result<(), AllocError>
+    ensures { OnOk result (out.new.items ≡ out.old.items ++ string_text bytes.now) }
 {
-    out.write_all(b"\"")?;
+    out.extend_from_slice(b"\"")?;
     let mut rest = bytes;
     'runs: loop {
         let (run, special) = rest.split_at(plain_len(rest));
-        out.write_all(run)?;
+        out.extend_from_slice(run)?;
         let [byte, behind @ ..] = special else {
             break;
         };
         write_byte(out, *byte)?;
         rest = behind;
     }
-    out.write_all(b"\"")
-}
-
-// Adds the string's text.
-pub(crate) fn write_str(bytes: &[u8], out: &mut Vec<u8>) -> Result<(), AllocError>
-    ensures { OnOk result (out.new.items ≡ out.old.items ++ string_text bytes.now) }
-{
-    // A vector refuses only for want of memory.
-    write_string(out, bytes).map_err(|_| AllocError)
+    out.extend_from_slice(b"\"")
 }
 
 // How many of the bytes take an escape.

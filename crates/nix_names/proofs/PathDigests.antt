@@ -1,5 +1,5 @@
 -- Hash parts made from digests.
-use Rattle.std.proofs.Common.{◌≡◌, ◌<◌, ◌≤◌, ℕ, true, List, length, reverse, drop, bit_xor, refl, ap, sym, ◌∙◌, lit<, Option, None, Result, Ok, Err, inr, IfOk, IfErr}
+use Rattle.std.proofs.Common.{◌≡◌, ◌<◌, ◌≤◌, ℕ, true, List, length, reverse, drop, bit_xor, refl, ap, sym, ◌∙◌, lit<}
 use Rattle.std.specs.Int.Bits.{xor_zero_r}
 use Rattle.std.proofs.lemmas.Bool.{and_from, eq-eqb}
 use Rattle.std.proofs.lemmas.List.{drop_all}
@@ -10,9 +10,6 @@ use Rattle.std.proofs.lemmas.List.FromFn.{length-map-range_with_len}
 use Rattle.nix_names.specs.Base32.{base32, digit_char, digits_of, is_digit, number, text_len}
 use Rattle.nix_names.specs.StorePaths.{IsPathOf, fingerprint, fold, folded_at, is_hash_part, path_text, store_path}
 use Rattle.nix_names.specs.Names.{is_name}
-use Rattle.nix_names.specs.Answers.{Answers}
-use Rattle.nix_names.specs.declared.fault.NameFault.{NameFault}
-use Rattle.nix_names.specs.declared.fault.NameFault.TheVariants.{NoMemory}
 use Rattle.nix_names.proofs.Base32Chars.{is_digit_digit_char}
 use Rattle.nix_names.proofs.Base32Digits.{digits_of_below}
 use Rattle.nix_names.proofs.Base32Reading.{All-reverse}
@@ -54,13 +51,6 @@ pub store_path_is_path : (kind inner dir name : List ℕ) → is_name name ≡ t
     → IsPathOf dir (store_path kind inner dir name)
 unfolding store_path
 store_path_is_path kind inner dir name named = path_of_parts dir _ name (hash_part_of_fold _) named
-
--- an answer with nothing to blame, from what is said of each outcome
-pub answers_of : {T : Type 0} (wrong : Option NameFault) (r : Result T NameFault) (P Q : T → Type 0)
-    → wrong ≡ None → ((x : T) → P x → Q x) → IfOk r P → IfErr r (λ e. e ≡ NoMemory)
-    → Answers wrong r Q
-answers_of wrong (Ok x) P Q none weaker ok err = (none, weaker x ok)
-answers_of wrong (Err e) P Q none weaker ok err = inr (none, err)
 
 -- the text of the path made of a hash part's text, as it was computed
 pub made_path : (kind inner dir name path digest folded hash : List ℕ) → path

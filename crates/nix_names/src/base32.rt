@@ -24,6 +24,14 @@ pub fn to_base32(alloc: Global, bytes: &[u8]) -> Result<String, NameFault>
     ensures stands { IfOk result (λ t. StandsFor (string_bytes t) bytes.now) }
     ensures only { IfErr result (λ e. e ≡ NameFault.NoMemory) }
 {
+    Ok(base32_text(alloc, bytes)?)
+}
+
+// The base-32 text of bytes.
+pub fn base32_text(alloc: Global, bytes: &[u8]) -> Result<String, AllocError>
+    ensures text { IfOk result (λ t. string_bytes t ≡ base32 bytes.now) }
+    ensures stands { IfOk result (λ t. StandsFor (string_bytes t) bytes.now) }
+{
     let len = text_len(bytes.len());
     let mut text = String::with_capacity(alloc, len)?;
     for i in 0..len {

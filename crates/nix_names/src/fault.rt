@@ -8,14 +8,14 @@ use thiserror::Error;
 /// Why a call on names refused.
 #[derive(Clone, Copy, Debug, PartialEq, Eq, Error)]
 pub enum NameFault {
-    /// A base-32 text that has not the length of so many bytes.
-    #[error("the text has not the length of so many bytes")]
+    /// A base-32 text whose length is wrong for the number of bytes.
+    #[error("the text's length is wrong for the number of bytes")]
     BadLength,
     /// The place, counted from 0, of the first byte that is no base-32 digit.
     #[error("byte {0} is no base-32 digit")]
     BadChar(usize),
-    /// A base-32 text whose number is too large for so many bytes.
-    #[error("the number is too large for so many bytes")]
+    /// A base-32 text whose number is too large for the number of bytes.
+    #[error("the text's number is too large for the number of bytes")]
     Overflow,
     /// A text that does not begin with the store folder and a slash.
     #[error("the path is not in the store folder")]
@@ -23,11 +23,11 @@ pub enum NameFault {
     /// What follows the store folder is not 32 base-32 digits and a dash.
     #[error("the path has no hash part")]
     BadHashPart,
-    /// Bytes that are no store path's name.
-    #[error("the name is no store path's name")]
+    /// Bytes that cannot be a store path's name.
+    #[error("the name cannot be a store path's name")]
     BadName,
-    /// Bytes that are no store folder.
-    #[error("the folder is no store folder")]
+    /// Bytes that cannot be a store folder.
+    #[error("the folder cannot be a store folder")]
     BadStoreDir,
     /// Memory was refused.
     #[error("memory was refused")]

@@ -22,7 +22,7 @@ mod store_path;
 
 pub use base32::{from_base32, to_base32};
 pub use fault::NameFault;
-pub use making::{fold20, make_path};
+pub use making::{fold20, make_named_path, make_path};
 pub use name::{is_drv_name, is_name};
 pub use store_dir::StoreDir;
-pub use store_path::{StorePath, parse_path};
+pub use store_path::{StorePath, known_path, parse_path};

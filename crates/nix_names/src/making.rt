@@ -1,11 +1,11 @@
 //! The path of a type, an inner digest, a folder and a name.
-ghost use Rattle.std.specs.Prelude.{◌≡◌, not, Some, None, if◌then◌else◌, IfOk};
+ghost use Rattle.std.specs.Prelude.{◌≡◌, not, Some, None, if◌then◌else◌, IfOk, IsTrue};
 ghost use Rattle.sha2.specs.Sha256.{sha256};
 ghost use Rattle.nix_names.specs.Answers.{Answers};
 ghost use Rattle.nix_names.specs.Names.{is_name};
 ghost use Rattle.nix_names.specs.StorePaths.{fingerprint, fold, path_text, store_path};
 
-use crate::base32::to_base32;
+use crate::base32::base32_text;
 use crate::fault::NameFault;
 use crate::name::is_name;
 use crate::store_dir::StoreDir;
@@ -40,8 +40,22 @@ pub fn make_path(
     if !is_name(name) {
         return Err(NameFault::BadName);
     }
+    Ok(make_named_path(alloc, kind, inner, dir, name)?)
+}
+
+/// The path of `make_path`, of a name that is known to be one. Costs the same.
+pub fn make_named_path(
+    alloc: Global,
+    kind: &[u8],
+    inner: &[u8; 32],
+    dir: &StoreDir,
+    name: &[u8],
+) -> Result<StorePath, AllocError>
+    requires { IsTrue (is_name name.now) }
+    ensures { IfOk result (λ path. path ≡ store_path kind.now inner.now dir.now name.now) }
+{
     let digest = fingerprint_digest(kind, inner, dir.text(), name);
-    let hash = to_base32(alloc, &fold20(&digest))?;
+    let hash = base32_text(alloc, &fold20(&digest))?;
     join_path(alloc, dir, hash.as_bytes(), name)
 }
 

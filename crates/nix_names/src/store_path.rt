@@ -81,10 +81,9 @@ impl StorePath {
     }
 
     /// The same path once more, at its one text. Costs no allocation and no pass: it counts one
-    /// more owner, so `NoMemory` comes only where the count is full, at 2^63.
-    pub fn copy(&self, _alloc: Global) -> Result<StorePath, NameFault>
+    /// more owner, so `AllocError` comes only where the count is full, at 2^63.
+    pub fn copy(&self, _alloc: Global) -> Result<StorePath, AllocError>
         ensures same { IfOk result (λ path. path ≡ self.now) }
-        ensures only { IfErr result (λ e. e ≡ NameFault.NoMemory) }
     {
         Ok(StorePath {
             text: self.text.clone()?,
@@ -151,6 +150,15 @@ pub fn parse_path(alloc: Global, dir: &StoreDir, text: &[u8]) -> Result<StorePat
         (path ≡ text.now) × IsPathOf dir.now text.now) }
 {
     check_path(dir.text(), text)?;
+    Ok(known_path(alloc, text)?)
+}
+
+/// The store path that is spelled by these bytes, which are known to be one. Costs one copy of the
+/// text in two allocations, and no pass to check it.
+pub fn known_path(alloc: Global, text: &[u8]) -> Result<StorePath, AllocError>
+    requires { IsStorePath text.now }
+    ensures { IfOk result (λ path. path ≡ text.now) }
+{
     Ok(StorePath {
         text: ArcSlice::from_slice(alloc, text)?,
     })
@@ -162,11 +170,10 @@ pub fn join_path(
     dir: &StoreDir,
     hash: &[u8],
     name: &[u8],
-) -> Result<StorePath, NameFault>
+) -> Result<StorePath, AllocError>
     requires is_hash { IsTrue (is_hash_part hash.now) }
     requires named { IsTrue (is_name name.now) }
-    ensures ok { IfOk result (λ path. path ≡ path_text dir.now hash.now name.now) }
-    ensures only { IfErr result (λ e. e ≡ NameFault.NoMemory) }
+    ensures { IfOk result (λ path. path ≡ path_text dir.now hash.now name.now) }
 {
     let text = join_text(alloc, dir.text(), hash, name)?;
     Ok(StorePath {

@@ -3,7 +3,7 @@ use Rattle.nix_drv.proofs.forms.write_str_behind.Goals as goal
 
 pub returns : goal.returns
 returns c =
-    on_ok c.write_str.result _ _
+    on_ok c.write_string.result _ _
     (λ h. behind_mark c.args.out.now.items c.extend_from_slice.new.self.items
-    c.write_str.new.out.items c.args.mark.now _ c.in_ok-extend_from_slice.ensures.items h)
-    c.write_str.ensures
+    c.write_string.new.out.items c.args.mark.now _ c.in_ok-extend_from_slice.ensures.items h)
+    c.write_string.ensures

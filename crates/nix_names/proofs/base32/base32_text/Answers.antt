@@ -3,7 +3,7 @@ use Rattle.std.proofs.lemmas.List.{take_all}
 use Rattle.nix_names.specs.Base32.{base32, StandsFor}
 use Rattle.nix_names.proofs.Base32Bits.{bytes_below}
 use Rattle.nix_names.proofs.Base32Texts.{length_base32, base32_push, base32_stands}
-use Rattle.nix_names.proofs.base32.to_base32.Goals as goal
+use Rattle.nix_names.proofs.base32.base32_text.Goals as goal
 
 pub loop-i-preserved : goal.loop-i-preserved
 loop-i-preserved c =

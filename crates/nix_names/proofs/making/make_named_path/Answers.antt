@@ -1,10 +1,10 @@
-use Rattle.std.proofs.Common.{ap, sym, ◌∙◌, Some, None, if◌then◌else◌}
+use Rattle.std.proofs.Common.{ap, ◌∙◌}
+use Rattle.std.proofs.lemmas.Result.{IfOk-weaker}
 use Rattle.sha2.specs.Sha256.{sha256}
 use Rattle.nix_names.specs.Base32.{base32}
 use Rattle.nix_names.specs.StorePaths.{fingerprint, is_hash_part}
-use Rattle.nix_names.specs.declared.fault.NameFault.TheVariants.{BadName}
-use Rattle.nix_names.proofs.PathDigests.{answers_of, hash_part_of_fold, made_path}
-use Rattle.nix_names.proofs.making.make_path.Goals as goal
+use Rattle.nix_names.proofs.PathDigests.{hash_part_of_fold, made_path}
+use Rattle.nix_names.proofs.making.make_named_path.Goals as goal
 
 pub join_path-requires-clause-is_hash : goal.join_path-requires-clause-is_hash
 join_path-requires-clause-is_hash c =
@@ -17,9 +17,7 @@ returns c =
     let digest_is = c.fingerprint_digest-digest.ensures
     ∙ ap (λ dir. sha256 (fingerprint c.args.kind.now c.args.inner.now dir c.args.name.now))
     c.text.ensures.value in
-    answers_of _ c.join_path.result _ _
-    (ap (λ b. if b then None else Some BadName)
-    (sym c.is_name.ensures ∙ c.if-not-is_name.false))
+    IfOk-weaker c.join_path.result _ _
     (λ path joined. made_path _ _ _ _ path _ _ _ joined
     (c.as_bytes.ensures.value ∙ c.in_ok-hash.ensures.text) c.fold20.ensures digest_is)
-    c.join_path.ensures.ok c.join_path.ensures.only
+    c.join_path.ensures
