@@ -2,7 +2,7 @@
 ghost use Rattle.std.specs.Prelude.{◌≡◌, ◌++◌, ◌∷◌, [], IfOk};
 ghost use Rattle.nix_names.specs.Rising.{IsRising};
 ghost use Rattle.ref_scan.specs.Scan.{IsFound};
-ghost use Rattle.ref_scan.specs.Trees.{joined, pieces};
+ghost use Rattle.ref_scan.specs.Trees.{Fits, joined, pieces};
 
 use crate::fault::ScanFault;
 use crate::scanner::Scanner;
@@ -16,13 +16,14 @@ use std::alloc::Global;
 ///
 /// The tree is walked once, whatever the number of paths; no file is copied. Takes memory for the
 /// permitted paths, for a table of their hash parts and for what is found. The walk recurses as
-/// deep as the tree is, so ask `Tree::fits` of a tree of unknown depth.
+/// deep as the tree is, which is why the tree has to fit (`Tree::fits` tells).
 pub fn scan(
     alloc: Global,
     tree: &Tree,
     permitted: &[StorePath],
 ) -> Result<Vec<StorePath>, ScanFault>
-    requires { IsRising permitted.now }
+    requires fits { Fits tree.now }
+    requires rising { IsRising permitted.now }
     ensures { IfOk result (λ found. IsFound tree.now permitted.now found.items) }
 {
     let mut scanner = Scanner::new(alloc, permitted)?;

@@ -108,7 +108,7 @@ impl Scanner {
         let mut found = Vec::new(alloc);
         for path in &permitted {
             if is_met(&index, &met, path) {
-                found.push(copy_of(alloc, path)?)?;
+                found.push(path.copy(alloc)?)?;
             }
         }
         Ok(found)
@@ -135,14 +135,7 @@ fn copies(alloc: Global, paths: &[StorePath]) -> Result<Vec<StorePath>, ScanFaul
 {
     let mut copies = Vec::with_capacity(alloc, paths.len())?;
     for path in paths {
-        copies.push(copy_of(alloc, path)?)?;
+        copies.push(path.copy(alloc)?)?;
     }
     Ok(copies)
-}
-
-// The same path once more.
-fn copy_of(alloc: Global, path: &StorePath) -> Result<StorePath, ScanFault>
-    ensures { IfOk result (λ copy. copy ≡ path.now) }
-{
-    path.copy(alloc).map_err(|_| ScanFault::NoMemory)
 }

@@ -1,6 +1,6 @@
 //! The rows of journals: which texts are read, what stands in them, what is written.
 use crate::paths::{is_written_as, read};
-use std::alloc::Global;
+use std::alloc::{AllocError, Global};
 use std::test::Fail;
 use valid_table::TableFault;
 
@@ -24,7 +24,7 @@ R /nix/store/aaaaaaaaaaaaaaaaaaaaaaaaaaaaaaaa-x
 // line, or 0 where it has none.
 type Reading = (&'static [u8], u8, usize);
 
-static READINGS: [Reading; 32] = [
+static READINGS: [Reading; 34] = [
     // Texts that are accepted.
     (b"", 0, 0),
     (b"realiser-journal 1\n", 0, 0),
@@ -49,6 +49,7 @@ A /nix/store/aaaaaaaaaaaaaaaaaaaaaaaaaaaaaaaa-x e3b0c44298fc1c149afbf4c8996fb924
     (b"realiser-journal 2\n", 33, 0),
     (b"realiser-journal 10\n", 33, 0),
     (b"realiser-journal 01\n", 33, 0),
+    (b"realiser-journal 2\n\n", 33, 0),
     (b"realiser-journal\n", 30, 1),
     (b"realiser-journal \n", 30, 1),
     (b"realiser-journal 2", 30, 1),
@@ -197,6 +198,15 @@ O /nix/store/aaaaaaaaaaaaaaaaaaaaaaaaaaaaaaaa-x -
     (
         b"realiser-journal 1
 A /nix/store/aaaaaaaaaaaaaaaaaaaaaaaaaaaaaaaa-x -
+A /nix/store/aaaaaaaaaaaaaaaaaaaaaaaaaaaaaaaa-x -
+R /nix/store/cccccccccccccccccccccccccccccccc-y
+",
+        32,
+        3,
+    ),
+    (
+        b"realiser-journal 1
+A /nix/store/aaaaaaaaaaaaaaaaaaaaaaaaaaaaaaaa-x -
 R /nix/store/cccccccccccccccccccccccccccccccc-y
 A /nix/store/aaaaaaaaaaaaaaaaaaaaaaaaaaaaaaaa-x -
 A -
@@ -244,6 +254,22 @@ fn read_texts(rt: HostRuntime) {
     for (text, number, count) in readings() {
         assert!(rt; reading(rt.alloc(), text) == Some((*number, *count)));
     }
+}
+
+// A text of so many bytes that begins as a journal of another version.
+fn long_text(alloc: Global, len: usize) -> Result<Vec<u8>, AllocError> {
+    let mut text = b"realiser-journal 2\n".to_vec(alloc)?;
+    text.resize(len, b'x')?;
+    Ok(text)
+}
+
+#[test]
+fn texts_at_the_limit(rt: HostRuntime) -> Result<(), Fail> {
+    for (len, number) in [(67_108_864, 33), (67_108_865, 35)] {
+        let text = long_text(rt.alloc(), len)?;
+        assert!(rt; reading(rt.alloc(), &text) == Some((number, 0)), "at {len}");
+    }
+    Ok(())
 }
 
 // Whether a beginning of the journal of two paths is read as it should be: where a line ends it is

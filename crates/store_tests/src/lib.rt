@@ -10,12 +10,15 @@
 //! | `path_lists` | outputs that are sorted, and unions of lists of paths |
 //! | `outlets` | the plain outlet |
 //! | `scans`, `random_scans` | which paths a tree refers to, and the limits of an output |
-//! | `many_paths` | thousands of entries, roots and permitted paths |
+//! | `many_paths` | as many entries, outputs, roots and permitted paths as a large store has |
+//! | `fault_words` | the number and the words of each fault |
 //! | `paths` | paths and journals that the tests are made of |
 #![tactic(auto)]
 
 #[cfg(test)]
 mod closures;
+#[cfg(test)]
+mod fault_words;
 #[cfg(test)]
 mod journal_texts;
 #[cfg(test)]

@@ -1,19 +1,22 @@
-//! Thousands of entries, roots and permitted paths.
+//! As many entries, outputs, roots and permitted paths as a large store has.
 use crate::paths::{P0, add, all_paths, are, is_written_as, path, read};
 use nix_names::StorePath;
 use ref_scan::{Tree, scan};
 use std::alloc::{AllocError, Global};
 use std::test::Fail;
-use valid_table::{Journal, Table};
+use valid_table::{Entry, Journal, ListOutlet, Table, union};
 
-const MANY: usize = 5_000;
+const MANY: usize = 200_000;
+
+// How many outputs the derivation has that has many.
+const OUTPUTS: usize = 64;
 
 // Path 2500, and the last one.
 const MIDDLE: &[u8] = b"/nix/store/00000000000000000000000000002500-x";
 
-const LAST: &[u8] = b"/nix/store/00000000000000000000000000004999-x";
+const LAST: &[u8] = b"/nix/store/00000000000000000000000000199999-x";
 
-const THREE_PARTS: &[u8] = b"00000000000000000000000000004999
+const THREE_PARTS: &[u8] = b"00000000000000000000000000199999
 00000000000000000000000000000000
 00000000000000000000000000002500
 ";
@@ -59,8 +62,15 @@ fn is_chain(alloc: Global, text: &[u8]) -> Result<bool, Fail> {
     Ok(
         journal.entries().len() == MANY
             && is_written_as(alloc, &journal, text)
-            && is_written_as(alloc, &chain(alloc)?, text),
+            && is_written_as(alloc, &chain(alloc)?, text)
+            && shown(alloc, &journal.copy(alloc)?)? == MANY,
     )
+}
+
+// How many entries an outlet shows that is opened with the journal.
+fn shown(alloc: Global, journal: &Journal) -> Result<usize, Fail> {
+    let outlet = ListOutlet::open(alloc, journal)?;
+    Ok(outlet.shown().len())
 }
 
 #[test]
@@ -90,15 +100,16 @@ fn chain_paths(alloc: Global) -> Result<Vec<StorePath>, Fail> {
 fn leads_to_all(alloc: Global, table: &Table, paths: &[StorePath]) -> Result<bool, Fail> {
     let of_all = table.closure(alloc, paths)?;
     let of_last = table.closure(alloc, &all_paths(alloc, &[LAST])?)?;
-    Ok(of_all.as_slice() == paths && of_last.as_slice() == paths)
+    let both = union(alloc, &of_all, &of_last)?;
+    let are_all = of_all.as_slice() == paths && of_last.as_slice() == paths;
+    Ok(are_all && both.as_slice() == paths)
 }
 
 // Whether a file that holds the hash parts of three paths refers to just these, of all paths.
 fn finds_three(alloc: Global, table: &Table) -> Result<bool, Fail> {
     let permitted = table.closure(alloc, &all_paths(alloc, &[LAST])?)?;
     let tree = Tree::File(THREE_PARTS.to_vec(alloc)?);
-    let found = scan(alloc, &tree, &permitted)?;
-    Ok(are(&found, &[P0, MIDDLE, LAST]))
+    Ok(tree.fits() && are(&scan(alloc, &tree, &permitted)?, &[P0, MIDDLE, LAST]))
 }
 
 #[test]
@@ -106,5 +117,46 @@ fn many_roots_and_permitted_paths(rt: HostRuntime) -> Result<(), Fail> {
     let table = chain_table(rt.alloc())?;
     assert!(rt; leads_to_all(rt.alloc(), &table, &chain_paths(rt.alloc())?)?);
     assert!(rt; finds_three(rt.alloc(), &table)?);
+    Ok(())
+}
+
+// The text of a journal with the outputs of one derivation, each of which refers to itself.
+fn outputs_text(alloc: Global) -> Result<String, AllocError> {
+    let mut text = String::new(alloc);
+    text.push_str("realiser-journal 1\nD /nix/store/00000000000000000000000000000000-x.drv\n")?;
+    for n in 0..OUTPUTS {
+        let lines = format!(in alloc; "O /nix/store/{n:032}-x -\nR /nix/store/{n:032}-x\n")?;
+        text.push_str(&lines)?;
+    }
+    Ok(text)
+}
+
+// How many outputs are valid in a table that takes in the entries of this text.
+fn valid_outputs(alloc: Global, text: &[u8]) -> Result<usize, Fail> {
+    let journal = read(alloc, text)?;
+    let mut table = Table::new(alloc);
+    let mut outputs = 0;
+    for entry in journal.entries() {
+        table.register(entry)?;
+        outputs = valid_in(&table, entry);
+    }
+    Ok(outputs)
+}
+
+// How many of an entry's paths are valid.
+fn valid_in(table: &Table, entry: &Entry) -> usize {
+    entry
+        .registrations()
+        .iter()
+        .filter(|output| table.registers(&output.path))
+        .count()
+}
+
+#[test]
+fn many_outputs(rt: HostRuntime) -> Result<(), Fail> {
+    let text = outputs_text(rt.alloc())?;
+    let journal = read(rt.alloc(), text.as_bytes())?;
+    assert!(rt; is_written_as(rt.alloc(), &journal, text.as_bytes()));
+    assert_eq!(rt; valid_outputs(rt.alloc(), text.as_bytes())?, OUTPUTS);
     Ok(())
 }

@@ -300,7 +300,7 @@ fn limits_of_an_output(rt: HostRuntime) -> Result<(), Fail> {
 fn refers(alloc: Global, row: &Row) -> Result<bool, Fail> {
     let tree = made(alloc, &row.tree)?;
     let permitted = rising(alloc, row.permitted)?;
-    Ok(are(&scan(alloc, &tree, &permitted)?, row.found))
+    Ok(tree.fits() && are(&scan(alloc, &tree, &permitted)?, row.found))
 }
 
 #[test]

@@ -299,7 +299,7 @@ module _ (entries : List Entry) (i : ℕ) (entry : Entry) (lt : i < length entri
         least_fault entries (take i entries) entry (drop (i + 1) entries) line place n
             (parts_at entries i entry lt is) right up at,
       )
-  first_fault first NoMemory right number check = tt
+  first_fault first NoMemory right number check = λ none. absurd (omega (arith, lt, ap length none))
   first_fault first other right number check = check
 
   -- its lines and those before it are no more than all

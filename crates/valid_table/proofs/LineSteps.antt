@@ -4,7 +4,7 @@ use Rattle.std.proofs.lemmas.List.{append-nil, append_assoc}
 use Rattle.valid_table.specs.LineTexts.{lines_text}
 use Rattle.valid_table.specs.Readers.{StopsWhere}
 use Rattle.valid_table.specs.declared.reading.Stop.{Stop}
-use Rattle.valid_table.specs.declared.reading.Stop.TheVariants.{Memory, Left}
+use Rattle.valid_table.specs.declared.reading.Stop.TheVariants.{NoMemory, Left}
 use Rattle.valid_table.specs.Steps.{Place, Ahead, Goes, MayStand, Stops, behind}
 use Rattle.valid_table.specs.Texts.{Line, line_text}
 use Rattle.valid_table.proofs.LineLists.{IsBackward}
@@ -50,5 +50,5 @@ stops_in dir from lines bytes rest left parts h = search (rules, append-nil)
 -- what follows from where a reader stopped
 pub stops_where : (P Q : ℕ → Type 0) → ((left : ℕ) → P left → Q left) → (stop : Stop)
     → StopsWhere P stop → StopsWhere Q stop
-stops_where P Q weaker Memory h = tt
+stops_where P Q weaker NoMemory h = tt
 stops_where P Q weaker (Left left) h = weaker left h

@@ -11,7 +11,7 @@ use Rattle.valid_table.specs.declared.entry.Entry.{Entry}
 use Rattle.valid_table.specs.declared.entry.Entry.TheVariants.{Add, Done}
 use Rattle.valid_table.specs.declared.entry.Registration.{Registration}
 use Rattle.valid_table.specs.declared.reading.Stop.{Stop}
-use Rattle.valid_table.specs.declared.reading.Stop.TheVariants.{Memory, Left}
+use Rattle.valid_table.specs.declared.reading.Stop.TheVariants.{NoMemory, Left}
 
 -- no line with this letter begins there
 abbrev pub IsNoLine : ℕ → List ℕ → Type 0
@@ -19,7 +19,7 @@ IsNoLine letter bytes = (rest : List ℕ) → bytes ≢ letter ∷ 32 ∷ rest
 
 -- a reader stopped with so many bytes left, of which this holds, or memory was refused
 abbrev pub StopsWhere : (ℕ → Type 0) → Stop → Type 0
-StopsWhere Where Memory = Unit {0}
+StopsWhere Where NoMemory = Unit {0}
 StopsWhere Where (Left left) = Where left
 
 -- The bytes are a path of the store folder, a newline and the rest.

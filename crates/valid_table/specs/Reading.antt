@@ -1,6 +1,6 @@
 -- What `Journal::read` answers for the bytes of a file, case by case. The cases exclude one
 -- another, want of memory apart.
-use Rattle.std.specs.Prelude.{◌≡◌, ◌≤◌, ◌<◌, ℕ, List, length, Result, Ok, Err}
+use Rattle.std.specs.Prelude.{◌≡◌, ◌≢◌, ◌≤◌, ◌<◌, ℕ, List, [], ◌++◌, codes, length, Result, Ok, Err}
 use Rattle.valid_table.specs.BadLines.{IsBadLine, IsOtherVersion}
 use Rattle.valid_table.specs.LineFaults.{IsLeastFault, IsNotClosedAt, IsTwiceAt}
 use Rattle.valid_table.specs.Tables.{JournalValue}
@@ -14,12 +14,16 @@ use Rattle.valid_table.specs.declared.fault.TableFault.TheVariants.{NoMemory, Ba
 abbrev pub max_len : ℕ
 max_len = 67108864
 
+-- the bytes begin with the line of version 1
+abbrev pub BeginsVersion : List ℕ → Type 0
+BeginsVersion bytes = (rest : List ℕ) × (bytes ≡ codes "realiser-journal 1\n" ++ rest)
+
 -- what is answered for entries whose text was read
 abbrev pub IsChecking : List Entry → Result (List Entry) TableFault → Type 0
 IsChecking entries (Ok journal) = (journal ≡ entries) × IsJournal entries
 IsChecking entries (Err (NotClosed n)) = IsNotClosedAt entries n × IsLeastFault entries n
 IsChecking entries (Err (Twice n)) = IsTwiceAt entries n × IsLeastFault entries n
-IsChecking entries (Err NoMemory) = Unit {0}
+IsChecking entries (Err NoMemory) = entries ≢ []
 IsChecking entries (Err fault) = ⊥
 
 -- The bytes are the text of some entries, and what is answered is what these say.
@@ -34,11 +38,13 @@ abbrev pub answered : Result JournalValue TableFault → Result (List Entry) Tab
 answered (Ok journal) = Ok journal.entries
 answered (Err fault) = Err fault
 
--- what is answered for bytes
+-- What is answered for bytes. Memory is refused only where they are within the limit and begin with
+-- the line of version 1.
 abbrev pub IsReading : (dir bytes : List ℕ) → Result (List Entry) TableFault → Type 0
 IsReading dir bytes (Err TooLong) = max_len < length bytes
 IsReading dir bytes (Err WrongVersion) = (length bytes ≤ max_len) × IsOtherVersion bytes
 IsReading dir bytes (Err (BadLine n)) = (length bytes ≤ max_len) × (IsOtherVersion bytes → ⊥)
     × IsBadLine dir bytes n
 IsReading dir bytes (Err NoMemory) = (length bytes ≤ max_len) × (IsOtherVersion bytes → ⊥)
+    × BeginsVersion bytes
 IsReading dir bytes answer = IsReadAs dir bytes answer

@@ -6,7 +6,7 @@ ghost use Rattle.valid_table.specs.Closure.{IsClosing};
 ghost use Rattle.valid_table.specs.Tables.{registrations_of};
 ghost use Rattle.valid_table.specs.Valid.{IsOnce, IsValid};
 
-use crate::entry::{Record, copy_path};
+use crate::entry::Record;
 use crate::fault::TableFault;
 use indexmap::{IndexMap, IndexSet};
 use nix_names::StorePath;
@@ -41,7 +41,7 @@ fn root_rows(
     let mut found = IndexSet::new(alloc);
     for root in roots {
         let Some(row) = row_of(rows, root) else {
-            return Err(TableFault::NotValid(copy_path(alloc, root)?));
+            return Err(TableFault::NotValid(root.copy(alloc)?));
         };
         found.insert(row)?;
     }
@@ -111,7 +111,7 @@ fn sorted_paths(
     let texts = rows.keys();
     let mut paths = Vec::with_capacity(alloc, found.len())?;
     for row in found.as_slice() {
-        paths.push(copy_path(alloc, &texts[*row])?)?;
+        paths.push(texts[*row].copy(alloc)?)?;
     }
     paths.sort_unstable();
     Ok(paths)

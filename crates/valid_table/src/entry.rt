@@ -6,8 +6,7 @@ ghost use Rattle.nix_names.specs.Rising.{IsRising};
 ghost use Rattle.valid_table.specs.Entries.{IsSortedOf, paths_of, registered_by};
 ghost use Rattle.valid_table.specs.Valid.{IsOnce};
 
-use crate::fault::TableFault;
-use nix_names::{NameFault, StorePath};
+use nix_names::StorePath;
 use std::alloc::{AllocError, Global};
 use std::marker::Model;
 use std::slice;
@@ -67,11 +66,10 @@ impl Record {
         self.digest
     }
 
-    /// The same record again, with the same list of references. Answers `NoMemory` where the list
-    /// can have no more owners, and no other fault.
-    pub fn copy(&self, _alloc: Global) -> Result<Record, TableFault>
+    /// The same record again, with the same list of references. Fails only where the list can have
+    /// no more owners.
+    pub fn copy(&self, _alloc: Global) -> Result<Record, AllocError>
         ensures ok { IfOk result (λ r. r ≡ self.now) }
-        ensures err { IfErr result (λ e. e ≡ TableFault.NoMemory) }
     {
         let references = match &self.references {
             None => None,
@@ -94,13 +92,12 @@ pub struct Registration {
 }
 
 impl Registration {
-    /// The same registration again. Answers `NoMemory` where memory is refused, and no other fault.
-    pub fn copy(&self, alloc: Global) -> Result<Registration, TableFault>
+    /// The same registration again. Want of memory is its only fault.
+    pub fn copy(&self, alloc: Global) -> Result<Registration, AllocError>
         ensures ok { IfOk result (λ r. r ≡ self.now) }
-        ensures err { IfErr result (λ e. e ≡ TableFault.NoMemory) }
     {
         Ok(Registration {
-            path: copy_path(alloc, &self.path)?,
+            path: self.path.copy(alloc)?,
             info: self.info.copy(alloc)?,
         })
     }
@@ -168,10 +165,9 @@ impl Outputs {
         self.registrations
     }
 
-    /// The same outputs again. Answers `NoMemory` where memory is refused, and no other fault.
-    pub fn copy(&self, alloc: Global) -> Result<Outputs, TableFault>
+    /// The same outputs again. Want of memory is its only fault.
+    pub fn copy(&self, alloc: Global) -> Result<Outputs, AllocError>
         ensures ok { IfOk result (λ o. o ≡ self.now) }
-        ensures err { IfErr result (λ e. e ≡ TableFault.NoMemory) }
     {
         let mut registrations = Vec::with_capacity(alloc, self.registrations.len())?;
         for registration in &self.registrations {
@@ -214,15 +210,14 @@ impl Entry {
         }
     }
 
-    /// The same entry again. Answers `NoMemory` where memory is refused, and no other fault.
-    pub fn copy(&self, alloc: Global) -> Result<Entry, TableFault>
+    /// The same entry again. Want of memory is its only fault.
+    pub fn copy(&self, alloc: Global) -> Result<Entry, AllocError>
         ensures ok { IfOk result (λ e. e ≡ self.now) }
-        ensures err { IfErr result (λ e. e ≡ TableFault.NoMemory) }
     {
         match self {
             Entry::Add(registration) => Ok(Entry::Add(registration.copy(alloc)?)),
             Entry::Done(deriver, outputs) => Ok(Entry::Done(
-                copy_path(alloc, deriver)?,
+                deriver.copy(alloc)?,
                 outputs.copy(alloc)?,
             )),
         }
@@ -252,15 +247,4 @@ fn share(paths: Vec<StorePath>) -> Result<Option<ArcSlice<StorePath>>, AllocErro
     }
     let shared = ArcSlice::from_vec(paths)?;
     Ok(Some(shared))
-}
-
-// The same path again.
-pub(crate) fn copy_path(alloc: Global, path: &StorePath) -> Result<StorePath, TableFault>
-    ensures ok { IfOk result (λ p. p ≡ path.now) }
-    ensures err { IfErr result (λ e. e ≡ TableFault.NoMemory) }
-{
-    match path.copy(alloc) {
-        Ok(copy) => Ok(copy),
-        Err(_) => Err(TableFault::NoMemory),
-    }
 }

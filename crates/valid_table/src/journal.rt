@@ -14,7 +14,7 @@ use crate::fault::TableFault;
 use crate::obstacle::fault_of;
 use crate::table::Table;
 use nix_names::StorePath;
-use std::alloc::Global;
+use std::alloc::{AllocError, Global};
 use std::marker::Model;
 
 /// The entries of a journal in their order. Each reference in an entry is registered by an earlier
@@ -81,13 +81,12 @@ impl Journal {
         self.table.registers(path)
     }
 
-    /// Makes room for entries that register so many more paths. Answers `NoMemory` where memory is
-    /// refused, and no other fault; the entries stay.
-    pub fn reserve(&mut self, paths: usize) -> Result<(), TableFault>
+    /// Makes room for entries that register so many more paths. Want of memory is its only fault;
+    /// the entries stay.
+    pub fn reserve(&mut self, paths: usize) -> Result<(), AllocError>
         ensures same { self.new.entries ≡ self.old.entries }
         ensures ok { OnOk result (paths ≤ self.new.room) }
         ensures kept { self.old.room ≤ self.new.room }
-        ensures err { IfErr result (λ e. e ≡ TableFault.NoMemory) }
     {
         self.entries.reserve(paths)?;
         self.table.reserve(paths)

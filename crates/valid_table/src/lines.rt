@@ -55,8 +55,10 @@ pub(crate) fn path_of(
     let _ = dir.text();
     match parse_path(alloc, dir, text) {
         Ok(path) => Ok(Some(path)),
-        Err(fault) if fault == NameFault::NoMemory => Err(AllocError),
-        Err(_) => Ok(None),
+        Err(fault) => match fault {
+            NameFault::NoMemory => Err(AllocError),
+            _ => Ok(None),
+        },
     }
 }
 

@@ -41,10 +41,7 @@ impl ListOutlet {
     {
         let mut entries = Vec::with_capacity(alloc, journal.entries().len())?;
         for entry in journal.entries() {
-            let Ok(copy) = entry.copy(alloc) else {
-                return Err(OutletFault::NoMemory);
-            };
-            entries.push(copy)?;
+            entries.push(entry.copy(alloc)?)?;
         }
         let shown = entries.len();
         Ok(ListOutlet { entries, shown })

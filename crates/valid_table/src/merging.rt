@@ -1,32 +1,29 @@
 //! Rising lists of paths, put together.
-ghost use Rattle.std.specs.Prelude.{◌≡◌, [], IfErr, IfOk, MatchOption};
+ghost use Rattle.std.specs.Prelude.{◌≡◌, [], IfOk, MatchOption};
 ghost use Rattle.nix_names.specs.Rising.{IsRising};
 ghost use Rattle.valid_table.specs.Merging.{IsLeast};
 ghost use Rattle.valid_table.specs.Unions.{IsUnion};
 
-use crate::entry::copy_path;
-use crate::fault::TableFault;
 use nix_names::StorePath;
-use std::alloc::Global;
+use std::alloc::{AllocError, Global};
 use std::cmp::Ordering;
 
-/// The union of two strictly rising lists of paths: each path of either, strictly rising. Answers
-/// `NoMemory` where memory is refused, and no other fault. Costs one pass over both.
+/// The union of two strictly rising lists of paths: each path of either, strictly rising. Want of
+/// memory is its only fault. Costs one pass over both.
 pub fn union(
     alloc: Global,
     left: &[StorePath],
     right: &[StorePath],
-) -> Result<Vec<StorePath>, TableFault>
+) -> Result<Vec<StorePath>, AllocError>
     requires left { IsRising left.now }
     requires right { IsRising right.now }
     ensures ok { IfOk result (λ paths. IsUnion left.now right.now paths.items) }
-    ensures err { IfErr result (λ e. e ≡ TableFault.NoMemory) }
 {
     let mut paths = Vec::with_capacity(alloc, left.len() + right.len())?;
     let mut more = left;
     let mut others = right;
     'paths: while let Some((path, behind, beside)) = least(more, others) {
-        paths.push(copy_path(alloc, path)?)?;
+        paths.push(path.copy(alloc)?)?;
         more = behind;
         others = beside;
     }

@@ -1,5 +1,5 @@
 //! Where registrations go: a list of entries that is shown, longer by each publication.
-ghost use Rattle.std.specs.Prelude.{◌≡◌, ◌++◌, [], ◌∷◌, List, All, IfOk, IfErr, OnOk, OnErr, drop, length, take};
+ghost use Rattle.std.specs.Prelude.{◌≡◌, ◌++◌, [], ◌∷◌, List, All, IfOk, IfErr, IsOk, OnOk, OnErr, drop, length, take};
 ghost use Rattle.valid_table.specs.Adding.{IsNew, IsValidWith};
 ghost use Rattle.valid_table.specs.Entries.{registered_by};
 ghost use Rattle.valid_table.specs.Outlets.{CountsEntries, Outgoing};
@@ -36,8 +36,9 @@ pub trait Outlet {
         ensures err { OnErr result (pending self.new ≡ pending self.old) }
         ensures memory { IfErr result (λ e. e ≡ OutletFault.NoMemory) };
 
-    /// Shows what waits. A fault changes nothing.
+    /// Shows what waits. A fault changes nothing. Where nothing waits there is none.
     fn publish(&mut self) -> Result<(), OutletFault>
+        ensures idle { pending self.old ≡ [] → IsOk result }
         ensures ok { OnOk result
             ((shown self.new ≡ shown self.old ++ pending self.old) × (pending self.new ≡ [])) }
         ensures err { OnErr result

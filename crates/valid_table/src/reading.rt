@@ -1,12 +1,12 @@
 //! Reading a journal's text.
-ghost use Rattle.std.specs.Prelude.{◌≡◌, ◌≢◌, ◌↔◌, [], IfErr, IfOk, IsTrue, MatchOption, None, Option, List, ℕ};
+ghost use Rattle.std.specs.Prelude.{◌≡◌, ◌≢◌, ◌↔◌, [], IfErr, IfOk, IsErrOf, IsTrue, MatchOption, None, Option, List, ℕ};
 ghost use Rattle.std.specs.List.{last_or};
 ghost use Rattle.std.specs.Option.{option_copied};
 ghost use Rattle.nix_names.specs.Names.{IsStoreDir};
 ghost use Rattle.valid_table.specs.BadLines.{BeginsOutput};
 ghost use Rattle.valid_table.specs.Entries.{paths_of};
 ghost use Rattle.valid_table.specs.Readers.{HasEntry, HasNoFields, HasOutputs, HasReferences, HasRegistration, HasToBegin, IsFieldsLine, IsNoLine, StopsInRegistration, StopsWhere};
-ghost use Rattle.valid_table.specs.Reading.{IsReading, answered};
+ghost use Rattle.valid_table.specs.Reading.{BeginsVersion, IsReading, answered};
 ghost use Rattle.valid_table.specs.Steps.{IsAbove, Place, Opened, Start, Stops, Within};
 ghost use Rattle.valid_table.specs.Texts.{IsText};
 
@@ -31,7 +31,8 @@ impl Journal {
     /// line that has no line's form, stands where it may not, breaks an order or lacks its newline,
     /// and then the least line of `NotClosed`, which refers to a path that neither an earlier entry
     /// nor its own registers, and `Twice`, which registers a path that an earlier entry registered.
-    /// `NoMemory` may come in place of the last three. Lines are counted from 1.
+    /// `NoMemory` may come in place of the last three, for bytes that begin with the line of version
+    /// 1 and for no others. Lines are counted from 1.
     ///
     /// Passes over the bytes once, and once more over their newlines where a line is bad. Costs a
     /// copy of each path, one more of each that is registered, and one look-up by hash for each
@@ -48,7 +49,7 @@ impl Journal {
         match entries_of(alloc, dir, bytes) {
             Ok(entries) => Journal::checked(alloc, entries),
             Err(Stop::Left(left)) => Err(TableFault::BadLine(line_number(bytes, left))),
-            Err(Stop::Memory) => Err(TableFault::NoMemory),
+            Err(Stop::NoMemory) => Err(TableFault::NoMemory),
         }
     }
 }
@@ -57,28 +58,28 @@ impl Journal {
 #[derive(Debug, Drop)]
 pub(crate) enum Stop {
     /// Memory was refused.
-    Memory,
+    NoMemory,
     /// A line is bad; so many bytes are left, from that line on.
     Left(usize),
 }
 
 impl From<AllocError> for Stop {
-    ghost use Rattle.valid_table.specs.declared.reading.Stop.TheVariants.{Memory};
+    ghost use Rattle.valid_table.specs.declared.reading.Stop.TheVariants.{NoMemory};
 
-    ghost from_gives = { λ _ stop. stop ≡ Memory };
+    ghost from_gives = { λ _ stop. stop ≡ NoMemory };
 
     fn from(_: AllocError) -> Self {
-        Stop::Memory
+        Stop::NoMemory
     }
 }
 
 impl<T: Drop> From<AllocFailed<T>> for Stop {
-    ghost use Rattle.valid_table.specs.declared.reading.Stop.TheVariants.{Memory};
+    ghost use Rattle.valid_table.specs.declared.reading.Stop.TheVariants.{NoMemory};
 
-    ghost from_gives = { λ _ stop. stop ≡ Memory };
+    ghost from_gives = { λ _ stop. stop ≡ NoMemory };
 
     fn from(_: AllocFailed<T>) -> Self {
-        Stop::Memory
+        Stop::NoMemory
     }
 }
 
@@ -265,6 +266,7 @@ pub(crate) fn entries_of(alloc: Global, dir: &StoreDir, bytes: &[u8]) -> Result<
     ensures is_dir { IsStoreDir dir.now }
     ensures ok { IfOk result (λ entries. IsText dir.now entries.items bytes.now) }
     ensures left { IfErr result (StopsWhere (Stops dir.now Start bytes.now)) }
+    ensures memory { IsErrOf result Stop.NoMemory → BeginsVersion bytes.now }
 {
     // Its contract says that the text is a folder's: without spaces and newlines.
     let _ = dir.text();

@@ -5,7 +5,7 @@ ghost use Rattle.valid_table.specs.Entries.{registered_by};
 ghost use Rattle.valid_table.specs.Tables.{registrations_of};
 ghost use Rattle.valid_table.specs.Valid.{IsNotValid, IsOnce, IsValid};
 
-use crate::entry::{Entry, Record, Registration, copy_path};
+use crate::entry::{Entry, Record, Registration};
 use crate::fault::TableFault;
 use indexmap::IndexMap;
 use nix_names::StorePath;
@@ -31,7 +31,7 @@ pub(crate) fn add_rows(
     ensures err { IfErr result (λ e. e ≡ TableFault.NoMemory) }
 {
     for registration in registrations {
-        let path = copy_path(alloc, &registration.path)?;
+        let path = registration.path.copy(alloc)?;
         let info = registration.info.copy(alloc)?;
         rows.insert(path, info)?;
     }

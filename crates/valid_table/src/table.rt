@@ -16,7 +16,7 @@ use crate::obstacle::{Blame, Obstacle, fault_of, obstacle_of};
 use crate::rows::{add_rows, has_row, push_entry};
 use indexmap::IndexMap;
 use nix_names::StorePath;
-use std::alloc::Global;
+use std::alloc::{AllocError, Global};
 use std::marker::Model;
 
 /// The valid paths with their records. A contract sees the list of what was registered, in its
@@ -112,14 +112,13 @@ impl Table {
         blame(&self.rows, entry.registrations())
     }
 
-    /// Makes room for so many more paths. Answers `NoMemory` where memory is refused, and no other
-    /// fault; what is registered stays.
-    pub fn reserve(&mut self, paths: usize) -> Result<(), TableFault>
+    /// Makes room for so many more paths. Want of memory is its only fault; what is registered
+    /// stays.
+    pub fn reserve(&mut self, paths: usize) -> Result<(), AllocError>
         ensures same { self.new.registrations ≡ self.old.registrations }
         ensures ok { OnOk result (paths ≤ self.new.room) }
         ensures succeeds { paths ≤ self.old.room → IsOk result }
         ensures kept { self.old.room ≤ self.new.room }
-        ensures err { IfErr result (λ e. e ≡ TableFault.NoMemory) }
     {
         self.rows.reserve(paths)?;
         Ok(())

@@ -18,7 +18,7 @@ loop-row-preserved c =
     c.index.ensures in
     paths_more registrations numbers c.loop-row.row-index c.index.result.now c.loop-row.paths.items
     c.push.new.self.items c.loop-row-test.true c.loop-row.invariant at
-    (rw c.in_ok-copy_path.ensures.ok at c.in_ok-push.ensures.items)
+    (rw c.in_ok-copy.ensures.same at c.in_ok-push.ensures.items)
 
 pub returns-clause-rising : goal.returns-clause-rising
 returns-clause-rising c =

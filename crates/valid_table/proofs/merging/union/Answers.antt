@@ -10,9 +10,10 @@ paths-preserved c =
     merged_more c.args.left.now c.args.right.now c.paths.paths.items c.paths.more.now
     c.paths.others.now c.in-Some.path.now c.in-Some.behind.now c.in-Some.beside.now
     c.push.new.self.items c.paths.invariant c.in-Some.ensures
-    (rw c.in_ok-copy_path.ensures.ok at c.in_ok-push.ensures.items)
+    (rw c.in_ok-copy.ensures.same at c.in_ok-push.ensures.items)
 
-pub returns-clause-ok : goal.returns-clause-ok
-returns-clause-ok c =
-    merged_all c.args.left.now c.args.right.now c.paths.paths.items c.paths.more.now
-    c.paths.others.now c.paths.invariant c.in_default.ensures.0 c.in_default.ensures.1
+pub returns : goal.returns
+returns c = record {
+  ok = merged_all c.args.left.now c.args.right.now c.paths.paths.items c.paths.more.now
+      c.paths.others.now c.paths.invariant c.in_default.ensures.0 c.in_default.ensures.1;
+}

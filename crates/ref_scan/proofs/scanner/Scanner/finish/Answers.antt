@@ -8,7 +8,7 @@ use Rattle.ref_scan.specs.Scanned.{Scanned}
 use Rattle.ref_scan.proofs.Findings.{found_one, found_no_more, taken_with}
 use Rattle.ref_scan.proofs.Scanning.{met_of}
 use Rattle.ref_scan.proofs.scanner.Scanner.finish.Goals as goal
-use Rattle.ref_scan.proofs.scanner.Scanner.finish.Goals.{then-is_met+in_ok-copy_of+in_ok-push, else-is_met}
+use Rattle.ref_scan.proofs.scanner.Scanner.finish.Goals.{then-is_met+in_ok-copy+in_ok-push, else-is_met}
 
 pub loop-path-preserved : goal.loop-path-preserved
 loop-path-preserved c =
@@ -30,8 +30,8 @@ loop-path-preserved c =
     let answer = met_of c.args.self s.index.places s.index.sieve.items c.deref.result.now
     s.tail.items path c.is_met.result met has c.is_met.ensures.met in
     elim c.if-is_met.branch [
-      | then-is_met+in_ok-copy_of+in_ok-push w ↦
-          rw (w.found-is, w.in_ok-push.ensures.items, w.in_ok-copy_of.ensures, taken)
+      | then-is_met+in_ok-copy+in_ok-push w ↦
+          rw (w.found-is, w.in_ok-push.ensures.items, w.in_ok-copy.ensures.same, taken)
           (found_one lists _ _ _ rises c.loop-path.invariant (answer.0 w.if-is_met.true))
       | else-is_met w ↦
           rw (w.found-is, taken)

@@ -25,7 +25,7 @@ returns-in_err-copy-clause-adding c =
     (old ≡ old) c.from_residual.result
     (rw (← c.self.view_is, ← c.self.invariant.1) c.in_default.ensures.0)
     (rw (← c.self.view_is, ← c.self.invariant.1) c.in_default.ensures.1)
-    (p.1 ∙ ap Err (p.2 ∙ c.in_err-copy.ensures.err))
+    (p.1 ∙ ap Err p.2)
     refl
 
 pub returns-in_err-reserve-clause-adding : goal.returns-in_err-reserve-clause-adding
@@ -38,7 +38,7 @@ returns-in_err-reserve-clause-adding c =
     (new ≡ old) c.from_residual-in_err-reserve.result
     (rw (← c.self.view_is, ← c.self.invariant.1) c.in_default.ensures.0)
     (rw (← c.self.view_is, ← c.self.invariant.1) c.in_default.ensures.1)
-    (p.1 ∙ ap Err (p.2 ∙ c.in_err-reserve.ensures.err))
+    (p.1 ∙ ap Err p.2)
     c.reserve.ensures.same
 
 pub push_reserved-requires-clause-new : goal.push_reserved-requires-clause-new

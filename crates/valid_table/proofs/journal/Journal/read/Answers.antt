@@ -1,10 +1,16 @@
-use Rattle.std.proofs.Common.{arith, rules}
+use Rattle.std.proofs.Common.{◌∙◌, arith, rules, sym}
 use Rattle.std.proofs.lemmas.Bool.{false≢true}
-use Rattle.valid_table.proofs.ReadAnswers.{bad_line_number, few_lines}
+use Rattle.valid_table.proofs.ReadAnswers.{bad_line_number, few_lines, read_as}
 use Rattle.valid_table.proofs.journal.Journal.read.Goals as goal
 
 pub checked-requires-clause-few : goal.checked-requires-clause-few
 checked-requires-clause-few c = few_lines _ _ _ (omega arith) c.in-Ok.ensures.ok
+
+pub returns-in-Ok : goal.returns-in-Ok
+returns-in-Ok c =
+    read_as _ _ c.in-Ok.entries.items _ (omega arith)
+    (λ other. false≢true (sym c.if-is_other_version.false ∙ c.is_other_version.ensures.1 other))
+    c.in-Ok.ensures.ok c.checked.ensures
 
 pub returns-in-Err-Left : goal.returns-in-Err-Left
 returns-in-Err-Left c = search (rules, false≢true, bad_line_number)
