@@ -136,15 +136,15 @@ filled_behind dir name nodes draft filled used hashes paths given behind (kind, 
 module _ (dir : List ℕ) (gives : List ℕ → Answer → Type 0) (name : List ℕ) (draft : Drv) where
   pub target_refused : (fault : GraphFault) → IsTargetRefused dir name draft fault
       → IsFilling dir gives name draft (Err fault)
-  target_refused fault (inl (inl memory)) = rw memory tt
+  target_refused fault (inl (inl (memory, named))) = rw memory named
   target_refused fault (inl (inr (is, none))) = rw is none
-  target_refused fault (inr (names, inl memory)) = rw memory tt
+  target_refused fault (inr (names, inl memory)) = rw memory names.0
   target_refused fault (inr (names, inr (text, is, stray))) = rw is (names, stray)
 
   module _ (target : Target) (is_target : IsTarget dir name draft target) where
     pub load_refused : (fault : GraphFault) → IsLoading dir gives (inputs_of draft) (Err fault)
         → IsFilling dir gives name draft (Err fault)
-    load_refused NoMemory loaded = tt
+    load_refused NoMemory loaded = is_target.names.0
     load_refused (At path fault) loaded = (
       is_target.names,
       none_stray dir draft is_target.in_store,
@@ -168,10 +168,13 @@ module _ (dir : List ℕ) (gives : List ℕ → Answer → Type 0) (name : List 
 
       pub fill_refused : (fault : GraphFault) → IsFillRefused dir name graph.nodes draft fault
           → IsFilling dir gives name draft (Err fault)
-      fill_refused fault (inl memory) = rw memory tt
-      fill_refused fault (inr (used, hashes, are, inl memory)) = rw memory tt
+      fill_refused fault (inl memory) = rw memory is_target.names.0
+      fill_refused fault (inr (used, hashes, are, inl memory)) = rw memory is_target.names.0
       fill_refused fault (inr (used, hashes, are, inr (of, is, some, check))) =
-          rw is (is_target.names, (some, (behind used hashes are, check)))
+          rw is (
+            is_target.names,
+            (none_stray dir draft is_target.in_store, some, (behind used hashes are, check)),
+          )
 
       module _ (filled : Drv) (is_filled : IsFilledBehind dir name graph.nodes draft filled) where
         abbrev filled_text : (bytes : List ℕ) → IsDrvText filled bytes
@@ -186,9 +189,15 @@ module _ (dir : List ℕ) (gives : List ℕ → Answer → Type 0) (name : List 
 
         pub text_refused : (fault : GraphFault) → IsTextRefused filled fault
             → IsFilling dir gives name draft (Err fault)
-        text_refused fault (inl memory) = rw memory tt
+        text_refused fault (inl memory) = rw memory is_target.names.0
         text_refused fault (inr (is, (bytes, is_text, long))) =
-            rw is (is_target.names, (filled, bytes, filled_text bytes is_text, long))
+            rw is (
+              is_target.names,
+              (
+                none_stray dir draft is_target.in_store,
+                (filled, bytes, filled_text bytes is_text, long),
+              ),
+            )
 
         same_paths : paths_of filled ≡ paths_of draft
         unfolding paths_of

@@ -49,12 +49,13 @@ all_numbers nodes visit is all =
 
 -- the fault of a shared output is true
 pub leaving_shared : (dir : List ℕ) (kept given : List PlanNode) (visit : Visit)
-    (outputs : List (List ℕ)) (owners : List ℕ → Option ℕ) (fault : GraphFault) → given ≡ kept
+    (outputs : List (List ℕ)) (owners : List ℕ → Option ℕ) (fault : GraphFault) (kind : Kind)
+    → MayAnswer dir (nodes_of kept) (visited visit) (Ok kind) → given ≡ kept
     → outputs ≡ output_paths_of visit.drv → IsOwning given visit.path outputs owners (Err fault)
     → IsLeavingFault dir kept visit fault
-leaving_shared dir kept given visit outputs owners NoMemory same are owning = tt
-leaving_shared dir kept given visit outputs owners (At path (SharedOutput earlier)) same are
-    owning =
+leaving_shared dir kept given visit outputs owners NoMemory kind right same are owning = tt
+leaving_shared dir kept given visit outputs owners (At path (SharedOutput earlier)) kind right same
+    are owning =
     let shared : IsShared kept (output_paths_of visit.drv) earlier =
     subst (λ l. IsShared kept l earlier) are
     (subst (λ k. IsShared k outputs earlier) same owning.1) in
@@ -63,6 +64,7 @@ leaving_shared dir kept given visit outputs owners (At path (SharedOutput earlie
     let other = Contains-from_map (λ (o : Output). o.path) shared.node.drv.outputs shared.output
     shared.is_output in (
       owning.0,
+      (kind, right),
       (
         node_of shared.node,
         Contains-map node_of kept shared.node
@@ -71,16 +73,19 @@ leaving_shared dir kept given visit outputs owners (At path (SharedOutput earlie
         (other.0, mine.0, other.1, mine.1, other.2 ∙ sym mine.2),
       ),
     )
-leaving_shared dir kept given visit outputs owners (At path Unreadable) same are owning =
+leaving_shared dir kept given visit outputs owners (At path Unreadable) kind right same are owning =
     absurd owning
-leaving_shared dir kept given visit outputs owners (At path TooMany) same are owning = absurd owning
-leaving_shared dir kept given visit outputs owners (At path (Text fault)) same are owning =
+leaving_shared dir kept given visit outputs owners (At path TooMany) kind right same are owning =
     absurd owning
-leaving_shared dir kept given visit outputs owners (At path Cycle) same are owning = absurd owning
-leaving_shared dir kept given visit outputs owners (At path (Outputs fault)) same are owning =
+leaving_shared dir kept given visit outputs owners (At path (Text fault)) kind right same are
+    owning = absurd owning
+leaving_shared dir kept given visit outputs owners (At path Cycle) kind right same are owning =
     absurd owning
-leaving_shared dir kept given visit outputs owners (Draft fault) same are owning = absurd owning
-leaving_shared dir kept given visit outputs owners Name same are owning = absurd owning
+leaving_shared dir kept given visit outputs owners (At path (Outputs fault)) kind right same are
+    owning = absurd owning
+leaving_shared dir kept given visit outputs owners (Draft fault) kind right same are owning =
+    absurd owning
+leaving_shared dir kept given visit outputs owners Name kind right same are owning = absurd owning
 
 last_cases : {A : Type 0} (x : A) (xs : List A) → (ys : List A) × (y : A) × (x ∷ xs ≡ ys ++ y ∷ [])
 last_cases x [] = ([], x, refl)

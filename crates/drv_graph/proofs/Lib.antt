@@ -10,6 +10,8 @@ pub mod Gathering
 pub mod PathLists
 pub mod PlanOrder
 pub mod Numbers
+pub mod InStore
+pub mod Counting
 pub mod UsedNodes
 pub mod Marks
 pub mod Owners

@@ -195,7 +195,7 @@ pub owning_shared : (kept : List PlanNode) (path : List ℕ) (outputs : List (Li
     (owners : List ℕ → Option ℕ) (earlier : List ℕ) (fault : GraphFault)
     → IsSharedAt path earlier fault → IsShared kept outputs earlier
     → IsOwning kept path outputs owners (Err fault)
-owning_shared kept path outputs owners earlier NoMemory at shared = tt
+owning_shared kept path outputs owners earlier NoMemory at shared = absurd at
 owning_shared kept path outputs owners earlier (At p (SharedOutput other)) at shared =
     (at.0, subst (IsShared kept outputs) (sym at.1) shared)
 owning_shared kept path outputs owners earlier (At p (Outputs fault)) at shared = absurd at

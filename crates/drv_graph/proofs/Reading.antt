@@ -21,15 +21,16 @@ use Rattle.drv_graph.proofs.Marks.{sets_entry}
 
 -- a text with a fault
 pub reading_wrong : (dir : List ℕ) (gives : List ℕ → Answer → Type 0) (path : List ℕ) (count : ℕ)
-    (bytes given : List ℕ) (text : DrvFault) (fault : GraphFault) → gives path (Ok bytes) → given
-    ≡ bytes → IsCheck dir path given (Err text) → IsTextFaultAt path text fault
+    (bytes given : List ℕ) (text : DrvFault) (fault : GraphFault) → count < max_nodes
+    → gives path (Ok bytes) → given ≡ bytes → IsCheck dir path given (Err text) → IsTextFaultAt path text fault
     → IsReadingFault dir gives path count fault
-reading_wrong dir gives path count bytes given text NoMemory gave same check at = tt
-reading_wrong dir gives path count bytes given text (At p found) gave same check at =
+reading_wrong dir gives path count bytes given text NoMemory room gave same check at = tt
+reading_wrong dir gives path count bytes given text (At p found) room gave same check at =
     subst (λ f. IsReadingFault dir gives path count (At p f)) (sym at.1)
-    (at.0, at.2, (bytes, gave, subst (λ b. IsCheck dir path b (Err text)) same check))
-reading_wrong dir gives path count bytes given text (Draft fault) gave same check at = absurd at
-reading_wrong dir gives path count bytes given text Name gave same check at = absurd at
+    (at.0, at.2, room, (bytes, gave, subst (λ b. IsCheck dir path b (Err text)) same check))
+reading_wrong dir gives path count bytes given text (Draft fault) room gave same check at =
+    absurd at
+reading_wrong dir gives path count bytes given text Name room gave same check at = absurd at
 
 -- a derivation was opened
 pub opens_made :

@@ -1,16 +1,18 @@
 -- Sources that give the same answers: what is true by one of them is true by the other.
-use Rattle.std.proofs.Common.{ℕ, List, [], ◌∷◌, inl, inr, ⊎_elim, Ok, Err}
+use Rattle.std.proofs.Common.{ℕ, List, [], ◌∷◌, inl, inr, ⊎_elim, Ok, Err, Result}
 use Rattle.std.specs.Prelude.{All}
 use Rattle.std.proofs.lemmas.List.Elements.{All-weaker}
 use Rattle.nix_drv.specs.Derivation.{Drv}
 use Rattle.nix_drv.specs.Sources.{Answer, GivesSame}
-use Rattle.drv_graph.specs.Loading.{IsLoading}
+use Rattle.drv_graph.specs.Loading.{IsLoading, MayCheck}
 use Rattle.drv_graph.specs.Nodes.{Node}
 use Rattle.drv_graph.specs.Plans.{IsReached, Leads, MayStand, MayUse}
 use Rattle.drv_graph.specs.Walks.{IsWalked}
 use Rattle.drv_graph.specs.declared.fault.GraphFault.{GraphFault}
 use Rattle.drv_graph.specs.declared.fault.GraphFault.TheVariants.{NoMemory, At, Draft, Name}
 use Rattle.drv_graph.specs.declared.fault.NodeFault.TheVariants.{Unreadable, TooMany, Text, Cycle, Outputs, SharedOutput}
+use Rattle.drv_graph.specs.declared.fault.OutputFault.{OutputFault}
+use Rattle.drv_graph.specs.declared.kinds.Kind.{Kind}
 use Rattle.drv_graph.specs.declared.found.Found.{Found}
 
 pub gives_back : (G H : List ℕ → Answer → Type 0) → GivesSame G H → GivesSame H G
@@ -53,6 +55,19 @@ module _ (dir : List ℕ) (G H : List ℕ → Answer → Type 0) (same : GivesSa
   given_by nodes all = All-weaker (λ (n : Node). MayStand dir H n.path n.drv)
       (λ (n : Node). MayStand dir G n.path n.drv) (λ n. stands_by n.path n.drv) nodes all
 
+  checked_by : (path : List ℕ) (answer : Result Kind OutputFault) → MayCheck dir H path answer
+      → MayCheck dir G path answer
+  checked_by path answer checked = record {
+    drv = checked.drv;
+    stands = stands_by path checked.drv checked.stands;
+    nodes = checked.nodes;
+    distinct = checked.distinct;
+    given = given_by checked.nodes checked.given;
+    lawful = checked.lawful;
+    few = checked.few;
+    check = checked.check;
+  }
+
   -- what was left and is open is right by the other source too
   pub walked_by : (roots : List (List ℕ)) (found : Found) (pending : List (List ℕ))
       → IsWalked dir H roots found pending → IsWalked dir G roots found pending
@@ -69,6 +84,7 @@ module _ (dir : List ℕ) (G H : List ℕ → Answer → Type 0) (same : GivesSa
   -- a fault is true by the other source too
   pub fault_by : (roots : List (List ℕ)) (fault : GraphFault) → IsLoading dir H roots (Err fault)
       → IsLoading dir G roots (Err fault)
+  unfolding checked_by
   fault_by roots NoMemory at = tt
   fault_by roots (At p Unreadable) at = (
     reached_by roots p at.0,
@@ -76,13 +92,16 @@ module _ (dir : List ℕ) (G H : List ℕ → Answer → Type 0) (same : GivesSa
   )
   fault_by roots (At p TooMany) at = (
     reached_by roots p at.0,
-    record {
-      paths = at.1.paths;
-      distinct = at.1.distinct;
-      many = at.1.many;
-      reached = All-weaker (IsReached (MayUse dir H) roots) (IsReached (MayUse dir G) roots)
-          (reached_by roots) at.1.paths at.1.reached;
-    },
+    (
+      (at.1.0.0, (same p (Ok at.1.0.0)).1 at.1.0.1),
+      record {
+        paths = at.1.1.paths;
+        distinct = at.1.1.distinct;
+        many = at.1.1.many;
+        reached = All-weaker (IsReached (MayUse dir H) roots) (IsReached (MayUse dir G) roots)
+            (reached_by roots) at.1.1.paths at.1.1.reached;
+      },
+    ),
   )
   fault_by roots (At p (Text text)) at = (
     reached_by roots p at.0,
@@ -99,29 +118,19 @@ module _ (dir : List ℕ) (G H : List ℕ → Answer → Type 0) (same : GivesSa
   )
   fault_by roots (At p (Outputs outputs)) at = (
     reached_by roots p at.0,
-    (
-      at.1.0,
-      record {
-        drv = at.1.1.drv;
-        stands = stands_by p at.1.1.drv at.1.1.stands;
-        nodes = at.1.1.nodes;
-        distinct = at.1.1.distinct;
-        given = given_by at.1.1.nodes at.1.1.given;
-        check = at.1.1.check;
-      },
-    ),
+    (at.1.0, checked_by p (Err outputs) at.1.1),
   )
   fault_by roots (At p (SharedOutput earlier)) at = (
     reached_by roots p at.0,
-    (
-      at.1.0,
-      at.1.1,
-      stands_by p at.1.0 at.1.2,
-      reached_by roots earlier at.1.3,
-      stands_by earlier at.1.1 at.1.4,
-      at.1.5,
-      at.1.6,
-    ),
+    record {
+      kind = at.1.kind;
+      checked = checked_by p (Ok at.1.kind) at.1.checked;
+      other = at.1.other;
+      is_earlier = at.1.is_earlier;
+      reached = reached_by roots earlier at.1.reached;
+      differs = at.1.differs;
+      shares = at.1.shares;
+    },
   )
   fault_by roots (Draft found) at = absurd at
   fault_by roots Name at = absurd at

@@ -1,5 +1,5 @@
 -- A walk over derivations: how one is left, and why its faults are true.
-use Rattle.std.proofs.Common.{◌≡◌, ◌∙◌, ℕ, ◌+◌, ◌≤◌, List, [], ◌∷◌, ◌++◌, length, take, drop, refl, sym, ap, subst, inl, inr, ⊎_elim, arith, Option, Some, None, Err, is_some}
+use Rattle.std.proofs.Common.{◌≡◌, ◌∙◌, ℕ, ◌+◌, ◌≤◌, List, [], ◌∷◌, ◌++◌, length, take, drop, refl, sym, ap, subst, inl, inr, ⊎_elim, arith, Option, Some, None, Ok, Err, Result, is_some}
 use Rattle.std.specs.Prelude.{All, Contains}
 use Rattle.std.specs.Cmp.Lexicographic.{nat_list_eq_equiv}
 use Rattle.std.proofs.lemmas.Bool.{false≢true}
@@ -9,15 +9,17 @@ use Rattle.std.proofs.lemmas.Map.Views.{hash_map_contains_key_iff}
 use Rattle.indexmap.specs.IndexMap.{keys}
 use Rattle.nix_names.proofs.RisingLists.{equal_from_eq}
 use Rattle.nix_drv.specs.Sources.{Answer}
-use Rattle.drv_graph.specs.Loading.{AreDistinct, IsLoading, IsOnCycle, ReachTooMany, max_nodes}
+use Rattle.drv_graph.specs.Loading.{AreDistinct, IsLoading, IsOnCycle, MayCheck, ReachTooMany, max_nodes}
 use Rattle.drv_graph.specs.Nodes.{Node, inputs_of, paths_of}
-use Rattle.drv_graph.specs.Plans.{AreLeft, IsReached, Leads, MayStand, MayUse}
+use Rattle.drv_graph.specs.Plans.{AreLeft, IsReached, Leads, MayAnswer, MayStand, MayUse}
 use Rattle.drv_graph.specs.Plans.AreLeft.{none_left}
 use Rattle.drv_graph.specs.PlanNodes.{node_of, nodes_of}
 use Rattle.drv_graph.specs.Walks.{AreMarks, HasAllNumbers, IsFaultAt, IsLeavingFault, IsMeetingFault, IsReadingFault, Leaves, SetsEntry, marked, pending_of, visited}
 use Rattle.drv_graph.specs.declared.fault.GraphFault.{GraphFault}
 use Rattle.drv_graph.specs.declared.fault.GraphFault.TheVariants.{NoMemory, At, Draft, Name}
 use Rattle.drv_graph.specs.declared.fault.NodeFault.TheVariants.{Unreadable, TooMany, Text, Cycle, Outputs, SharedOutput}
+use Rattle.drv_graph.specs.declared.fault.OutputFault.{OutputFault}
+use Rattle.drv_graph.specs.declared.kinds.Kind.{Kind}
 use Rattle.drv_graph.specs.declared.found.Found.{Found}
 use Rattle.drv_graph.specs.declared.found.Visit.{Visit}
 use Rattle.drv_graph.proofs.Marks.{marks_left, pending_not_left}
@@ -263,16 +265,43 @@ meeting_fault dir gives roots root start found visits path fault has_root walk w
         (sym at.0) (reached, at.1)
     by (At p TooMany) at = subst (λ q. IsLoading dir gives roots (Err (At q TooMany))) (sym at.0) (
       reached,
-      too_many dir gives roots root start found visits path walk reached reading.1
-          reading.2 at.1,
+      (
+        at.1,
+        too_many dir gives roots root start found visits path walk reached reading.1
+            reading.2 at.2,
+      ),
     )
     by (At p (Text text)) at = subst (λ q. IsLoading dir gives roots (Err (At q (Text text))))
-        (sym at.0) (reached, (at.1, at.2))
+        (sym at.0) (reached, (at.1, at.3))
     by (At p Cycle) at = absurd at
     by (At p (Outputs outputs)) at = absurd at
     by (At p (SharedOutput earlier)) at = absurd at
     by (Draft found_fault) at = absurd at
     by Name at = absurd at
+
+-- what the check of the innermost open derivation may answer behind what was left
+checked_behind :
+    (dir : List ℕ) (gives : List ℕ → Answer → Type 0) (roots : List (List ℕ)) (root : List ℕ)
+    (start : List Node) (found : Found) (visit : Visit) (visits : List Visit)
+    (answer : Result Kind OutputFault) →
+    IsWalk dir gives roots root start found (visit ∷ visits) →
+    MayAnswer dir (nodes_of found.nodes.items) (visited visit) answer →
+    MayCheck dir gives visit.path answer
+checked_behind dir gives roots root start found visit visits answer walk check = record {
+  drv = visit.drv;
+  stands = walk.pending.0.stands;
+  nodes = nodes_of found.nodes.items;
+  distinct = walk.walked.right.distinct;
+  given = walk.walked.given;
+  lawful = walk.walked.right.lawful;
+  few = omega (
+    arith,
+    length-map found.nodes.items node_of,
+    walk.walked.count,
+    walk.walked.few,
+  );
+  check = check;
+}
 
 -- a fault of the innermost open derivation is true
 pub leaving_fault :
@@ -282,24 +311,18 @@ pub leaving_fault :
     IsWalk dir gives roots root start found (visit ∷ visits) →
     IsLeavingFault dir found.nodes.items visit fault →
     IsLoading dir gives roots (Err fault)
+unfolding checked_behind
 leaving_fault dir gives roots root start found visit visits NoMemory walk at = tt
 leaving_fault dir gives roots root start found visit visits (At p (Outputs outputs)) walk at =
     subst (λ q. IsLoading dir gives roots (Err (At q (Outputs outputs)))) (sym at.0) (
       walk.pending.0.reached,
       (
         at.1,
-        record {
-          drv = visit.drv;
-          stands = walk.pending.0.stands;
-          nodes = nodes_of found.nodes.items;
-          distinct = walk.walked.right.distinct;
-          given = walk.walked.given;
-          check = at.2;
-        },
+        checked_behind dir gives roots root start found visit visits (Err outputs) walk at.2,
       ),
     )
 leaving_fault dir gives roots root start found visit visits (At p (SharedOutput earlier)) walk at =
-    let other = at.1 in
+    let other = at.2 in
     let left = paths_of (nodes_of found.nodes.items) in
     let there : Contains left other.0.path = Contains-map (λ (n : Node). n.path)
     (nodes_of found.nodes.items) other.0 other.1 in
@@ -307,17 +330,23 @@ leaving_fault dir gives roots root start found visit visits (At p (SharedOutput 
     subst (IsReached (MayUse dir gives) roots) (sym other.2)
     (All-contains (IsReached (MayUse dir gives) roots) left other.0.path walk.walked.reached
     there) in
-    let stands : MayStand dir gives earlier other.0.drv =
-    subst (λ q. MayStand dir gives q other.0.drv) (sym other.2)
-    (All-contains (λ (n : Node). MayStand dir gives n.path n.drv) (nodes_of found.nodes.items)
-    other.0 walk.walked.given other.1) in
     let differs : earlier ≡ visit.path → ⊥ =
     λ same. pending_not_left (marked found.marks) left (pending_of (visit ∷ visits)) visit.path
     walk.walked.marks (Contains-first visit.path (pending_of visits))
     (subst (Contains left) (sym other.2 ∙ same) there) in
     subst (λ q. IsLoading dir gives roots (Err (At q (SharedOutput earlier)))) (sym at.0) (
       walk.pending.0.reached,
-      (visit.drv, other.0.drv, walk.pending.0.stands, reached, stands, differs, other.3),
+      record {
+        kind = at.1.0;
+        checked = checked_behind dir gives roots root start found visit visits (Ok at.1.0) walk
+            at.1.1;
+        other = other.0.drv;
+        is_earlier = subst (λ q. Contains (nodes_of found.nodes.items)
+            (record { path = q; drv = other.0.drv })) (sym other.2) other.1;
+        reached = reached;
+        differs = differs;
+        shares = other.3;
+      },
     )
 leaving_fault dir gives roots root start found visit visits (At p Unreadable) walk at = absurd at
 leaving_fault dir gives roots root start found visit visits (At p TooMany) walk at = absurd at

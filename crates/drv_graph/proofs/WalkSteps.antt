@@ -1,10 +1,11 @@
 -- The steps of a walk over derivations, as its loop takes them.
 use Rattle.std.proofs.Common.{◌≡◌, ◌∙◌, ℕ, ◌+◌, ◌-◌, ◌*◌, ◌^◌, ◌<◌, List, [], ◌∷◌, ◌++◌, length, get_or, reverse, refl, sym, ap, subst, inl, inr, ⊎_elim, arith, Option, Some, None, Ok, Err}
-use Rattle.std.specs.Prelude.{⊤, Contains, slice_get}
+use Rattle.std.specs.Prelude.{⊤, All, Contains, slice_get}
 use Rattle.std.specs.Global.{Vec}
 use Rattle.std.proofs.lemmas.List.{length_push, reverse-append}
 use Rattle.std.proofs.lemmas.Option.{same_Some, slice_get_read, slice_get_within}
 use Rattle.indexmap.specs.IndexMap.{IndexMap, keys}
+use Rattle.nix_names.specs.StorePaths.{IsPathOf}
 use Rattle.nix_drv.specs.Derivation.{Drv}
 use Rattle.nix_drv.specs.Sources.{Answer, GivesSame}
 use Rattle.drv_graph.specs.Loading.{IsLoading}
@@ -19,6 +20,7 @@ use Rattle.drv_graph.specs.declared.found.Found.{Found}
 use Rattle.drv_graph.specs.declared.found.Visit.{Visit}
 use Rattle.drv_graph.specs.Plans.AreLeft.{none_left, passed_over}
 use Rattle.std.proofs.lemmas.List.Elements.{All-nil}
+use Rattle.drv_graph.proofs.InStore.{sources_in_store}
 use Rattle.drv_graph.proofs.Marks.{pending_not_left}
 use Rattle.drv_graph.proofs.Walking.{IsWalk, IsWanted, walk_advances, walk_opens}
 use Rattle.drv_graph.proofs.WalkEnds.{leaving_fault, meeting_fault, walk_leaves}
@@ -65,9 +67,10 @@ same_reading dir G H path count (At p Unreadable) same at = (
   ⊎_elim (λ missing. inl ((same path _).1 missing))
       (λ device. inr ((same path _).1 device)) at.1,
 )
-same_reading dir G H path count (At p TooMany) same at = at
+same_reading dir G H path count (At p TooMany) same at =
+    (at.0, (at.1.0, (same path (Ok at.1.0)).1 at.1.1), at.2)
 same_reading dir G H path count (At p (Text text)) same at =
-    (at.0, at.1, (at.2.0, (same path (Ok at.2.0)).1 at.2.1, at.2.2))
+    (at.0, at.1, at.2, (at.3.0, (same path (Ok at.3.0)).1 at.3.1, at.3.2))
 same_reading dir G H path count (At p Cycle) same at = absurd at
 same_reading dir G H path count (At p (Outputs outputs)) same at = absurd at
 same_reading dir G H path count (At p (SharedOutput earlier)) same at = absurd at
@@ -112,6 +115,14 @@ module _ (dir : List ℕ) (G H : List ℕ → Answer → Type 0) (roots : List (
             (pending_of (visit ∷ reverse below)) visit.path top.walked.marks
             (Contains-first visit.path (pending_of (reverse below))),
       )
+
+  -- its sources are in the folder
+  pub popped_sources : (found : Found) (before below : List Visit) (visit : Visit)
+      → IsWalk dir G roots root start found (reverse before) → before ≡ below ++ visit ∷ []
+      → All (IsPathOf dir) visit.drv.sources
+  popped_sources found before below visit walk parts =
+      sources_in_store dir visit.drv
+      (popped found before below visit walk parts).pending.0.stands.found.in_store
 
   wanted_input : (found : Found) (visit : Visit) (below : List Visit) (input : List ℕ)
       → IsWalk dir G roots root start found (visit ∷ below)

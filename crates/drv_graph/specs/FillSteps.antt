@@ -1,6 +1,7 @@
 -- What the steps of filling a draft answer.
-use Rattle.std.specs.Prelude.{◌≡◌, ◌≢◌, ◌<◌, ◌≤◌, ◌⊎◌, ℕ, List, length, All, Vec, Ok, Err}
+use Rattle.std.specs.Prelude.{◌≡◌, ◌≢◌, ◌<◌, ◌≤◌, ◌⊎◌, ℕ, List, length, All, IsTrue, Vec, Ok, Err}
 use Rattle.std.specs.declared.alloc.Global.{Global}
+use Rattle.nix_names.specs.Names.{is_name}
 use Rattle.nix_names.specs.StorePaths.{IsPathOf}
 use Rattle.nix_drv.specs.Checked.{IsFirstStray}
 use Rattle.nix_drv.specs.Derivation.{Drv, IsDrvText}
@@ -22,9 +23,10 @@ use Rattle.drv_graph.specs.declared.fault.OutputFault.TheVariants.{NoMemory as N
 use Rattle.drv_graph.specs.declared.fill.Target.{Target}
 use Rattle.drv_graph.specs.declared.kinds.Kind.{Kind}
 
--- the name is none, or memory was refused
+-- the name or that of its file is none, or memory was refused for the name of its file
 abbrev pub IsNameRefused : (name : List ℕ) → GraphFault → Type 0
-IsNameRefused name fault = (fault ≡ NoMemory) ⊎ ((fault ≡ Name) × (AreNames name → ⊥))
+IsNameRefused name fault = ((fault ≡ NoMemory) × IsTrue (is_name name))
+    ⊎ ((fault ≡ Name) × (AreNames name → ⊥))
 
 -- one of the paths is none of the folder, or memory was refused
 abbrev pub IsStrayRefused : (dir : List ℕ) → (paths : List (List ℕ)) → GraphFault → Type 0

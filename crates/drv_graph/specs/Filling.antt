@@ -1,7 +1,7 @@
 -- What `fill_outputs` answers: a draft in which each empty place of an output's path has the path
 -- that is expected (Nix manual, "Store Derivation"; that values which are right already stay is
 -- this product's own).
-use Rattle.std.specs.Prelude.{◌≡◌, ◌≢◌, ◌<◌, ◌≤◌, ◌++◌, ⊤, ℕ, List, length, codes, Contains, IsTrue, Result, Ok, Err}
+use Rattle.std.specs.Prelude.{◌≡◌, ◌≢◌, ◌<◌, ◌≤◌, ◌++◌, ℕ, List, length, codes, Contains, IsTrue, Result, Ok, Err}
 use Rattle.std.specs.List.{AllZip}
 use Rattle.nix_names.specs.Names.{is_name}
 use Rattle.nix_drv.specs.Checked.{IsFirstStray}
@@ -86,8 +86,9 @@ abbrev pub IsTrueOfDraft : (dir : List ℕ) → (gives : List ℕ → Answer →
     → Drv → NodeFault → Type 0
 IsTrueOfDraft dir gives name draft (Text (BadReference text)) =
     IsFirstStray dir (paths_of draft) text.items
-IsTrueOfDraft dir gives name draft (Text TooLong) = (filled : Drv) × (bytes : List ℕ)
-    × IsFilledText dir gives name draft filled bytes × (max_len < length bytes)
+IsTrueOfDraft dir gives name draft (Text TooLong) = AreInStore dir draft
+    × ((filled : Drv) × (bytes : List ℕ) × IsFilledText dir gives name draft filled bytes
+    × (max_len < length bytes))
 IsTrueOfDraft dir gives name draft (Text NoSpace) = ⊥
 IsTrueOfDraft dir gives name draft (Text (Syntax place)) = ⊥
 IsTrueOfDraft dir gives name draft (Text (Order place)) = ⊥
@@ -95,7 +96,7 @@ IsTrueOfDraft dir gives name draft (Text (TextPathMismatch path)) = ⊥
 IsTrueOfDraft dir gives name draft (Text NotADrvName) = ⊥
 IsTrueOfDraft dir gives name draft (Text NotSorted) = ⊥
 IsTrueOfDraft dir gives name draft (Outputs fault) =
-    (fault ≢ NoRoom)
+    AreInStore dir draft × (fault ≢ NoRoom)
     × ((behind : MayFill dir gives name draft)
     × IsOutputsCheck IsThePathOrEmpty dir name draft behind.used behind.hashes (Err fault))
 IsTrueOfDraft dir gives name draft Unreadable = ⊥
@@ -105,7 +106,7 @@ IsTrueOfDraft dir gives name draft (SharedOutput earlier) = ⊥
 
 -- What filling a draft under a name answers: the filled derivation with the path of its text, or
 -- the first that is wrong of the name, the draft's references, its inputs, its outputs and its
--- filled text.
+-- filled text. Want of memory comes only under a name.
 abbrev pub IsFilling : (dir : List ℕ) → (gives : List ℕ → Answer → Type 0) → (name : List ℕ) → Drv
     → Result (Drv × List ℕ) GraphFault → Type 0
 IsFilling dir gives name draft (Ok made) =
@@ -118,4 +119,4 @@ IsFilling dir gives name draft (Err (At path fault)) =
     × IsTrueAt dir gives (inputs_of draft) path fault
 IsFilling dir gives name draft (Err (Draft fault)) = AreNames name
     × IsTrueOfDraft dir gives name draft fault
-IsFilling dir gives name draft (Err NoMemory) = ⊤
+IsFilling dir gives name draft (Err NoMemory) = IsTrue (is_name name)

@@ -1,20 +1,21 @@
 -- What `Plan::load` answers: the plan of the roots, or a fault that is true of the path that it
 -- names (the faults are this product's own).
-use Rattle.std.specs.Prelude.{◌≢◌, ◌⊎◌, ◌<◌, ⊤, ℕ, List, length, nat_eq, All, Result, Ok, Err}
+use Rattle.std.specs.Prelude.{◌≡◌, ◌≢◌, ◌⊎◌, ◌<◌, ⊤, ℕ, List, length, nat_eq, All, Contains, Result, Ok, Err}
 use Rattle.std.specs.Cmp.Lexicographic.{pointwise}
 use Rattle.std.specs.List.{IsDistinct}
 use Rattle.nix_drv.specs.Checked.{IsCheck}
 use Rattle.nix_drv.specs.Derivation.{Drv}
-use Rattle.nix_drv.specs.Sources.{Answer}
+use Rattle.nix_drv.specs.Sources.{Answer, most_failures}
 use Rattle.nix_drv.specs.declared.fault.DrvFault.TheVariants.{NoMemory as NoSpace}
 use Rattle.nix_drv.specs.declared.source.SourceFault.TheVariants.{Missing, Device}
 use Rattle.drv_graph.specs.Nodes.{Node, paths_of}
-use Rattle.drv_graph.specs.Plans.{Graph, IsPlan, IsReached, Leads, MayAnswer, MayStand, MayUse, ShareOutput}
+use Rattle.drv_graph.specs.Plans.{AreLawful, Graph, IsPlan, IsReached, Leads, MayAnswer, MayStand, MayUse, ShareOutput}
 use Rattle.drv_graph.specs.declared.fault.GraphFault.{GraphFault}
 use Rattle.drv_graph.specs.declared.fault.GraphFault.TheVariants.{NoMemory, At, Draft, Name}
 use Rattle.drv_graph.specs.declared.fault.NodeFault.{NodeFault}
 use Rattle.drv_graph.specs.declared.fault.NodeFault.TheVariants.{Unreadable, TooMany, Text, Cycle, Outputs, SharedOutput}
 use Rattle.drv_graph.specs.declared.fault.OutputFault.{OutputFault}
+use Rattle.drv_graph.specs.declared.kinds.Kind.{Kind}
 use Rattle.drv_graph.specs.declared.fault.OutputFault.TheVariants.{NoMemory as NoRoom}
 
 -- how many derivations a plan may have
@@ -39,34 +40,42 @@ pub record IsOnCycle (Step : List ℕ → List ℕ → Type 0) (path : List ℕ)
   pub leads : Leads Step path user steps
   pub closes : Step user path
 
--- the derivation at the path shares an output with that at another path, which is reached too
-abbrev pub SharesWith : (dir : List ℕ) → (gives : List ℕ → Answer → Type 0)
-    → (roots : List (List ℕ)) → (path earlier : List ℕ) → Type 0
-SharesWith dir gives roots path earlier =
-    (drv other : Drv) × MayStand dir gives path drv × IsReached (MayUse dir gives) roots earlier
-    × MayStand dir gives earlier other
-    × (earlier ≢ path) × ShareOutput other drv
-
--- What the check of the outputs at a path may answer, where the inputs are what the source may
--- give.
+-- What the check of the outputs at a path may answer, behind its inputs: they are what the source
+-- may give, nothing is wrong with them, and with this one they are within the limit.
 pub record MayCheck (dir : List ℕ) (gives : List ℕ → Answer → Type 0) (path : List ℕ)
-    (fault : OutputFault) : Type 0 where
+    (answer : Result Kind OutputFault) : Type 0 where
   pub drv : Drv
   pub stands : MayStand dir gives path drv
   pub nodes : List Node
   pub distinct : AreDistinct (paths_of nodes)
   pub given : All (λ (n : Node). MayStand dir gives n.path n.drv) nodes
-  pub check : MayAnswer dir nodes (record { path = path; drv = drv }) (Err fault)
+  pub lawful : AreLawful dir nodes
+  pub few : length nodes < max_nodes
+  pub check : MayAnswer dir nodes (record { path = path; drv = drv }) answer
+
+-- The outputs of the derivation at the path are right, and one is also that of the derivation at
+-- another path, which is reached too and was checked before.
+pub record SharesWith (dir : List ℕ) (gives : List ℕ → Answer → Type 0) (roots : List (List ℕ))
+    (path earlier : List ℕ) : Type 0 where
+  pub kind : Kind
+  pub checked : MayCheck dir gives path (Ok kind)
+  pub other : Drv
+  pub is_earlier : Contains checked.nodes (record { path = earlier; drv = other })
+  pub reached : IsReached (MayUse dir gives) roots earlier
+  pub differs : earlier ≢ path
+  pub shares : ShareOutput other checked.drv
 
 -- the fault is true of the path, by answers that the source may give
 abbrev pub IsTrueAt : (dir : List ℕ) → (gives : List ℕ → Answer → Type 0) → (roots : List (List ℕ))
     → (path : List ℕ) → NodeFault → Type 0
 IsTrueAt dir gives roots path Unreadable = gives path (Err Missing) ⊎ gives path (Err Device)
-IsTrueAt dir gives roots path TooMany = ReachTooMany (MayUse dir gives) roots
+IsTrueAt dir gives roots path TooMany = ((bytes : List ℕ) × gives path (Ok bytes))
+    × ReachTooMany (MayUse dir gives) roots
 IsTrueAt dir gives roots path (Text fault) = (fault ≢ NoSpace)
     × ((bytes : List ℕ) × gives path (Ok bytes) × IsCheck dir path bytes (Err fault))
 IsTrueAt dir gives roots path Cycle = IsOnCycle (MayUse dir gives) path
-IsTrueAt dir gives roots path (Outputs fault) = (fault ≢ NoRoom) × MayCheck dir gives path fault
+IsTrueAt dir gives roots path (Outputs fault) = (fault ≢ NoRoom)
+    × MayCheck dir gives path (Err fault)
 IsTrueAt dir gives roots path (SharedOutput earlier) = SharesWith dir gives roots path earlier
 
 -- what loading answers for some roots
@@ -78,3 +87,21 @@ IsLoading dir gives roots (Err (At path fault)) = IsReached (MayUse dir gives) r
 IsLoading dir gives roots (Err NoMemory) = ⊤
 IsLoading dir gives roots (Err (Draft fault)) = ⊥
 IsLoading dir gives roots (Err Name) = ⊥
+
+-- how often the device failed rose, or stands at the greatest count
+abbrev pub HasRisen : (before after : ℕ) → Type 0
+HasRisen before after = (before < after) ⊎ (after ≡ most_failures)
+
+-- A derivation that could not be read is missing, or the device failed at it, which was counted.
+abbrev pub IsCountedFault : (gives : List ℕ → Answer → Type 0) → (before after : ℕ) → GraphFault
+    → Type 0
+IsCountedFault gives before after (At path Unreadable) = gives path (Err Missing)
+    ⊎ (gives path (Err Device) × HasRisen before after)
+IsCountedFault gives before after (At path TooMany) = ⊤
+IsCountedFault gives before after (At path (Text fault)) = ⊤
+IsCountedFault gives before after (At path Cycle) = ⊤
+IsCountedFault gives before after (At path (Outputs fault)) = ⊤
+IsCountedFault gives before after (At path (SharedOutput earlier)) = ⊤
+IsCountedFault gives before after NoMemory = ⊤
+IsCountedFault gives before after (Draft fault) = ⊤
+IsCountedFault gives before after Name = ⊤

@@ -120,6 +120,7 @@ IsLeavingFault dir kept visit (At path (Outputs fault)) = (path ≡ visit.path) 
     × MayAnswer dir (nodes_of kept) (visited visit) (Err fault)
 IsLeavingFault dir kept visit (At path (SharedOutput earlier)) =
     (path ≡ visit.path)
+    × ((kind : Kind) × MayAnswer dir (nodes_of kept) (visited visit) (Ok kind))
     × ((other : Node) × Contains (nodes_of kept) other × (earlier ≡ other.path)
     × ShareOutput other.drv visit.drv)
 IsLeavingFault dir kept visit (At path Unreadable) = ⊥
@@ -177,9 +178,9 @@ IsOwning kept path outputs owners (Err (At at Cycle)) = ⊥
 IsOwning kept path outputs owners (Err (Draft fault)) = ⊥
 IsOwning kept path outputs owners (Err Name) = ⊥
 
--- a fault at a path that has this earlier one, want of memory aside
+-- the fault at a path that has this earlier one
 abbrev pub IsSharedAt : (path earlier : List ℕ) → GraphFault → Type 0
-IsSharedAt path earlier NoMemory = ⊤
+IsSharedAt path earlier NoMemory = ⊥
 IsSharedAt path earlier (At at (SharedOutput other)) = (at ≡ path) × (other ≡ earlier)
 IsSharedAt path earlier (At at (Outputs fault)) = ⊥
 IsSharedAt path earlier (At at Unreadable) = ⊥
@@ -196,16 +197,16 @@ IsFaultAt path fault (At at found) = (at ≡ path) × (found ≡ fault)
 IsFaultAt path fault (Draft found) = ⊥
 IsFaultAt path fault Name = ⊥
 
--- a fault of the outputs at a path, want of memory aside
+-- what a fault of the outputs at a path becomes; want of memory has no path
 abbrev pub IsOutputFaultAt : (path : List ℕ) → OutputFault → GraphFault → Type 0
-IsOutputFaultAt path fault NoMemory = ⊤
+IsOutputFaultAt path fault NoMemory = fault ≡ NoRoom
 IsOutputFaultAt path fault (At at found) = (at ≡ path) × (found ≡ Outputs fault) × (fault ≢ NoRoom)
 IsOutputFaultAt path fault (Draft found) = ⊥
 IsOutputFaultAt path fault Name = ⊥
 
--- a fault of the text at a path, want of memory aside
+-- what a fault of the text at a path becomes; want of memory has no path
 abbrev pub IsTextFaultAt : (path : List ℕ) → DrvFault → GraphFault → Type 0
-IsTextFaultAt path fault NoMemory = ⊤
+IsTextFaultAt path fault NoMemory = fault ≡ NoSpace
 IsTextFaultAt path fault (At at found) = (at ≡ path) × (found ≡ Text fault) × (fault ≢ NoSpace)
 IsTextFaultAt path fault (Draft found) = ⊥
 IsTextFaultAt path fault Name = ⊥
@@ -216,9 +217,10 @@ abbrev pub IsReadingFault : (dir : List ℕ) → (gives : List ℕ → Answer �
 IsReadingFault dir gives path count NoMemory = ⊤
 IsReadingFault dir gives path count (At at Unreadable) = (at ≡ path)
     × (gives path (Err Missing) ⊎ gives path (Err Device))
-IsReadingFault dir gives path count (At at TooMany) = (at ≡ path) × (max_nodes ≤ count)
+IsReadingFault dir gives path count (At at TooMany) = (at ≡ path)
+    × ((bytes : List ℕ) × gives path (Ok bytes)) × (max_nodes ≤ count)
 IsReadingFault dir gives path count (At at (Text fault)) = (at ≡ path) × (fault ≢ NoSpace)
-    × ((bytes : List ℕ) × gives path (Ok bytes) × IsCheck dir path bytes (Err fault))
+    × (count < max_nodes) × ((bytes : List ℕ) × gives path (Ok bytes) × IsCheck dir path bytes (Err fault))
 IsReadingFault dir gives path count (At at Cycle) = ⊥
 IsReadingFault dir gives path count (At at (Outputs fault)) = ⊥
 IsReadingFault dir gives path count (At at (SharedOutput earlier)) = ⊥

@@ -1,23 +1,25 @@
 //! The paths that a derivation's outputs must have.
-ghost use Rattle.std.specs.Prelude.{◌≡◌, ◌++◌, length, map, codes, IfOk};
+ghost use Rattle.std.specs.Prelude.{◌≡◌, ◌++◌, All, IsTrue, length, map, codes, IfOk};
 ghost use Rattle.sha2.specs.Sha256.{sha256};
+ghost use Rattle.nix_names.specs.Names.{is_name};
 ghost use Rattle.nix_names.specs.StorePaths.{store_path};
 ghost use Rattle.nix_drv.specs.Parts.{output_of};
 ghost use Rattle.drv_graph.specs.Checking.{AreExpected};
 ghost use Rattle.drv_graph.specs.Expected.{flat_text, path_name};
 ghost use Rattle.drv_graph.specs.Kinds.{HasKind};
 ghost use Rattle.drv_graph.specs.ExpectedPaths.{IsFixedPath, IsMaskedDigest, output_path};
+ghost use Rattle.drv_graph.specs.Outputs.{IsWellNamed};
 
 use crate::kind_of::digits_of;
 use crate::kinds::{Kind, Method};
 use crate::modulo::text_by_hashes;
 use nix_drv::{Derivation, Output};
-use nix_names::{StoreDir, StorePath, make_path};
+use nix_names::{StoreDir, StorePath, make_named_path};
 use sha2::{Digest, Sha256};
 use std::alloc::{AllocError, Global};
 
 // The expected paths of the outputs of a derivation with this name and kind, by the hashes of its
-// inputs. The names of the outputs and of their paths are names, as has been tested.
+// inputs.
 pub(crate) fn expected_paths(
     alloc: Global,
     dir: &StoreDir,
@@ -28,6 +30,7 @@ pub(crate) fn expected_paths(
 ) -> Result<Vec<StorePath>, AllocError>
     requires kind { HasKind drv.now kind }
     requires hashes { length hashes.now ≡ length drv.now.inputs }
+    requires named { All (IsWellNamed name.now) drv.now.outputs }
     ensures { IfOk result
         (λ paths. AreExpected dir.now name.now kind drv.now hashes.now paths.items) }
 {
@@ -64,6 +67,7 @@ fn output_paths(
     outputs: &[Output],
     inner: &[u8; 32],
 ) -> Result<Vec<StorePath>, AllocError>
+    requires { All (IsWellNamed name.now) (map output_of outputs.now) }
     ensures { IfOk result (λ paths. paths.items
         ≡ map (output_path dir.now name.now inner.now) (map output_of outputs.now)) }
 {
@@ -82,6 +86,7 @@ fn addressed_path(
     output: &[u8],
     inner: &[u8; 32],
 ) -> Result<StorePath, AllocError>
+    requires { IsTrue (is_name (path_name name.now output.now)) }
     ensures { IfOk result
         (λ path. path ≡ store_path (codes "output:" ++ output.now) inner.now dir.now
         (path_name name.now output.now)) }
@@ -89,7 +94,7 @@ fn addressed_path(
     let mut kind = Vec::from_slice(alloc, b"output:")?;
     kind.extend_from_slice(output)?;
     let name = path_name(alloc, name, output)?;
-    path_in(alloc, dir, &kind, inner, &name)
+    make_named_path(alloc, &kind, inner, dir, &name)
 }
 
 // The path of a fixed output with this method and digest.
@@ -100,11 +105,12 @@ fn fixed_path(
     method: Method,
     digest: &[u8; 32],
 ) -> Result<StorePath, AllocError>
+    requires { IsTrue (is_name name.now) }
     ensures { IfOk result (λ path. IsFixedPath dir.now name.now method digest.now path) }
 {
     match method {
-        Method::Flat => path_in(alloc, dir, b"output:out", &flat_digest(digest), name),
-        Method::Recursive => path_in(alloc, dir, b"source", digest, name),
+        Method::Flat => make_named_path(alloc, b"output:out", &flat_digest(digest), dir, name),
+        Method::Recursive => make_named_path(alloc, b"source", digest, dir, name),
     }
 }
 
@@ -118,23 +124,6 @@ fn flat_digest(digest: &[u8; 32]) -> [u8; 32]
     hasher.update(&digits);
     hasher.update(b":");
     hasher.finalize()
-}
-
-// The path of a type, an inner digest and a name. The name has been tested, so only memory can be
-// refused.
-fn path_in(
-    alloc: Global,
-    dir: &StoreDir,
-    kind: &[u8],
-    inner: &[u8; 32],
-    name: &[u8],
-) -> Result<StorePath, AllocError>
-    ensures { IfOk result (λ path. path ≡ store_path kind.now inner.now dir.now name.now) }
-{
-    match make_path(alloc, kind, inner, dir, name) {
-        Ok(path) => Ok(path),
-        Err(_) => Err(AllocError),
-    }
 }
 
 // The name of the path of an output of a derivation with this name.

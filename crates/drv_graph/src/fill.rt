@@ -1,5 +1,6 @@
 //! Drafts of derivations, in which the paths of outputs may be left out.
-ghost use Rattle.std.specs.Prelude.{◌≡◌, ◌≤◌, IfErr, IfOk, All, length};
+ghost use Rattle.std.specs.Prelude.{◌≡◌, ◌≤◌, IfErr, IfOk, IsTrue, All, length};
+ghost use Rattle.nix_names.specs.Names.{is_name};
 ghost use Rattle.nix_names.specs.Rising.{IsRising};
 ghost use Rattle.nix_names.specs.StorePaths.{IsPathOf};
 ghost use Rattle.nix_drv.specs.Derivation.{IsDrvText};
@@ -9,7 +10,7 @@ ghost use Rattle.nix_drv.specs.References.{IsReferencesOf};
 ghost use Rattle.nix_drv.specs.Sources.{GivesSame};
 ghost use Rattle.drv_graph.specs.Filling.{AreNames, IsFilling, file_name};
 ghost use Rattle.drv_graph.specs.FillSteps.{AreDraftPaths, AreOutputsRefused, IsFillRefused, IsFilledBehind, IsNameRefused, IsStrayRefused, IsTarget, IsTargetRefused, IsTextPath, IsTextRefused};
-ghost use Rattle.drv_graph.specs.Loading.{IsLoading};
+ghost use Rattle.drv_graph.specs.Loading.{IsCountedFault, IsLoading};
 ghost use Rattle.drv_graph.specs.Nodes.{inputs_of};
 ghost use Rattle.drv_graph.specs.Plans.{AreNumbers};
 ghost use Rattle.drv_graph.specs.UsedInputs.{drvs_of, hashes_of, paths_of as used_paths_of};
@@ -20,7 +21,7 @@ use crate::outputs::{UsedInput, expected_outputs};
 use crate::paths::input_paths;
 use crate::placing::place;
 use crate::plan::Plan;
-use nix_drv::{Derivation, DrvFault, DrvSource, MAX_LEN, references, text_path, write};
+use nix_drv::{Derivation, DrvFault, DrvSource, MAX_LEN, named_text_path, references, write};
 use nix_names::{StoreDir, StorePath, is_name};
 use std::alloc::Global;
 
@@ -49,6 +50,8 @@ pub fn fill_outputs<S: DrvSource>(
 ) -> Result<(Derivation, StorePath), GraphFault>
     ensures keeps { GivesSame (S.gives source.old) (S.gives source.new) }
     ensures counts { S.failures source.old ≤ S.failures source.new }
+    ensures device { IfErr result (IsCountedFault (S.gives source.old) (S.failures source.old)
+        (S.failures source.new)) }
     ensures filling { IsFilling dir.now (S.gives source.old) name.now draft.now result }
 {
     let target = target_of(alloc, dir, name, draft)?;
@@ -78,9 +81,12 @@ fn file_name(alloc: Global, name: &[u8]) -> Result<Vec<u8>, GraphFault>
     ensures ok { IfOk result (λ file. AreNames name.now × (file.items ≡ file_name name.now)) }
     ensures err { IfErr result (IsNameRefused name.now) }
 {
+    if !is_name(name) {
+        return Err(GraphFault::Name);
+    }
     let mut file = Vec::from_slice(alloc, name)?;
     file.extend_from_slice(b".drv")?;
-    if is_name(name) && is_name(&file) {
+    if is_name(&file) {
         Ok(file)
     } else {
         Err(GraphFault::Name)
@@ -111,8 +117,11 @@ fn load_inputs<S: DrvSource>(
     dir: &StoreDir,
     draft: &Derivation,
 ) -> Result<Plan, GraphFault>
+    requires { All (IsPathOf dir.now) (inputs_of draft.now) }
     ensures keeps { GivesSame (S.gives source.old) (S.gives source.new) }
     ensures counts { S.failures source.old ≤ S.failures source.new }
+    ensures device { IfErr result (IsCountedFault (S.gives source.old) (S.failures source.old)
+        (S.failures source.new)) }
     ensures loading { IsLoading dir.now (S.gives source.old) (inputs_of draft.now) result }
     ensures numbers { IfOk result (λ plan. AreNumbers plan.nodes plan.roots (inputs_of draft.now)) }
 {
@@ -166,17 +175,15 @@ fn own_path(
     target: &Target,
     filled: &Derivation,
 ) -> Result<StorePath, GraphFault>
-    requires { IsRising target.now.refs.items }
+    requires rising { IsRising target.now.refs.items }
+    requires named { IsTrue (is_name target.now.file.items) }
     ensures ok { IfOk result
         (IsTextPath dir.now target.now.file.items target.now.refs.items filled.now) }
     ensures err { IfErr result (IsTextRefused filled.now) }
 {
     let text = filled_text(alloc, filled)?;
-    // The name of the file was tested, so only memory can be refused.
-    match text_path(alloc, dir, &target.file, &text, &target.refs) {
-        Ok(path) => Ok(path),
-        Err(_) => Err(GraphFault::NoMemory),
-    }
+    let path = named_text_path(alloc, dir, &target.file, &text, &target.refs)?;
+    Ok(path)
 }
 
 // The text of a filled derivation, within the limit.
@@ -185,11 +192,22 @@ fn filled_text(alloc: Global, filled: &Derivation) -> Result<Vec<u8>, GraphFault
         × (length text.items ≤ max_len)) }
     ensures err { IfErr result (IsTextRefused filled.now) }
 {
-    let Ok(text) = write(alloc, filled) else {
-        return Err(GraphFault::NoMemory);
-    };
+    let text = text_of(alloc, filled)?;
     if text.len() > MAX_LEN {
         return Err(GraphFault::Draft(NodeFault::Text(DrvFault::TooLong)));
     }
     Ok(text)
+}
+
+// The text of a derivation.
+fn text_of(alloc: Global, drv: &Derivation) -> Result<Vec<u8>, GraphFault>
+    ensures ok { IfOk result (λ text. IsDrvText drv.now text.items) }
+    ensures err { IfErr result (λ fault. fault ≡ GraphFault.NoMemory) }
+{
+    match write(alloc, drv) {
+        Ok(text) => Ok(text),
+        Err(DrvFault::NoMemory) => Err(GraphFault::NoMemory),
+        // A text is refused for want of memory alone.
+        Err(_) => unreachable!(),
+    }
 }

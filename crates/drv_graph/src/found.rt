@@ -2,6 +2,7 @@
 ghost use Rattle.std.specs.Prelude.{◌≡◌, ◌++◌, ◌∷◌, [], ◌<◌, All, Contains, IfErr, IfOk, OnOk, None, Some, length};
 ghost use Rattle.std.specs.List.{AllZip};
 ghost use Rattle.indexmap.specs.IndexMap.{keys};
+ghost use Rattle.nix_names.specs.StorePaths.{IsPathOf};
 ghost use Rattle.drv_graph.specs.Expected.{drv_name_of};
 ghost use Rattle.drv_graph.specs.Nodes.{inputs_of, paths_of};
 ghost use Rattle.drv_graph.specs.Plans.{AreNumbers};
@@ -12,11 +13,11 @@ use crate::fault::{GraphFault, NodeFault, OutputFault};
 use crate::kinds::Kind;
 use crate::node::PlanNode;
 use crate::outputs::{UsedInput, check_outputs, modulo_hash};
-use crate::paths::{copy_path, fault_at, output_paths, source_paths};
+use crate::paths::{output_paths, source_paths};
 use indexmap::IndexMap;
 use nix_drv::Derivation;
 use nix_names::{StoreDir, StorePath};
-use std::alloc::Global;
+use std::alloc::{AllocError, Global};
 
 // The length of `.drv`, in which the name of a derivation's file ends.
 const SUFFIX_LEN: usize = 4;
@@ -57,6 +58,7 @@ pub(crate) fn leave(
     requires walked { HasAllNumbers visit }
     requires pending { marked found.old.marks visit.path ≡ Some None }
     requires is_new { Contains (paths_of (nodes_of found.old.nodes.items)) visit.path → ⊥ }
+    requires in_store { All (IsPathOf dir.now) visit.drv.sources }
     ensures { IsLeaving dir.now found.old found.new visit result }
 {
     let (kind, hash) = check_visit(alloc, dir, &found.nodes, &visit)?;
@@ -91,17 +93,17 @@ fn check_visit(
             let hash = modulo_hash(alloc, &visit.drv, kind, &used)?;
             Ok((kind, hash))
         }
-        Err(fault) => Err(output_fault_at(alloc, &visit.path, fault)),
+        Err(fault) => Err(output_fault_at(visit.path.copy(alloc)?, fault)),
     }
 }
 
 // What is wrong with the outputs of the derivation at a path.
-fn output_fault_at(alloc: Global, path: &StorePath, fault: OutputFault) -> GraphFault
-    ensures { IsOutputFaultAt path.now fault result }
+fn output_fault_at(path: StorePath, fault: OutputFault) -> GraphFault
+    ensures { IsOutputFaultAt path fault result }
 {
     match fault {
         OutputFault::NoMemory => GraphFault::NoMemory,
-        fault => fault_at(alloc, path, NodeFault::Outputs(fault)),
+        fault => GraphFault::At(path, NodeFault::Outputs(fault)),
     }
 }
 
@@ -147,23 +149,25 @@ fn own(
     ensures { IsOwning kept.now path.now outputs.now (owned owners.new) result }
 {
     for output in outputs {
-        let owner = copy_path(alloc, output)?;
+        let owner = output.copy(alloc)?;
         let earlier = owners.insert(owner, kept.len())?.unwrap_or(kept.len());
         if earlier < kept.len() {
-            return Err(shared_output(alloc, path, &kept[earlier].path));
+            return Err(shared_output(alloc, path, &kept[earlier].path)?);
         }
     }
     Ok(())
 }
 
 // The derivation at a path shares an output with the one at the earlier path.
-fn shared_output(alloc: Global, path: &StorePath, earlier: &StorePath) -> GraphFault
-    ensures { IsSharedAt path.now earlier.now result }
+fn shared_output(
+    alloc: Global,
+    path: &StorePath,
+    earlier: &StorePath,
+) -> Result<GraphFault, AllocError>
+    ensures { IfOk result (IsSharedAt path.now earlier.now) }
 {
-    match earlier.copy(alloc) {
-        Ok(earlier) => fault_at(alloc, path, NodeFault::SharedOutput(earlier)),
-        Err(_) => GraphFault::NoMemory,
-    }
+    let earlier = earlier.copy(alloc)?;
+    Ok(GraphFault::At(path.copy(alloc)?, NodeFault::SharedOutput(earlier)))
 }
 
 // Keeps a derivation under the next number.
@@ -186,7 +190,7 @@ fn keep(
     ensures count { OnOk result (length (keys found.new.marks) ≡ length (keys found.old.marks)) }
     ensures err { IfErr result (λ fault. fault ≡ GraphFault.NoMemory) }
 {
-    let path = copy_path(alloc, &visit.path)?;
+    let path = visit.path.copy(alloc)?;
     found.marks.insert(path, Some(found.nodes.len()))?;
     let Visit {
         path,

@@ -15,7 +15,7 @@
 //! | `outputs` | what is wrong with a derivation's outputs |
 //! | `fill` | drafts, filled |
 //! | `placing` | paths in a draft's empty places |
-//! | `paths` | store paths copied, parsed and blamed |
+//! | `paths` | store paths parsed and copied |
 //! | `laws` | laws over the definitions that contracts cite |
 //! | `fault` | why derivations make no plan |
 #![tactic(auto)]

@@ -1,6 +1,7 @@
 //! How all that some roots reach is found.
-ghost use Rattle.std.specs.Prelude.{◌≡◌, ◌≤◌};
+ghost use Rattle.std.specs.Prelude.{◌≡◌, ◌≤◌, IfErr};
 ghost use Rattle.nix_drv.specs.Sources.{GivesSame};
+ghost use Rattle.drv_graph.specs.Loading.{IsCountedFault};
 ghost use Rattle.drv_graph.specs.Walks.{IsEmptyFound, IsWalkingAll};
 
 use crate::fault::GraphFault;
@@ -27,6 +28,8 @@ pub(crate) fn walk_all<S: DrvSource>(
 ) -> Result<Reached, GraphFault>
     ensures keeps { GivesSame (S.gives source.old) (S.gives source.new) }
     ensures counts { S.failures source.old ≤ S.failures source.new }
+    ensures device { IfErr result (IsCountedFault (S.gives source.old) (S.failures source.old)
+        (S.failures source.new)) }
     ensures walking { IsWalkingAll dir.now (S.gives source.old) roots.now result }
 {
     let mut found = nothing(alloc);

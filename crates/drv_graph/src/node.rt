@@ -7,8 +7,8 @@ ghost use Rattle.drv_graph.specs.PlanNodes.{IsSameNode, nodes_of};
 
 use crate::fault::GraphFault;
 use crate::kinds::Kind;
-use crate::paths::{copy_path, copy_paths};
-use nix_drv::Derivation;
+use crate::paths::copy_paths;
+use nix_drv::{Derivation, DrvFault};
 use nix_names::StorePath;
 use std::alloc::Global;
 
@@ -52,7 +52,7 @@ impl PlanNode {
         ensures ok { IfOk result (IsSameNode self.now) }
         ensures err { IfErr result (λ fault. fault ≡ GraphFault.NoMemory) }
     {
-        let path = copy_path(alloc, &self.path)?;
+        let path = self.path.copy(alloc)?;
         let drv = copy_drv(alloc, &self.drv)?;
         let inputs = Vec::from_slice(alloc, &self.inputs)?;
         Ok(PlanNode {
@@ -114,6 +114,8 @@ fn copy_drv(alloc: Global, drv: &Derivation) -> Result<Derivation, GraphFault>
 {
     match drv.copy(alloc) {
         Ok(copy) => Ok(copy),
-        Err(_) => Err(GraphFault::NoMemory),
+        Err(DrvFault::NoMemory) => Err(GraphFault::NoMemory),
+        // A copy is refused for want of memory alone.
+        Err(_) => unreachable!(),
     }
 }

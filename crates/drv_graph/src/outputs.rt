@@ -154,17 +154,7 @@ fn unknown_output(alloc: Global, path: &StorePath, name: &[u8]) -> Result<Output
     ensures { IfOk result (IsUnknownOutput path.now name.now) }
 {
     let name = Vec::from_slice(alloc, name)?;
-    Ok(OutputFault::UnknownOutput(copy_path(alloc, path)?, name))
-}
-
-// The same path again.
-pub(crate) fn copy_path(alloc: Global, path: &StorePath) -> Result<StorePath, AllocError>
-    ensures { IfOk result (λ copy. copy ≡ path.now) }
-{
-    match path.copy(alloc) {
-        Ok(copy) => Ok(copy),
-        Err(_) => Err(AllocError),
-    }
+    Ok(OutputFault::UnknownOutput(path.copy(alloc)?, name))
 }
 
 // The modulo hash of a derivation of this kind.

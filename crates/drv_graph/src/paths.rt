@@ -1,44 +1,25 @@
-//! Store paths: copied, parsed where they were checked before, and blamed.
-ghost use Rattle.std.specs.Prelude.{◌≡◌, IfErr, IfOk, map, take};
+//! Store paths: parsed where they were checked before, and copied.
+ghost use Rattle.std.specs.Prelude.{◌≡◌, All, IfErr, IfOk, map, take};
+ghost use Rattle.nix_names.specs.StorePaths.{IsPathOf};
 ghost use Rattle.nix_drv.specs.Parts.{bytes_of, path_of};
 ghost use Rattle.drv_graph.specs.PlanNodes.{text_path_of};
-ghost use Rattle.drv_graph.specs.Walks.{IsFaultAt};
 
-use crate::fault::{GraphFault, NodeFault};
+use crate::fault::GraphFault;
 use nix_drv::{Input, Output};
-use nix_names::{StoreDir, StorePath, parse_path};
+use nix_names::{NameFault, StoreDir, StorePath, parse_path};
 use std::alloc::Global;
 
-// The same path again.
-pub(crate) fn copy_path(alloc: Global, path: &StorePath) -> Result<StorePath, GraphFault>
-    ensures ok { IfOk result (λ copy. copy ≡ path.now) }
-    ensures err { IfErr result (λ fault. fault ≡ GraphFault.NoMemory) }
-{
-    match path.copy(alloc) {
-        Ok(copy) => Ok(copy),
-        Err(_) => Err(GraphFault::NoMemory),
-    }
-}
-
-// What is wrong at a path.
-pub(crate) fn fault_at(alloc: Global, path: &StorePath, fault: NodeFault) -> GraphFault
-    ensures { IsFaultAt path.now fault result }
-{
-    match path.copy(alloc) {
-        Ok(path) => GraphFault::At(path, fault),
-        Err(_) => GraphFault::NoMemory,
-    }
-}
-
-// The path that a text spells. The text was found to be a path of the folder, so only memory can be
-// refused.
+// The path of the folder that a text spells.
 fn known_path(alloc: Global, dir: &StoreDir, text: &[u8]) -> Result<StorePath, GraphFault>
+    requires { IsPathOf dir.now text.now }
     ensures ok { IfOk result (λ path. path ≡ text.now) }
     ensures err { IfErr result (λ fault. fault ≡ GraphFault.NoMemory) }
 {
     match parse_path(alloc, dir, text) {
         Ok(path) => Ok(path),
-        Err(_) => Err(GraphFault::NoMemory),
+        Err(NameFault::NoMemory) => Err(GraphFault::NoMemory),
+        // Nothing else is wrong with a path of the folder.
+        Err(_) => unreachable!(),
     }
 }
 
@@ -48,6 +29,7 @@ pub(crate) fn input_paths(
     dir: &StoreDir,
     inputs: &[Input],
 ) -> Result<Vec<StorePath>, GraphFault>
+    requires { All (IsPathOf dir.now) (map path_of inputs.now) }
     ensures ok { IfOk result (λ paths. paths.items ≡ map path_of inputs.now) }
     ensures err { IfErr result (λ fault. fault ≡ GraphFault.NoMemory) }
 {
@@ -64,6 +46,7 @@ pub(crate) fn output_paths(
     dir: &StoreDir,
     outputs: &[Output],
 ) -> Result<Vec<StorePath>, GraphFault>
+    requires { All (IsPathOf dir.now) (map text_path_of outputs.now) }
     ensures ok { IfOk result (λ paths. paths.items ≡ map text_path_of outputs.now) }
     ensures err { IfErr result (λ fault. fault ≡ GraphFault.NoMemory) }
 {
@@ -80,6 +63,7 @@ pub(crate) fn source_paths(
     dir: &StoreDir,
     sources: &[Vec<u8>],
 ) -> Result<Vec<StorePath>, GraphFault>
+    requires { All (IsPathOf dir.now) (map bytes_of sources.now) }
     ensures ok { IfOk result (λ paths. paths.items ≡ map bytes_of sources.now) }
     ensures err { IfErr result (λ fault. fault ≡ GraphFault.NoMemory) }
 {
@@ -97,7 +81,7 @@ pub(crate) fn copy_paths(alloc: Global, paths: &[StorePath]) -> Result<Vec<Store
 {
     let mut copies = Vec::with_capacity(alloc, paths.len())?;
     for path in paths {
-        copies.push(copy_path(alloc, path)?)?;
+        copies.push(path.copy(alloc)?)?;
     }
     Ok(copies)
 }

@@ -4,7 +4,7 @@ ghost use Rattle.std.specs.Cmp.Lexicographic.{pointwise};
 ghost use Rattle.nix_drv.specs.Sources.{GivesSame};
 ghost use Rattle.drv_graph.specs.Equality.{same_node};
 ghost use Rattle.drv_graph.specs.Kinds.{HasKind};
-ghost use Rattle.drv_graph.specs.Loading.{IsLoading};
+ghost use Rattle.drv_graph.specs.Loading.{IsCountedFault, IsLoading};
 ghost use Rattle.drv_graph.specs.Nodes.{inputs_of, paths_of};
 ghost use Rattle.drv_graph.specs.Plans.{AreNumbers};
 ghost use Rattle.drv_graph.specs.PlanNodes.{AreKept, drvs_of, nodes_of, output_paths_of};
@@ -45,10 +45,13 @@ impl Model for Plan {
 impl Plan {
     /// The plan of the roots: what they reach by the source's answers, in the folder. A root that
     /// is repeated counts once. A fault has the path at which it was found. At each derivation that
-    /// is met, in this order: `Unreadable`, `TooMany`, the faults of `check_text`, `Cycle`; behind
-    /// its inputs the faults of its outputs, `SharedOutput` last. Each path is fetched once, and
-    /// each derivation read, checked and digested once; the rest is linear in the pairs of a user
-    /// and an input, by look-ups by hash. Does not recurse.
+    /// is met for the first time, in this order: `Unreadable`, `TooMany`, the faults of
+    /// `check_text`, those of its inputs in turn, those of its outputs, `SharedOutput` last. An
+    /// input whose own inputs are still being met is a `Cycle`: that is told in the input's turn,
+    /// at its path, behind the faults of the inputs before it. Where the device failed, the source
+    /// counted it. Each path is fetched once, and each derivation read, checked and digested once;
+    /// the rest is linear in the pairs of a user and an input, by look-ups by hash. Does not
+    /// recurse.
     pub fn load<S: DrvSource>(
         alloc: Global,
         source: &mut S,
@@ -57,6 +60,8 @@ impl Plan {
     ) -> Result<Plan, GraphFault>
         ensures keeps { GivesSame (S.gives source.old) (S.gives source.new) }
         ensures counts { S.failures source.old ≤ S.failures source.new }
+        ensures device { IfErr result (IsCountedFault (S.gives source.old)
+            (S.failures source.old) (S.failures source.new)) }
         ensures loading { IsLoading dir.now (S.gives source.old) roots.now result }
     {
         let Reached { found, roots } = walk_all(alloc, source, dir, roots)?;

@@ -5,7 +5,6 @@ ghost use Rattle.nix_drv.specs.Parts.{output_of};
 ghost use Rattle.drv_graph.specs.Checking.{EntriesFit, FitBefore, FitsIn, HasMisfit, IsEnvFault, IsEnvMismatch, IsMismatch, IsPathFault, IsValueFault, PathFits};
 
 use crate::fault::OutputFault;
-use crate::outputs::copy_path;
 use nix_drv::{Derivation, Output};
 use nix_names::StorePath;
 use std::alloc::{AllocError, Global};
@@ -60,7 +59,7 @@ fn output_mismatch(
     ensures { IfOk result (IsMismatch output.now.name.items path.now) }
 {
     let name = Vec::from_slice(alloc, &output.name)?;
-    Ok(OutputFault::OutputMismatch(name, copy_path(alloc, path)?))
+    Ok(OutputFault::OutputMismatch(name, path.copy(alloc)?))
 }
 
 // Tests that the entry under each output's name has the path beside the output, or none in a draft.

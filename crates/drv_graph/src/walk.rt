@@ -1,7 +1,9 @@
 //! How derivations are walked: depth first, by a list of those that are open.
-ghost use Rattle.std.specs.Prelude.{◌≡◌, ◌≤◌, ◌<◌, ℕ, List, [], Contains, IfErr, IfOk, None, Some, length, slice_get};
+ghost use Rattle.std.specs.Prelude.{◌≡◌, ◌≤◌, ◌<◌, ℕ, List, [], All, Contains, IfErr, IfOk, None, Some, length, slice_get};
 ghost use Rattle.indexmap.specs.IndexMap.{keys};
+ghost use Rattle.nix_names.specs.StorePaths.{IsPathOf};
 ghost use Rattle.nix_drv.specs.Sources.{Answer, GivesSame, IsGiven};
+ghost use Rattle.drv_graph.specs.Loading.{IsCountedFault};
 ghost use Rattle.drv_graph.specs.Nodes.{inputs_of, paths_of};
 ghost use Rattle.drv_graph.specs.Plans.{MayStand};
 ghost use Rattle.drv_graph.specs.PlanNodes.{nodes_of};
@@ -9,7 +11,7 @@ ghost use Rattle.drv_graph.specs.Walks.{IsFetching, IsFound, IsGoingOn, IsMeetin
 
 use crate::fault::{GraphFault, NodeFault};
 use crate::found::{Found, Visit, leave};
-use crate::paths::{copy_path, fault_at, input_paths};
+use crate::paths::input_paths;
 use indexmap::IndexMap;
 use nix_drv::{Derivation, DrvFault, DrvSource, SourceFault, check_text};
 use nix_names::{StoreDir, StorePath};
@@ -41,6 +43,8 @@ pub(crate) fn walk<S: DrvSource>(
     requires walked { IsWalked dir.now (S.gives source.old) roots.now found.old [] }
     ensures keeps { GivesSame (S.gives source.old) (S.gives source.new) }
     ensures counts { S.failures source.old ≤ S.failures source.new }
+    ensures device { IfErr result (IsCountedFault (S.gives source.old) (S.failures source.old)
+        (S.failures source.new)) }
     ensures walking { (root : List ℕ) → slice_get roots.now place ≡ Some root
         → IsWalking dir.now (S.gives source.old) roots.now root found.old found.new result }
 {
@@ -71,8 +75,11 @@ fn go_on<S: DrvSource>(
     requires visit { IsVisit (nodes_of found.old.nodes.items) visit }
     requires pending { marked found.old.marks visit.path ≡ Some None }
     requires is_new { Contains (paths_of (nodes_of found.old.nodes.items)) visit.path → ⊥ }
+    requires in_store { All (IsPathOf dir.now) visit.drv.sources }
     ensures keeps { GivesSame (S.gives source.old) (S.gives source.new) }
     ensures counts { S.failures source.old ≤ S.failures source.new }
+    ensures device { IfErr result (IsCountedFault (S.gives source.old) (S.failures source.old)
+        (S.failures source.new)) }
     ensures going_on { IsGoingOn dir.now (S.gives source.old) found.old found.new visits.old.items
         visit visits.new.items result }
 {
@@ -99,6 +106,8 @@ fn step<S: DrvSource>(
     requires { length visit.old.numbers.items < length visit.old.inputs.items }
     ensures keeps { GivesSame (S.gives source.old) (S.gives source.new) }
     ensures counts { S.failures source.old ≤ S.failures source.new }
+    ensures device { IfErr result (IsCountedFault (S.gives source.old) (S.failures source.old)
+        (S.failures source.new)) }
     ensures stepping { IsStepping dir.now (S.gives source.old) marks.old marks.new visit.old
         visit.new result }
 {
@@ -123,11 +132,13 @@ fn meet<S: DrvSource>(
 ) -> Result<Met, GraphFault>
     ensures keeps { GivesSame (S.gives source.old) (S.gives source.new) }
     ensures counts { S.failures source.old ≤ S.failures source.new }
+    ensures device { IfErr result (IsCountedFault (S.gives source.old) (S.failures source.old)
+        (S.failures source.new)) }
     ensures meeting { IsMeeting dir.now (S.gives source.old) marks.old marks.new path.now result }
 {
     match marks.get(path).copied() {
         Some(Some(number)) => Ok(Met::Done(number)),
-        Some(None) => Err(fault_at(alloc, path, NodeFault::Cycle)),
+        Some(None) => Err(GraphFault::At(path.copy(alloc)?, NodeFault::Cycle)),
         None => {
             let visit = open(alloc, source, dir, marks, path)?;
             Ok(Met::New(visit))
@@ -146,11 +157,13 @@ fn open<S: DrvSource>(
     requires { marked marks.old path.now ≡ None }
     ensures keeps { GivesSame (S.gives source.old) (S.gives source.new) }
     ensures counts { S.failures source.old ≤ S.failures source.new }
+    ensures device { IfErr result (IsCountedFault (S.gives source.old) (S.failures source.old)
+        (S.failures source.new)) }
     ensures opening { IsOpening dir.now (S.gives source.old) marks.old marks.new path.now result }
 {
     let drv = read_drv(alloc, source, dir, path, marks.len())?;
     let visit = begin(alloc, dir, path, drv)?;
-    let key = copy_path(alloc, path)?;
+    let key = path.copy(alloc)?;
     marks.insert(key, None)?;
     Ok(visit)
 }
@@ -162,6 +175,7 @@ fn begin(
     path: &StorePath,
     drv: Derivation,
 ) -> Result<Visit, GraphFault>
+    requires { All (IsPathOf dir.now) (inputs_of drv) }
     ensures path { IfOk result (λ visit. visit.path ≡ path.now) }
     ensures drv { IfOk result (λ visit. visit.drv ≡ drv) }
     ensures inputs { IfOk result (λ visit. visit.inputs.items ≡ inputs_of drv) }
@@ -170,7 +184,7 @@ fn begin(
 {
     let inputs = input_paths(alloc, dir, drv.inputs())?;
     Ok(Visit {
-        path: copy_path(alloc, path)?,
+        path: path.copy(alloc)?,
         drv,
         inputs,
         numbers: Vec::new(alloc),
@@ -188,25 +202,27 @@ fn read_drv<S: DrvSource>(
 ) -> Result<Derivation, GraphFault>
     ensures keeps { GivesSame (S.gives source.old) (S.gives source.new) }
     ensures counts { S.failures source.old ≤ S.failures source.new }
+    ensures device { IfErr result (IsCountedFault (S.gives source.old) (S.failures source.old)
+        (S.failures source.new)) }
     ensures reading { IsReadingOf dir.now (S.gives source.old) path.now count result }
 {
     let bytes = fetch(alloc, source, path)?;
     if count >= MAX_NODES {
-        return Err(fault_at(alloc, path, NodeFault::TooMany));
+        return Err(GraphFault::At(path.copy(alloc)?, NodeFault::TooMany));
     }
     match check_text(alloc, dir, path, &bytes) {
         Ok(drv) => Ok(drv),
-        Err(fault) => Err(text_fault_at(alloc, path, fault)),
+        Err(fault) => Err(text_fault_at(path.copy(alloc)?, fault)),
     }
 }
 
 // What is wrong with the text at a path.
-fn text_fault_at(alloc: Global, path: &StorePath, fault: DrvFault) -> GraphFault
-    ensures { IsTextFaultAt path.now fault result }
+fn text_fault_at(path: StorePath, fault: DrvFault) -> GraphFault
+    ensures { IsTextFaultAt path fault result }
 {
     match fault {
         DrvFault::NoMemory => GraphFault::NoMemory,
-        fault => fault_at(alloc, path, NodeFault::Text(fault)),
+        fault => GraphFault::At(path, NodeFault::Text(fault)),
     }
 }
 
@@ -218,13 +234,15 @@ fn fetch<S: DrvSource>(
 ) -> Result<Vec<u8>, GraphFault>
     ensures keeps { GivesSame (S.gives source.old) (S.gives source.new) }
     ensures counts { S.failures source.old ≤ S.failures source.new }
+    ensures device { IfErr result (IsCountedFault (S.gives source.old) (S.failures source.old)
+        (S.failures source.new)) }
     ensures fetching { IsFetching (S.gives source.old path.now) path.now result }
 {
     match source.fetch(alloc, path) {
         Ok(bytes) => Ok(bytes),
         Err(SourceFault::NoMemory) => Err(GraphFault::NoMemory),
         Err(SourceFault::Missing) | Err(SourceFault::Device) => {
-            Err(fault_at(alloc, path, NodeFault::Unreadable))
+            Err(GraphFault::At(path.copy(alloc)?, NodeFault::Unreadable))
         }
     }
 }

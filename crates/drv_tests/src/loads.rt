@@ -1,7 +1,7 @@
 //! Tests of loading.
 use drv_graph::{GraphFault, NodeFault, Plan};
 use files::*;
-use nix_drv::{DrvFault, ListSource, ListedFile, text_path};
+use nix_drv::{DrvFault, ListSource, ListedFile, read, references, text_path};
 use nix_files::nix_files;
 use nix_names::{StoreDir, StorePath, make_path, parse_path};
 use output_files::output_files;
@@ -10,10 +10,13 @@ use std::test::*;
 
 mod files;
 mod filling;
+mod large;
 mod nix_files;
+mod orders;
 mod output_files;
 mod outputs;
 mod plans;
+mod words;
 
 fn push_file(
     alloc: Global,
@@ -333,12 +336,26 @@ fn digits_of(digest: &[u8; 32]) -> [u8; 64] {
     digits
 }
 
-// The text of a derivation whose one output has a hash that begins with the place.
+// Adds inputs to a text, each with its output `out`.
+fn add_inputs(text: &mut Vec<u8>, inputs: &[StorePath]) -> Result<(), AllocError> {
+    for (place, input) in inputs.iter().enumerate() {
+        if place > 0 {
+            text.extend_from_slice(b",")?;
+        }
+        text.extend_from_slice(b"(\"")?;
+        text.extend_from_slice(input.text())?;
+        text.extend_from_slice(b"\",[\"out\"])")?;
+    }
+    Ok(())
+}
+
+// The text of a derivation with these inputs, whose one output has a hash that begins with the
+// place.
 fn link_text(
     alloc: Global,
     dir: &StoreDir,
     place: u32,
-    below: &StorePath,
+    inputs: &[StorePath],
 ) -> Result<Vec<u8>, Fail> {
     let mut digest = [0; 32];
     digest[..4].copy_from_slice(&place.to_be_bytes());
@@ -349,13 +366,28 @@ fn link_text(
         output.text(),
         b"\",\"r:sha256\",\"",
         &digits_of(&digest),
-        b"\")],[(\"",
-        below.text(),
-        b"\",[\"out\"])],[],\"s\",\"b\",[],[])",
+        b"\")],[",
     ] {
         text.extend_from_slice(part)?;
     }
+    add_inputs(&mut text, inputs)?;
+    text.extend_from_slice(b"],[],\"s\",\"b\",[],[])")?;
     Ok(text)
+}
+
+// Adds a derivation's text at its own path, and gives that.
+fn add_text(
+    alloc: Global,
+    dir: &StoreDir,
+    files: &mut Vec<ListedFile>,
+    name: &[u8],
+    text: Vec<u8>,
+) -> Result<StorePath, Fail> {
+    let drv = read(alloc, &text)?;
+    let refs = references(alloc, dir, &drv)?;
+    let path = text_path(alloc, dir, name, &text, &refs)?;
+    push_file(alloc, files, path.text(), text)?;
+    Ok(path)
 }
 
 // Adds a user of a derivation, and gives its path.
@@ -366,7 +398,7 @@ fn add_link(
     place: u32,
     below: &StorePath,
 ) -> Result<StorePath, Fail> {
-    let text = link_text(alloc, dir, place, below)?;
+    let text = link_text(alloc, dir, place, std::slice::from_ref(below))?;
     let path = text_path(alloc, dir, b"link.drv", &text, std::slice::from_ref(below))?;
     push_file(alloc, files, path.text(), text)?;
     Ok(path)
@@ -387,25 +419,35 @@ fn add_chain(
     Ok(last)
 }
 
-// What loading a chain of so many derivations answers.
-fn load_chain(alloc: Global, count: u32) -> Result<Result<Plan, GraphFault>, Fail> {
+// What loading a chain of so many derivations answers, where the fetches with these numbers fail,
+// and `LEAF` has another text, if that isn't empty.
+fn load_chain(
+    alloc: Global,
+    count: u32,
+    leaf: &[u8],
+    failing: &[u64],
+) -> Result<Result<Plan, GraphFault>, Fail> {
     let dir = StoreDir::new(alloc, b"/nix/store")?;
-    let mut files = all_files(alloc)?;
+    let mut files = Vec::new(alloc);
+    if !leaf.is_empty() {
+        push_file(alloc, &mut files, LEAF, Vec::from_slice(alloc, leaf)?)?;
+    }
+    files.append(&mut all_files(alloc)?)?;
     let last = add_chain(alloc, &dir, &mut files, count)?;
-    let mut source = ListSource::new(alloc, files, Vec::new(alloc))?;
+    let mut source = ListSource::new(alloc, files, Vec::from_slice(alloc, failing)?)?;
     Ok(Plan::load(alloc, &mut source, &dir, std::slice::from_ref(&last)))
 }
 
 #[test]
 fn longest_chain(rt: HostRuntime) -> Result<(), Fail> {
-    let plan = load_chain(rt.alloc(), 65_536)??;
+    let plan = load_chain(rt.alloc(), 65_536, b"", &[])??;
     assert!(rt; plan.len() == 65_536 && plan.roots() == [65_535].as_slice());
     Ok(())
 }
 
 #[test]
 fn chain_that_is_too_long(rt: HostRuntime) -> Result<(), Fail> {
-    let answer = load_chain(rt.alloc(), 65_537)?;
+    let answer = load_chain(rt.alloc(), 65_537, b"", &[])?;
     assert!(rt; is_blamed(&answer, LEAF, 22));
     Ok(())
 }

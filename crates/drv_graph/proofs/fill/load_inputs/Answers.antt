@@ -1,9 +1,19 @@
-use Rattle.std.proofs.Common.{List, ℕ, subst}
+use Rattle.std.proofs.Common.{List, ℕ, map, refl, subst, sym}
+use Rattle.std.specs.Prelude.{All}
+use Rattle.nix_names.specs.StorePaths.{IsPathOf}
+use Rattle.nix_drv.specs.Parts.{path_of}
 use Rattle.drv_graph.specs.Loading.{IsLoading}
 use Rattle.drv_graph.specs.Nodes.{inputs_of}
 use Rattle.drv_graph.proofs.EmptyPlaces.{inputs_rise}
 use Rattle.drv_graph.proofs.FillAnswers.{numbers_loaded, same_inputs}
 use Rattle.drv_graph.proofs.fill.load_inputs.Goals as goal
+
+pub input_paths-requires : goal.input_paths-requires
+input_paths-requires g c =
+    let paths = map path_of c.deref.result.now in
+    subst (All (IsPathOf c.args.dir.now))
+    (sym (same_inputs c.parts.result.now c.args.draft.now c.deref.result.now paths paths
+    c.parts.ensures.parts c.deref.ensures.value refl refl)) c.requires
 
 pub returns-clause-loading : goal.returns-clause-loading
 returns-clause-loading g c =

@@ -1,7 +1,7 @@
 use Rattle.std.proofs.Common.{subst}
 use Rattle.std.specs.List.{AllZip}
 use Rattle.drv_graph.specs.Nodes.{inputs_of}
-use Rattle.drv_graph.specs.Walks.{IsUsed}
+use Rattle.drv_graph.specs.Walks.{IsOutputFaultAt, IsUsed}
 use Rattle.drv_graph.proofs.UsedNodes.{check_right, check_wrong, kept_within, used_paths}
 use Rattle.drv_graph.proofs.found.check_visit.Goals as goal
 
@@ -44,4 +44,6 @@ returns c =
     check_wrong c.args.dir.now c.args.kept.now c.args.visit.now c.in_ok-used.used.items
     c.deref-2.result.now c.drv_name-name.result.now c.in-Err.fault c.output_fault_at.result
     c.requires.kept c.requires.numbers zip c.drv_name-name.ensures c.deref-2.ensures.value
-    c.in-Err.ensures c.output_fault_at.ensures
+    c.in-Err.ensures
+    (subst (λ path. IsOutputFaultAt path c.in-Err.fault c.output_fault_at.result)
+    c.in_ok-copy-in-Err.ensures.same c.output_fault_at.ensures)

@@ -1,8 +1,26 @@
-use Rattle.std.proofs.Common.{ap, ◌∙◌}
+use Rattle.std.proofs.Common.{ap, ◌∙◌, map, refl, subst, sym}
+use Rattle.std.specs.Prelude.{All}
 use Rattle.std.proofs.lemmas.Result.{err_from_is_err_and, on_ok_weaker}
-use Rattle.drv_graph.specs.Walks.{owned}
+use Rattle.nix_names.specs.StorePaths.{IsPathOf}
+use Rattle.drv_graph.specs.PlanNodes.{nodes_of, text_path_of}
+use Rattle.drv_graph.specs.Walks.{owned, visited}
+use Rattle.drv_graph.proofs.InStore.{outputs_in_store}
 use Rattle.drv_graph.proofs.Leaving.{checking_right, leaving_kept, leaving_shared, outputs_are}
 use Rattle.drv_graph.proofs.found.leave.Goals as goal
+
+pub output_paths-requires : goal.output_paths-requires
+output_paths-requires c =
+    subst (All (IsPathOf c.args.dir.now))
+    (sym (outputs_are c.outputs.result.now c.args.visit.drv
+    (map text_path_of c.outputs.result.now) c.outputs.ensures refl))
+    (outputs_in_store c.args.dir.now (nodes_of c.args.found.now.nodes.items)
+    (visited c.args.visit) c.in_ok-kind.kind
+    (checking_right c.args.dir.now c.args.found.now.nodes.items c.deref.result.now c.args.visit
+    c.in_ok-kind.kind c.in_ok-kind.hash c.deref.ensures.value c.in_ok-kind.ensures).0)
+
+pub source_paths-requires : goal.source_paths-requires
+source_paths-requires c =
+    subst (All (IsPathOf c.args.dir.now)) (sym c.sources.ensures) c.requires.in_store
 
 pub returns-in_err-own : goal.returns-in_err-own
 returns-in_err-own c =
@@ -10,7 +28,10 @@ returns-in_err-own c =
     c.from_residual-in_err-own.ensures.1 in
     rw (p.1, p.2)
     (leaving_shared c.args.dir.now c.args.found.now.nodes.items c.deref-2.result.now c.args.visit
-    c.deref-3.result.now (owned c.own.new.owners) c.in_err-own.field-0.0 c.deref-2.ensures.value
+    c.deref-3.result.now (owned c.own.new.owners) c.in_err-own.field-0.0 c.in_ok-kind.kind
+    (checking_right c.args.dir.now c.args.found.now.nodes.items c.deref.result.now c.args.visit
+    c.in_ok-kind.kind c.in_ok-kind.hash c.deref.ensures.value c.in_ok-kind.ensures).0
+    c.deref-2.ensures.value
     (c.deref-3.ensures.value ∙ outputs_are c.outputs.result.now c.args.visit.drv
     c.in_ok-outputs.outputs.items c.outputs.ensures c.in_ok-outputs.ensures.ok)
     c.in_err-own.ensures)

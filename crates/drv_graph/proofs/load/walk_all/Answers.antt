@@ -2,6 +2,7 @@ use Rattle.std.proofs.Common.{arith, get_or, subst, sym, take, []}
 use Rattle.std.proofs.lemmas.List.{take_more}
 use Rattle.std.proofs.lemmas.Option.{slice_get-get_or}
 use Rattle.std.proofs.lemmas.Result.{err_from_is_err_and}
+use Rattle.drv_graph.proofs.Counting.{counted_before}
 use Rattle.drv_graph.proofs.Loaded.{IsReachedSome, loading_begins, loading_ends, loading_more}
 use Rattle.drv_graph.proofs.SameSources.{fault_by, gives_back, walked_by}
 use Rattle.drv_graph.proofs.WalkSteps.{gives_itself, gives_trans}
@@ -32,6 +33,15 @@ returns-in_err-number-clause-walking g c =
     (g.S.DrvSource.gives c.roots.source) c.roots.invariant.keeps c.args.roots.now
     c.in_err-number.field-0.0
     (c.in_err-number.ensures.walking (get_or c.args.roots.now c.roots.place []) at))
+
+pub returns-in_err-number-clause-device : goal.returns-in_err-number-clause-device
+returns-in_err-number-clause-device g c =
+    let p = err_from_is_err_and c.from_residual.result c.from_residual.ensures.1 in
+    rw (p.1, p.2)
+    (counted_before (g.S.DrvSource.gives c.args.source.now) (g.S.DrvSource.gives c.roots.source)
+    (g.S.DrvSource.failures c.args.source.now) (g.S.DrvSource.failures c.roots.source)
+    (g.S.DrvSource.failures c.walk.new.source) c.in_err-number.field-0.0
+    c.roots.invariant.keeps c.roots.invariant.counts c.in_err-number.ensures.device)
 
 pub roots-preserved : goal.roots-preserved
 roots-preserved g c =

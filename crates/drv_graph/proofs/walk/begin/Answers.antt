@@ -1,5 +1,15 @@
+use Rattle.std.proofs.Common.{map, refl, subst, sym}
+use Rattle.std.specs.Prelude.{All}
+use Rattle.nix_names.specs.StorePaths.{IsPathOf}
+use Rattle.nix_drv.specs.Parts.{path_of}
 use Rattle.drv_graph.proofs.Leaving.{inputs_are}
 use Rattle.drv_graph.proofs.walk.begin.Goals as goal
+
+pub input_paths-requires : goal.input_paths-requires
+input_paths-requires c =
+    subst (All (IsPathOf c.args.dir.now))
+    (sym (inputs_are c.inputs.result.now c.args.drv (map path_of c.inputs.result.now)
+    c.inputs.ensures refl)) c.requires
 
 pub returns-clause-inputs : goal.returns-clause-inputs
 returns-clause-inputs c = inputs_are c.inputs.result.now c.args.drv c.in_ok-inputs.inputs.items

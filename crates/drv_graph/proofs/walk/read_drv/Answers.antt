@@ -1,3 +1,5 @@
+use Rattle.std.proofs.Common.{arith, subst}
+use Rattle.drv_graph.specs.Walks.{IsTextFaultAt}
 use Rattle.drv_graph.proofs.Reading.{reading_wrong}
 use Rattle.drv_graph.proofs.walk.read_drv.Goals as goal
 
@@ -5,5 +7,7 @@ pub returns-clause-reading : goal.returns-clause-reading
 returns-clause-reading g c =
     reading_wrong c.args.dir.now (g.S.DrvSource.gives c.args.source.now) c.args.path.now
     c.args.count c.in_ok-bytes.bytes.items c.deref.result.now c.in-Err.fault
-    c.text_fault_at.result c.in_ok-bytes.ensures.fetching c.deref.ensures.value c.in-Err.ensures
-    c.text_fault_at.ensures
+    c.text_fault_at.result (omega (arith, c.if-count-ge-MAX_NODES.false))
+    c.in_ok-bytes.ensures.fetching c.deref.ensures.value c.in-Err.ensures
+    (subst (λ path. IsTextFaultAt path c.in-Err.fault c.text_fault_at.result)
+    c.in_ok-copy-in-Err.ensures.same c.text_fault_at.ensures)

@@ -2,9 +2,10 @@ use Rattle.std.proofs.Common.{◌≡◌, arith, length, refl, subst, sym, Ok}
 use Rattle.std.proofs.lemmas.Result.{err_from_is_err_and}
 use Rattle.drv_graph.specs.PlanNodes.{nodes_of}
 use Rattle.drv_graph.specs.Walks.{IsMeeting, IsVisited}
+use Rattle.drv_graph.proofs.Counting.{counted_before}
 use Rattle.drv_graph.proofs.Owners.{contains_item}
 use Rattle.drv_graph.proofs.Walking.{IsWalk}
-use Rattle.drv_graph.proofs.WalkSteps.{gives_trans, less_going, popped_is, reverse_one, root_opens, root_read, root_stops, walk_ends, walk_goes_on, walk_stops}
+use Rattle.drv_graph.proofs.WalkSteps.{gives_trans, less_going, popped_is, popped_sources, reverse_one, root_opens, root_read, root_stops, walk_ends, walk_goes_on, walk_stops}
 use Rattle.drv_graph.proofs.walk.walk.Goals as goal
 
 pub go_on-requires-clause-pending : goal.go_on-requires-clause-pending
@@ -20,6 +21,32 @@ go_on-requires-clause-is_new g c =
     (g.S.DrvSource.gives c.walk.source) c.args.roots.now c.index-roots-place.result
     (nodes_of c.args.found.now.nodes.items) c.walk.found c.walk.visits.items
     c.pop.new.self.items c.in-Some.visit c.walk.invariant.walk c.in-Some.ensures.items).2
+
+pub go_on-requires-clause-in_store : goal.go_on-requires-clause-in_store
+go_on-requires-clause-in_store g c =
+    popped_sources c.args.dir.now (g.S.DrvSource.gives c.args.source.now)
+    (g.S.DrvSource.gives c.walk.source) c.args.roots.now c.index-roots-place.result
+    (nodes_of c.args.found.now.nodes.items) c.walk.found c.walk.visits.items
+    c.pop.new.self.items c.in-Some.visit c.walk.invariant.walk c.in-Some.ensures.items
+
+pub returns-in_err-go_on-in-Some-clause-device : goal.returns-in_err-go_on-in-Some-clause-device
+returns-in_err-go_on-in-Some-clause-device g c =
+    let p = err_from_is_err_and c.from_residual.result c.from_residual.ensures.1 in
+    rw (p.1, p.2)
+    (counted_before (g.S.DrvSource.gives c.args.source.now) (g.S.DrvSource.gives c.walk.source)
+    (g.S.DrvSource.failures c.args.source.now) (g.S.DrvSource.failures c.walk.source)
+    (g.S.DrvSource.failures c.go_on.new.source) c.in_err-go_on-in-Some.field-0.0
+    c.walk.invariant.keeps c.walk.invariant.counts c.in_err-go_on-in-Some.ensures.device)
+
+pub returns-in_err-number-in-None-clause-device : goal.returns-in_err-number-in-None-clause-device
+returns-in_err-number-in-None-clause-device g c =
+    let p = err_from_is_err_and c.from_residual-in_err-number-in-None.result
+    c.from_residual-in_err-number-in-None.ensures.1 in
+    rw (p.1, p.2)
+    (counted_before (g.S.DrvSource.gives c.args.source.now) (g.S.DrvSource.gives c.walk.source)
+    (g.S.DrvSource.failures c.args.source.now) (g.S.DrvSource.failures c.walk.source)
+    (g.S.DrvSource.failures c.meet.new.source) c.in_err-number-in-None.field-0.0
+    c.walk.invariant.keeps c.walk.invariant.counts c.in_err-number-in-None.ensures.device)
 
 pub walk-smaller-in-Continue-1 : goal.walk-smaller-in-Continue-1
 walk-smaller-in-Continue-1 g c =

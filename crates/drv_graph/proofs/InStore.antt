@@ -1,0 +1,104 @@
+-- The paths that a derivation names are paths of the folder where they were found to be, and the
+-- paths that are expected of its outputs always are.
+use Rattle.std.proofs.Common.{◌≡◌, ◌∙◌, ℕ, ◌<◌, List, [], ◌∷◌, ◌++◌, length, map, get_or, inl, inr, sym, ap, subst, true, None, Ok, Some}
+use Rattle.std.specs.Prelude.{◌≢◌, ◌⊎◌, All, Contains, codes}
+use Rattle.std.proofs.lemmas.List.Elements.{All-contains, Contains-append_right}
+use Rattle.sha2.specs.Sha256.{sha256}
+use Rattle.nix_names.specs.Names.{is_name}
+use Rattle.nix_names.specs.StorePaths.{IsPathOf, path_fault}
+use Rattle.nix_names.specs.declared.fault.NameFault.{NameFault}
+use Rattle.nix_names.specs.declared.fault.NameFault.TheVariants.{NoMemory}
+use Rattle.nix_names.proofs.PathFaults.{no_fault_of_path}
+use Rattle.nix_names.proofs.PathDigests.{store_path_is_path}
+use Rattle.nix_names.proofs.Lists.{All-from_contains, All-left, Contains-first, Contains-from_map, Contains-map}
+use Rattle.nix_drv.specs.Derivation.{Drv, Output}
+use Rattle.nix_drv.specs.OwnPath.{paths_of}
+use Rattle.nix_drv.specs.Parts.{output_of}
+use Rattle.nix_drv.specs.declared.derivation.Output.{Output as OutputStruct}
+use Rattle.std.proofs.lemmas.Option.{none-some}
+use Rattle.drv_graph.specs.Expected.{IsExpected, drv_name_of, flat_text, path_name}
+use Rattle.drv_graph.specs.Kinds.{HasKind}
+use Rattle.drv_graph.specs.Nodes.{Node, inputs_of}
+use Rattle.drv_graph.specs.Outputs.{IsThePath, IsWellNamed}
+use Rattle.drv_graph.specs.PlanNodes.{output_paths_of}
+use Rattle.drv_graph.specs.Plans.{MayAnswer}
+use Rattle.drv_graph.specs.declared.kinds.Kind.{Kind}
+use Rattle.drv_graph.specs.declared.kinds.Kind.TheVariants.{Addressed, Fixed}
+use Rattle.drv_graph.specs.declared.kinds.Method.TheVariants.{Flat, Recursive}
+
+-- what is true of all that a list is seen as is true of an item that was read
+pub item_is : {A B : Type 0} (P : B → Type 0) (view : A → B) (xs : List A) (i : ℕ) (x : A)
+    → i < length xs → x ≡ get_or xs i x → All P (map view xs) → P (view x)
+item_is P view xs i x lt is all =
+    All-contains P (map view xs) (view x) all (Contains-map view xs x (i, lt, sym is))
+
+-- the name of the path of an output that was read is a name
+pub item_named : (name : List ℕ) (outputs : List OutputStruct) (i : ℕ) (x : OutputStruct)
+    → i < length outputs → x ≡ get_or outputs i x → All (IsWellNamed name) (map output_of outputs)
+    → is_name (path_name name x.name.items) ≡ true
+item_named name outputs i x lt is all =
+    (item_is (IsWellNamed name) output_of outputs i x lt is all).1
+
+-- nothing but want of memory is answered for a path of the folder
+pub only_memory : (dir text : List ℕ) (fault : NameFault) → IsPathOf dir text
+    → (path_fault dir text ≡ Some fault) ⊎ ((path_fault dir text ≡ None) × (fault ≡ NoMemory))
+    → fault ≢ NoMemory → ⊥
+only_memory dir text fault is (inl wrong) other =
+    none-some fault (sym (no_fault_of_path dir text is) ∙ wrong)
+only_memory dir text fault is (inr none) other = other none.1
+
+-- a derivation's inputs and sources are in the folder where all of its paths are
+pub inputs_in_store : (dir : List ℕ) (drv : Drv) → All (IsPathOf dir) (paths_of drv)
+    → All (IsPathOf dir) (inputs_of drv)
+unfolding paths_of
+inputs_in_store dir drv all = All-left (IsPathOf dir) (inputs_of drv) drv.sources all
+
+pub sources_in_store : (dir : List ℕ) (drv : Drv) → All (IsPathOf dir) (paths_of drv)
+    → All (IsPathOf dir) drv.sources
+unfolding paths_of
+sources_in_store dir drv all = All-from_contains (IsPathOf dir) drv.sources
+    (λ x has. All-contains (IsPathOf dir) (inputs_of drv ++ drv.sources) x all
+    (Contains-append_right (inputs_of drv) drv.sources x has))
+
+-- the name of the path of a fixed output is the derivation's
+pub name_of_out : (name output : List ℕ) → output ≡ codes "out" → path_name name output ≡ name
+name_of_out name output is = ap (path_name name) is
+
+-- the name of a derivation with a fixed output is a name
+pub fixed_named : (name : List ℕ) (kind : Kind) (drv : Drv) → HasKind drv kind
+    → All (IsWellNamed name) drv.outputs → (o : Output) → drv.outputs ≡ o ∷ []
+    → o.name ≡ codes "out" → is_name name ≡ true
+fixed_named name kind drv is named o only out =
+    subst (λ t. is_name t ≡ true) (name_of_out name o.name out)
+    (All-contains (IsWellNamed name) drv.outputs o named
+    (subst (λ os. Contains os o) (sym only) (Contains-first o []))).1
+
+-- an expected path is a path of the folder
+expected_in_store : (dir name : List ℕ) (kind : Kind) (drv : Drv) (hashes : List (List ℕ))
+    → HasKind drv kind → All (IsWellNamed name) drv.outputs → (o : Output) → Contains drv.outputs o
+    → (path : List ℕ) → IsExpected dir name kind drv hashes o path → IsPathOf dir path
+expected_in_store dir name Addressed drv hashes is named o has path (bytes, is_text, made) =
+    subst (IsPathOf dir) (sym made)
+    (store_path_is_path (codes "output:" ++ o.name) (sha256 bytes) dir (path_name name o.name)
+    (All-contains (IsWellNamed name) drv.outputs o named has).1)
+expected_in_store dir name (Fixed Flat digest) drv hashes is named o has path made =
+    subst (IsPathOf dir) (sym made)
+    (store_path_is_path (codes "output:out") (sha256 (flat_text digest)) dir name
+    (fixed_named name (Fixed Flat digest) drv is named is.0 is.1.0 is.1.1))
+expected_in_store dir name (Fixed Recursive digest) drv hashes is named o has path made =
+    subst (IsPathOf dir) (sym made)
+    (store_path_is_path (codes "source") digest dir name
+    (fixed_named name (Fixed Recursive digest) drv is named is.0 is.1.0 is.1.1))
+
+-- so are the paths of outputs that are right
+pub outputs_in_store : (dir : List ℕ) (nodes : List Node) (node : Node) (kind : Kind)
+    → MayAnswer dir nodes node (Ok kind) → All (IsPathOf dir) (output_paths_of node.drv)
+outputs_in_store dir nodes node kind right =
+    All-from_contains (IsPathOf dir) (output_paths_of node.drv) (λ path has.
+    let from = Contains-from_map (λ (o : Output). o.path) node.drv.outputs path has in
+    let fit = All-contains (λ (o : Output). (p : List ℕ)
+    × IsExpected dir (drv_name_of node.path) kind node.drv right.hashes o p × IsThePath o.path p) node.drv.outputs from.0
+    right.check.1 from.1 in
+    subst (IsPathOf dir) (sym fit.2 ∙ from.2)
+    (expected_in_store dir (drv_name_of node.path) kind node.drv right.hashes right.check.0.has_kind right.check.0.named
+    from.0 from.1 fit.0 fit.1))
