@@ -58,7 +58,7 @@ adds_goes log v e old len may showable pre false is =
         showable = subst IsShowable (sym all) showable;
       },
       inl (refl, refl),
-      rw is (ap length all),
+      rw is (ap length all, subst IsShowable (sym all) showable),
     )
 
 -- whatever the list is, the exchange adds the entry to all that was seen, or finds a longer one

@@ -7,10 +7,9 @@ use Rattle.valid_table.specs.Adding.{IsNew, IsValidWith}
 use Rattle.valid_table.specs.Entries.{paths_of, registered_by}
 use Rattle.valid_table.specs.Valid.{references_of}
 use Rattle.valid_table.specs.declared.entry.Entry.{Entry}
-use Rattle.valid_view.specs.Feeding.{IsFeed}
-use Rattle.valid_view.specs.Feedings.{Takes}
-use Rattle.valid_view.specs.Handing.{entries_of}
+use Rattle.valid_view.specs.Feeding.{IsFeed, Takes, entries_of}
 use Rattle.valid_view.specs.Shown.{IsShowable, MayFollow}
+use Rattle.valid_view.specs.declared.refusal.Refusal.{Refusal}
 use Rattle.valid_view.specs.declared.shelf.Op.{Op}
 use Rattle.valid_view.proofs.Showable.{showable_front, showable_push}
 
@@ -59,7 +58,7 @@ nothing_waits [] (entry ∷ held) queue none = absurd (cc none)
 nothing_waits (entry ∷ handed) held queue none = absurd (cc none)
 
 -- nothing was taken from an empty queue
-pub nothing_taken : (old held new : List Entry) (taken : Bool) → Takes old held new (Ok taken)
-    → taken ≡ true → old ≡ [] → ⊥
+pub nothing_taken : (old held new : List Entry) (taken : Bool)
+    → Takes {E = Refusal} old held new (Ok taken) → taken ≡ true → old ≡ [] → ⊥
 nothing_taken old held new true takes is none = cc (sym takes.2 ∙ none)
 nothing_taken old held new false takes is none = cc is

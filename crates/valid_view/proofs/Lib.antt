@@ -1,6 +1,7 @@
 pub mod Adding
 pub mod Feeds
 pub mod Prefixes
+pub mod Reached
 pub mod SharedClosures
 pub mod Shelves
 pub mod Showable

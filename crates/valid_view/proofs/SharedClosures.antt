@@ -1,14 +1,15 @@
 -- Closures by lists that go on from one list.
-use Rattle.std.proofs.Common.{ℕ, List, ◌++◌, All, subst, sym}
-use Rattle.std.proofs.lemmas.List.Elements.{All-contains}
+use Rattle.std.proofs.Common.{◌≡◌, ℕ, List, ◌++◌, ◌∙◌, All, ap, subst, sym}
+use Rattle.std.proofs.lemmas.List.Elements.{All-contains, Contains-append_left}
 use Rattle.valid_table.proofs.ClosureLaws.{closure_stays_behind, leads_before, leads_behind}
-use Rattle.valid_table.proofs.JournalLists.{closed_references_valid, registered-append}
+use Rattle.valid_table.proofs.Following.{one_info}
+use Rattle.valid_table.proofs.JournalLists.{closed_references_valid, registered-append, still_valid}
 use Rattle.valid_table.specs.Closure.{IsClosure}
 use Rattle.valid_table.specs.Entries.{registered}
-use Rattle.valid_table.specs.Valid.{AreReferencesValid, IsOnce, IsValid}
+use Rattle.valid_table.specs.Valid.{AreReferencesValid, IsOnce, IsValid, Registers}
 use Rattle.valid_table.specs.declared.entry.Entry.{Entry}
 use Rattle.valid_table.specs.declared.entry.Registration.{Registration}
-use Rattle.valid_view.specs.SharedClosures.{ClosureIsShared}
+use Rattle.valid_view.specs.SharedClosures.{ClosureIsShared, ValidityLasts}
 use Rattle.valid_view.specs.Shown.{IsShowable}
 use Rattle.valid_view.proofs.Showable.{showable_front}
 
@@ -62,3 +63,20 @@ closure_is_shared common a b roots all of_a of_b in_a in_b valid is =
     in
     subst (λ (l : List Entry). IsClosure (registered l) roots all) in_b.1
     (subst Closes (sym (registered-append common in_b.0)) by_b)
+
+-- the law of what is valid
+pub validity_lasts : ValidityLasts
+validity_lasts before after goes showable path =
+    let first : List Registration = registered before in
+    let more : List Registration = registered goes.0 in
+    let all : first ++ more ≡ registered after =
+    sym (registered-append before goes.0) ∙ ap registered goes.1 in
+    let once : IsOnce (registered after) = showable.once in (
+      λ valid. subst (λ (rs : List Registration). IsValid rs path) all
+          (still_valid first more path valid),
+      λ info has.
+          let now : Registers (registered after) path info =
+          subst (λ (rs : List Registration). Registers rs path info) all
+          (Contains-append_left first more (record { path = path; info = info }) has) in
+          (now, λ other also. one_info (registered after) once path other info also now),
+    )

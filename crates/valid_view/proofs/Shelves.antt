@@ -10,7 +10,7 @@ use Rattle.logbook.specs.Pages.{Book}
 use Rattle.valid_table.proofs.AddedEntries.{registered_push}
 use Rattle.valid_table.specs.Entries.{registered, registered_by}
 use Rattle.valid_table.specs.declared.entry.Entry.{Entry}
-use Rattle.valid_view.specs.Handing.{Follows, entries_of, with_op}
+use Rattle.valid_view.specs.Feeding.{Follows, entries_of, with_op}
 use Rattle.valid_view.specs.Shelves.{Holds, IsShelf, SeesAll, Shelved}
 use Rattle.valid_view.specs.declared.shelf.Op.{Op}
 use Rattle.valid_view.proofs.Prefixes.{prefix_self, prefix_trans}

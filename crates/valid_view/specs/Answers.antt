@@ -1,5 +1,5 @@
 -- What a reader of a view knows and is answered.
-use Rattle.std.specs.Prelude.{◌≡◌, ℕ, List, All, Result, Ok, Err}
+use Rattle.std.specs.Prelude.{◌≡◌, ◌⊎◌, ◌<◌, ℕ, List, All, length, Result, Ok, Err}
 use Rattle.std.specs.Global.{Vec}
 use Rattle.nix_names.specs.Firsts.{IsFirst}
 use Rattle.valid_table.specs.Closure.{IsClosure}
@@ -17,12 +17,22 @@ pub record Knowing : Type 0 where
   pub seen : List Entry
   pub told : List Entry
 
--- an answer was given by what was seen: neither memory nor the view was missing
+-- the view was reached: all answers but one are by the list that was seen
 abbrev pub WhereSeen : {A : Type 0} → Result A ViewFault → Type 0 → Type 0
 WhereSeen (Ok answer) fact = fact
 WhereSeen (Err (NotValid path)) fact = fact
-WhereSeen (Err NoMemory) fact = Unit {0}
+WhereSeen (Err NoMemory) fact = fact
 WhereSeen (Err NoView) fact = Unit {0}
+
+-- the view was not reached
+abbrev pub IfGone : {A : Type 0} → Result A ViewFault → Type 0 → Type 0
+IfGone (Err NoView) fact = fact
+IfGone answer fact = Unit {0}
+
+-- How a reader can't reach the view: nothing new was seen, since the writer is gone; or the list
+-- that was seen has fewer entries than the one that was told of.
+abbrev pub IsUnreached : (seen told now : List Entry) → Type 0
+IsUnreached seen told now = (now ≡ seen) ⊎ (length now < length told)
 
 -- what a question for one path answers: *Valid*
 abbrev pub IsLook : List Registration → List ℕ → Result Seen ViewFault → Type 0

@@ -1,5 +1,6 @@
 -- The one list of entries of which every shown list is a beginning, and what a step on it tells.
-use Rattle.std.specs.Prelude.{ℕ, ◌≡◌, ◌==◌, true, List, [], ◌∷◌, ◌++◌, length, MatchBool}
+use Rattle.std.specs.Prelude.{ℕ, ◌≡◌, ◌<◌, ◌+◌, ◌^◌, ◌⊎◌, ◌==◌, true, List, [], ◌∷◌, ◌++◌, length, MatchBool}
+use mathlib.Core.List.{IsPrefix}
 use Rattle.logbook.specs.Pages.{Book, Cell, Named, Step, View}
 use Rattle.valid_table.specs.declared.entry.Entry.{Entry}
 use Rattle.valid_view.specs.Shown.{IsShowable}
@@ -19,8 +20,15 @@ pub record IsKept (cells : List Cell) (entries : List Entry) : Type 0 where
 abbrev pub head_of : Book → Named
 head_of book = record { tracked = true; key = 0; book = book }
 
--- the entry was added to all that had been seen, or the list was longer
+-- the entry was added to all that had been seen, or the list was longer, and was seen
 abbrev pub Adds : Step Entry → View Entry ℕ → ℕ → View Entry ℕ → Type 0
 Adds step before found after =
     MatchBool (found == step.old)
-    ((after.0 ≡ before.0 ++ step.ask ∷ []) × IsShowable after.0) (length after.0 ≡ found)
+    ((after.0 ≡ before.0 ++ step.ask ∷ []) × IsShowable after.0)
+    ((length after.0 ≡ found) × IsShowable after.0)
+
+-- Why a list with this name, of which these entries are known, can't go on: here it is, and it is
+-- longer, or it has as many entries as can be counted.
+abbrev pub Hinders : Book → List Entry → (found : Begun) → Type 0
+Hinders book known found = (found.book ≡ book) × IsPrefix known found.entries
+    × ((length known < length found.entries) ⊎ (length found.entries + 1 ≡ 2 ^ 64))

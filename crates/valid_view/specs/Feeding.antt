@@ -1,13 +1,20 @@
--- Entries on their way to be shown.
-use Rattle.std.specs.Prelude.{◌≡◌, List, [], ◌∷◌, ◌++◌, Option, Some, None}
+-- Entries on their way to be shown. One that is appended waits in a queue. It is put into the one
+-- list, and held; it is handed over to the writer's end, with the beginning of the list that it
+-- ends; and all that was handed over is shown at once. A refusal stops it at any of these steps.
+use Rattle.std.specs.Prelude.{◌≡◌, Bool, true, false, List, [], ◌∷◌, ◌++◌, map, Option, Some, None, Result, Ok, Err}
 use Rattle.logbook.specs.Pages.{Book}
+use Rattle.valid_table.specs.Entries.{registered_by}
 use Rattle.valid_table.specs.declared.entry.Entry.{Entry}
-use Rattle.valid_view.specs.Handing.{Follows, entries_of}
+use Rattle.valid_view.specs.Shelves.{Shelved}
 use Rattle.valid_view.specs.Shown.{IsShowable}
 use Rattle.valid_view.specs.declared.shelf.Op.{Op}
 
--- The entries that are shown, those that were handed over, the next one, where it is in the one
--- list already, and those that are in no list.
+-- The entries that are shown, and those that were handed over and not shown yet.
+pub record Lined : Type 0 where
+  pub shown : List Entry
+  pub handed : List Entry
+
+-- The same, the entry that is held, if there is one, and those that are in no list.
 pub record Fed : Type 0 where
   pub shown : List Entry
   pub handed : List Entry
@@ -18,10 +25,30 @@ pub record Fed : Type 0 where
 abbrev pub pending_of : Fed → List Entry
 pending_of f = f.handed ++ (f.held ++ f.queue)
 
+-- all that is in the one list
+abbrev pub known_of : Fed → List Entry
+known_of f = (f.shown ++ f.handed) ++ f.held
+
+-- what is shown with one entry more
+abbrev pub with_op : Shelved → Op → Shelved
+with_op s op =
+    record { registrations = s.registrations ++ registered_by op.entry; front = op.front }
+
+-- the entries of what was handed over
+abbrev pub entries_of : List Op → List Entry
+entries_of ops = map (λ (op : Op). op.entry) ops
+
 -- what is held, as a list
 abbrev pub ops_of : Option Op → List Op
 ops_of None = []
 ops_of (Some op) = op ∷ []
+
+-- behind some entries of the list with this name, each entry is the next one, and has the list up
+-- to itself beside it
+abbrev pub Follows : Book → List Entry → List Op → Type 0
+Follows book entries [] = Unit {0}
+Follows book entries (op ∷ ops) = (op.front.book ≡ book)
+    × (op.front.entries ≡ entries ++ op.entry ∷ []) × Follows book (entries ++ op.entry ∷ []) ops
 
 -- What waits fits together: all that is in the one list is what is shown, what was handed over and
 -- what is held; and all of it with the queue may be shown.
@@ -30,3 +57,11 @@ pub record IsFeed (book : Book) (shown handed : List Entry) (held : List Op)
   pub follows : Follows book (shown ++ handed) held
   pub front_is : front ≡ (shown ++ handed) ++ entries_of held
   pub showable : IsShowable (front ++ queue)
+
+-- where the next entry was to be taken from a queue, it is held, or there was none, or nothing
+-- changed
+abbrev pub Takes : {E : Type 0} → (old held new : List Entry) → Result Bool E → Type 0
+Takes old held new (Ok true) =
+    (entry : Entry) × (held ≡ entry ∷ []) × (old ≡ entry ∷ new)
+Takes old held new (Ok false) = (held ≡ []) × (old ≡ []) × (new ≡ [])
+Takes old held new (Err fault) = (held ≡ []) × (new ≡ old)

@@ -2,9 +2,7 @@ pub mod Answers
 pub mod Beginnings
 pub mod Faults
 pub mod Feeding
-pub mod Feedings
-pub mod Handing
-pub mod Lines
+pub mod Refusals
 pub mod SharedClosures
 pub mod Shelves
 pub mod Shown

@@ -1,9 +1,10 @@
--- That closures by two lists are the same where both lists go on from one.
-use Rattle.std.specs.Prelude.{ℕ, List, All}
+-- What stays of the answers by one list where the list goes on.
+use Rattle.std.specs.Prelude.{◌≡◌, ℕ, List, All}
 use mathlib.Core.List.{IsPrefix}
 use Rattle.valid_table.specs.Closure.{IsClosure}
 use Rattle.valid_table.specs.Entries.{registered}
-use Rattle.valid_table.specs.Valid.{IsValid}
+use Rattle.valid_table.specs.PathInfos.{PathInfo}
+use Rattle.valid_table.specs.Valid.{IsValid, Registers}
 use Rattle.valid_table.specs.declared.entry.Entry.{Entry}
 use Rattle.valid_view.specs.Shown.{IsShowable}
 
@@ -14,3 +15,12 @@ ClosureIsShared = (common a b : List Entry) (roots all : List (List ℕ)) → Is
     → IsShowable b → IsPrefix common a → IsPrefix common b
     → All (IsValid (registered common)) roots
     → IsClosure (registered a) roots all → IsClosure (registered b) roots all
+
+-- in a list that goes on and may be shown, what was valid is valid, and has the record that it had
+-- and no other
+abbrev pub ValidityLasts : Type 0
+ValidityLasts = (before after : List Entry) → IsPrefix before after → IsShowable after
+    → (path : List ℕ) → (IsValid (registered before) path → IsValid (registered after) path)
+    × ((info : PathInfo) → Registers (registered before) path info
+    → Registers (registered after) path info
+    × ((other : PathInfo) → Registers (registered after) path other → other ≡ info))

@@ -3,12 +3,13 @@ ghost use Rattle.std.specs.Prelude.{◌≡◌, ◌++◌, [], ◌∷◌, All, IfE
 ghost use Rattle.valid_table.specs.Adding.{IsNew, IsValidWith};
 ghost use Rattle.valid_table.specs.Entries.{registered_by};
 ghost use Rattle.valid_table.specs.Valid.{references_of};
-ghost use Rattle.valid_view.specs.Feeding.{pending_of};
-ghost use Rattle.valid_view.specs.Feedings.{Takes};
+ghost use Rattle.valid_view.specs.Feeding.{Takes, known_of, pending_of};
+ghost use Rattle.valid_view.specs.Refusals.{IsRefused};
 
 use crate::front::{Front, Head};
-use crate::line::Line;
+use crate::line::{Line, Returned};
 use crate::name::Naming;
+use crate::refusal::Refusal;
 use crate::shelf::Op;
 use core::mem::replace_with;
 use std::alloc::AllocError;
@@ -30,8 +31,7 @@ pub(crate) struct Feed<J: Naming> {
 }
 
 impl<J: Naming> Model for Feed<J> {
-    ghost use Rattle.valid_view.specs.Feeding.{Fed, IsFeed, ops_of};
-    ghost use Rattle.valid_view.specs.Handing.{entries_of};
+    ghost use Rattle.valid_view.specs.Feeding.{Fed, IsFeed, entries_of, ops_of};
 
     ghost Value = { Fed };
 
@@ -95,7 +95,7 @@ impl<J: Naming> Feed<J> {
     }
 
     // Shows all that waits. Where nothing does, it waits for nobody.
-    pub(crate) fn publish<R: Wait>(&mut self, rt: &R) -> Result<(), OutletFault>
+    pub(crate) fn publish<R: Wait>(&mut self, rt: &R) -> Result<(), Refusal>
         ensures ok { OnOk result
             ((self.new.shown ≡ self.old.shown ++ pending_of self.old)
             × (pending_of self.new ≡ [])) }
@@ -103,6 +103,7 @@ impl<J: Naming> Feed<J> {
             ((self.new.shown ≡ self.old.shown)
             × (pending_of self.new ≡ pending_of self.old)) }
         ensures nothing { pending_of self.old ≡ [] → IsOk result }
+        ensures why { IfErr result (IsRefused J.book (known_of self.new)) }
     {
         self.hand_over()?;
         if !self.line.all_shown() {
@@ -111,8 +112,10 @@ impl<J: Naming> Feed<J> {
         Ok(())
     }
 
-    // Ends the view.
-    pub(crate) fn close<R: Wait>(self, rt: &R) {
+    // Ends the view, and gives what names the list that was shown last. Nothing that waits is shown.
+    pub(crate) fn close<R: Wait>(self, rt: &R) -> Front<J>
+        ensures { result ≡ self.shown }
+    {
         let Feed {
             line,
             front: _front,
@@ -120,7 +123,7 @@ impl<J: Naming> Feed<J> {
             queue: _queue,
             head: _head,
         } = self;
-        line.close(rt);
+        line.close(rt)
     }
 
     // Shows what was handed over.
@@ -136,11 +139,12 @@ impl<J: Naming> Feed<J> {
     }
 
     // Hands over all that waits. What was handed over before a fault stays so.
-    fn hand_over(&mut self) -> Result<(), OutletFault>
+    fn hand_over(&mut self) -> Result<(), Refusal>
         ensures shown { self.new.shown ≡ self.old.shown }
         ensures pending { pending_of self.new ≡ pending_of self.old }
         ensures ok { OnOk result ((self.new.held ≡ []) × (self.new.queue ≡ [])) }
         ensures nothing { pending_of self.old ≡ [] → IsOk result }
+        ensures why { IfErr result (IsRefused J.book (known_of self.new)) }
     {
         self.hand_held()?;
         while self.take_next()? {
@@ -150,7 +154,7 @@ impl<J: Naming> Feed<J> {
     }
 
     // Hands over what is held.
-    fn hand_held(&mut self) -> Result<(), OutletFault>
+    fn hand_held(&mut self) -> Result<(), AllocError>
         ensures shown { self.new.shown ≡ self.old.shown }
         ensures queue { self.new.queue ≡ self.old.queue }
         ensures pending { self.new.handed ++ self.new.held ≡ self.old.handed ++ self.old.held }
@@ -160,28 +164,29 @@ impl<J: Naming> Feed<J> {
         let Some(op) = self.held.take() else {
             return Ok(());
         };
-        if let Err(op) = self.line.append(op) {
+        if let Err(Returned { op, error }) = self.line.append(op) {
             self.held = Some(op);
-            return Err(OutletFault::NoMemory);
+            return Err(error);
         }
         Ok(())
     }
 
     // Puts the queue's first entry into the list, if there is one, and holds it.
-    fn take_next(&mut self) -> Result<bool, OutletFault>
+    fn take_next(&mut self) -> Result<bool, Refusal>
         requires { self.old.held ≡ [] }
         ensures shown { self.new.shown ≡ self.old.shown }
         ensures handed { self.new.handed ≡ self.old.handed }
         ensures taken { Takes self.old.queue self.new.held self.new.queue result }
         ensures nothing { self.old.queue ≡ [] → IsOk result }
+        ensures why { IfErr result (IsRefused J.book (known_of self.new)) }
     {
         let Some(entry) = self.queue.pop_front() else {
             return Ok(false);
         };
         let mut front = self.front.again();
-        if !front.add(&self.head, &entry) {
+        if let Err(found) = front.add(&self.head, &entry) {
             self.queue.push_front_reserved(entry);
-            return Err(OutletFault::NoView);
+            return Err(found.into());
         }
         self.held = Some(Op {
             entry,

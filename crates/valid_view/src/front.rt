@@ -1,7 +1,7 @@
 //! Beginnings of the one list of which every shown list is a beginning.
-ghost use Rattle.std.specs.Prelude.{◌≡◌, ◌++◌, ◌∷◌, [], length, MatchBool};
+ghost use Rattle.std.specs.Prelude.{◌≡◌, ◌⊎◌, ◌++◌, ◌∷◌, [], length, MatchResult};
 ghost use mathlib.Core.List.{IsPrefix};
-ghost use Rattle.valid_view.specs.Beginnings.{head_of};
+ghost use Rattle.valid_view.specs.Beginnings.{Hinders, head_of};
 ghost use Rattle.valid_view.specs.Shown.{IsShowable, MayFollow};
 
 use crate::law::{Add, Law, Nothing};
@@ -93,19 +93,22 @@ impl<J: Naming> Front<J> {
         Front::over(self.all.again())
     }
 
-    /// The longer of two, which the other begins.
+    /// The longer of two, which the other begins. That it begins it is what a proof learns of two
+    /// beginnings of one list.
     pub fn longer(&self, other: &Front<J>) -> Front<J>
         ensures this { IsPrefix self.now result }
         ensures that { IsPrefix other.now result }
+        ensures one { (result ≡ self.now) ⊎ (result ≡ other.now) }
     {
         Front::over(self.all.longer(&other.all))
     }
 
-    // Adds an entry to the list and says whether it did; it did not where the list is longer, and
-    // then nothing changes.
-    pub(crate) fn add(&mut self, head: &Head<J>, entry: &Entry) -> bool
+    // Adds an entry to the list. Where that went on already, or is full, nothing changes, and it
+    // comes back as it was found.
+    pub(crate) fn add(&mut self, head: &Head<J>, entry: &Entry) -> Result<(), Beginning>
         requires { MayFollow self.old entry.now }
-        ensures { MatchBool result (self.new ≡ self.old ++ entry.now ∷ []) (self.new ≡ self.old) }
+        ensures { MatchResult result (λ _. self.new ≡ self.old ++ entry.now ∷ [])
+            (λ found. (self.new ≡ self.old) × Hinders J.book self.old found) }
     {
         self.all.add(&head.word, entry)
     }
@@ -149,31 +152,32 @@ impl Beginning {
         self.count
     }
 
-    // Adds an entry to the list and says whether it did; it did not where the list is longer, and
-    // then nothing changes.
-    fn add(&mut self, word: &Word<Entry, u64, Law>, entry: &Entry) -> bool
+    // Adds an entry to the list. Where that went on already, or is full, nothing changes, and it
+    // comes back as it was found.
+    fn add(&mut self, word: &Word<Entry, u64, Law>, entry: &Entry) -> Result<(), Beginning>
         requires word { word.now ≡ head_of self.old.book }
         requires showable { MayFollow self.old.entries entry.now }
         ensures book { self.new.book ≡ self.old.book }
-        ensures entries { MatchBool result
-            (self.new.entries ≡ self.old.entries ++ entry.now ∷ [])
-            (self.new.entries ≡ self.old.entries) }
+        ensures entries { MatchResult result
+            (λ _. self.new.entries ≡ self.old.entries ++ entry.now ∷ [])
+            (λ found. (self.new.entries ≡ self.old.entries)
+            × Hinders self.old.book self.old.entries found) }
     {
         let mut seen = self.seen.again();
         let mut offer: Offer<Entry, u64, Law, Nothing> = seen.plain::<Nothing, Entry, Add>(entry);
         let mut pen = seen.no_pen();
         let count = self.count;
         let Some(next) = count.checked_add(1) else {
-            return false;
+            return Err(self.again());
         };
         let found = word.compare_exchange::<Add, Nothing>(
             count, next, &mut seen, &mut offer, &mut pen,
         );
         if found != count {
-            return false;
+            return Err(Beginning { count: found, seen });
         }
         *self = Beginning { count: next, seen };
-        true
+        Ok(())
     }
 
     // The longer of two beginnings of one list, which the other begins.
@@ -182,6 +186,8 @@ impl Beginning {
         ensures book { result.book ≡ self.now.book }
         ensures this { IsPrefix self.now.entries result.entries }
         ensures that { IsPrefix other.now.entries result.entries }
+        ensures one { (result.entries ≡ self.now.entries)
+            ⊎ (result.entries ≡ other.now.entries) }
     {
         let mut both = self.seen.again();
         both.learn(&other.seen);

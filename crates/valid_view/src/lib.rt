@@ -9,8 +9,9 @@
 //! | `line`, `feed` | the writer's end, under the rule, and what waits before it |
 //! | `writer`, `opening` | the writer, and how a view is opened |
 //! | `tells` | outlets that tell by beginnings of one list |
+//! | `sight` | what a reader saw, and what it sees while it reads |
 //! | `reader`, `seen` | readers, and what they find |
-//! | `fault` | why a reader refused |
+//! | `fault`, `refusal` | why a reader refused, and why the writer |
 //! | `laws` | laws over the definitions that contracts cite |
 #![tactic(auto)]
 
@@ -23,9 +24,11 @@ mod line;
 mod name;
 mod opening;
 mod reader;
+mod refusal;
 mod rule;
 mod seen;
 mod shelf;
+mod sight;
 mod tells;
 mod writer;
 

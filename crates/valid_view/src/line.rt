@@ -6,12 +6,19 @@ use crate::front::Front;
 use crate::name::Naming;
 use crate::rule::{Glimpse, Published, Sees};
 use crate::shelf::{Op, Shelf};
-use left_right::reader::Reader;
+use crate::sight::Sight;
 use left_right::writer::Writer;
-use std::alloc::{AllocError, Global};
+use std::alloc::{AllocError, AllocFailed, Global};
 use std::marker::Model;
 use std::sync::Wait;
 use valid_table::Entry;
+
+// An entry that came back, since memory was refused.
+#[derive(Drop)]
+pub(crate) struct Returned {
+    pub op: Op,
+    pub error: AllocError,
+}
 
 // The writer. A contract sees the entries that are shown, and those that were handed over and not
 // shown yet.
@@ -21,8 +28,7 @@ pub(crate) struct Line<J: Naming> {
 
 impl<J: Naming> Model for Line<J> {
     ghost use Rattle.std.specs.Prelude.{drop};
-    ghost use Rattle.valid_view.specs.Handing.{Follows, entries_of};
-    ghost use Rattle.valid_view.specs.Lines.{Lined};
+    ghost use Rattle.valid_view.specs.Feeding.{Follows, Lined, entries_of};
     ghost use Rattle.valid_view.specs.Shelves.{IsShelf};
 
     ghost Value = { Lined };
@@ -55,9 +61,14 @@ impl<J: Naming> Line<J> {
         Ok(Line { writer })
     }
 
-    // A new reader, which has seen nothing. `AllocError` where each place is in use.
-    pub(crate) fn reader(&self) -> Result<Reader<Shelf, Glimpse, Published<J>>, AllocError> {
-        self.writer.factory().reader()
+    // A new reader, which has seen the list without entries. `AllocError` where each place is in
+    // use.
+    pub(crate) fn reader(&self, none: &Front<J>) -> Result<Sight<J>, AllocError>
+        requires { none.now ≡ [] }
+        ensures { IfOk result (λ sight. sight ≡ []) }
+    {
+        let reader = self.writer.factory().reader()?;
+        Ok(Sight::over(reader, none.again()))
     }
 
     // What names the list that is shown.
@@ -75,16 +86,23 @@ impl<J: Naming> Line<J> {
     }
 
     // Hands over the next entry. It comes back where memory is refused.
-    pub(crate) fn append(&mut self, op: Op) -> Result<(), Op>
+    pub(crate) fn append(&mut self, op: Op) -> Result<(), Returned>
         requires named { op.front.book ≡ J.book }
         requires next { op.front.entries
             ≡ (self.old.shown ++ self.old.handed) ++ op.entry ∷ [] }
         ensures shown { self.new.shown ≡ self.old.shown }
         ensures handed { MatchResult result
             (λ _. self.new.handed ≡ self.old.handed ++ op.entry ∷ [])
-            (λ back. (back ≡ op) × (self.new.handed ≡ self.old.handed)) }
+            (λ back. (back.op ≡ op) × (self.new.handed ≡ self.old.handed)) }
     {
-        self.writer.append(op)
+        match self.writer.append(op) {
+            Ok(()) => Ok(()),
+            // The writer gives an operation back where its queue could not grow, and never else.
+            Err(op) => Err(Returned {
+                op,
+                error: AllocFailed { value: () }.into(),
+            }),
+        }
     }
 
     // Shows all that was handed over. May wait for readers. `AllocError` where memory is refused;
@@ -100,9 +118,11 @@ impl<J: Naming> Line<J> {
         (Line { writer }, shown)
     }
 
-    // Ends the view. May wait for readers.
-    pub(crate) fn close<R: Wait>(self, rt: &R) {
+    // Ends the view, and gives what names the list that was shown last. May wait for readers.
+    pub(crate) fn close<R: Wait>(self, rt: &R) -> Front<J>
+        ensures { result ≡ self.shown }
+    {
         let Line { writer } = self;
-        writer.take(rt);
+        Front::over(writer.take(rt).front.again())
     }
 }

@@ -1,19 +1,22 @@
 //! How a view is opened.
-ghost use Rattle.std.specs.Prelude.{◌≡◌, ◌≤◌, [], All, IfOk, OnOk, length};
+ghost use Rattle.std.specs.Prelude.{◌≡◌, ◌≤◌, [], All, IfOk, MatchResult, length};
 ghost use Rattle.valid_table.specs.Entries.{registered};
 ghost use Rattle.valid_table.specs.Valid.{IsJournal};
+ghost use Rattle.valid_view.specs.Beginnings.{Hinders};
+ghost use Rattle.valid_view.specs.Feeding.{pending_of};
 
 use crate::feed::Feed;
-use crate::front::{Front, Head};
+use crate::front::{Beginning, Front, Head};
 use crate::line::Line;
 use crate::name::{Name, Naming};
 use crate::reader::ViewReader;
+use crate::refusal::Refusal;
 use crate::shelf::Shelf;
 use crate::writer::ViewWriter;
 use std::alloc::Global;
 use std::collections::VecDeque;
 use std::sync::Wait;
-use valid_table::{Entry, Journal, OutletFault, Table};
+use valid_table::{Entry, Journal, OutletFault, Table, TableFault};
 
 /// Opens a view that shows a journal's entries, with so many readers, from 1 to 64, each of which
 /// was told of them. `NoMemory` where memory is refused, `NoView` where there is no place for a
@@ -32,56 +35,73 @@ pub fn open<J: Naming, R: Wait + Drop>(
     ensures readers { IfOk result (λ view. length view.1.items ≡ readers) }
     ensures told { IfOk result
         (λ view. All (λ reader. reader.told ≡ journal.now.entries) view.1.items) }
+    ensures seen { IfOk result (λ view. All (λ reader. reader.seen ≡ []) view.1.items) }
 {
-    let (head, mut front) = name.open::<J>();
+    match opened(alloc, &rt, name, journal, readers) {
+        Ok((feed, readers)) => Ok((ViewWriter::over(feed, rt), readers)),
+        Err(refusal) => Err(refusal.fault()),
+    }
+}
+
+// What feeds a view that shows a journal's entries, and its readers.
+fn opened<J: Naming, R: Wait>(
+    alloc: Global,
+    rt: &R,
+    name: Name,
+    journal: &Journal,
+    readers: usize,
+) -> Result<(Feed<J>, Vec<ViewReader<J>>), Refusal>
+    requires name { name ≡ J.book }
+    requires readers { (1 ≤ readers) × (readers ≤ 64) }
+    ensures shown { IfOk result (λ view. view.0.shown ≡ journal.now.entries) }
+    ensures pending { IfOk result (λ view. pending_of view.0 ≡ []) }
+    ensures readers { IfOk result (λ view. length view.1.items ≡ readers) }
+    ensures told { IfOk result
+        (λ view. All (λ reader. reader.told ≡ journal.now.entries) view.1.items) }
+    ensures seen { IfOk result (λ view. All (λ reader. reader.seen ≡ []) view.1.items) }
+{
+    let (head, none) = name.open::<J>();
+    let mut front = none.again();
     fill(&mut front, &head, journal.entries())?;
     let first = shelf(alloc, journal, &front)?;
     let second = shelf(alloc, journal, &front)?;
     let line = Line::open(alloc, first, second, readers)?;
-    match made_readers(alloc, &line, &front, readers) {
+    match made_readers(alloc, &line, &none, &front, readers) {
         Ok(readers) => {
             let feed = Feed::over(line, front, head, VecDeque::new(alloc));
-            Ok((ViewWriter::over(feed, rt), readers))
+            Ok((feed, readers))
         }
-        Err(fault) => {
-            line.close(&rt);
-            Err(fault)
+        Err(refusal) => {
+            let _shown = line.close(rt);
+            Err(refusal)
         }
     }
 }
 
 // Puts a journal's entries into a list that has none.
-fn fill<J: Naming>(
-    front: &mut Front<J>,
-    head: &Head<J>,
-    entries: &[Entry],
-) -> Result<(), OutletFault>
+fn fill<J: Naming>(front: &mut Front<J>, head: &Head<J>, entries: &[Entry]) -> Result<(), Beginning>
     requires empty { front.old ≡ [] }
     requires journal { IsJournal entries.now }
-    ensures { OnOk result (front.new ≡ entries.now) }
+    ensures { MatchResult result (λ _. front.new ≡ entries.now) (Hinders J.book front.new) }
 {
     for entry in entries {
-        if !front.add(head, entry) {
-            return Err(OutletFault::NoView);
-        }
+        front.add(head, entry)?;
     }
     Ok(())
 }
 
 // One of the two tables of a view.
-fn shelf<J: Naming>(
-    alloc: Global,
-    journal: &Journal,
-    front: &Front<J>,
-) -> Result<Shelf, OutletFault>
+fn shelf<J: Naming>(alloc: Global, journal: &Journal, front: &Front<J>) -> Result<Shelf, Refusal>
     requires { front.now ≡ journal.now.entries }
     ensures table { IfOk result
         (λ shelf. shelf.registrations ≡ registered journal.now.entries) }
     ensures named { IfOk result (λ shelf. shelf.front.book ≡ J.book) }
     ensures entries { IfOk result (λ shelf. shelf.front.entries ≡ journal.now.entries) }
 {
-    let Ok(table) = Table::replay(alloc, journal) else {
-        return Err(OutletFault::NoMemory);
+    let table = match Table::replay(alloc, journal) {
+        Ok(table) => table,
+        Err(TableFault::NoMemory) => return Err(Refusal::NoMemory),
+        Err(_) => unreachable!(),
     };
     Ok(Shelf {
         table,
@@ -89,23 +109,27 @@ fn shelf<J: Naming>(
     })
 }
 
-// The readers of a view, each of which was told of a list.
+// The readers of a view, which have seen the list without entries, and were told of another.
 fn made_readers<J: Naming>(
     alloc: Global,
     line: &Line<J>,
+    none: &Front<J>,
     front: &Front<J>,
     count: usize,
-) -> Result<Vec<ViewReader<J>>, OutletFault>
+) -> Result<Vec<ViewReader<J>>, Refusal>
+    requires { none.now ≡ [] }
     ensures count { IfOk result (λ readers. length readers.items ≡ count) }
     ensures told { IfOk result
         (λ readers. All (λ reader. reader.told ≡ front.now) readers.items) }
+    ensures seen { IfOk result (λ readers. All (λ reader. reader.seen ≡ []) readers.items) }
 {
     let mut readers = Vec::with_capacity(alloc, count)?;
     for _ in 0..count {
-        let Ok(reader) = line.reader() else {
-            return Err(OutletFault::NoView);
+        let sight = match line.reader(none) {
+            Ok(sight) => sight,
+            Err(error) => return Err(Refusal::NoPlace(error)),
         };
-        readers.push(ViewReader::over(reader, front.again()))?;
+        readers.push(ViewReader::over(sight, front.again()))?;
     }
     Ok(readers)
 }

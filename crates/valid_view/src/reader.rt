@@ -1,19 +1,16 @@
 //! A reader of a view.
-ghost use Rattle.std.specs.Prelude.{◌≡◌, IfOk, MatchResult, Ok};
+ghost use Rattle.std.specs.Prelude.{◌≡◌, ◌⊎◌, Ok};
 ghost use mathlib.Core.List.{IsPrefix};
-ghost use Rattle.left_right.specs.Sides.{view as seat_view};
 ghost use Rattle.valid_table.specs.Entries.{registered};
-ghost use Rattle.valid_view.specs.Answers.{IsLook, IsViewClosing, WhereSeen};
+ghost use Rattle.valid_view.specs.Answers.{IfGone, IsLook, IsUnreached, IsViewClosing, WhereSeen};
 ghost use Rattle.valid_view.specs.Shown.{IsShowable};
 
 use crate::fault::ViewFault;
 use crate::front::Front;
 use crate::name::Naming;
-use crate::rule::{Glimpse, Published, Sees};
 use crate::seen::Seen;
-use crate::shelf::Shelf;
+use crate::sight::Sight;
 use core::mem::replace_with;
-use left_right::reader::{Reader, Reading};
 use nix_names::StorePath;
 use std::alloc::Global;
 use std::marker::Model;
@@ -24,28 +21,33 @@ use valid_table::{Table, TableFault};
 /// of. Each list that it sees begins with both. A reader may go to another thread.
 #[derive(Drop)]
 pub struct ViewReader<J: Naming> {
-    reader: Reader<Shelf, Glimpse, Published<J>>,
+    sight: Sight<J>,
     told: Front<J>,
 }
 
 impl<J: Naming> Model for ViewReader<J> {
-    ghost use Rattle.left_right.specs.Sides.{view as seat_view};
     ghost use Rattle.valid_view.specs.Answers.{Knowing};
 
     ghost Value = { Knowing };
 
-    ghost view = { λ r. record { seen = seat_view r.reader.place; told = r.told } };
+    ghost view = { λ r. record { seen = r.sight; told = r.told } };
 }
 
 impl<J: Naming> ViewReader<J> {
     // A reader that was told of a list.
-    pub(crate) fn over(
-        reader: Reader<Shelf, Glimpse, Published<J>>,
-        told: Front<J>,
-    ) -> ViewReader<J>
-        ensures { result.told ≡ told }
+    pub(crate) fn over(sight: Sight<J>, told: Front<J>) -> ViewReader<J>
+        ensures seen { result.seen ≡ sight }
+        ensures told { result.told ≡ told }
     {
-        ViewReader { reader, told }
+        ViewReader { sight, told }
+    }
+
+    /// The list that it saw shown when it last asked: the one by which that answer holds. A proof
+    /// ties it to what the writer told, or another reader saw, by `Front::longer`.
+    pub fn seen(&self) -> &Front<J>
+        ensures { result.now ≡ self.now.seen }
+    {
+        self.sight.seen()
     }
 
     /// Takes in what the writer of the view told: from now on no shorter list is seen. Takes no
@@ -54,6 +56,7 @@ impl<J: Naming> ViewReader<J> {
         ensures seen { self.new.seen ≡ self.old.seen }
         ensures kept { IsPrefix self.old.told self.new.told }
         ensures told { IsPrefix told self.new.told }
+        ensures one { (self.new.told ≡ self.old.told) ⊎ (self.new.told ≡ told) }
     {
         self.told = self.told.longer(&told);
     }
@@ -65,9 +68,10 @@ impl<J: Naming> ViewReader<J> {
         ensures later { IsPrefix self.old.seen self.new.seen }
         ensures known { WhereSeen result
             (IsPrefix self.old.told self.new.seen × IsShowable self.new.seen) }
+        ensures gone { IfGone result (IsUnreached self.old.seen self.old.told self.new.seen) }
         ensures answer { IsLook (registered self.new.seen) path.now result }
     {
-        replace_with(&mut self.reader, (&self.told, path), look)
+        replace_with(&mut self.sight, (&self.told, path), look)
     }
 
     /// All that the roots lead to by references in the list that is seen now, the roots among them,
@@ -83,80 +87,51 @@ impl<J: Naming> ViewReader<J> {
         ensures later { IsPrefix self.old.seen self.new.seen }
         ensures known { WhereSeen result
             (IsPrefix self.old.told self.new.seen × IsShowable self.new.seen) }
+        ensures gone { IfGone result (IsUnreached self.old.seen self.old.told self.new.seen) }
         ensures answer { IsViewClosing (registered self.new.seen) roots.now result }
     {
-        replace_with(&mut self.reader, (&self.told, alloc, roots), closure)
+        replace_with(&mut self.sight, (&self.told, alloc, roots), closure)
     }
 }
 
 // What a reader finds of a path.
 fn look<J: Naming>(
-    reader: Reader<Shelf, Glimpse, Published<J>>,
+    sight: Sight<J>,
     asked: (&Front<J>, &StorePath),
-) -> (
-    Reader<Shelf, Glimpse, Published<J>>,
-    Result<Seen, ViewFault>,
-)
-    ensures later { IsPrefix (seat_view reader.place) (seat_view result.0.place) }
+) -> (Sight<J>, Result<Seen, ViewFault>)
+    ensures later { IsPrefix sight result.0 }
     ensures known { WhereSeen result.1
-        (IsPrefix asked.entry.0.now (seat_view result.0.place)
-        × IsShowable (seat_view result.0.place)) }
-    ensures answer { IsLook (registered (seat_view result.0.place)) asked.entry.1.now result.1 }
+        (IsPrefix asked.entry.0.now result.0 × IsShowable result.0) }
+    ensures gone { IfGone result.1 (IsUnreached sight asked.entry.0.now result.0) }
+    ensures answer { IsLook (registered result.0) asked.entry.1.now result.1 }
 {
-    match enter(reader, asked.0) {
-        Ok(reading) => {
-            let answer = seen_in(&reading.get().table, asked.1);
-            (reading.leave(), Ok(answer))
+    match sight.enter(asked.0) {
+        Ok(glance) => {
+            let answer = seen_in(glance.table(), asked.1);
+            (glance.leave(), Ok(answer))
         }
-        Err(reader) => (reader, Err(ViewFault::NoView)),
+        Err(sight) => (sight, Err(ViewFault::NoView)),
     }
 }
 
 // What a reader finds of the closure of some roots.
 fn closure<J: Naming>(
-    reader: Reader<Shelf, Glimpse, Published<J>>,
+    sight: Sight<J>,
     asked: (&Front<J>, Global, &[StorePath]),
-) -> (
-    Reader<Shelf, Glimpse, Published<J>>,
-    Result<Vec<StorePath>, ViewFault>,
-)
-    ensures later { IsPrefix (seat_view reader.place) (seat_view result.0.place) }
+) -> (Sight<J>, Result<Vec<StorePath>, ViewFault>)
+    ensures later { IsPrefix sight result.0 }
     ensures known { WhereSeen result.1
-        (IsPrefix asked.entry.0.now (seat_view result.0.place)
-        × IsShowable (seat_view result.0.place)) }
-    ensures answer { IsViewClosing (registered (seat_view result.0.place)) asked.entry.2.now
-        result.1 }
+        (IsPrefix asked.entry.0.now result.0 × IsShowable result.0) }
+    ensures gone { IfGone result.1 (IsUnreached sight asked.entry.0.now result.0) }
+    ensures answer { IsViewClosing (registered result.0) asked.entry.2.now result.1 }
 {
-    match enter(reader, asked.0) {
-        Ok(reading) => {
-            let answer = closure_in(asked.1, &reading.get().table, asked.2);
-            (reading.leave(), answer)
+    match sight.enter(asked.0) {
+        Ok(glance) => {
+            let answer = closure_in(asked.1, glance.table(), asked.2);
+            (glance.leave(), answer)
         }
-        Err(reader) => (reader, Err(ViewFault::NoView)),
+        Err(sight) => (sight, Err(ViewFault::NoView)),
     }
-}
-
-// Takes what is shown, where that begins with what was told. What is shown always does.
-fn enter<J: Naming>(
-    reader: Reader<Shelf, Glimpse, Published<J>>,
-    told: &Front<J>,
-) -> Result<Reading<Shelf, Glimpse, Published<J>>, Reader<Shelf, Glimpse, Published<J>>>
-    ensures later { MatchResult result
-        (λ reading. IsPrefix (seat_view reader.place) (seat_view reading.place))
-        (λ back. IsPrefix (seat_view reader.place) (seat_view back.place)) }
-    ensures value { IfOk result
-        (λ reading. reading.part.value.registrations ≡ registered (seat_view reading.place)) }
-    ensures told { IfOk result (λ reading. IsPrefix told.now (seat_view reading.place)) }
-    ensures showable { IfOk result (λ reading. IsShowable (seat_view reading.place)) }
-{
-    let reading = reader.enter_as::<Sees<J>>()?;
-    let shown = Front::<J>::over(reading.get().front.again());
-    if shown.len() < told.len() {
-        return Err(reading.leave());
-    }
-    // Its contract says that the shorter begins the longer.
-    let _longer = shown.longer(told);
-    Ok(reading)
 }
 
 // What a table says of a path.
@@ -175,11 +150,13 @@ fn closure_in(
     table: &Table,
     roots: &[StorePath],
 ) -> Result<Vec<StorePath>, ViewFault>
-    ensures { IsViewClosing table.now.registrations roots.now result }
+    ensures answer { IsViewClosing table.now.registrations roots.now result }
+    ensures reached { IfGone result ⊥ }
 {
     match table.closure(alloc, roots) {
         Ok(paths) => Ok(paths),
         Err(TableFault::NotValid(path)) => Err(ViewFault::NotValid(path)),
-        Err(_) => Err(ViewFault::NoMemory),
+        Err(TableFault::NoMemory) => Err(ViewFault::NoMemory),
+        Err(_) => unreachable!(),
     }
 }

@@ -1,9 +1,9 @@
 //! What a view shows: a table, with the entries that it is of.
 use crate::front::Beginning;
 use left_right::Absorb;
-use std::alloc::AllocError;
+use std::alloc::{AllocError, AllocFailed};
 use std::marker::Model;
-use valid_table::{Entry, Table};
+use valid_table::{Entry, Table, TableFault};
 
 // An entry that comes next, with the beginning of the list that ends with it.
 #[derive(Drop)]
@@ -28,7 +28,7 @@ impl Model for Shelf {
 }
 
 impl Absorb<Op> for Shelf {
-    ghost use Rattle.valid_view.specs.Handing.{with_op};
+    ghost use Rattle.valid_view.specs.Feeding.{with_op};
 
     type State = Shelf;
 
@@ -37,10 +37,15 @@ impl Absorb<Op> for Shelf {
     ghost applied = { with_op };
 
     fn absorb_first(&mut self, operation: &Op, _other: &Shelf) -> Result<(), AllocError> {
-        if self.table.register(&operation.entry).is_err() {
-            return Err(AllocError);
+        match self.table.register(&operation.entry) {
+            Ok(()) => {
+                self.front = operation.front.again();
+                Ok(())
+            }
+            Err(TableFault::NoMemory) => Err(AllocError),
+            // Never: what is handed over may follow what is shown (`Follows`), so its paths are new
+            // and its references valid. `Absorb` has no condition that could say so here.
+            Err(fault) => Err(AllocFailed { value: fault }.into()),
         }
-        self.front = operation.front.again();
-        Ok(())
     }
 }

@@ -76,18 +76,23 @@ impl<J: Naming + Send, R: Wait + Drop> Outlet for ViewWriter<J, R> {
 
     /// Shows what waits: each reader that asks afterwards sees it. Waits for readers that still
     /// read what was shown before the last list. Where nothing waits it does nothing, and waits
-    /// for nobody. `NoMemory` where memory is refused.
+    /// for nobody. `NoMemory` where memory is refused; `NoView` where someone else made the one list
+    /// longer, which nobody can.
     fn publish(&mut self) -> Result<(), OutletFault> {
-        self.feed.publish(&self.rt)
+        match self.feed.publish(&self.rt) {
+            Ok(()) => Ok(()),
+            Err(refusal) => Err(refusal.fault()),
+        }
     }
 
     fn tell(&self) -> Front<J> {
         self.feed.front()
     }
 
-    /// Ends the view: readers are answered `NoView` from now on. Waits for those that still read.
+    /// Ends the view: readers are answered `NoView` from now on, and what waits is not shown. Waits
+    /// for those that still read.
     fn close(self) {
         let ViewWriter { feed, rt } = self;
-        feed.close(&rt);
+        let _shown = feed.close(&rt);
     }
 }

@@ -48,6 +48,20 @@ fn added_y(alloc: Global) -> Result<Entry, Fail> {
     Ok(Entry::Add(Registration { path, info }))
 }
 
+// Appends an entry to what waits behind the journal.
+pub(crate) fn append_next<J: Naming, R>(
+    journal: &Journal,
+    writer: &mut ViewWriter<J, R>,
+    entry: Entry,
+) -> Result<(), Fail>
+    requires { writer.old.shown ++ writer.old.pending ≡ journal.now.entries }
+{
+    if let Some(_) = journal.table().obstacle(&entry) {
+        return Err(Fail::from("the entry may come next"));
+    }
+    Ok(writer.append(entry)?)
+}
+
 // Appends y to what waits behind the journal.
 fn append_y<J: Naming, R>(
     alloc: Global,
@@ -56,11 +70,7 @@ fn append_y<J: Naming, R>(
 ) -> Result<(), Fail>
     requires { writer.old.shown ++ writer.old.pending ≡ journal.now.entries }
 {
-    let entry = added_y(alloc)?;
-    if let Some(_) = journal.table().obstacle(&entry) {
-        return Err(Fail::from("y may come next"));
-    }
-    Ok(writer.append(entry)?)
+    append_next(journal, writer, added_y(alloc)?)
 }
 
 fn asked_at_each_step<J: Naming + Send, R: Wait + Abort>(

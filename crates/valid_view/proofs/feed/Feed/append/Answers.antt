@@ -1,8 +1,7 @@
 use Rattle.std.proofs.Common.{◌≡◌, ◌++◌, ap, subst}
 use Rattle.nix_names.specs.Rising.{IsRising}
 use Rattle.valid_table.specs.Entries.{paths_of}
-use Rattle.valid_view.specs.Feeding.{Fed, ops_of, pending_of}
-use Rattle.valid_view.specs.Handing.{entries_of}
+use Rattle.valid_view.specs.Feeding.{Fed, entries_of, ops_of, pending_of}
 use Rattle.valid_view.proofs.Feeds.{feed_push}
 use Rattle.valid_view.proofs.feed.Feed.append.Goals as goal
 

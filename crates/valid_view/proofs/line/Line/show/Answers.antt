@@ -1,6 +1,5 @@
 use Rattle.std.proofs.Common.{◌≡◌, ap, drop}
-use Rattle.valid_view.specs.Handing.{entries_of}
-use Rattle.valid_view.specs.Lines.{Lined}
+use Rattle.valid_view.specs.Feeding.{Lined, entries_of}
 use Rattle.valid_view.proofs.Shelves.{shown_lined, shown_ok, shows}
 use Rattle.valid_view.proofs.line.Line.show.Goals as goal
 

@@ -1,4 +1,4 @@
-use Rattle.view_tests.proofs.views.append_y.Goals as goal
+use Rattle.view_tests.proofs.views.append_next.Goals as goal
 
 pub append-requires-clause-new : goal.append-requires-clause-new
 append-requires-clause-new g c =

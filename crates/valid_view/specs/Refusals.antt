@@ -1,0 +1,22 @@
+-- Why a view could not be opened, or could not show what waits, and as which fault that is told.
+use Rattle.std.specs.Prelude.{List}
+use Rattle.logbook.specs.Pages.{Book}
+use Rattle.valid_table.specs.declared.entry.Entry.{Entry}
+use Rattle.valid_table.specs.declared.fault.OutletFault.{OutletFault}
+use Rattle.valid_table.specs.declared.fault.OutletFault.TheVariants as fault
+use Rattle.valid_view.specs.Beginnings.{Hinders}
+use Rattle.valid_view.specs.declared.refusal.Refusal.{Refusal}
+use Rattle.valid_view.specs.declared.refusal.Refusal.TheVariants.{NoMemory, Hindered, NoPlace}
+
+-- the fault as which a refusal is told
+abbrev pub told_as : Refusal → OutletFault
+told_as NoMemory = fault.NoMemory
+told_as (Hindered found) = fault.NoView
+told_as (NoPlace error) = fault.NoView
+
+-- what holds where entries were to be shown, and these were in the list with this name: but for want
+-- of memory, that list went on, or is full
+abbrev pub IsRefused : Book → List Entry → Refusal → Type 0
+IsRefused book known NoMemory = Unit {0}
+IsRefused book known (Hindered found) = Hinders book known found
+IsRefused book known (NoPlace error) = ⊥
