@@ -71,7 +71,7 @@ none_counted test (t ∷ tallies) none =
     failing false fails = refl
 
 -- how the tests of a state turn
-turn_open : (s t : State) → Turns s t → is_open t ≡ true → is_open s ≡ true
+pub turn_open : (s t : State) → Turns s t → is_open t ≡ true → is_open s ≡ true
 turn_open s t (turns_stays _) is = is
 turn_open s t (turns_named _ _) is = is
 turn_open s t turns_freed is = refl

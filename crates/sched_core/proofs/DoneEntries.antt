@@ -1,6 +1,6 @@
 -- The entry of a derivation that was built, by what is tested of its records.
 use Rattle.std.proofs.Common.{◌≡◌, ◌≢◌, ◌∙◌, ◌↔◌, ℕ, ◌+◌, ◌<◌, ◌≤◌, Bool, true, false, List, [], ◌∷◌, length, map, take, get_or, Option, Some, refl, sym, ap, subst}
-use Rattle.std.specs.Prelude.{All, Contains, IfSome, IsTrue, not, slice_get}
+use Rattle.std.specs.Prelude.{All, Contains, IfSome, IsTrue, slice_get}
 use Rattle.std.specs.Option.{option_map}
 use Rattle.std.proofs.lemmas.Bool.{false≢true}
 use Rattle.std.proofs.lemmas.List.{length-map, take_all}
@@ -23,11 +23,13 @@ use Rattle.valid_table.specs.Valid.{IsNotValid, IsOnce, IsValid}
 use Rattle.valid_table.specs.declared.entry.Entry.{Entry}
 use Rattle.valid_table.specs.declared.entry.Entry.TheVariants.{Done}
 use Rattle.valid_table.specs.declared.entry.Registration.{Registration}
-use Rattle.sched_core.specs.Dones.{AreLawful, HaveDigest, IsDoneEntry, IsUnlawful, infos_of}
+use Rattle.sched_core.specs.Books.{AreNewRecords, IsNotAllowed}
+use Rattle.sched_core.specs.Dones.{AreFitting, HaveDigest, IsDoneEntry, IsDoneFault, infos_of}
 use Rattle.sched_core.specs.Jobs.{output_paths}
-use Rattle.sched_core.specs.Legal.{ArePermittedTo, IsAllowed, IsEntryOf}
-use Rattle.sched_core.specs.Runs.{Run}
+use Rattle.sched_core.specs.Legal.{AreNewOutputs, AreOutputRecords, IsEntryOf}
 use Rattle.sched_core.specs.Verdicts.{IsCyclic}
+use Rattle.sched_core.specs.declared.fault.BookFault.{BookFault}
+use Rattle.sched_core.specs.declared.fault.BookFault.TheVariants.{NoMemory}
 use Rattle.sched_core.proofs.Registrable.{fixed_kind}
 use Rattle.nix_names.proofs.Lists.{All-from_contains, Contains-from_get, element_at, get_from_contains, get_source, same_element, taken_more}
 
@@ -62,55 +64,44 @@ all_new known paths i all new = (
 -- ---- what is tested, and what is allowed
 
 pub judged : (known : List Registration) (kind : Kind) (paths : List (List ℕ))
-    (infos : List PathInfo) (cyclic : Bool)
-    → length infos ≡ length paths
-    → All (IsNotValid known) paths → HaveDigest kind infos → (IsTrue cyclic ↔ IsCyclic paths infos)
-    → IsTrue (not cyclic) ↔ AreLawful known kind paths infos
-judged known kind paths infos true count new fixed told =
-    (λ no. absurd (false≢true no), λ lawful. absurd (lawful.acyclic (told.0 refl)))
-judged known kind paths infos false count new fixed told = (
-  λ _. record {
-    count = count;
-    new = new;
-    fixed = fixed;
-    acyclic = λ cyclic. false≢true (told.1 cyclic);
-  },
-  λ _. refl,
+    (infos : List PathInfo) (digests : Bool) → length infos ≡ length paths
+    → All (IsNotValid known) paths → (IsTrue digests ↔ HaveDigest kind infos)
+    → IsTrue digests ↔ AreFitting known kind paths infos
+judged known kind paths infos digests count new told = (
+  λ yes. record { count = count; new = new; digests = told.0 yes },
+  λ fitting. told.1 fitting.digests,
 )
 
-lawful_allowed : (run : Run) (entries : List Entry) (node : Node) (kind : Kind)
-    (infos : List PathInfo) → HasKind node.drv kind
-    → AreLawful (registered entries) kind (output_paths node.drv) infos
-    → ArePermittedTo run entries node infos
-    → IsAllowed run entries node infos
-lawful_allowed run entries node kind infos has_kind lawful permitted = record {
-  count = lawful.count ∙ length-map node.drv.outputs (λ (o : Output). o.path);
-  new = λ path has. All-contains (IsNotValid (registered entries)) (output_paths node.drv) path
-      lawful.new has;
-  permitted = permitted;
-  fixed = λ method digest is_fixed info has.
-      let other = fixed_kind node.drv kind method digest has_kind is_fixed in
-      All-contains (λ (i : PathInfo). i.digest ≡ Some digest) infos info
-      (subst (λ (k : Kind). HaveDigest k infos) other.1 lawful.fixed)
-      has;
-  acyclic = lawful.acyclic;
-}
+-- the records of outputs of a kind at their paths, by what is tested
+fitting_own : (entries : List Entry) (drv : Drv) (kind : Kind) (infos : List PathInfo)
+    → HasKind drv kind → AreFitting (registered entries) kind (output_paths drv) infos
+    → AreOutputRecords drv infos × AreNewOutputs entries drv
+fitting_own entries drv kind infos has_kind fitting = (
+  record {
+    count = fitting.count ∙ length-map drv.outputs (λ (o : Output). o.path);
+    fixed = λ method digest is_fixed info has.
+        let other = fixed_kind drv kind method digest has_kind is_fixed in
+        All-contains (λ (i : PathInfo). i.digest ≡ Some digest) infos info
+        (subst (λ (k : Kind). HaveDigest k infos) other.1 fitting.digests)
+        has;
+  },
+  λ path has. All-contains (IsNotValid (registered entries)) (output_paths drv) path
+      fitting.new has,
+)
 
-allowed_lawful : (run : Run) (entries : List Entry) (node : Node) (kind : Kind)
-    (infos : List PathInfo) → HasKind node.drv kind
-    → IsAllowed run entries node infos → AreLawful (registered entries) kind (output_paths node.drv)
-    infos
-allowed_lawful run entries node kind infos has_kind allowed = record {
-  count = allowed.count ∙ sym (length-map node.drv.outputs (λ (o : Output). o.path));
-  new = All-from_contains (IsNotValid (registered entries)) (output_paths node.drv) allowed.new;
-  fixed = digests kind has_kind;
-  acyclic = allowed.acyclic;
+own_fitting : (entries : List Entry) (drv : Drv) (kind : Kind) (infos : List PathInfo)
+    → HasKind drv kind → AreOutputRecords drv infos → AreNewOutputs entries drv
+    → AreFitting (registered entries) kind (output_paths drv) infos
+own_fitting entries drv kind infos has_kind own new = record {
+  count = own.count ∙ sym (length-map drv.outputs (λ (o : Output). o.path));
+  new = All-from_contains (IsNotValid (registered entries)) (output_paths drv) new;
+  digests = digests kind has_kind;
 }
   where
-    digests : (k : Kind) → HasKind node.drv k → HaveDigest k infos
+    digests : (k : Kind) → HasKind drv k → HaveDigest k infos
     digests Addressed has = tt
     digests (Fixed method digest) has = All-from_contains (λ (i : PathInfo). i.digest ≡ Some digest)
-        infos (allowed.fixed method digest has)
+        infos (own.fixed method digest has)
 
 -- ---- the entry
 
@@ -189,40 +180,66 @@ pub record IsTold (graph : Graph) (d : ℕ) (kind : Kind) (paths : List (List �
   pub has_kind : IfSome (slice_get graph.nodes d) (λ (n : Node). HasKind n.drv kind)
   pub outputs : IfSome (slice_get graph.nodes d) (λ (n : Node). paths ≡ output_paths_of n.drv)
 
+-- what is tested gives records of the derivation's outputs, all of them new
+pub fitting_new : (graph : Graph) (d : ℕ) (entries : List Entry) (kind : Kind)
+    (paths : List (List ℕ)) (infos : List PathInfo) → IsTold graph d kind paths
+    → AreFitting (registered entries) kind paths infos → AreNewRecords graph entries d infos
+fitting_new graph d entries kind paths infos told fitting node at =
+    let own : paths ≡ output_paths node.drv =
+    node_at graph.nodes d node (λ n. paths ≡ output_paths_of n.drv) told.outputs at in
+    let has_kind = node_at graph.nodes d node (λ n. HasKind n.drv kind) told.has_kind at in
+    fitting_own entries node.drv kind infos has_kind
+    (subst (λ (ps : List (List ℕ)). AreFitting (registered entries) kind ps infos) own fitting)
+
 pub done_is : (graph : Graph) (d : ℕ) (entries : List Entry) (kind : Kind) (paths : List (List ℕ))
     (infos : List PathInfo)
     (all outputs : List Registration) (path : List ℕ)
     → IsTold graph d kind paths → slice_get (node_paths graph.nodes) d ≡ Some path
-    → AreLawful (registered entries) kind paths infos
+    → AreFitting (registered entries) kind paths infos → (IsCyclic paths infos → ⊥)
     → paths_of all ≡ paths → infos_of all ≡ infos → IsSortedOf all outputs
     → IsDoneEntry graph d entries infos (Done path outputs)
-done_is graph d entries kind paths infos all outputs path told is lawful are same sorted run node
-    over at =
-    let here : slice_get graph.nodes d ≡ Some node =
-    subst (λ (g : Graph). slice_get g.nodes d ≡ Some node) over at in
+done_is graph d entries kind paths infos all outputs path told is fitting acyclic are same sorted
+    node at =
     let own : paths ≡ output_paths node.drv =
-    node_at graph.nodes d node (λ n. paths ≡ output_paths_of n.drv) told.outputs here in
-    let has_kind = node_at graph.nodes d node (λ n. HasKind n.drv kind) told.has_kind here in (
+    node_at graph.nodes d node (λ n. paths ≡ output_paths_of n.drv) told.outputs at in
+    let new = fitting_new graph d entries kind paths infos told fitting node at in (
       subst (λ (p : List ℕ). IsEntryOf node infos (Done p outputs))
-          (path_at graph.nodes d node path is here)
+          (path_at graph.nodes d node path is at)
           (sorted_entry node infos all outputs (are ∙ own) same sorted),
-      lawful_allowed run entries node kind infos has_kind
-          (subst (λ (ps : List (List ℕ)). AreLawful (registered entries) kind ps infos) own lawful),
+      record {
+        own = new.0;
+        acyclic = subst (λ (ps : List (List ℕ)). IsCyclic ps infos → ⊥) own acyclic;
+      },
+      new.1,
     )
 
-pub unlawful : (graph : Graph) (d : ℕ) (entries : List Entry) (kind : Kind) (paths : List (List ℕ))
-    (infos : List PathInfo)
-    → IsTold graph d kind paths
-    → (AreLawful (registered entries) kind paths infos → ⊥) → IsUnlawful graph d entries infos
-unlawful graph d entries kind paths infos told not_lawful run node over at allowed =
-    let here : slice_get graph.nodes d ≡ Some node =
-    subst (λ (g : Graph). slice_get g.nodes d ≡ Some node) over at in
+-- an entry's records are such
+pub entry_new : (graph : Graph) (d : ℕ) (entries : List Entry) (infos : List PathInfo)
+    (entry : Entry) (fault : BookFault) → IsDoneEntry graph d entries infos entry
+    → fault ≡ NoMemory → IsDoneFault graph d entries infos fault
+entry_new graph d entries infos entry fault told is =
+    rw is (λ node at. let all = told node at in (all.1.own, all.2))
+
+-- what isn't fitting, or has a cycle, isn't allowed
+pub not_fitting : (graph : Graph) (d : ℕ) (entries : List Entry) (kind : Kind)
+    (paths : List (List ℕ)) (infos : List PathInfo) → IsTold graph d kind paths
+    → (AreFitting (registered entries) kind paths infos → ⊥)
+    → IsNotAllowed graph entries d infos
+not_fitting graph d entries kind paths infos told not_fit node at allowed =
     let own : paths ≡ output_paths node.drv =
-    node_at graph.nodes d node (λ n. paths ≡ output_paths_of n.drv) told.outputs here in
-    let has_kind = node_at graph.nodes d node (λ n. HasKind n.drv kind) told.has_kind here in
-    not_lawful (subst (λ (ps : List (List ℕ)). AreLawful (registered entries) kind ps infos)
+    node_at graph.nodes d node (λ n. paths ≡ output_paths_of n.drv) told.outputs at in
+    let has_kind = node_at graph.nodes d node (λ n. HasKind n.drv kind) told.has_kind at in
+    not_fit (subst (λ (ps : List (List ℕ)). AreFitting (registered entries) kind ps infos)
     (sym own)
-    (allowed_lawful run entries node kind infos has_kind allowed))
+    (own_fitting entries node.drv kind infos has_kind allowed.records.own allowed.new))
+
+pub cycle_not_allowed : (graph : Graph) (d : ℕ) (entries : List Entry) (kind : Kind)
+    (paths : List (List ℕ)) (infos : List PathInfo) → IsTold graph d kind paths
+    → IsCyclic paths infos → IsNotAllowed graph entries d infos
+cycle_not_allowed graph d entries kind paths infos told cyclic node at allowed =
+    let own : paths ≡ output_paths node.drv =
+    node_at graph.nodes d node (λ n. paths ≡ output_paths_of n.drv) told.outputs at in
+    allowed.records.acyclic (subst (λ (ps : List (List ℕ)). IsCyclic ps infos) own cyclic)
 
 -- outputs of a derivation of a plan can be sorted: there are some, and their paths differ
 pub can_be_sorted : (graph : Graph) (d : ℕ) (kind : Kind) (paths : List (List ℕ))

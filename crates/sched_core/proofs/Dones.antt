@@ -83,15 +83,15 @@ registered_output node infos entry is r has =
 
 -- as many records as outputs
 pub records_for_paths : (run : Run) (entries : List Entry) (node : Node) (infos : List PathInfo)
-    → IsAllowed run entries node infos
+    → IsAllowed run.graph entries node infos
     → length infos ≡ length (output_paths node.drv)
-records_for_paths run entries node infos allowed = allowed.count
+records_for_paths run entries node infos allowed = allowed.records.own.count
     ∙ sym (length-map node.drv.outputs (λ (o : Output). o.path))
 
 -- ---- what a journal and an outlet ask
 
 module _ (run : Run) (entries : List Entry) (node : Node) (infos : List PathInfo) (entry : Entry)
-    (allowed : IsAllowed run entries node infos) (is : IsEntryOf node infos entry) where
+    (allowed : IsAllowed run.graph entries node infos) (is : IsEntryOf node infos entry) where
   new_outputs : AreNew (registered entries) is.outputs
   new_outputs = All-from_contains (IsNotValid (registered entries)) (paths_of is.outputs)
       (λ path there valid.

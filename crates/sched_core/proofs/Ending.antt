@@ -4,12 +4,15 @@ use Rattle.valid_table.specs.Adding.{AreClosed, AreNew}
 use Rattle.valid_table.specs.Entries.{registered, registered_by}
 use Rattle.valid_table.specs.PathInfos.{PathInfo}
 use Rattle.valid_table.specs.declared.entry.Entry.{Entry}
-use Rattle.sched_core.specs.Books.{IsBooksLease, IsDone, IsFinishing, IsNotAllowed, Ledger, MayAllRefer}
-use Rattle.sched_core.specs.Dones.{IsDoneEntry, IsUnlawful}
+use Rattle.sched_core.specs.Books.{IsBooksLease, IsDone, IsFinishFault, IsFinishing, Ledger, MayAllRefer}
+use Rattle.sched_core.specs.Dones.{IsDoneEntry, IsDoneFault}
 use Rattle.sched_core.specs.Jobs.{output_paths}
 use Rattle.sched_core.specs.Legal.{ArePermittedTo, MayRefer, ended}
 use Rattle.sched_core.specs.Runs.{History, Run}
+use Rattle.sched_core.specs.declared.fault.BookFault.{BookFault}
+use Rattle.sched_core.specs.declared.fault.BookFault.TheVariants.{ForeignLease, NoMemory, NoView, NotLawful}
 use Rattle.sched_core.specs.declared.job.Job.{Job}
+use Rattle.sched_core.proofs.DoneEntries.{entry_new}
 use Rattle.sched_core.proofs.Dones.{done_is_closed, done_is_new}
 
 -- the entry of a lease's derivation with records whose references are permitted to its job
@@ -20,8 +23,8 @@ pub done_under_lease : (run : Run) (history : History) (job : Job) (number : ℕ
     → IsDone run history.entries job.derivation infos entry
 done_under_lease run history job number infos entry lease may told =
     let node = lease.is_job.node in
-    let both = told run node refl lease.is_job.is_node in
-    let permitted : ArePermittedTo run history.entries node infos = λ info path has refers.
+    let all = told node lease.is_job.is_node in
+    let permitted : ArePermittedTo run.graph history.entries node infos = λ info path has refers.
     subst (λ (seeds : List (List ℕ)). MayRefer (registered history.entries) seeds
     (output_paths node.drv) path) lease.is_job.seeds
     (subst (λ (outputs : List (List ℕ)). MayRefer (registered history.entries) job.seeds.items
@@ -29,15 +32,41 @@ done_under_lease run history job number infos entry lease may told =
     record {
       node = node;
       is_node = lease.is_job.is_node;
-      allowed = both.1 permitted;
-      is_entry = both.0;
+      allowed = record { records = all.1; new = all.2; permitted = permitted };
+      is_entry = all.0;
     }
 
--- a derivation that isn't lawful isn't allowed in the run
-pub not_allowed : (run : Run) (history : History) (d : ℕ) (infos : List PathInfo)
-    → IsUnlawful run.graph d history.entries infos
-    → IsNotAllowed run history.entries d infos
-not_allowed run history d infos unlawful node at = unlawful run node refl at
+-- why there is no entry, as the book tells it
+pub entry_fault : (before : Ledger) (run : Run) (history : History) (shown pending : List Entry)
+    (job : Job) (number d : ℕ) (infos : List PathInfo) (fault : BookFault)
+    → record { run = run; history = history; shown = shown; pending = pending } ≡ before
+    → IsBooksLease run history job number → d ≡ job.derivation
+    → IsDoneFault run.graph d history.entries infos fault
+    → IsFinishFault before job number infos fault
+entry_fault before run history shown pending job number d infos fault view lease is_d told =
+    subst (λ (ledger : Ledger). IsFinishFault ledger job number infos fault) view
+    (by fault (subst (λ n. IsDoneFault run.graph n history.entries infos fault) is_d told))
+  where
+    by : (why : BookFault) → IsDoneFault run.graph job.derivation history.entries infos why
+        → IsFinishFault
+        (record { run = run; history = history; shown = shown; pending = pending }) job number
+        infos why
+    by NoMemory new = (lease, new)
+    by NotLawful not_allowed = (lease, not_allowed)
+    by ForeignLease none = absurd none
+    by NoView none = absurd none
+
+-- memory for an outlet is refused behind all that is tested
+pub append_fault : (before : Ledger) (run : Run) (history : History) (shown pending : List Entry)
+    (job : Job) (number d : ℕ) (infos : List PathInfo) (entry : Entry) (fault : BookFault)
+    → record { run = run; history = history; shown = shown; pending = pending } ≡ before
+    → IsBooksLease run history job number → d ≡ job.derivation
+    → IsDoneEntry run.graph d history.entries infos entry → fault ≡ NoMemory
+    → IsFinishFault before job number infos fault
+append_fault before run history shown pending job number d infos entry fault view lease is_d told
+    is =
+    entry_fault before run history shown pending job number d infos fault view lease is_d
+    (entry_new run.graph d history.entries infos entry fault told is)
 
 -- what an outlet asks of such an entry, where it holds just the entries
 pub may_append : (run : Run) (entries held : List Entry) (d : ℕ) (infos : List PathInfo)

@@ -16,7 +16,7 @@ pub examined_may_refer : (entries : List Entry) (job : Job) (permitted : List (L
     → ArePermittedPaths entries job permitted → IsExamining job permitted answer found
     → IfOk found (MayAllRefer entries job)
 examined_may_refer entries job permitted answer (Err reason) are examined = tt
-examined_may_refer entries job permitted answer (Ok infos) are (inl refused) = absurd cc
+examined_may_refer entries job permitted answer (Ok infos) are (inl (refused, taken)) = absurd cc
 examined_may_refer entries job permitted answer (Ok infos) are (inr (taken, records, acyclic)) =
     λ info path has refers.
     let place = get_from_contains infos info has in

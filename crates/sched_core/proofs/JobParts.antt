@@ -12,7 +12,7 @@ use Rattle.drv_graph.specs.Nodes.{Node}
 use Rattle.drv_graph.specs.Plans.{Graph}
 use Rattle.drv_graph.specs.PlanNodes.{drvs_of, output_paths_of}
 use Rattle.sched_core.specs.Jobs.{IsJob, seeds_of}
-use Rattle.sched_core.specs.Seeding.{named_texts, output_texts, paths_of_outputs}
+use Rattle.sched_core.specs.Seeding.{named_texts, output_texts}
 use Rattle.sched_core.specs.declared.job.Job.{Job}
 use Rattle.sched_core.specs.declared.job.JobOutput.{JobOutput}
 use Rattle.sched_core.proofs.OwnStandings.{drv_is}
@@ -23,7 +23,7 @@ use Rattle.nix_names.proofs.Lists.{element_at}
 pub record AreMade (outputs : List OutputStruct) (paths : List (List ℕ)) (made : List JobOutput)
     (count : ℕ) : Type 0 where
   pub names : named_texts made ≡ output_texts (take count outputs)
-  pub paths_are : paths_of_outputs made ≡ take count paths
+  pub paths_are : map (λ (o : JobOutput). o.path) made ≡ take count paths
 
 pub made_more : (outputs : List OutputStruct) (paths : List (List ℕ)) (made : List JobOutput)
     (n : ℕ) (output : OutputStruct) (path : List ℕ) (one : JobOutput)
@@ -50,7 +50,7 @@ made_more outputs paths made n output path one low same is_output is_path name i
 
 pub made_all : (outputs : List OutputStruct) (paths : List (List ℕ)) (made : List JobOutput) (n : ℕ)
     → length paths ≤ n → length paths ≡ length outputs → AreMade outputs paths made n
-    → (named_texts made ≡ output_texts outputs) × (paths_of_outputs made ≡ paths)
+    → (named_texts made ≡ output_texts outputs) × (map (λ (o : JobOutput). o.path) made ≡ paths)
 made_all outputs paths made n all same are = (
   are.names ∙ ap output_texts (take_all n outputs (omega (arith, all, same))),
   are.paths_are ∙ take_all n paths all,
@@ -86,7 +86,8 @@ pub job_is : (graph : Graph) (d : ℕ) (drv : Drv) (lent : List OutputStruct) (p
     → d < length graph.nodes → slice_get (drvs_of graph.nodes) d ≡ Some drv
     → map output_of lent ≡ drv.outputs → IfSome (slice_get graph.nodes d)
     (λ node. paths ≡ output_paths_of node.drv)
-    → named_texts job.outputs.items ≡ output_texts lent → paths_of_outputs job.outputs.items ≡ paths
+    → named_texts job.outputs.items ≡ output_texts lent
+    → map (λ (o : JobOutput). o.path) job.outputs.items ≡ paths
     → drv_of copy ≡ drv → job.derivation ≡ d → job.builder ≡ copy.builder → job.args ≡ copy.args
     → job.env ≡ copy.env
     → IfSome (slice_get graph.nodes d) (λ node. HasKind node.drv job.kind)

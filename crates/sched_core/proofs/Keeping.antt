@@ -1,5 +1,5 @@
 -- What is kept of a run, and that it is kept behind each event.
-use Rattle.std.proofs.Common.{◌≡◌, ◌≢◌, ℕ, zero, suc, ◌+◌, ◌*◌, ◌<◌, ◌≤◌, Bool, true, false, List, [], ◌∷◌, ◌++◌, length, Option, Some, None, refl, sym, ap, ◌∙◌, subst, ⊎_elim, arith, take}
+use Rattle.std.proofs.Common.{◌≡◌, ◌≢◌, ℕ, ◌+◌, ◌-◌, ◌*◌, ◌<◌, ◌≤◌, Bool, true, false, List, [], ◌∷◌, ◌++◌, length, Option, Some, None, refl, sym, ap, ◌∙◌, subst, ⊎_elim, arith, take}
 use Rattle.std.specs.Prelude.{IsTrue, MatchOption, ◌==◌, ◌↔◌, if◌then◌else◌, slice_set}
 use Rattle.std.specs.List.{slice_index_or, sum_by}
 use Rattle.std.proofs.Math.Dec.{T, eqb}
@@ -16,48 +16,29 @@ use Rattle.valid_table.specs.PathInfos.{PathInfo}
 use Rattle.valid_table.specs.Valid.{IsJournal}
 use Rattle.valid_table.specs.declared.entry.Entry.{Entry}
 use Rattle.sched_core.specs.Booking.{IsKept, events_left, history_of, run_over}
-use Rattle.sched_core.specs.Books.{CanBegin, IsDone, IsRunSettled, IsUnsettled}
+use Rattle.sched_core.specs.Books.{CanBegin, IsDone, IsRunSettled, IsUnsettled, opened}
 use Rattle.sched_core.specs.Counts.{AreSoMany}
 use Rattle.sched_core.specs.Courses.{AreStandings, AreWanted, Course, HasBegun, IsNext, IsOpen, IsSettled, IsUnsettledIn, course_rows, course_state}
 use Rattle.sched_core.specs.Legal.{IsLegal, legal_begin, legal_opening, legal_done, legal_fail, begins, is_begin}
 use Rattle.sched_core.specs.Reports.{IsReportIn, IsReportOf}
 use Rattle.sched_core.specs.Runs.{History, Run, rows_of, standing_at, state_in}
-use Rattle.sched_core.specs.States.{Phase, Idle, Begun, Ended, Broken, Rows, by_first, by_phase, by_standing, later, phase_by, phase_of, state, states, table}
+use Rattle.sched_core.specs.States.{Phase, Idle, Begun, Ended, Broken, by_first, by_phase, by_standing, later, phase_by, phase_of, state, table}
+use Rattle.sched_core.specs.Steps.{edges_ahead_in, told_in}
+use Rattle.sched_core.specs.ToldEdges.{course_ahead, course_told, rested}
 use Rattle.sched_core.specs.declared.reason.Event.{Event}
 use Rattle.sched_core.specs.declared.reason.Event.TheVariants.{Begin, Done as Finish, Fail}
 use Rattle.sched_core.specs.declared.reason.Reason.{Reason}
-use Rattle.sched_core.specs.declared.reason.State.{State}
-use Rattle.sched_core.specs.declared.reason.State.TheVariants.{Blocked, Building}
+use Rattle.sched_core.specs.declared.reason.State.TheVariants.{Building}
 use Rattle.sched_core.specs.declared.standing.Standing.{Standing}
 use Rattle.sched_core.specs.declared.standing.Standing.TheVariants.{AllValid, Hindered, Free}
 use Rattle.sched_core.proofs.Counts.{so_many_same}
 use Rattle.sched_core.proofs.Histories.{ready_is_idle}
 use Rattle.sched_core.proofs.RunReports.{report_in}
 use Rattle.sched_core.proofs.Seeds.{phase_push}
+use Rattle.sched_core.proofs.StateLaws.{AreSame, state_same}
+use Rattle.sched_core.proofs.Tallied.{ahead_same}
 
 -- ---- states follow from rows that are the same
-
-record AreSame (a b : Rows) : Type 0 where
-  inputs : (d : ℕ) → a.inputs d ≡ b.inputs d
-  standing : (d : ℕ) → a.standing d ≡ b.standing d
-  phase : (d : ℕ) → a.phase d ≡ b.phase d
-
-table_rows : (a b : Rows) → AreSame a b → (f : ℕ → State) (d : ℕ) → table a f d ≡ table b f d
-unfolding table
-table_rows a b same f d = rw (same.inputs d, same.standing d, same.phase d) refl
-
-states_same : (a b : Rows) → AreSame a b → (n : ℕ) → states a n ≡ states b n
-unfolding states
-states_same a b same zero = refl
-states_same a b same (suc n) =
-    rw (states_same a b same n)
-    (ap (λ s. states b n ++ s ∷ [])
-    (table_rows a b same (λ i. slice_index_or (states b n) i Blocked) n))
-
-state_same : (a b : Rows) → AreSame a b → (d : ℕ) → state a d ≡ state b d
-unfolding state
-state_same a b same d = rw (states_same a b same d)
-    (table_rows a b same (λ i. slice_index_or (states b d) i Blocked) d)
 
 rows_same : (system : List ℕ) (history : History) (course : Course) (given room : ℕ)
     → IsKept system history course given room
@@ -442,3 +423,33 @@ pub report_told : (system : List ℕ) (history : History) (course : Course) (giv
 report_told system history course given room kept text report =
     report_in (run_over course system) history course text refl kept.wanted
     (states_told system history course given room kept) report
+
+-- ---- along how many edges users were told
+
+pub told_kept : (system : List ℕ) (history : History) (course : Course) (given room : ℕ)
+    → IsKept system history course given room
+    → course_told course ≡ told_in (run_over course system) history
+told_kept system history course given room kept =
+    ap (λ n. n - course_ahead course) then'
+    ∙ ap (λ n. edges_ahead_in (run_over course system) (opened history.opening) - n) now
+  where
+    same : AreSame (course_rows (rested course))
+        (rows_of (run_over course system) history.opening [])
+    same = record {
+      inputs = λ d. refl;
+      standing = (rows_same system history course given room kept).standing;
+      phase = λ d. refl;
+    }
+
+    then' : course_ahead (rested course)
+        ≡ edges_ahead_in (run_over course system) (opened history.opening)
+    then' = ahead_same (course_rows course).inputs (course_state (rested course))
+        (state_in (run_over course system) (opened history.opening))
+        (length course.graph.nodes)
+        (state_same (course_rows (rested course))
+        (rows_of (run_over course system) history.opening []) same)
+
+    now : course_ahead course ≡ edges_ahead_in (run_over course system) history
+    now = ahead_same (course_rows course).inputs (course_state course)
+        (state_in (run_over course system) history) (length course.graph.nodes)
+        (states_told system history course given room kept)

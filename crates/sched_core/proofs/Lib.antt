@@ -29,9 +29,11 @@ pub mod SeedParts
 pub mod Seeds
 pub mod StateLaws
 pub mod Tabled
+pub mod TakenTrees
 pub mod Tallied
 pub mod Telling
 pub mod ToldStates
+pub mod Totals
 pub mod UserSpans
 pub mod Verdicts
 pub mod Walks

@@ -1,15 +1,17 @@
 -- The permitted paths: a closure and outputs, put together.
 use Rattle.std.proofs.Common.{◌≡◌, inl, inr, ℕ, Bool, true, false, List, [], ◌∷◌, refl, sym, subst, ⊎_elim}
-use Rattle.std.specs.Prelude.{All, Contains, if◌then◌else◌}
+use Rattle.std.specs.Prelude.{All, Contains, Err, if◌then◌else◌}
 use Rattle.std.proofs.Math.Dec.{T, eqb}
 use Rattle.std.proofs.Math.Facts.{eqb_yes}
 use Rattle.std.proofs.lemmas.List.Elements.{All-contains, Contains-append_right}
 use Rattle.valid_table.specs.Closing.{HaveSame}
-use Rattle.valid_table.specs.Closure.{IsClosure}
+use Rattle.valid_table.specs.Closure.{IsClosing, IsClosure}
 use Rattle.valid_table.specs.Entries.{registered}
 use Rattle.valid_table.specs.Unions.{IsUnion}
 use Rattle.valid_table.specs.Valid.{IsNotValid, IsValid}
 use Rattle.valid_table.specs.declared.entry.Registration.{Registration}
+use Rattle.valid_table.specs.declared.fault.TableFault.{TableFault}
+use Rattle.valid_table.specs.declared.fault.TableFault.TheVariants.{AlreadyValid, BadLine, NoMemory, NotClosed, NotValid, TooLong, Twice, Unclosed, WrongVersion}
 use Rattle.sched_core.specs.Books.{IsBooksLease}
 use Rattle.sched_core.specs.Legal.{ArePermitted, IsLegal}
 use Rattle.sched_core.specs.Runs.{History, Run}
@@ -32,6 +34,21 @@ all_are_valid registrations roots path valid first =
     (Contains-append_right first.before (path ∷ first.after) path
     (Contains-first path first.after)) in
     first.is (All-contains (IsValid registrations) roots path valid there)
+
+-- such a closure is refused for want of memory alone
+pub only_memory : (registrations : List Registration) (roots : List (List ℕ)) (fault : TableFault)
+    → All (IsValid registrations) roots → IsClosing registrations roots (Err fault)
+    → fault ≡ NoMemory
+only_memory registrations roots NoMemory valid closing = refl
+only_memory registrations roots (NotValid path) valid first =
+    absurd (all_are_valid registrations roots path valid first)
+only_memory registrations roots (BadLine line) valid none = absurd none
+only_memory registrations roots (NotClosed line) valid none = absurd none
+only_memory registrations roots (Twice line) valid none = absurd none
+only_memory registrations roots WrongVersion valid none = absurd none
+only_memory registrations roots TooLong valid none = absurd none
+only_memory registrations roots (Unclosed reference) valid none = absurd none
+only_memory registrations roots (AlreadyValid path) valid none = absurd none
 
 -- ---- both together
 

@@ -9,6 +9,7 @@ use Rattle.sched_core.specs.Legal.{legal_opening, legal_begin, legal_done, legal
 use Rattle.sched_core.specs.Runs.{History, Run}
 use Rattle.sched_core.specs.declared.reason.Event.TheVariants.{Begin, Done as Finish, Fail}
 use Rattle.sched_core.proofs.Dones.{done_is_journal}
+use Rattle.sched_core.proofs.Seeds.{opened_with}
 use Rattle.nix_names.proofs.Lists.{Contains-cons_cases, Contains-from_get, Contains-nothing}
 
 -- ---- a journal with an allowed entry is one
@@ -28,11 +29,14 @@ entries_are_journal run _ named
 -- ---- each Done was allowed
 
 done_with_more : (run : Run) (history after : History) (d : ℕ) (more : List Entry) → after.entries
-    ≡ history.entries ++ more → WasDone run history d → WasDone run after d
-done_with_more run history after d more same was = record {
+    ≡ history.entries ++ more → after.opening ≡ history.opening → WasDone run history d
+    → WasDone run after d
+done_with_more run history after d more same opening was = record {
   node = was.node;
   is_node = was.is_node;
   before = was.before;
+  more = was.more;
+  goes_on = was.goes_on ∙ ap (λ (es : List Entry). es ++ was.more) (sym opening);
   entry = was.entry;
   after = was.after ++ more;
   parts = same ∙ ap (λ (es : List Entry). es ++ more) was.parts
@@ -48,7 +52,7 @@ dones_are_allowed run _ (legal_opening entries journal) d lease has =
 dones_are_allowed run _ (legal_begin history e legal within wanted ready) d lease has =
     let event = Begin e (begins history.events) in
     ⊎_elim
-    (λ before. done_with_more run history _ d [] (sym (append-nil history.entries))
+    (λ before. done_with_more run history _ d [] (sym (append-nil history.entries)) refl
     (dones_are_allowed run history legal d lease before))
     (λ last. ⊎_elim (λ same. absurd cc) (λ none. absurd (Contains-nothing (Finish d lease) none))
     (Contains-cons_cases event [] (Finish d lease) last))
@@ -56,7 +60,7 @@ dones_are_allowed run _ (legal_begin history e legal within wanted ready) d leas
 dones_are_allowed run _ (legal_fail history e number reason legal phase) d lease has =
     let event = Fail e number reason in
     ⊎_elim
-    (λ before. done_with_more run history _ d [] (sym (append-nil history.entries))
+    (λ before. done_with_more run history _ d [] (sym (append-nil history.entries)) refl
     (dones_are_allowed run history legal d lease before))
     (λ last. ⊎_elim (λ same. absurd cc) (λ none. absurd (Contains-nothing (Finish d lease) none))
     (Contains-cons_cases event [] (Finish d lease) last))
@@ -65,8 +69,9 @@ dones_are_allowed run _
     (legal_done history e number node infos entry legal phase is_node allowed is_entry) d lease
     has =
     let event = Finish e number in
+    let opened = opened_with run history legal in
     ⊎_elim
-    (λ before. done_with_more run history _ d (entry ∷ []) refl
+    (λ before. done_with_more run history _ d (entry ∷ []) refl refl
     (dones_are_allowed run history legal d lease before))
     (λ last. ⊎_elim
     (λ same. let number_is : e ≡ d = cc in
@@ -75,6 +80,8 @@ dones_are_allowed run _
       node = node;
       is_node = is_node;
       before = history.entries;
+      more = opened.0;
+      goes_on = opened.1;
       entry = entry;
       after = [];
       parts = refl;

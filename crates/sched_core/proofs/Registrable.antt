@@ -56,31 +56,43 @@ fixed_digest tree method digest taken = by (digest_of tree) refl
     by None is = absurd (taken TooLarge (λ fits. taken NotFlatFile (fits, is)))
     by (Some found) is = by_test found is (pointwise nat_eq found digest) refl
 
+-- the same of an output of a kind that is fixed
+pub taken_fixed : (kind : Kind) (tree : Tree) (method : Method) (digest : List ℕ) → kind
+    ≡ Fixed method digest
+    → ((why : Reason) → IsTreeFault kind tree why → ⊥) → digest_of tree ≡ Some digest
+taken_fixed kind tree method digest is taken =
+    fixed_digest tree method digest
+    (subst (λ (k : Kind). (why : Reason) → IsTreeFault k tree why → ⊥) is taken)
+
 pub verdicts_are_registrable : VerdictsAreRegistrable
 verdicts_are_registrable graph d job node permitted answer infos of at (taken, records, acyclic) =
     let same : of.node ≡ node = same_element graph.nodes d of.node node of.is_node at in
     subst (λ (n : Node). AreRegistrable n permitted infos) same (record {
-      count =
-          records.count ∙ sym (length-map job.outputs.items (λ (o : JobOutput). o.path))
-          ∙ ap length of.paths
-          ∙ length-map of.node.drv.outputs (λ (o : Output). o.path);
+      records = record {
+        own = record {
+          count =
+              records.count ∙ sym (length-map job.outputs.items (λ (o : JobOutput). o.path))
+              ∙ ap length of.paths
+              ∙ length-map of.node.drv.outputs (λ (o : Output). o.path);
+          fixed = λ method digest kind info has.
+              let place = get_from_contains infos info has in
+              let is_record = records.each place.0 info place.1 in
+              let below = slice_get_within infos place.0 info place.1 in
+              let other = fixed_kind of.node.drv job.kind method digest of.kind kind in
+              let fault = λ (why : Reason) (h : IsTreeFault (Fixed other.0 digest) is_record.0 why).
+              taken.1 place.0 why (omega (arith, records.count)) (
+                is_record.0,
+                is_record.1,
+                subst (λ (k : Kind). IsTreeFault k is_record.0 why)
+                    (sym other.1) h,
+              ) in
+              is_record.2.digest ∙ fixed_digest is_record.0 other.0 digest fault;
+        };
+        acyclic = λ cyclic.
+            acyclic (subst (λ (paths : List (List ℕ)). IsCyclic paths infos) (sym of.paths) cyclic);
+      };
       among = λ info path has refers.
           let place = get_from_contains infos info has in
           let is_record = records.each place.0 info place.1 in
           ((is_record.2.found.each path).0 refers).0;
-      fixed = λ method digest kind info has.
-          let place = get_from_contains infos info has in
-          let is_record = records.each place.0 info place.1 in
-          let below = slice_get_within infos place.0 info place.1 in
-          let other = fixed_kind of.node.drv job.kind method digest of.kind kind in
-          let fault = λ (why : Reason) (h : IsTreeFault (Fixed other.0 digest) is_record.0 why).
-          taken.1 place.0 why (omega (arith, records.count)) (
-            is_record.0,
-            is_record.1,
-            subst (λ (k : Kind). IsTreeFault k is_record.0 why)
-                (sym other.1) h,
-          ) in
-          is_record.2.digest ∙ fixed_digest is_record.0 other.0 digest fault;
-      acyclic = λ cyclic.
-          acyclic (subst (λ (paths : List (List ℕ)). IsCyclic paths infos) (sym of.paths) cyclic);
     })

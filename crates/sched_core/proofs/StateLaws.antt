@@ -82,3 +82,27 @@ one_below rows other count first meets (suc bound) d low below =
 pub states_are_one : StatesAreOne
 states_are_one rows other count first meets d below =
     one_below rows other count first meets (suc d) d (omega arith) below
+
+-- ---- states follow from rows that are the same
+
+pub record AreSame (a b : Rows) : Type 0 where
+  pub inputs : (d : ℕ) → a.inputs d ≡ b.inputs d
+  pub standing : (d : ℕ) → a.standing d ≡ b.standing d
+  pub phase : (d : ℕ) → a.phase d ≡ b.phase d
+
+table_rows : (a b : Rows) → AreSame a b → (f : ℕ → State) (d : ℕ) → table a f d ≡ table b f d
+unfolding table
+table_rows a b same f d = rw (same.inputs d, same.standing d, same.phase d) refl
+
+states_same : (a b : Rows) → AreSame a b → (n : ℕ) → states a n ≡ states b n
+unfolding states
+states_same a b same zero = refl
+states_same a b same (suc n) =
+    rw (states_same a b same n)
+    (ap (λ s. states b n ++ s ∷ [])
+    (table_rows a b same (λ i. slice_index_or (states b n) i Blocked) n))
+
+pub state_same : (a b : Rows) → AreSame a b → (d : ℕ) → state a d ≡ state b d
+unfolding state
+state_same a b same d = rw (states_same a b same d)
+    (table_rows a b same (λ i. slice_index_or (states b d) i Blocked) d)

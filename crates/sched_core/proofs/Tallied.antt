@@ -1,5 +1,5 @@
 -- A course by the tallies that are kept.
-use Rattle.std.proofs.Common.{◌≡◌, ◌∙◌, ◌↔◌, inl, inr, ℕ, zero, suc, ◌+◌, ◌<◌, ◌==◌, ◌&&◌, Bool, true, false, List, [], ◌∷◌, ◌++◌, length, map, take, get_or, IsTrue, Option, Some, None, refl, sym, ap, subst, arith, eqb-true, eq-eqb}
+use Rattle.std.proofs.Common.{◌≡◌, ◌∙◌, ◌↔◌, inl, inr, ℕ, zero, suc, ◌+◌, ◌<◌, ◌≤◌, ◌^◌, ◌==◌, ◌&&◌, Bool, true, false, List, [], ◌∷◌, ◌++◌, length, map, take, get_or, IsTrue, Option, Some, None, refl, if◌then◌else◌, sym, ap, subst, arith, eqb-true, eq-eqb}
 use Rattle.std.specs.Prelude.{Contains, MatchOption, slice_get}
 use Rattle.std.specs.List.{slice_index_or}
 use Rattle.std.proofs.lemmas.Bool.{false≢true}
@@ -14,7 +14,10 @@ use Rattle.sched_core.specs.Courses.{Course, IsNext, IsOpen, IsSettled, IsUnsett
 use Rattle.sched_core.specs.Coursing.{kept, phase_in}
 use Rattle.sched_core.specs.Runs.{inputs_at}
 use Rattle.sched_core.specs.States.{Begun, Idle, state, table}
+use Rattle.sched_core.specs.Steps.{edges_ahead, total}
 use Rattle.sched_core.specs.Tallies.{HaveHeard, Hears, states_in}
+use Rattle.sched_core.specs.ToldEdges.{HasTold, course_ahead, course_told, open_edges, rested, sizes}
+use Rattle.sched_core.specs.UserSpans.{uses}
 use Rattle.sched_core.specs.Users.{AreUsers, users_of_all}
 use Rattle.sched_core.specs.declared.reason.State.{State}
 use Rattle.sched_core.specs.declared.reason.State.TheVariants.{Done, Failed, Building, Reused, Refused, Ready, Blocked}
@@ -26,6 +29,8 @@ use Rattle.sched_core.proofs.Agendas.{count_none, none_counted}
 use Rattle.sched_core.proofs.Counts.{tallies_counted}
 use Rattle.sched_core.proofs.Hearing.{heard_more, heard_states}
 use Rattle.sched_core.proofs.PlanInputs.{inputs_first}
+use Rattle.sched_core.proofs.StateLaws.{state_same}
+use Rattle.sched_core.proofs.Totals.{total_below}
 
 -- a part of the tallies, read at a tally
 part_at : {X : Type 0} (part : Tally → X) (tallies : List Tally) (d : ℕ) (tally : Tally)
@@ -173,6 +178,101 @@ module _ (graph : Graph) (tallies : List Tally) (users : List (List Edge)) (agen
           ∙ none_counted is_unsettled tallies (λ d tally at both.
           let still = unsettled_of d tally at both in settled d still.0 still.1 still.2) in
           settled_is ∙ eq-eqb agenda.unsettled 0 none
+
+-- ---- along how many edges users were told
+
+pub ahead_same : (inputs : ℕ → List ℕ) (a b : ℕ → State) (count : ℕ) → ((d : ℕ) → a d ≡ b d)
+    → edges_ahead inputs a count ≡ edges_ahead inputs b count
+ahead_same inputs a b count same =
+    total_below (λ d. if is_open (a d) then uses inputs count d else 0)
+    (λ d. if is_open (b d) then uses inputs count d else 0) count
+    (λ d low. ap (λ s. if is_open s then uses inputs count d else 0) (same d))
+
+edges_most : (size : ℕ → ℕ) (tallies : List Tally)
+    → open_edges size tallies ≤ total size (length tallies)
+edges_most size [] = omega arith
+edges_most size (tally ∷ tallies) =
+    omega (arith, here (is_open tally.state), edges_most (λ d. size (suc d)) tallies)
+  where
+    here : (is : Bool) → (if is then size 0 else 0) ≤ size 0
+    here true = omega arith
+    here false = omega arith
+
+edges_by : (size other : ℕ → ℕ) (ahead : ℕ → Bool) (tallies : List Tally)
+    → ((d : ℕ) (tally : Tally) → slice_get tallies d ≡ Some tally
+    → (is_open tally.state ≡ ahead d) × (size d ≡ other d))
+    → open_edges size tallies ≡ total (λ d. if ahead d then other d else 0) (length tallies)
+edges_by size other ahead [] same = refl
+edges_by size other ahead (tally ∷ tallies) same =
+    let first = same 0 tally refl in
+    let here : ◌≡◌ {A = ℕ} (if is_open tally.state then size 0 else 0)
+    (if ahead 0 then other 0 else 0) =
+    ap (λ b. if b then size 0 else 0) first.0 ∙ ap (λ n. if ahead 0 then n else 0) first.1 in
+    omega (
+      arith,
+      here,
+      edges_by (λ d. size (suc d)) (λ d. other (suc d)) (λ d. ahead (suc d)) tallies
+          (λ d t at. same (suc d) t at),
+    )
+
+module _ (graph : Graph) (tallies : List Tally) (users : List (List Edge)) (agenda : Agenda)
+    (is : IsCourse graph tallies users agenda)
+    (size : (d : ℕ) → d < length graph.nodes → sizes users d
+    ≡ uses (λ e. inputs_at graph.nodes (slice_get graph.nodes e)) (length graph.nodes) d) where
+  pub open_ahead : open_edges (sizes users) tallies ≡ course_ahead (course_by graph tallies)
+  open_ahead =
+      edges_by (sizes users)
+      (uses (λ e. inputs_at graph.nodes (slice_get graph.nodes e)) (length graph.nodes))
+      (λ d. is_open (course_state (course_by graph tallies) d)) tallies
+      (λ d tally at.
+      let low : d < length graph.nodes =
+      omega (arith, slice_get_within tallies d tally at, is.count) in (
+        ap (λ (t : Tally). is_open t.state)
+            (sym (get_or_from_slice_get tallies d tally tally at))
+            ∙ ap is_open (state_told graph tallies users agenda is d tally low),
+        size d low,
+      ))
+      ∙ ap (total (λ d. if is_open (course_state (course_by graph tallies) d) then
+      uses (λ e. inputs_at graph.nodes (slice_get graph.nodes e)) (length graph.nodes) d else 0))
+      is.count
+
+  -- at the opening, along none
+  pub told_none : ((d : ℕ) → slice_index_or (phases_in tallies) d Idle ≡ Idle)
+      → total (sizes users) (length graph.nodes) < 2 ^ 63 → HasTold graph tallies users 0
+  told_none idle few = record {
+    few = omega (arith, edges_most (sizes users) tallies, ap (total (sizes users)) is.count, few);
+    size = size;
+    all =
+        let all_open = open_ahead
+        ∙ ahead_same (course_rows (course_by graph tallies)).inputs
+        (course_state (course_by graph tallies))
+        (course_state (rested (course_by graph tallies))) (length graph.nodes)
+        (state_same (course_rows (course_by graph tallies))
+        (course_rows (rested (course_by graph tallies)))
+        (record { inputs = λ d. refl; standing = λ d. refl; phase = idle })) in
+        omega (arith, all_open);
+  }
+
+pub edges_told : (graph : Graph) (tallies : List Tally) (users : List (List Edge))
+    (agenda : Agenda) → IsCourse graph tallies users agenda → (told : ℕ)
+    → HasTold graph tallies users told → told ≡ course_told (course_by graph tallies)
+edges_told graph tallies users agenda is told has =
+    omega (arith, has.all, open_ahead graph tallies users agenda is has.size)
+
+-- behind an event
+pub told_more : (graph : Graph) (before after : List Tally) (users : List (List Edge))
+    (told more now : ℕ) → HasTold graph before users told
+    → standings_in after ≡ standings_in before → wanted_in after ≡ wanted_in before
+    → more + open_edges (sizes users) after ≡ open_edges (sizes users) before
+    → now ≡ told + more → HasTold graph after users now
+told_more graph before after users told more now has stand want fell sum_is = record {
+  few = omega (arith, has.few, fell, sum_is);
+  size = has.size;
+  all =
+      let same : course_ahead (rested (course_by graph after))
+      ≡ course_ahead (rested (course_by graph before)) = rw (stand, want) refl in
+      omega (arith, has.all, fell, sum_is, same);
+}
 
 -- ---- what has begun
 

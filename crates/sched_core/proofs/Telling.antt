@@ -2,7 +2,8 @@
 use Rattle.std.proofs.Common.{◌≡◌, ◌≢◌, ◌∙◌, ⊎_elim, ℕ, zero, suc, ◌+◌, ◌<◌, ◌≤◌, ◌==◌, ◌&&◌, not, Bool, true, false, List, [], ◌∷◌, ◌++◌, length, map, drop, get_or, Option, Some, None, refl, sym, ap, subst, arith, if◌then◌else◌, eqb-true, eq-eqb}
 use Rattle.std.specs.Prelude.{slice_get, slice_set}
 use Rattle.std.proofs.Math.ListN.{set}
-use Rattle.std.proofs.lemmas.List.{append-nil, append_assoc, drop_more, get_or-map, get_or-set_other, length-set, map-set}
+use Rattle.std.proofs.lemmas.Bool.{false≢true}
+use Rattle.std.proofs.lemmas.List.{append-nil, append_assoc, drop_more, get_or-map, get_or-set_other, length-append, length-set, map-set}
 use Rattle.std.proofs.lemmas.List.Elements.{All-drop}
 use Rattle.std.proofs.lemmas.Option.{get_or_from_slice_get, slice_get-get_or, slice_get_within}
 use Rattle.nix_names.proofs.Lists.{Contains-from_get}
@@ -10,12 +11,13 @@ use Rattle.sched_core.specs.Agendas.{Agenda, AreSameElse, IsAgenda, IsFresh, IsS
 use Rattle.sched_core.specs.Coursing.{kept, phase_in}
 use Rattle.sched_core.specs.States.{Idle, is_good}
 use Rattle.sched_core.specs.Tallies.{CanHear, HaveHeard, IsSameElse, IsTally, News, Open, Turns, are_news, news_by, news_of, states_in, to_tell}
+use Rattle.sched_core.specs.ToldEdges.{open_edges, sizes}
 use Rattle.sched_core.specs.Users.{AreUsers, once_at, times, users_of, users_of_all}
 use Rattle.sched_core.specs.declared.reason.State.{State}
 use Rattle.sched_core.specs.declared.reason.State.TheVariants.{Done, Failed, Building, Reused, Refused, Ready, Blocked}
 use Rattle.sched_core.specs.declared.tally.Tally.{Tally}
 use Rattle.sched_core.specs.declared.users.Edge.{Edge}
-use Rattle.sched_core.proofs.Agendas.{noted_agenda, noted_measure, one, settles_most}
+use Rattle.sched_core.proofs.Agendas.{noted_agenda, noted_measure, one, settles_most, turn_open}
 use Rattle.sched_core.proofs.Hearing.{can_hear, heard_told, heard_turned}
 
 -- ---- edges
@@ -70,6 +72,51 @@ users_alone : (users : List (List Edge)) (is : Bool) (u : ℕ)
     → users_of_all users (alone_if is u) ≡ (if is then users_of users u else [])
 users_alone users true u = append-nil (users_of users u)
 users_alone users false u = refl
+
+-- the edges that lead from those with something before them, as a tally changes
+edges_set : (size : ℕ → ℕ) (tallies : List Tally) (d : ℕ) (before after : Tally)
+    → slice_get tallies d ≡ Some before
+    → open_edges size (set tallies d after) + (if is_open before.state then size d else 0)
+    ≡ open_edges size tallies + (if is_open after.state then size d else 0)
+edges_set size [] d before after at = absurd cc
+edges_set size (tally ∷ tallies) zero before after at =
+    let same : tally ≡ before = cc in
+    let told : ◌≡◌ {A = ℕ} (if is_open tally.state then size 0 else 0)
+    (if is_open before.state then size 0 else 0) =
+    ap (λ (t : Tally). if is_open t.state then size 0 else 0) same in
+    omega arith
+edges_set size (tally ∷ tallies) (suc d) before after at =
+    omega (arith, edges_set (λ e. size (suc e)) tallies d before after at)
+
+edges_one : (o p : Bool) (n : ℕ) → (p ≡ true → o ≡ true)
+    → (if o && not p then n else 0) + (if p then n else 0) ≡ (if o then n else 0)
+edges_one true true n from = omega arith
+edges_one true false n from = omega arith
+edges_one false true n from = absurd (false≢true (from refl))
+edges_one false false n from = refl
+
+length_of_alone : (users : List (List Edge)) (is : Bool) (u : ℕ)
+    → length (users_of_all users (alone_if is u)) ≡ (if is then sizes users u else 0)
+length_of_alone users true u = ap length (append-nil (users_of users u))
+length_of_alone users false u = refl
+
+-- those that lead from what is on the work come in their place
+pub noted_edges : (users : List (List Edge)) (tallies : List Tally) (agenda : Agenda) (u : ℕ)
+    (before after : Tally) → slice_get tallies u ≡ Some before → Turns before.state after.state
+    → open_edges (sizes users) (set tallies u after)
+    + length (users_of_all users (noted agenda u before after).work)
+    ≡ open_edges (sizes users) tallies + length (users_of_all users agenda.work)
+noted_edges users tallies agenda u before after at turns =
+    omega (
+      arith,
+      edges_set (sizes users) tallies u before after at,
+      ap length (users_of_more users agenda.work (alone_if (ends before after) u)),
+      length-append (users_of_all users agenda.work)
+          (users_of_all users (alone_if (ends before after) u)),
+      length_of_alone users (ends before after) u,
+      edges_one (is_open before.state) (is_open after.state) (sizes users u)
+          (turn_open before.state after.state turns),
+    )
 
 -- what is news to users ends a derivation
 news_end : (s t : State) → are_news (news_of s) (news_of t) ≡ (is_open s && not (is_open t))
@@ -254,6 +301,11 @@ module _ (inputs : ℕ → List ℕ) (users : List (List Edge)) (tallies : List 
         (noted agenda edge.user before after) ≡ to_end tallies agenda
     told_measure = noted_measure tallies agenda edge.user before after at turns
 
+    pub told_edges : open_edges (sizes users) (set tallies edge.user after)
+        + length (users_of_all users (noted agenda edge.user before after).work)
+        ≡ open_edges (sizes users) tallies + length (users_of_all users agenda.work)
+    told_edges = noted_edges users tallies agenda edge.user before after at turns
+
     pub told_user : (good : Bool) → good ≡ is_good (kept (states_in tallies) w)
         → ((ins : List ℕ) (heard : List News) → CanHear ins heard before edge.place w
         → IsTally ins (slice_set heard edge.place (news_by good)) after)
@@ -315,6 +367,14 @@ pub work_falls : (tallies : List Tally) (agenda : Agenda) (w : ℕ)
     → to_end tallies (record agenda { work = drop 1 agenda.work }) < to_end tallies agenda
 work_falls tallies agenda w at = omega (arith, ap length (first_work agenda.work w at))
 
+-- its edges are followed
+pub work_edges : (users : List (List Edge)) (agenda : Agenda) (w : ℕ)
+    → slice_get agenda.work 0 ≡ Some w → length (users_of_all users agenda.work)
+    ≡ sizes users w + length (users_of_all users (drop 1 agenda.work))
+work_edges users agenda w at =
+    ap (λ l. length (users_of_all users l)) (first_work agenda.work w at)
+    ∙ length-append (users_of users w) (users_of_all users (drop 1 agenda.work))
+
 pub work_none : (agenda : Agenda) → slice_get agenda.work 0 ≡ None → agenda.work ≡ []
 work_none agenda at = no_work agenda.work at
 
@@ -367,6 +427,11 @@ module _ (tallies : List Tally) (agenda : Agenda) (d : ℕ) (none : Tally) (stat
   pub turned_phases : phases_in (set tallies d now) ≡ set (phases_in tallies) d (phase_in state)
   turned_phases = ap (map phase_in) (map-set (λ (t : Tally). t.state) tallies d now)
       ∙ map-set phase_in (states_in tallies) d state
+
+  pub turned_edges : (users : List (List Edge)) → open_edges (sizes users) (set tallies d now)
+      + length (users_of_all users (noted agenda d old now).work)
+      ≡ open_edges (sizes users) tallies + length (users_of_all users agenda.work)
+  turned_edges users = noted_edges users tallies agenda d old now old_at turned
 
   pub turned_spreading : (inputs : ℕ → List ℕ) (users : List (List Edge))
       → (phase_in state ≡ Idle → ⊥) → IsSpreading inputs users tallies agenda []

@@ -8,7 +8,7 @@ use Rattle.std.proofs.lemmas.List.Elements.{All-push, All-nil}
 use Rattle.std.proofs.lemmas.List.{drop_more, drop-set-add, drop-set-lt, get_or-map, get_or-set_other, get_or-set_same, get_or_append_left, get_or_past, get_or_push, length-drop, length-set, length_push, take-set-le, take_more_set}
 use Rattle.nix_names.proofs.Lists.{taken_more}
 use Rattle.sched_core.specs.Users.{AreUsers, once_at, times, users_of}
-use Rattle.sched_core.specs.UserSpans.{AddsUser, HaveRoom, often, part, parts, span_at, uses}
+use Rattle.sched_core.specs.UserSpans.{AddsUser, HaveRoom, often, pairs, part, parts, span_at, uses}
 use Rattle.sched_core.specs.declared.users.Edge.{Edge}
 use Rattle.sched_core.specs.declared.users.Span.{Span}
 
@@ -46,11 +46,18 @@ once_push (y ∷ xs) x (suc place) input =
       ap (λ t. cond {A = ℕ} (t && eqb x input) 1 0) (next_same (length xs) place),
     )
 
+-- a number more in a list
+pub often_push : (n : ℕ) (xs : List ℕ) (x : ℕ) → often n (xs ++ x ∷ [])
+    ≡ often n xs + cond (eqb x n) 1 0
+often_push n [] x = omega arith
+often_push n (y ∷ xs) x = omega (arith, often_push n xs x)
+
 -- ---- the edges of one user
 
 pub adds_none : (user count : ℕ) (rows : ℕ → List Edge) → AddsUser user [] count rows rows
 adds_none user count rows = record {
   each = λ input other place low. grind (arith, nat_tests);
+  size = λ input low. omega arith;
   within = λ input bound low less all. all;
 }
 
@@ -60,6 +67,7 @@ pub adds_more : (user place : ℕ) (seen : List ℕ) (i count : ℕ) (old mid ne
     → AddsUser user seen count old mid → AddsUser user (seen ++ i ∷ []) count old new
 adds_more user k seen i count old mid new size at others prior = record {
   each = λ input other place low. each input other place low (cases_eq input i);
+  size = λ input low. grown input low (cases_eq input i);
   within = λ input bound low less all. within input bound low less all (cases_eq input i);
 }
   where
@@ -80,6 +88,33 @@ adds_more user k seen i count old mid new size at others prior = record {
         let was = prior.each input other place low in
         let once = once_push seen i place input in
         grind (arith, nat_tests, stays, was, once)
+
+    grown : (input : ℕ) → input < count → (input ≡ i) ⊎ (input ≡ i → ⊥)
+        → length (new input) ≡ length (old input) + often input (seen ++ i ∷ [])
+    grown input low (inl same) =
+        let here : new input ≡ mid input ++ record { user = user; place = k } ∷ [] =
+        subst (λ d. new d ≡ mid d ++ record { user = user; place = k } ∷ []) (sym same) at
+        in
+        let one : ◌≡◌ {A = ℕ} (cond (eqb i input) 1 0) 1 =
+        ap (λ t. cond {A = ℕ} t 1 0) (eq-eqb i input (sym same)) in
+        omega (
+          arith,
+          ap length here,
+          length_push (mid input) (record { user = user; place = k }),
+          prior.size input low,
+          often_push input seen i,
+          one,
+        )
+    grown input low (inr apart) =
+        let none : ◌≡◌ {A = ℕ} (cond (eqb i input) 1 0) 0 =
+        ap (λ t. cond {A = ℕ} t 1 0) (ne_eqb i input (λ e. apart (sym e))) in
+        omega (
+          arith,
+          ap length (others input low apart),
+          prior.size input low,
+          often_push input seen i,
+          none,
+        )
 
     within : (input bound : ℕ) → input < count → user < bound
         → All (λ (edge : Edge). edge.user < bound) (old input) → (input ≡ i) ⊎ (input ≡ i → ⊥)
@@ -102,12 +137,14 @@ pub record AreOfFirst (inputs : ℕ → List ℕ) (count done : ℕ) (rows : ℕ
   pub each : (input user place : ℕ) → input < count
       → times user place (rows input)
       ≡ cond (ltb user done) (once_at (slice_get (inputs user) place) input) 0
+  pub size : (input : ℕ) → input < count → length (rows input) ≡ uses inputs done input
   pub within : (input : ℕ) → input < count → All (λ (edge : Edge). edge.user < count) (rows input)
 
 pub first_none : (inputs : ℕ → List ℕ) (count : ℕ) (rows : ℕ → List Edge)
     → ((d : ℕ) → d < count → rows d ≡ []) → AreOfFirst inputs count 0 rows
 first_none inputs count rows none = record {
   each = λ input user place low. ap (times user place) (none input low) ∙ grind (arith, nat_tests);
+  size = λ input low. ap length (none input low);
   within = λ input low. subst (All (λ (edge : Edge). edge.user < count)) (sym (none input low))
       (All-nil (λ (edge : Edge). edge.user < count));
 }
@@ -117,6 +154,12 @@ pub first_more : (inputs : ℕ → List ℕ) (count d : ℕ) (old new : ℕ → 
     → AreOfFirst inputs count (d + 1) new
 first_more inputs count d old new low adds before = record {
   each = λ input user place less. each input user place less (cases_eq user d);
+  size = λ input less. omega (
+    arith,
+    adds.size input less,
+    before.size input less,
+    ap (λ c. uses inputs c input) (add-one d),
+  );
   within = λ input less. adds.within input count less low (before.within input less);
 }
   where
@@ -149,11 +192,6 @@ first_all inputs count done rows size all first = record {
 }
 
 -- ---- how many users there are
-
-pub often_push : (n : ℕ) (xs : List ℕ) (x : ℕ) → often n (xs ++ x ∷ [])
-    ≡ often n xs + cond (eqb x n) 1 0
-often_push n [] x = omega arith
-often_push n (y ∷ xs) x = omega (arith, often_push n xs x)
 
 -- what is left after one more input has one less of it, and as many of each other
 pub often_here : (inputs : List ℕ) (k i : ℕ) → k < length inputs → i ≡ get_or inputs k i
@@ -212,6 +250,26 @@ uses_grow inputs n few (suc count) less = ⊎_elim
           (λ above. absurd (differ (omega (arith, above, less)))) (cases_lt few (suc count))),
     ))
     (cases_eq few (suc count))
+
+-- more users, no fewer pairs
+pub pairs_grow : (inputs : ℕ → List ℕ) (few count : ℕ) → few ≤ count
+    → pairs inputs few ≤ pairs inputs count
+pairs_grow inputs few zero less =
+    let none : few ≡ 0 = omega (arith, less) in
+    omega (arith, ap (pairs inputs) none)
+pairs_grow inputs few (suc count) less = ⊎_elim
+    (λ same. omega (arith, ap (pairs inputs) same))
+    (λ differ. omega (
+      arith,
+      pairs_grow inputs few count (⊎_elim (λ below. omega (arith, below))
+          (λ above. absurd (differ (omega (arith, above, less)))) (cases_lt few (suc count))),
+    ))
+    (cases_eq few (suc count))
+
+-- the pairs with one user more
+pub pairs_next : (inputs : ℕ → List ℕ) (user : ℕ) → pairs inputs (user + 1)
+    ≡ pairs inputs user + length (inputs user)
+pairs_next inputs user = ap (pairs inputs) (add-one user)
 
 -- ---- spans
 

@@ -1,5 +1,5 @@
 -- The verdict on an answer, reason by reason, and that there is one.
-use Rattle.std.proofs.Common.{◌≡◌, ◌∙◌, ◌⊎◌, inl, inr, ⊎_elim, ℕ, suc, ◌+◌, ◌<◌, List, [], ◌∷◌, ◌++◌, length, Some, None, refl, sym, ap, subst, arith}
+use Rattle.std.proofs.Common.{◌≡◌, ◌∙◌, inl, inr, ⊎_elim, ℕ, suc, ◌+◌, ◌<◌, List, [], ◌∷◌, ◌++◌, length, Some, None, refl, sym, ap, subst, arith}
 use Rattle.std.specs.Prelude.{pos, Ok, Err}
 use Rattle.std.specs.List.{slice_get}
 use Rattle.std.proofs.Math.Nat.{eq-or-lt_of_le}
@@ -28,36 +28,61 @@ there_more answer count before here n below none =
     (λ less. before n less none)
     (eq-or-lt_of_le {n = n} {m = count} (omega arith))
 
--- What is known where the first outputs, so many, were taken: their records, and that none of them
--- is faulty.
-pub record TakenSoFar (job : Job) (permitted : List (List ℕ)) (answer : Answer)
-    (infos : List PathInfo) (count : ℕ) : Type 0 where
-  pub as_many : length infos ≡ count
-  pub records : (n : ℕ) (info : PathInfo) → slice_get infos n ≡ Some info
-      → IsRecordAt permitted answer n info
-  pub none : (n : ℕ) (why : Reason) → n < count → IsFaulty job answer why n → ⊥
-
-pub taken_none : (job : Job) (permitted : List (List ℕ)) (answer : Answer) (infos : List PathInfo)
-    → infos ≡ [] → TakenSoFar job permitted answer infos 0
-taken_none job permitted answer infos is = record {
-  as_many = ap length is;
-  records = λ n info at. let none : slice_get [] n
-      ≡ Some info = subst (λ (l : List PathInfo). slice_get l n ≡ Some info) is at in absurd cc;
-  none = λ n why below. absurd (omega arith);
-}
-
--- one tree lies at an output
+-- One tree lies at an output.
 pub one_tree : (answer : Answer) (n : ℕ) (a b : Tree) → tree_at answer n ≡ Some a → tree_at answer n
     ≡ Some b → a ≡ b
 one_tree answer n a b at at' = let same : Some a ≡ Some b = sym at ∙ at' in cc
 
-pub taken_more : (job : Job) (permitted : List (List ℕ)) (answer : Answer)
-    (infos more : List PathInfo) (count : ℕ) (tree : Tree) (info : PathInfo)
-    → TakenSoFar job permitted answer infos count → tree_at answer count ≡ Some tree
-    → IsRecordOf permitted tree info → ((why : Reason) → IsTreeFault job.kind tree why → ⊥)
-    → more ≡ infos ++ info ∷ [] → TakenSoFar job permitted answer more (count + 1)
-taken_more job permitted answer infos more count tree info before at is_record taken is =
-    subst (λ (l : List PathInfo). TakenSoFar job permitted answer l (count + 1)) (sym is) (record {
+-- None of the first outputs, so many, is faulty.
+abbrev pub SoundSoFar : Job → Answer → ℕ → Type 0
+SoundSoFar job answer count =
+    (n : ℕ) (why : Reason) → n < count → IsFaulty job answer why n → ⊥
+
+pub sound_more : (job : Job) (answer : Answer) (count : ℕ) (tree : Tree)
+    → SoundSoFar job answer count → tree_at answer count ≡ Some tree
+    → ((why : Reason) → IsTreeFault job.kind tree why → ⊥) → SoundSoFar job answer (count + 1)
+sound_more job answer count tree before at taken n why below faulty =
+    ⊎_elim
+    (λ e.
+    let there = subst (λ k. IsFaulty job answer why k) e faulty in
+    taken why (subst (λ (t : Tree). IsTreeFault job.kind t why)
+    (one_tree answer count there.0 tree there.1 at) there.2))
+    (λ less. before n why less faulty)
+    (eq-or-lt_of_le {n = n} {m = count} (omega arith))
+
+pub is_taken : (job : Job) (answer : Answer) (count : ℕ) → count ≡ length job.outputs.items
+    → IsThere job answer → SoundSoFar job answer count → IsTaken job answer
+is_taken job answer count all there sound =
+    (there, λ n why below. sound n why (omega arith))
+
+-- what lies at an output that is taken isn't at fault
+pub taken_at : (job : Job) (answer : Answer) (n : ℕ) (tree : Tree) → IsTaken job answer
+    → n < length job.outputs.items → tree_at answer n ≡ Some tree
+    → (why : Reason) → IsTreeFault job.kind tree why → ⊥
+taken_at job answer n tree taken below at why fault = taken.1 n why below (tree, at, fault)
+
+-- Records of the first outputs, so many.
+pub record RecordsSoFar (permitted : List (List ℕ)) (answer : Answer) (infos : List PathInfo)
+    (count : ℕ) : Type 0 where
+  pub as_many : length infos ≡ count
+  pub records : (n : ℕ) (info : PathInfo) → slice_get infos n ≡ Some info
+      → IsRecordAt permitted answer n info
+
+pub records_none : (permitted : List (List ℕ)) (answer : Answer) (infos : List PathInfo)
+    → infos ≡ [] → RecordsSoFar permitted answer infos 0
+records_none permitted answer infos is = record {
+  as_many = ap length is;
+  records = λ n info at. let none : slice_get [] n
+      ≡ Some info = subst (λ (l : List PathInfo). slice_get l n ≡ Some info) is at in absurd cc;
+}
+
+pub records_more : (permitted : List (List ℕ)) (answer : Answer) (infos more : List PathInfo)
+    (count : ℕ) (tree : Tree) (info : PathInfo)
+    → RecordsSoFar permitted answer infos count → tree_at answer count ≡ Some tree
+    → IsRecordOf permitted tree info → more ≡ infos ++ info ∷ []
+    → RecordsSoFar permitted answer more (count + 1)
+records_more permitted answer infos more count tree info before at is_record is =
+    subst (λ (l : List PathInfo). RecordsSoFar permitted answer l (count + 1)) (sym is) (record {
       as_many = pushed infos info ∙ ap suc before.as_many ∙ omega arith;
       records = λ n other here. ⊎_elim
           (λ earlier. before.records n other earlier)
@@ -66,13 +91,6 @@ taken_more job permitted answer infos more count tree info before at is_record t
           subst (λ k. IsRecordAt permitted answer k other) (sym place)
           (tree, at, subst (IsRecordOf permitted tree) h.1 is_record))
           (get_push_cases infos info n other here);
-      none = λ n why below faulty. ⊎_elim
-          (λ e.
-          let there = subst (λ k. IsFaulty job answer why k) e faulty in
-          taken why (subst (λ (t : Tree). IsTreeFault job.kind t why)
-          (one_tree answer count there.0 tree there.1 at) there.2))
-          (λ less. before.none n why less faulty)
-          (eq-or-lt_of_le {n = n} {m = count} (omega arith));
     })
   where
     pushed : (xs : List PathInfo) (x : PathInfo) → length (xs ++ x ∷ []) ≡ suc (length xs)
@@ -80,16 +98,10 @@ taken_more job permitted answer infos more count tree info before at is_record t
     pushed (y ∷ ys) x = ap suc (pushed ys x)
 
 pub are_records : (job : Job) (permitted : List (List ℕ)) (answer : Answer) (infos : List PathInfo)
-    (count : ℕ) → count ≡ length job.outputs.items → TakenSoFar job permitted answer infos count
+    (count : ℕ) → count ≡ length job.outputs.items → RecordsSoFar permitted answer infos count
     → AreRecords job permitted answer infos
-are_records job permitted answer infos count all taken =
-    record { count = taken.as_many ∙ all; each = taken.records }
-
-pub is_taken : (job : Job) (permitted : List (List ℕ)) (answer : Answer) (infos : List PathInfo)
-    (count : ℕ) → count ≡ length job.outputs.items → IsThere job answer
-    → TakenSoFar job permitted answer infos count → IsTaken job answer
-is_taken job permitted answer infos count all there taken =
-    (there, λ n why below. taken.none n why (omega arith))
+are_records job permitted answer infos count all so_far =
+    record { count = so_far.as_many ∙ all; each = so_far.records }
 
 -- What is at fault with a tree, by its cases.
 pub data TreeFault (kind : Kind) (tree : Tree) : Reason → Type 0 where
@@ -122,16 +134,16 @@ tree_fault_cases (Fixed method digest) tree OutOfMemory fault = absurd fault
 tree_fault_cases (Fixed method digest) tree Killed fault = absurd fault
 
 -- a fault of a tree behind trees that are taken is the first
-pub first_fault : (job : Job) (permitted : List (List ℕ)) (answer : Answer) (infos : List PathInfo)
-    (count : ℕ) (tree : Tree) (why : Reason) → count < length job.outputs.items
-    → IsThere job answer → TakenSoFar job permitted answer infos count → tree_at answer count
-    ≡ Some tree → IsTreeFault job.kind tree why → IsVerdict job permitted answer (Err why)
-first_fault job permitted answer infos count tree why below there taken at fault =
+pub first_fault : (job : Job) (permitted : List (List ℕ)) (answer : Answer) (count : ℕ)
+    (tree : Tree) (why : Reason) → count < length job.outputs.items → IsThere job answer
+    → SoundSoFar job answer count → tree_at answer count ≡ Some tree
+    → IsTreeFault job.kind tree why → IsVerdict job permitted answer (Err why)
+first_fault job permitted answer count tree why below there sound at fault =
     by why (tree_fault_cases job.kind tree why fault) (
       count,
       first_number (λ m. (reason : Reason) × IsFaulty job answer reason m)
           (length job.outputs.items) count below (why, (tree, at, fault))
-          (λ m less h. taken.none m h.0 less h.1),
+          (λ m less h. sound m h.0 less h.1),
       (tree, at, fault),
     )
   where
@@ -140,18 +152,6 @@ first_fault job permitted answer infos count tree why below there taken at fault
     by _ (too_large not_fit) first = (there, first)
     by _ (not_flat fits none) first = (there, first)
     by _ (mismatched found fits some) first = (there, first)
-
--- what refuses a tree is memory, or the tree's fault
-pub examined_fault : (job : Job) (permitted : List (List ℕ)) (answer : Answer)
-    (infos : List PathInfo) (count : ℕ) (tree : Tree) (why : Reason) → count
-    < length job.outputs.items
-    → IsThere job answer → TakenSoFar job permitted answer infos count → tree_at answer count
-    ≡ Some tree → (why ≡ OutOfMemory) ⊎ IsTreeFault job.kind tree why
-    → IsExamining job permitted answer (Err why)
-examined_fault job permitted answer infos count tree why below there taken at =
-    ⊎_elim (λ e. inl (ap Err e))
-    (λ fault.
-    inr (first_fault job permitted answer infos count tree why below there taken at fault))
 
 -- the first output at which nothing lies
 pub first_missing : (job : Job) (permitted : List (List ℕ)) (answer : Answer) (count : ℕ) → count
@@ -174,3 +174,8 @@ pub all_well : (job : Job) (permitted : List (List ℕ)) (answer : Answer) (info
     → IsTaken job answer → AreRecords job permitted answer infos
     → (IsCyclic (outputs_of job) infos → ⊥) → IsExamining job permitted answer (Ok infos)
 all_well job permitted answer infos taken records acyclic = inr (taken, records, acyclic)
+
+-- memory was refused once all was taken
+pub refused : (job : Job) (permitted : List (List ℕ)) (answer : Answer) (why : Reason)
+    → IsTaken job answer → why ≡ OutOfMemory → IsExamining job permitted answer (Err why)
+refused job permitted answer why taken is = inl (ap Err is, taken)

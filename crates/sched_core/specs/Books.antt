@@ -1,6 +1,7 @@
 -- *Book*: what a run keeps, and what each call on it does (this product's own).
-use Rattle.std.specs.Prelude.{◌≡◌, ◌<◌, ◌++◌, ℕ, Option, Some, List, [], ◌∷◌, length, slice_get, All, Contains}
+use Rattle.std.specs.Prelude.{◌≡◌, ◌<◌, ◌++◌, ◌⊎◌, ℕ, Option, Some, List, [], ◌∷◌, length, slice_get, All, Contains}
 use Rattle.drv_graph.specs.Nodes.{Node}
+use Rattle.drv_graph.specs.Plans.{Graph}
 use Rattle.valid_table.specs.Entries.{registered}
 use Rattle.valid_table.specs.PathInfos.{PathInfo}
 use Rattle.valid_table.specs.Valid.{IsValid}
@@ -9,7 +10,7 @@ use Rattle.valid_table.specs.declared.fault.OutletFault.{OutletFault}
 use Rattle.valid_table.specs.declared.fault.OutletFault.TheVariants as outlet
 use Rattle.sched_core.specs.Courses.{IsOpen}
 use Rattle.sched_core.specs.Jobs.{IsJob}
-use Rattle.sched_core.specs.Legal.{ArePermitted, IsAllowed, IsEntryOf, MayRefer, begins, begun, ended, failed}
+use Rattle.sched_core.specs.Legal.{AreNewOutputs, AreOutputRecords, ArePermitted, IsAllowed, IsEntryOf, MayRefer, begins, begun, ended, failed}
 use Rattle.sched_core.specs.Runs.{History, IsWanted, Run, state_in}
 use Rattle.sched_core.specs.States.{Begun, phase_of}
 use Rattle.sched_core.specs.Verdicts.{outputs_of}
@@ -85,19 +86,30 @@ pub record IsDone (run : Run) (entries : List Entry) (d : ℕ) (infos : List Pat
     (entry : Entry) : Type 0 where
   pub node : Node
   pub is_node : slice_get run.graph.nodes d ≡ Some node
-  pub allowed : IsAllowed run entries node infos
+  pub allowed : IsAllowed run.graph entries node infos
   pub is_entry : IsEntryOf node infos entry
 
 -- a derivation may not be registered with these records behind some entries
-abbrev pub IsNotAllowed : Run → List Entry → (d : ℕ) → List PathInfo → Type 0
-IsNotAllowed run entries d infos = (node : Node) → slice_get run.graph.nodes d ≡ Some node
-    → IsAllowed run entries node infos → ⊥
+abbrev pub IsNotAllowed : Graph → List Entry → (d : ℕ) → List PathInfo → Type 0
+IsNotAllowed graph entries d infos = (node : Node) → slice_get graph.nodes d ≡ Some node
+    → IsAllowed graph entries node infos → ⊥
 
--- What was pending may have been published, and nothing else changed.
+-- these are records of a derivation's outputs, and none of those is valid behind some entries
+abbrev pub AreNewRecords : Graph → List Entry → (d : ℕ) → List PathInfo → Type 0
+AreNewRecords graph entries d infos = (node : Node) → slice_get graph.nodes d ≡ Some node
+    → AreOutputRecords node.drv infos × AreNewOutputs entries node.drv
+
+-- the outlet shows all entries, and none waits
+abbrev pub IsPublished : (before after : Ledger) → Type 0
+IsPublished before after =
+    (after.shown ≡ before.shown ++ before.pending) × (after.pending ≡ [])
+
+-- All that waited may have been published, and nothing else changed.
 pub record IsSameRun (before after : Ledger) : Type 0 where
   pub run : after.run ≡ before.run
   pub history : after.history ≡ before.history
-  pub all : after.shown ++ after.pending ≡ before.shown ++ before.pending
+  pub outlet : ((after.shown ≡ before.shown) × (after.pending ≡ before.pending))
+      ⊎ IsPublished before after
 
 -- A derivation that could be begun has begun under a lease; before that all entries were published.
 pub record IsBeginning (before after : Ledger) (job : Job) (number : ℕ) : Type 0 where
@@ -127,8 +139,10 @@ IsFinishFault before job number infos ForeignLease =
     IsBooksLease before.run before.history job number → ⊥
 IsFinishFault before job number infos NotLawful =
     IsBooksLease before.run before.history job number
-    × IsNotAllowed before.run before.history.entries job.derivation infos
-IsFinishFault before job number infos NoMemory = IsBooksLease before.run before.history job number
+    × IsNotAllowed before.run.graph before.history.entries job.derivation infos
+IsFinishFault before job number infos NoMemory =
+    IsBooksLease before.run before.history job number
+    × AreNewRecords before.run.graph before.history.entries job.derivation infos
 IsFinishFault before job number infos NoView = ⊥
 
 -- A lease's derivation failed, for a reason.

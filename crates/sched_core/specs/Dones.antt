@@ -1,5 +1,5 @@
 -- The entry of a derivation that was built, in any run over a plan.
-use Rattle.std.specs.Prelude.{◌≡◌, ◌⊎◌, ⊤, ℕ, Some, List, All, length, map, slice_get}
+use Rattle.std.specs.Prelude.{◌≡◌, ⊤, ℕ, Some, List, All, length, map, slice_get}
 use Rattle.drv_graph.specs.Nodes.{Node}
 use Rattle.drv_graph.specs.Plans.{Graph}
 use Rattle.drv_graph.specs.declared.kinds.Kind.{Kind}
@@ -8,25 +8,22 @@ use Rattle.valid_table.specs.PathInfos.{PathInfo}
 use Rattle.valid_table.specs.Valid.{IsNotValid}
 use Rattle.valid_table.specs.declared.entry.Entry.{Entry}
 use Rattle.valid_table.specs.declared.entry.Registration.{Registration}
-use Rattle.sched_core.specs.Legal.{ArePermittedTo, IsAllowed, IsEntryOf}
-use Rattle.sched_core.specs.Runs.{Run}
-use Rattle.sched_core.specs.Verdicts.{IsCyclic}
+use Rattle.sched_core.specs.Books.{AreNewRecords, IsNotAllowed}
+use Rattle.sched_core.specs.Legal.{AreAcyclicRecords, AreNewOutputs, IsEntryOf}
 use Rattle.sched_core.specs.declared.fault.BookFault.{BookFault}
-use Rattle.sched_core.specs.declared.fault.BookFault.TheVariants.{NoMemory, NotLawful}
+use Rattle.sched_core.specs.declared.fault.BookFault.TheVariants.{ForeignLease, NoMemory, NoView, NotLawful}
 
 -- records have the digest that outputs of this kind declare, if they do
 abbrev pub HaveDigest : Kind → List PathInfo → Type 0
 HaveDigest Addressed infos = ⊤
 HaveDigest (Fixed method digest) infos = All (λ (info : PathInfo). info.digest ≡ Some digest) infos
 
--- Records with which outputs of a kind at some paths may be registered behind known registrations,
--- if their references are permitted.
-pub record AreLawful (known : List Registration) (kind : Kind) (paths : List (List ℕ))
+-- What is tested of records of outputs of a kind, at some paths, without taking memory.
+pub record AreFitting (known : List Registration) (kind : Kind) (paths : List (List ℕ))
     (infos : List PathInfo) : Type 0 where
   pub count : length infos ≡ length paths
   pub new : All (IsNotValid known) paths
-  pub fixed : HaveDigest kind infos
-  pub acyclic : IsCyclic paths infos → ⊥
+  pub digests : HaveDigest kind infos
 
 -- the records of registrations alone
 abbrev pub infos_of : List Registration → List PathInfo
@@ -35,18 +32,13 @@ infos_of registrations = map (λ (r : Registration). r.info) registrations
 -- an entry is that of the derivation with this number, with these records, and allowed behind some
 -- entries if the references are permitted
 abbrev pub IsDoneEntry : Graph → (d : ℕ) → List Entry → List PathInfo → Entry → Type 0
-IsDoneEntry graph d entries infos entry = (run : Run) (node : Node) → run.graph ≡ graph
-    → slice_get run.graph.nodes d ≡ Some node
-    → IsEntryOf node infos entry
-    × (ArePermittedTo run entries node infos → IsAllowed run entries node infos)
-
--- the derivation with this number may not be registered with these records behind some entries
-abbrev pub IsUnlawful : Graph → (d : ℕ) → List Entry → List PathInfo → Type 0
-IsUnlawful graph d entries infos = (run : Run) (node : Node) → run.graph ≡ graph
-    → slice_get run.graph.nodes d ≡ Some node
-    → IsAllowed run entries node infos → ⊥
+IsDoneEntry graph d entries infos entry = (node : Node) → slice_get graph.nodes d ≡ Some node
+    → IsEntryOf node infos entry × AreAcyclicRecords node.drv infos
+    × AreNewOutputs entries node.drv
 
 -- why there is no entry of the derivation with this number
 abbrev pub IsDoneFault : Graph → (d : ℕ) → List Entry → List PathInfo → BookFault → Type 0
-IsDoneFault graph d entries infos fault = (fault ≡ NoMemory)
-    ⊎ ((fault ≡ NotLawful) × IsUnlawful graph d entries infos)
+IsDoneFault graph d entries infos NoMemory = AreNewRecords graph entries d infos
+IsDoneFault graph d entries infos NotLawful = IsNotAllowed graph entries d infos
+IsDoneFault graph d entries infos ForeignLease = ⊥
+IsDoneFault graph d entries infos NoView = ⊥

@@ -39,17 +39,20 @@ abbrev pub EntriesAreJournal : Type 0
 EntriesAreJournal = (run : Run) (history : History) → AreDrvPaths run → IsLegal run history
     → IsJournal history.entries
 
--- What a derivation that was built registered, behind the entries before: one allowed record for
--- each output. So its references are permitted, and a fixed output has its declared hash.
+-- What a derivation that was built registered, behind the entries before, which go on from those
+-- of the opening: one allowed record for each output. So its references are permitted, and a fixed
+-- output has its declared hash.
 pub record WasDone (run : Run) (history : History) (d : ℕ) : Type 0 where
   pub node : Node
   pub is_node : slice_get run.graph.nodes d ≡ Some node
   pub before : List Entry
+  pub more : List Entry
+  pub goes_on : before ≡ history.opening ++ more
   pub entry : Entry
   pub after : List Entry
   pub parts : history.entries ≡ before ++ entry ∷ after
   pub infos : List PathInfo
-  pub allowed : IsAllowed run before node infos
+  pub allowed : IsAllowed run.graph before node infos
   pub is_entry : IsEntryOf node infos entry
 
 -- each Done registered what it was allowed to

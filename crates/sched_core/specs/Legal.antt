@@ -2,8 +2,10 @@
 -- Dolstra's thesis, section 5.5).
 use Rattle.std.specs.Prelude.{◌≡◌, ◌↔◌, ◌⊎◌, ◌<◌, ◌++◌, Bool, true, false, ℕ, Some, List, [], ◌∷◌, length, count_by, slice_get, Contains}
 use Rattle.nix_names.specs.Rising.{IsRising}
+use Rattle.nix_drv.specs.Derivation.{Drv}
 use Rattle.drv_graph.specs.Kinds.{HasKind}
 use Rattle.drv_graph.specs.Nodes.{Node}
+use Rattle.drv_graph.specs.Plans.{Graph}
 use Rattle.drv_graph.specs.declared.kinds.Kind.TheVariants.{Fixed}
 use Rattle.drv_graph.specs.declared.kinds.Method.{Method}
 use Rattle.valid_table.specs.Closure.{Reaches}
@@ -75,22 +77,34 @@ pub record IsEntryOf (node : Node) (infos : List PathInfo) (entry : Entry) : Typ
       ↔ ((n : ℕ) × (slice_get (output_paths node.drv) n ≡ Some path)
       × (slice_get infos n ≡ Some info))
 
--- each reference in some records is permitted to a derivation of the run, behind some entries
-abbrev pub ArePermittedTo : Run → List Entry → Node → List PathInfo → Type 0
-ArePermittedTo run entries node infos = (info : PathInfo) (path : List ℕ) → Contains infos info
+-- each reference in some records is permitted to a derivation of a plan, behind some entries
+abbrev pub ArePermittedTo : Graph → List Entry → Node → List PathInfo → Type 0
+ArePermittedTo graph entries node infos = (info : PathInfo) (path : List ℕ) → Contains infos info
     → Contains info.references path
-    → MayRefer (registered entries) (seeds_of run.graph.nodes node.drv) (output_paths node.drv) path
+    → MayRefer (registered entries) (seeds_of graph.nodes node.drv) (output_paths node.drv) path
+
+-- Records of a derivation's outputs: one for each, with the declared digest where it is fixed.
+pub record AreOutputRecords (drv : Drv) (infos : List PathInfo) : Type 0 where
+  pub count : length infos ≡ length drv.outputs
+  pub fixed : (method : Method) (digest : List ℕ) → HasKind drv (Fixed method digest)
+      → (info : PathInfo) → Contains infos info → info.digest ≡ Some digest
+
+-- Such records by which no two different outputs lead to each other.
+pub record AreAcyclicRecords (drv : Drv) (infos : List PathInfo) : Type 0 where
+  pub own : AreOutputRecords drv infos
+  pub acyclic : IsCyclic (output_paths drv) infos → ⊥
+
+-- none of a derivation's outputs is valid behind some entries
+abbrev pub AreNewOutputs : List Entry → Drv → Type 0
+AreNewOutputs entries drv = (path : List ℕ) → Contains (output_paths drv) path
+    → IsValid (registered entries) path → ⊥
 
 -- What a Done of a derivation may register behind some entries.
-pub record IsAllowed (run : Run) (entries : List Entry) (node : Node) (infos : List PathInfo)
+pub record IsAllowed (graph : Graph) (entries : List Entry) (node : Node) (infos : List PathInfo)
     : Type 0 where
-  pub count : length infos ≡ length node.drv.outputs
-  pub new : (path : List ℕ) → Contains (output_paths node.drv) path
-      → IsValid (registered entries) path → ⊥
-  pub permitted : ArePermittedTo run entries node infos
-  pub fixed : (method : Method) (digest : List ℕ) → HasKind node.drv (Fixed method digest)
-      → (info : PathInfo) → Contains infos info → info.digest ≡ Some digest
-  pub acyclic : IsCyclic (output_paths node.drv) infos → ⊥
+  pub records : AreAcyclicRecords node.drv infos
+  pub new : AreNewOutputs entries node.drv
+  pub permitted : ArePermittedTo graph entries node infos
 
 -- A legal history: it opens with a journal's entries, and each event is allowed after those before
 -- it.
@@ -103,7 +117,7 @@ pub data IsLegal (run : Run) : History → Type 0 where
   legal_done : (history : History) (d lease : ℕ) (node : Node) (infos : List PathInfo)
       (entry : Entry) → IsLegal run history
       → phase_of history.events d ≡ Begun lease → slice_get run.graph.nodes d ≡ Some node
-      → IsAllowed run history.entries node infos → IsEntryOf node infos entry
+      → IsAllowed run.graph history.entries node infos → IsEntryOf node infos entry
       → IsLegal run (ended history d lease entry)
   legal_fail : (history : History) (d lease : ℕ) (reason : Reason) → IsLegal run history
       → phase_of history.events d ≡ Begun lease → IsLegal run (failed history d lease reason)

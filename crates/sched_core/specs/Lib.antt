@@ -11,13 +11,16 @@ pub mod Jobs
 pub mod Legal
 pub mod Linking
 pub mod Numbers
+pub mod PlanLaws
 pub mod Reporting
 pub mod Reports
 pub mod Runs
 pub mod SameJobs
 pub mod Seeding
 pub mod States
+pub mod Steps
 pub mod Tallies
+pub mod ToldEdges
 pub mod UserSpans
 pub mod Users
 pub mod VerdictLaws

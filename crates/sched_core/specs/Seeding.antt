@@ -10,7 +10,3 @@ named_texts outputs = map (λ (o : JobOutput). o.name.items) outputs
 -- the names of a derivation's outputs
 abbrev pub output_texts : List OutputStruct → List (List ℕ)
 output_texts outputs = map (λ (o : OutputStruct). o.name.items) outputs
-
--- the paths of some outputs
-abbrev pub paths_of_outputs : List JobOutput → List (List ℕ)
-paths_of_outputs outputs = map (λ (o : JobOutput). o.path) outputs

@@ -15,6 +15,11 @@ abbrev pub uses : (inputs : ℕ → List ℕ) → (count : ℕ) → ℕ → ℕ
 uses inputs zero n = 0
 uses inputs (suc count) n = uses inputs count n + often n (inputs count)
 
+-- how many pairs there are of one of the first derivations, so many, and an input of it
+abbrev pub pairs : (inputs : ℕ → List ℕ) → (count : ℕ) → ℕ
+pairs inputs zero = 0
+pairs inputs (suc count) = pairs inputs count + length (inputs count)
+
 -- the edges in a span
 abbrev pub part : List Edge → Span → List Edge
 part edges span = take (span.end - span.start) (drop span.start edges)
@@ -40,6 +45,8 @@ pub record AddsUser (user : ℕ) (inputs : List ℕ) (count : ℕ) (old new : �
   pub each : (input other place : ℕ) → input < count
       → times other place (new input) ≡ times other place (old input)
       + (if other == user then once_at (slice_get inputs place) input else 0)
+  pub size : (input : ℕ) → input < count
+      → length (new input) ≡ length (old input) + often input inputs
   pub within : (input bound : ℕ) → input < count → user < bound
       → All (λ (edge : Edge). edge.user < bound) (old input)
       → All (λ (edge : Edge). edge.user < bound) (new input)

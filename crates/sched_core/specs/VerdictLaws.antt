@@ -1,28 +1,22 @@
 -- What the verdict on a job gives: what a Done of its derivation may register.
-use Rattle.std.specs.Prelude.{◌≡◌, ℕ, Some, Ok, List, length, Contains, slice_get}
-use Rattle.drv_graph.specs.Kinds.{HasKind}
+use Rattle.std.specs.Prelude.{◌≡◌, ℕ, Some, Ok, List, Contains, slice_get}
 use Rattle.drv_graph.specs.Nodes.{Node}
 use Rattle.drv_graph.specs.Plans.{Graph}
-use Rattle.drv_graph.specs.declared.kinds.Kind.TheVariants.{Fixed}
-use Rattle.drv_graph.specs.declared.kinds.Method.{Method}
 use Rattle.valid_table.specs.PathInfos.{PathInfo}
 use Rattle.valid_table.specs.declared.entry.Entry.{Entry}
 use Rattle.sched_core.specs.Books.{ArePermittedPaths, MayAllRefer}
-use Rattle.sched_core.specs.Jobs.{IsJob, output_paths}
-use Rattle.sched_core.specs.Verdicts.{IsCyclic, IsVerdict}
+use Rattle.sched_core.specs.Jobs.{IsJob}
+use Rattle.sched_core.specs.Legal.{AreAcyclicRecords}
+use Rattle.sched_core.specs.Verdicts.{IsVerdict}
 use Rattle.sched_core.specs.declared.job.Answer.{Answer}
 use Rattle.sched_core.specs.declared.job.Job.{Job}
 
--- Records of a derivation's outputs: one for each, with permitted references alone, the declared
--- digest where it is fixed, and no cycle.
+-- Records of a derivation's outputs, without a cycle, and with permitted references alone.
 pub record AreRegistrable (node : Node) (permitted : List (List ℕ)) (infos : List PathInfo)
     : Type 0 where
-  pub count : length infos ≡ length node.drv.outputs
+  pub records : AreAcyclicRecords node.drv infos
   pub among : (info : PathInfo) (path : List ℕ) → Contains infos info
       → Contains info.references path → Contains permitted path
-  pub fixed : (method : Method) (digest : List ℕ) → HasKind node.drv (Fixed method digest)
-      → (info : PathInfo) → Contains infos info → info.digest ≡ Some digest
-  pub acyclic : IsCyclic (output_paths node.drv) infos → ⊥
 
 -- the records of a verdict on a derivation's job are such
 abbrev pub VerdictsAreRegistrable : Type 0

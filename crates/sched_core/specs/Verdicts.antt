@@ -124,10 +124,11 @@ IsVerdict job permitted answer (Err NoStart) = ⊥
 IsVerdict job permitted answer (Err ReadFault) = ⊥
 IsVerdict job permitted answer (Err OutOfMemory) = ⊥
 
--- what `examine` answers: the verdict, or that memory was refused
+-- what `examine` answers: the verdict, or that memory was refused, once what lies at each output's
+-- path was taken
 abbrev pub IsExamining : Job → (permitted : List (List ℕ)) → Answer → Result (List PathInfo) Reason
     → Type 0
-IsExamining job permitted answer result = (result ≡ Err OutOfMemory)
+IsExamining job permitted answer result = ((result ≡ Err OutOfMemory) × IsTaken job answer)
     ⊎ IsVerdict job permitted answer result
 
 -- there is one verdict

@@ -19,8 +19,6 @@ pub(crate) struct Agenda {
     work: HeapCircularBuffer<usize>,
     // How many wanted ones have something before them.
     unsettled: usize,
-    // How many states were worked out, and edges to users followed.
-    steps: u64,
 }
 
 impl Model for Agenda {
@@ -60,7 +58,6 @@ impl Agenda {
             ring,
             work,
             unsettled,
-            steps: 0,
         })
     }
 
@@ -85,18 +82,6 @@ impl Agenda {
         self.unsettled
     }
 
-    // How many states were worked out, and edges to users followed.
-    pub(crate) fn steps(&self) -> u64 {
-        self.steps
-    }
-
-    // Counts an edge that is followed.
-    pub(crate) fn follow(&mut self)
-        ensures { self.new ≡ self.old }
-    {
-        self.steps = self.steps.wrapping_add(1);
-    }
-
     // Notes that the tally of a derivation changed so. Takes no memory.
     pub(crate) fn note(&mut self, d: usize, before: Tally, after: Tally)
         requires room { length (noted self.old d before after).ring ≤ self.old.room }
@@ -104,7 +89,6 @@ impl Agenda {
         requires unsettled { (if settles before after then 1 else 0) ≤ self.old.unsettled }
         ensures { self.new ≡ noted self.old d before after }
     {
-        self.steps = self.steps.wrapping_add(1);
         if after.wanted && is_blocked(before.state) && is_ready(after.state) {
             self.ring.push_back(d);
         }

@@ -1,11 +1,12 @@
 //! Books: what is built, and what can be.
-ghost use Rattle.std.specs.Prelude.{◌≡◌, ◌<◌, ◌↔◌, ◌⊎◌, ◌++◌, ℕ, [], IfErr, IfOk, IsTrue, MatchOption, OnErr, OnOk, length, ⊤};
+ghost use Rattle.std.specs.Prelude.{◌≡◌, ◌<◌, ◌%◌, ◌^◌, ◌↔◌, ◌⊎◌, ◌++◌, ℕ, [], IfErr, IfOk, IsTrue, MatchOption, OnErr, OnOk, length, take, ⊤};
 ghost use Rattle.valid_table.specs.Valid.{IsJournal};
 ghost use Rattle.sched_core.specs.Books.{ArePermittedPaths, AreSeedsValid, BuildsOver, CanBegin, IsBeginning, IsBooksLease, IsFailing, IsFinishFault, IsFinishing, IsRunSettled, IsSameRun, IsUnsettled, MayAllRefer, opened};
 ghost use Rattle.sched_core.specs.Counts.{AreSoMany};
 ghost use Rattle.sched_core.specs.Legal.{IsLegal};
 ghost use Rattle.sched_core.specs.Reports.{IsReportIn};
 ghost use Rattle.sched_core.specs.Runs.{state_in};
+ghost use Rattle.sched_core.specs.Steps.{steps_in};
 ghost use Rattle.sched_core.specs.declared.fault.BookFault.TheVariants.{ForeignLease, NoMemory, NoView};
 ghost use Rattle.sched_core.specs.declared.reason.Reason.TheVariants.{OutOfMemory};
 
@@ -83,8 +84,8 @@ impl<O: Outlet> Book<O> {
     /// derivation begins the outlet publishes all entries, and the lease is told of that list, by
     /// which all that the derivation is built from is valid.
     ///
-    /// `NoMemory` and `NoView` begin nothing; the outlet may have published. Takes memory for the
-    /// lease's job.
+    /// `NoView` changes nothing. `NoMemory` begins nothing; the outlet may have published all that
+    /// waited. Takes memory for the lease's job.
     pub fn next(&mut self) -> Result<Option<Lease<O::Told>>, BookFault>
         ensures none { IfOk result
             (λ next. MatchOption next ((self.new ≡ self.old)
@@ -96,7 +97,11 @@ impl<O: Outlet> Book<O> {
         ensures seeds { IfOk result
             (λ next. MatchOption next ⊤
             (λ lease. AreSeedsValid self.old.history.entries lease.job)) }
+        ensures lease { IfOk result
+            (λ next. MatchOption next ⊤
+            (λ lease. IsBooksLease self.new.run self.new.history lease.job lease.number)) }
         ensures same { OnErr result (IsSameRun self.old self.new) }
+        ensures view { IfErr result (λ fault. fault ≡ NoView → self.new ≡ self.old) }
         ensures some { OnErr result ((d : ℕ) × CanBegin self.old.run self.old.history d) }
         ensures err { IfErr result (λ fault. (fault ≡ NoMemory) ⊎ (fault ≡ NoView)) }
     {
@@ -118,9 +123,10 @@ impl<O: Outlet> Book<O> {
     /// `ForeignLease` exactly where the lease isn't the book's; `NotLawful` only where it is and
     /// the derivation may not be registered so: there isn't one record for each output, an output
     /// is valid, a fixed output hasn't its declared digest, or two outputs lead to each other;
-    /// `NoMemory` where memory is refused. A fault leaves the book as it was, and hands back lease
-    /// and records. Compares the lease's job with the plan's derivation, asks the journal for each
-    /// output and reference, and copies each record twice.
+    /// `NoMemory` where memory is refused, which is asked for only where the lease is the book's
+    /// and none of the first three of these is so. A fault leaves the book as it was, and hands
+    /// back lease and records. Compares the lease's job with the plan's derivation, asks the
+    /// journal for each output and reference, and copies each record twice.
     pub fn finish(
         &mut self,
         lease: Lease<O::Told>,
@@ -223,6 +229,14 @@ impl<O: Outlet> Book<O> {
         self.progress.settled()
     }
 
+    /// Whether some wanted derivation is ready, so that `next` would begin one. Goes over none of
+    /// them.
+    pub fn can_begin(&self) -> bool
+        ensures { IsTrue result ↔ ((d : ℕ) × CanBegin self.now.run self.now.history d) }
+    {
+        self.progress.next().is_some()
+    }
+
     /// How many wanted derivations are blocked, ready or building. Goes over none of them.
     pub fn unsettled(&self) -> usize
         ensures { AreSoMany (IsUnsettled self.now.run self.now.history) result }
@@ -231,10 +245,13 @@ impl<O: Outlet> Book<O> {
     }
 
     /// How much work the states of derivations were: one for each state that an event worked out,
-    /// and one for each time that it followed the edge from an input to a user. In a run at most
-    /// twice its derivations and twice the pairs of a derivation and a place of its text at which
-    /// an input stands.
-    pub fn steps(&self) -> u64 {
+    /// and one for each time that it followed the edge from an input to a user. That is one for
+    /// each event, and two for each edge from a derivation that ended since the book opened. In a
+    /// run at most twice its derivations and twice the pairs of a derivation and a place of its
+    /// text at which an input stands.
+    pub fn steps(&self) -> u64
+        ensures { result ≡ steps_in self.now.run self.now.history % 2 ^ 64 }
+    {
         self.progress.steps()
     }
 
@@ -287,7 +304,8 @@ impl<O: Outlet> Book<O> {
 
     /// How many of the journal's entries the book opened with: its first ones.
     pub fn opening(&self) -> usize
-        ensures { result ≡ length self.now.history.opening }
+        ensures count { result ≡ length self.now.history.opening }
+        ensures first { take result self.now.history.entries ≡ self.now.history.opening }
     {
         self.progress.opening()
     }

@@ -7,6 +7,7 @@ ghost use Rattle.sched_core.specs.Courses.{HasBegun, IsNext, IsSettled, IsUnsett
 ghost use Rattle.sched_core.specs.Coursing.{phase_in};
 ghost use Rattle.sched_core.specs.States.{Begun, Broken, Ended, Idle};
 ghost use Rattle.sched_core.specs.Tallies.{Turns};
+ghost use Rattle.sched_core.specs.ToldEdges.{course_told};
 ghost use Rattle.sched_core.specs.declared.fault.BookFault.TheVariants.{NoMemory};
 
 use crate::agenda::Agenda;
@@ -30,17 +31,21 @@ pub(crate) struct Course {
     tallies: Vec<Tally>,
     users: Users,
     agenda: Agenda,
+    // Along how many edges users were told.
+    told: usize,
 }
 
 impl Model for Course {
     ghost use Rattle.sched_core.specs.Courses.{Course};
     ghost use Rattle.sched_core.specs.Agendas.{IsCourse, course_by};
+    ghost use Rattle.sched_core.specs.ToldEdges.{HasTold};
 
     ghost Value = { Course };
 
     ghost view = { λ c. course_by c.plan c.tallies.items };
 
-    ghost invariant = { λ c. IsCourse c.plan c.tallies.items c.users c.agenda };
+    ghost invariant = { λ c. IsCourse c.plan c.tallies.items c.users c.agenda
+        × HasTold c.plan c.tallies.items c.users c.told };
 }
 
 impl Course {
@@ -69,6 +74,7 @@ impl Course {
             tallies,
             users,
             agenda,
+            told: 0,
         })
     }
 
@@ -142,9 +148,11 @@ impl Course {
         self.agenda.unsettled()
     }
 
-    // How many states the events worked out, and edges to users they followed.
-    pub(crate) fn steps(&self) -> u64 {
-        self.agenda.steps()
+    // Along how many edges users were told.
+    pub(crate) fn told(&self) -> usize
+        ensures { result ≡ course_told self.now }
+    {
+        self.told
     }
 
     // Notes the state of a derivation, by its last event.
@@ -155,7 +163,8 @@ impl Course {
         ensures { self.new
             ≡ record self.old { phases = slice_set self.old.phases d (phase_in state) } }
     {
-        turn(&self.users, &mut self.tallies, &mut self.agenda, d, state);
+        let told = turn(&self.users, &mut self.tallies, &mut self.agenda, d, state);
+        self.told += told;
     }
 }
 

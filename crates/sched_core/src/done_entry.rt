@@ -4,12 +4,11 @@ ghost use Rattle.valid_table.specs.Entries.{paths_of, registered};
 ghost use Rattle.valid_table.specs.PathInfos.{PathInfo};
 ghost use Rattle.valid_table.specs.Valid.{HasDrvPath, IsNotValid};
 ghost use Rattle.valid_table.specs.declared.entry.Registration.{Registration};
-ghost use Rattle.sched_core.specs.Dones.{AreLawful, HaveDigest, IsDoneEntry, IsDoneFault, infos_of};
+ghost use Rattle.sched_core.specs.Dones.{AreFitting, HaveDigest, IsDoneEntry, IsDoneFault, infos_of};
 
 use crate::checked::Checked;
 use crate::cycle::is_cyclic;
 use crate::fault::BookFault;
-use crate::links::copy_path;
 use drv_graph::{Kind, Plan};
 use nix_names::StorePath;
 use std::alloc::{AllocError, Global};
@@ -18,8 +17,9 @@ use valid_table::{Entry, Journal, Outputs, Record, Registration};
 // The entry that registers the outputs of the derivation with this number with these records,
 // behind the journal's entries; whether their references are permitted isn't tested. `NotLawful`
 // where there isn't one record for each output, an output is valid, a fixed output hasn't its
-// declared digest, or two outputs lead to each other; `NoMemory` may come in its place. Costs a
-// look-up by hash for each output and for each reference, and a sort of the outputs.
+// declared digest, or two outputs lead to each other. Takes memory only once none of the first
+// three is so. Costs a look-up by hash for each output and for each reference, and a sort of the
+// outputs.
 pub(crate) fn done_entry(
     alloc: Global,
     plan: &Plan,
@@ -34,7 +34,10 @@ pub(crate) fn done_entry(
 {
     let paths = plan.output_paths(d);
     let records = checked.records();
-    if !is_lawful(alloc, plan.kind(d), paths, records, journal)? {
+    if !are_fitting(plan.kind(d), paths, records, journal) {
+        return Err(BookFault::NotLawful);
+    }
+    if is_cyclic(alloc, paths, records)? {
         return Err(BookFault::NotLawful);
     }
     let registrations = registrations_of(alloc, paths, records)?;
@@ -43,25 +46,19 @@ pub(crate) fn done_entry(
     let Some(outputs) = Outputs::sorted(registrations) else {
         unreachable!()
     };
-    Ok(Entry::Done(copy_path(alloc, plan.path(d))?, outputs))
+    Ok(Entry::Done(plan.path(d).copy(alloc)?, outputs))
 }
 
-// Whether outputs of this kind at these paths may be registered with these records behind a
-// journal's entries, if the records' references are permitted.
-fn is_lawful(
-    alloc: Global,
-    kind: Kind,
-    paths: &[StorePath],
-    records: &[Record],
-    journal: &Journal,
-) -> Result<bool, AllocError>
-    ensures { IfOk result (λ lawful. IsTrue lawful
-        ↔ AreLawful (registered journal.now.entries) kind paths.now records.now) }
+// Whether records are one for each of these outputs of a kind, the outputs are new behind a
+// journal's entries, and a fixed one has its digest. Takes no memory.
+fn are_fitting(kind: Kind, paths: &[StorePath], records: &[Record], journal: &Journal) -> bool
+    ensures { IsTrue result
+        ↔ AreFitting (registered journal.now.entries) kind paths.now records.now }
 {
-    if records.len() != paths.len() || !are_new(journal, paths) || !have_digest(kind, records) {
-        return Ok(false);
+    if records.len() != paths.len() || !are_new(journal, paths) {
+        return false;
     }
-    Ok(!is_cyclic(alloc, paths, records)?)
+    have_digest(kind, records)
 }
 
 // Whether none of the paths is valid by a journal.
@@ -91,11 +88,10 @@ fn registrations_of(
     alloc: Global,
     paths: &[StorePath],
     records: &[Record],
-) -> Result<Vec<Registration>, BookFault>
+) -> Result<Vec<Registration>, AllocError>
     requires { length records.now ≡ length paths.now }
     ensures paths { IfOk result (λ all. paths_of all.items ≡ paths.now) }
     ensures infos { IfOk result (λ all. infos_of all.items ≡ records.now) }
-    ensures err { IfErr result (λ fault. fault ≡ BookFault.NoMemory) }
 {
     let mut registrations = Vec::with_capacity(alloc, paths.len())?;
     for n in 0..paths.len() {
@@ -109,13 +105,11 @@ fn registration_of(
     alloc: Global,
     path: &StorePath,
     info: &Record,
-) -> Result<Registration, BookFault>
-    ensures ok { IfOk result (λ r. r ≡ record { path = path.now; info = info.now }) }
-    ensures err { IfErr result (λ fault. fault ≡ BookFault.NoMemory) }
+) -> Result<Registration, AllocError>
+    ensures { IfOk result (λ r. r ≡ record { path = path.now; info = info.now }) }
 {
-    let path = copy_path(alloc, path)?;
-    match info.copy(alloc) {
-        Ok(info) => Ok(Registration { path, info }),
-        Err(_) => Err(BookFault::NoMemory),
-    }
+    Ok(Registration {
+        path: path.copy(alloc)?,
+        info: info.copy(alloc)?,
+    })
 }

@@ -1,11 +1,11 @@
 //! The job of a derivation of a plan.
 ghost use Rattle.std.specs.Prelude.{◌≡◌, ◌<◌, IfErr, IfOk, length, map};
 ghost use Rattle.sched_core.specs.Jobs.{IsJob};
-ghost use Rattle.sched_core.specs.Seeding.{named_texts, output_texts, paths_of_outputs};
+ghost use Rattle.sched_core.specs.Seeding.{named_texts, output_texts};
+ghost use Rattle.sched_core.specs.declared.job.JobOutput.{JobOutput};
 
 use crate::fault::BookFault;
 use crate::job::{Job, JobOutput};
-use crate::links::copy_path;
 use crate::seeds_of::seeds_of;
 use drv_graph::Plan;
 use nix_drv::{Output, Parts};
@@ -47,12 +47,12 @@ fn outputs_of(
 ) -> Result<Vec<JobOutput>, AllocError>
     requires { length paths.now ≡ length outputs.now }
     ensures names { IfOk result (λ made. named_texts made.items ≡ output_texts outputs.now) }
-    ensures paths { IfOk result (λ made. paths_of_outputs made.items ≡ paths.now) }
+    ensures paths { IfOk result (λ made. map (λ (o : JobOutput). o.path) made.items ≡ paths.now) }
 {
     let mut made = Vec::with_capacity(alloc, paths.len())?;
     for n in 0..paths.len() {
         let name = Vec::from_slice(alloc, &outputs[n].name)?;
-        let path = copy_path(alloc, &paths[n])?;
+        let path = paths[n].copy(alloc)?;
         made.push(JobOutput { name, path })?;
     }
     Ok(made)

@@ -1,6 +1,7 @@
 //! Laws over the definitions that contracts cite, each on the contract of a function that does
 //! nothing.
 ghost use Rattle.sched_core.specs.Headline.{BeginsOnce, DonesAreAllowed, EntriesAreJournal, LeasesApart, LeasesBelow, PermittedStays, SeedsAreValid};
+ghost use Rattle.sched_core.specs.PlanLaws.{SoundInputsFirst};
 ghost use Rattle.sched_core.specs.Reports.{ReportIsOne};
 ghost use Rattle.sched_core.specs.States.{StatesAgree, StatesAreOne};
 ghost use Rattle.sched_core.specs.VerdictLaws.{VerdictsAreRegistrable, VerdictsMayRefer};
@@ -11,6 +12,12 @@ ghost use Rattle.sched_core.specs.Verdicts.{HasOneVerdict};
 pub fn states_solve_the_table()
     ensures agree { StatesAgree }
     ensures one { StatesAreOne }
+{}
+
+/// The inputs of each derivation of a plan have smaller numbers than their users, whatever happened
+/// in a run over it. So its states solve the table; `Plan::len` says that a plan is sound.
+pub fn inputs_come_first()
+    ensures { SoundInputsFirst }
 {}
 
 /// There is one verdict on an answer.

@@ -51,19 +51,9 @@ fn each_once(alloc: Global, outputs: &[StorePath]) -> Result<IndexSet<StorePath>
 {
     let mut paths = IndexSet::new(alloc);
     for output in outputs {
-        paths.insert(copy_path(alloc, output)?)?;
+        paths.insert(output.copy(alloc)?)?;
     }
     Ok(paths)
-}
-
-// The same path again.
-pub(crate) fn copy_path(alloc: Global, path: &StorePath) -> Result<StorePath, AllocError>
-    ensures { IfOk result (λ copy. copy ≡ path.now) }
-{
-    match path.copy(alloc) {
-        Ok(copy) => Ok(copy),
-        Err(_) => Err(AllocError),
-    }
 }
 
 // Lists without links, so many.

@@ -11,9 +11,8 @@ ghost use Rattle.sched_core.specs.declared.fault.BookFault.TheVariants.{NoMemory
 
 use crate::fault::BookFault;
 use crate::job::Job;
-use crate::links::copy_path;
 use nix_names::StorePath;
-use std::alloc::Global;
+use std::alloc::{AllocError, Global};
 use valid_table::{Journal, TableFault, union};
 
 /// The paths to which the outputs of a job may refer, strictly rising: what its seeds lead to,
@@ -29,10 +28,7 @@ pub fn permitted_beside(
     ensures err { IfErr result (λ fault. fault ≡ NoMemory) }
 {
     let own = sorted_outputs(alloc, job)?;
-    match union(alloc, reached, &own) {
-        Ok(paths) => Ok(paths),
-        Err(_) => Err(BookFault::NoMemory),
-    }
+    Ok(union(alloc, reached, &own)?)
 }
 
 // What some paths lead to that are valid by a journal.
@@ -48,20 +44,21 @@ pub(crate) fn closure_of(
 {
     match journal.table().closure(alloc, seeds) {
         Ok(paths) => Ok(paths),
-        Err(TableFault::NotValid(_)) => unreachable!(),
-        Err(_) => Err(BookFault::NoMemory),
+        Err(fault) => match fault {
+            TableFault::NoMemory => Err(BookFault::NoMemory),
+            _ => unreachable!(),
+        },
     }
 }
 
 // The paths of a job's outputs, in strictly rising order.
-fn sorted_outputs(alloc: Global, job: &Job) -> Result<Vec<StorePath>, BookFault>
+fn sorted_outputs(alloc: Global, job: &Job) -> Result<Vec<StorePath>, AllocError>
     ensures rising { IfOk result (λ sorted. IsRising sorted.items) }
     ensures same { IfOk result (λ sorted. HaveSame sorted.items (outputs_of job.now)) }
-    ensures err { IfErr result (λ fault. fault ≡ NoMemory) }
 {
     let mut sorted = Vec::with_capacity(alloc, job.outputs.len())?;
     for output in &job.outputs {
-        sorted.push(copy_path(alloc, &output.path)?)?;
+        sorted.push(output.path.copy(alloc)?)?;
     }
     sorted.sort_unstable();
     sorted.dedup();

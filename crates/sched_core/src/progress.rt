@@ -1,5 +1,5 @@
 //! How a run goes on: its history, and where its derivations stand.
-ghost use Rattle.std.specs.Prelude.{◌≡◌, ◌<◌, ◌≤◌, ◌↔◌, ℕ, IfErr, IfOk, IsTrue, List, MatchOption, OnOk, length};
+ghost use Rattle.std.specs.Prelude.{◌≡◌, ◌<◌, ◌≤◌, ◌%◌, ◌^◌, ◌↔◌, ℕ, IfErr, IfOk, IsTrue, List, MatchOption, OnOk, length, take};
 ghost use Rattle.valid_table.specs.Entries.{registered_by};
 ghost use Rattle.valid_table.specs.PathInfos.{PathInfo};
 ghost use Rattle.valid_table.specs.Valid.{HasDrvPath, IsJournal};
@@ -11,6 +11,7 @@ ghost use Rattle.sched_core.specs.Legal.{IsLegal, begins, begun, ended, failed};
 ghost use Rattle.sched_core.specs.Reports.{IsReportIn};
 ghost use Rattle.sched_core.specs.Runs.{state_in};
 ghost use Rattle.sched_core.specs.States.{Begun, phase_of};
+ghost use Rattle.sched_core.specs.Steps.{steps_in};
 ghost use Rattle.sched_core.specs.declared.fault.BookFault.TheVariants.{NoMemory};
 
 use crate::checked::Checked;
@@ -131,6 +132,7 @@ impl Progress {
     // How many entries the journal opened with.
     pub(crate) fn opening(&self) -> usize
         ensures count { result ≡ length self.now.history.opening }
+        ensures first { take result self.now.history.entries ≡ self.now.history.opening }
     {
         self.opening
     }
@@ -157,9 +159,14 @@ impl Progress {
         self.course.unsettled()
     }
 
-    // How many states the events worked out, and edges to users they followed.
-    pub(crate) fn steps(&self) -> u64 {
-        self.course.steps()
+    // How much work the states were: a step for each event, and two for each edge along which a
+    // user was told.
+    pub(crate) fn steps(&self) -> u64
+        ensures { result ≡ steps_in self.now.run self.now.history % 2 ^ 64 }
+    {
+        let events = self.events.len() as u64;
+        let told = self.course.told() as u64;
+        events.wrapping_add(told.wrapping_mul(2))
     }
 
     // The report of the run. Costs as `report_of` does.
@@ -291,10 +298,7 @@ fn copy_of(alloc: Global, entry: &Entry) -> Result<Entry, BookFault>
     ensures ok { IfOk result (λ copy. copy ≡ entry.now) }
     ensures err { IfErr result (λ fault. fault ≡ NoMemory) }
 {
-    match entry.copy(alloc) {
-        Ok(copy) => Ok(copy),
-        Err(_) => Err(BookFault::NoMemory),
-    }
+    Ok(entry.copy(alloc)?)
 }
 
 // Makes room in a journal for an entry.
@@ -303,8 +307,6 @@ fn make_room(journal: &mut Journal, entry: &Entry) -> Result<(), BookFault>
     ensures ok { OnOk result (length (registered_by entry.now) ≤ journal.new.room) }
     ensures err { IfErr result (λ fault. fault ≡ NoMemory) }
 {
-    match journal.reserve(entry.registrations().len()) {
-        Ok(()) => Ok(()),
-        Err(_) => Err(BookFault::NoMemory),
-    }
+    journal.reserve(entry.registrations().len())?;
+    Ok(())
 }

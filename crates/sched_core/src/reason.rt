@@ -70,8 +70,10 @@ impl<T: Drop> From<AllocFailed<T>> for Reason {
 impl From<ScanFault> for Reason {
     ghost from_gives = { λ _ reason. reason ≡ OutOfMemory };
 
-    fn from(_: ScanFault) -> Self {
-        Reason::OutOfMemory
+    fn from(fault: ScanFault) -> Self {
+        match fault {
+            ScanFault::NoMemory => Reason::OutOfMemory,
+        }
     }
 }
 

@@ -4,7 +4,6 @@ ghost use Rattle.nix_drv.specs.Derivation.{Input};
 ghost use Rattle.drv_graph.specs.PlanNodes.{output_paths_of};
 ghost use Rattle.sched_core.specs.Jobs.{paths_named, seeds_of};
 
-use crate::links::copy_path;
 use drv_graph::Plan;
 use nix_drv::Derivation;
 use nix_names::StorePath;
@@ -38,7 +37,7 @@ fn add_paths(
     ensures { OnOk result (seeds.new.items ≡ seeds.old.items ++ paths.now) }
 {
     for path in paths {
-        seeds.push(copy_path(alloc, path)?)?;
+        seeds.push(path.copy(alloc)?)?;
     }
     Ok(())
 }
@@ -60,7 +59,7 @@ fn add_used(
     let outputs = used.outputs();
     for n in 0..paths.len() {
         if drv.uses(place, &outputs[n].name) {
-            let path = copy_path(alloc, &paths[n])?;
+            let path = paths[n].copy(alloc)?;
             seeds.push(path)?;
         }
     }

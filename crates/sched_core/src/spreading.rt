@@ -1,10 +1,11 @@
 //! How the state of a derivation changes, and all users are told that it may concern.
-ghost use Rattle.std.specs.Prelude.{◌≡◌, ◌<◌, ◌+◌, [], List, ℕ, length, slice_set};
+ghost use Rattle.std.specs.Prelude.{◌≡◌, ◌<◌, ◌+◌, ◌^◌, [], List, ℕ, length, slice_set};
 ghost use Rattle.sched_core.specs.Agendas.{AreSameElse, IsSpreading, IsSteady, phases_in, standings_in, to_end, wanted_in};
 ghost use Rattle.sched_core.specs.Coursing.{kept, phase_in};
 ghost use Rattle.sched_core.specs.States.{Idle};
 ghost use Rattle.sched_core.specs.Tallies.{Turns, states_in};
-ghost use Rattle.sched_core.specs.Users.{users_of};
+ghost use Rattle.sched_core.specs.ToldEdges.{open_edges, sizes};
+ghost use Rattle.sched_core.specs.Users.{users_of, users_of_all};
 
 use crate::agenda::Agenda;
 use crate::reason::State;
@@ -13,48 +14,61 @@ use crate::tally::{Tally, told};
 use crate::users::Users;
 
 // An event after which a derivation has this state. All users are told that it may concern. Takes
-// no memory. Costs a step, and two for each edge to a user that is told.
+// no memory. Answers along how many edges users were told; costs a step, and two for each of these.
 pub(crate) fn turn(
     users: &Users,
     tallies: &mut [Tally],
     agenda: &mut Agenda,
     d: usize,
     state: State,
-)
+) -> usize
     requires within { d < length tallies.old }
     requires turns { Turns (kept (states_in tallies.old) d) state }
     requires begun { phase_in state ≡ Idle → ⊥ }
     requires steady { (inputs : ℕ → List ℕ)
         × IsSteady inputs users.now tallies.old agenda.old }
+    requires few { open_edges (sizes users.now) tallies.old < 2 ^ 64 }
     ensures steady { (inputs : ℕ → List ℕ) → IsSteady inputs users.now tallies.old agenda.old
         → IsSteady inputs users.now tallies.new agenda.new }
     ensures standings { standings_in tallies.new ≡ standings_in tallies.old }
     ensures wanted { wanted_in tallies.new ≡ wanted_in tallies.old }
     ensures phases { phases_in tallies.new ≡ slice_set (phases_in tallies.old) d (phase_in state) }
+    ensures told { result + open_edges (sizes users.now) tallies.new
+        ≡ open_edges (sizes users.now) tallies.old }
 {
     let before = tallies[d];
     let after = Tally { state, ..before };
     tallies[d] = after;
     agenda.note(d, before, after);
-    spread(users, tallies, agenda);
+    let told = spread(users, tallies, agenda);
     agenda.freshen(tallies);
+    told
 }
 
 // Tells the users of all that are on the agenda's work, and of all that come there meanwhile.
-fn spread(users: &Users, tallies: &mut [Tally], agenda: &mut Agenda)
-    requires { (inputs : ℕ → List ℕ) × IsSpreading inputs users.now tallies.old agenda.old [] }
+// Answers how many edges it followed.
+fn spread(users: &Users, tallies: &mut [Tally], agenda: &mut Agenda) -> usize
+    requires told { (inputs : ℕ → List ℕ) × IsSpreading inputs users.now tallies.old agenda.old [] }
+    requires few { open_edges (sizes users.now) tallies.old
+        + length (users_of_all users.now agenda.old.work) < 2 ^ 64 }
     ensures told { (inputs : ℕ → List ℕ) → IsSpreading inputs users.now tallies.old agenda.old []
         → IsSpreading inputs users.now tallies.new agenda.new [] }
     ensures none { agenda.new.work ≡ [] }
     ensures same { AreSameElse tallies.old tallies.new }
+    ensures edges { result + open_edges (sizes users.now) tallies.new
+        ≡ open_edges (sizes users.now) tallies.old
+        + length (users_of_all users.now agenda.old.work) }
 {
+    let mut edges: usize = 0;
     while let Some(input) = agenda.take() {
-        tell(users, input, tallies, agenda);
+        edges += tell(users, input, tallies, agenda);
     }
+    edges
 }
 
-// Tells the users of an input that was built or was valid, or failed or is refused.
-fn tell(users: &Users, input: usize, tallies: &mut [Tally], agenda: &mut Agenda)
+// Tells the users of an input that was built or was valid, or failed or is refused. Answers how
+// many edges it followed.
+fn tell(users: &Users, input: usize, tallies: &mut [Tally], agenda: &mut Agenda) -> usize
     requires within { input < length tallies.old }
     requires told { (inputs : ℕ → List ℕ)
         × IsSpreading inputs users.now tallies.old agenda.old (users_of users.now input) }
@@ -63,13 +77,19 @@ fn tell(users: &Users, input: usize, tallies: &mut [Tally], agenda: &mut Agenda)
         → IsSpreading inputs users.now tallies.new agenda.new [] }
     ensures same { AreSameElse tallies.old tallies.new }
     ensures measure { to_end tallies.new agenda.new ≡ to_end tallies.old agenda.old }
+    ensures edges { result ≡ sizes users.now input }
+    ensures ahead { open_edges (sizes users.now) tallies.new
+        + length (users_of_all users.now agenda.new.work)
+        ≡ open_edges (sizes users.now) tallies.old
+        + length (users_of_all users.now agenda.old.work) }
 {
     let good = serves(tallies[input].state);
-    for &edge in users.of(input) {
-        agenda.follow();
+    let edges = users.of(input);
+    for &edge in edges {
         let before = tallies[edge.user];
         let after = told(before, edge.place, input, good);
         tallies[edge.user] = after;
         agenda.note(edge.user, before, after);
     }
+    edges.len()
 }

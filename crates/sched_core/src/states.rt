@@ -12,8 +12,6 @@ pub(crate) fn inputs_of(plan: &Plan, d: usize) -> &[usize]
     ensures numbers { result.now ≡ inputs_at plan.now.nodes (slice_get plan.now.nodes d) }
     ensures smaller { All (λ input. input < d) result.now }
 {
-    // Its contract says that no two derivations have one path.
-    let _ = plan.len();
     plan.inputs(d)
 }
 

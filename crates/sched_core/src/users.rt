@@ -1,13 +1,13 @@
 //! Reverse edges: from each derivation of a plan to those that have it as an input.
-ghost use Rattle.std.specs.Prelude.{◌≡◌, ◌<◌, ◌+◌, ◌^◌, ℕ, All, IfErr, IfOk, length, slice_get, slice_index};
+ghost use Rattle.std.specs.Prelude.{◌≡◌, ◌<◌, ◌+◌, ◌^◌, ℕ, All, IfOk, length, slice_get, slice_index};
 ghost use Rattle.std.specs.List.{sum};
 ghost use Rattle.sched_core.specs.Runs.{inputs_at};
-ghost use Rattle.sched_core.specs.UserSpans.{AddsUser, HaveRoom, often, parts, uses};
+ghost use Rattle.sched_core.specs.Steps.{total};
+ghost use Rattle.sched_core.specs.ToldEdges.{sizes};
+ghost use Rattle.sched_core.specs.UserSpans.{AddsUser, HaveRoom, often, pairs, parts, uses};
 ghost use Rattle.sched_core.specs.Users.{AreUsers, users_of};
-ghost use Rattle.sched_core.specs.declared.fault.BookFault.TheVariants.{NoMemory};
 ghost use Rattle.sched_core.specs.declared.users.Span.{Span};
 
-use crate::fault::BookFault;
 use crate::states::inputs_of;
 use drv_graph::Plan;
 use std::alloc::{AllocError, Global};
@@ -49,17 +49,22 @@ impl Model for Users {
 }
 
 impl Users {
-    // The reverse edges of a plan. `NoMemory`, the only fault, where memory is refused. Costs a few
-    // steps for each derivation and each pair of one and an input of it.
-    pub(crate) fn open(alloc: Global, plan: &Plan) -> Result<Users, BookFault>
+    // The reverse edges of a plan. Costs a few steps for each derivation and each pair of one and
+    // an input of it.
+    pub(crate) fn open(alloc: Global, plan: &Plan) -> Result<Users, AllocError>
         ensures ok { IfOk result (λ users.
             AreUsers (λ d. inputs_at plan.now.nodes (slice_get plan.now.nodes d))
             (length plan.now.nodes) users) }
-        ensures err { IfErr result (λ fault. fault ≡ NoMemory) }
+        ensures sizes { IfOk result (λ users. (d : ℕ) → d < length plan.now.nodes
+            → sizes users d
+            ≡ uses (λ d. inputs_at plan.now.nodes (slice_get plan.now.nodes d))
+            (length plan.now.nodes) d) }
+        ensures few { IfOk result
+            (λ users. total (sizes users) (length plan.now.nodes) < 2 ^ 63) }
     {
+        let mut edges = vec![in alloc; Edge { user: 0, place: 0 }; pairs_in(plan)]?;
         let counts = counts_of(alloc, plan)?;
-        let (mut spans, places) = empty_spans(alloc, &counts)?;
-        let mut edges = vec![in alloc; Edge { user: 0, place: 0 }; places]?;
+        let mut spans = empty_spans(alloc, &counts)?;
         for d in 0..plan.len() {
             add_edges(d, inputs_of(plan, d), &mut spans, &mut edges);
         }
@@ -76,22 +81,36 @@ impl Users {
     }
 }
 
+// How many pairs there are of a derivation of a plan and an input of it, or the greatest number
+// where there are more.
+fn pairs_in(plan: &Plan) -> usize
+    ensures { result < 2 ^ 63 → result
+        ≡ pairs (λ d. inputs_at plan.now.nodes (slice_get plan.now.nodes d))
+        (length plan.now.nodes) }
+{
+    let mut pairs: usize = 0;
+    for user in 0..plan.len() {
+        pairs = pairs.saturating_add(inputs_of(plan, user).len());
+    }
+    pairs
+}
+
 // Of each derivation of a plan, how often it is an input.
-fn counts_of(alloc: Global, plan: &Plan) -> Result<Vec<usize>, BookFault>
+fn counts_of(alloc: Global, plan: &Plan) -> Result<Vec<usize>, AllocError>
+    requires { pairs (λ d. inputs_at plan.now.nodes (slice_get plan.now.nodes d))
+        (length plan.now.nodes) < 2 ^ 63 }
     ensures size { IfOk result (λ counts. length counts.items ≡ length plan.now.nodes) }
-    ensures few { IfOk result (λ counts. sum counts.items < 2 ^ 64) }
+    ensures total { IfOk result (λ counts. sum counts.items
+        ≡ pairs (λ d. inputs_at plan.now.nodes (slice_get plan.now.nodes d))
+        (length plan.now.nodes)) }
     ensures each { IfOk result (λ counts. (n : ℕ) → n < length plan.now.nodes
         → slice_index counts.items n
         ≡ uses (λ d. inputs_at plan.now.nodes (slice_get plan.now.nodes d))
         (length plan.now.nodes) n) }
-    ensures err { IfErr result (λ fault. fault ≡ NoMemory) }
 {
     let mut counts = vec![in alloc; 0; plan.len()]?;
-    let mut total: usize = 0;
     for user in 0..plan.len() {
-        let inputs = inputs_of(plan, user);
-        total = total.checked_add(inputs.len()).ok_or(BookFault::NoMemory)?;
-        count_inputs(inputs, &mut counts);
+        count_inputs(inputs_of(plan, user), &mut counts);
     }
     Ok(counts)
 }
@@ -110,13 +129,13 @@ fn count_inputs(inputs: &[usize], counts: &mut [usize])
     }
 }
 
-// Empty spans with room for so many edges each, and for how many in all.
-fn empty_spans(alloc: Global, counts: &[usize]) -> Result<(Vec<Span>, usize), AllocError>
+// Empty spans with room for so many edges each.
+fn empty_spans(alloc: Global, counts: &[usize]) -> Result<Vec<Span>, AllocError>
     requires { sum counts.now < 2 ^ 64 }
-    ensures size { IfOk result (λ laid. length laid.0.items ≡ length counts.now) }
-    ensures empty { IfOk result (λ laid. All (λ (span : Span). span.start ≡ span.end)
-        laid.0.items) }
-    ensures room { IfOk result (λ laid. HaveRoom laid.0.items laid.1
+    ensures size { IfOk result (λ spans. length spans.items ≡ length counts.now) }
+    ensures empty { IfOk result (λ spans. All (λ (span : Span). span.start ≡ span.end)
+        spans.items) }
+    ensures room { IfOk result (λ spans. HaveRoom spans.items (sum counts.now)
         (λ n. slice_index counts.now n)) }
 {
     let mut spans = Vec::with_capacity(alloc, counts.len())?;
@@ -128,7 +147,7 @@ fn empty_spans(alloc: Global, counts: &[usize]) -> Result<(Vec<Span>, usize), Al
         })?;
         places += count;
     }
-    Ok((spans, places))
+    Ok(spans)
 }
 
 // Adds the edges of a user with these inputs, each at the end of its input's span.

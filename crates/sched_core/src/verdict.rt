@@ -1,15 +1,15 @@
 //! The verdict on what a builder left behind.
-ghost use Rattle.std.specs.Prelude.{◌≡◌, ◌⊎◌, ◌↔◌, ℕ, List, Ok, Err, pos, Some, IfOk, IfErr, IsTrue, MatchResult, OnOk, length, map};
+ghost use Rattle.std.specs.Prelude.{◌≡◌, ◌↔◌, ℕ, List, Ok, Err, pos, Some, IfOk, IfErr, IsTrue, MatchResult, OnOk, length, map};
 ghost use Rattle.nix_names.specs.Rising.{IsRising};
 ghost use Rattle.ref_scan.specs.Trees.{joined};
 ghost use Rattle.sha2.specs.Sha256.{sha256};
 ghost use Rattle.sched_core.specs.declared.job.JobOutput.{JobOutput};
 ghost use Rattle.sched_core.specs.Verdicts.{AreRecords, IsCyclic, IsExamining, IsRecordOf, IsTaken, IsThere, IsTreeFault, IsVerdict, digest_of, outputs_of};
+ghost use Rattle.sched_core.specs.declared.reason.Reason.TheVariants.{OutOfMemory};
 
 use crate::checked::Checked;
 use crate::cycle::is_cyclic;
 use crate::job::{Answer, Job, JobOutput};
-use crate::links::copy_path;
 use crate::reason::Reason;
 use drv_graph::Kind;
 use nix_names::StorePath;
@@ -26,9 +26,10 @@ use valid_table::Record;
 /// `MissingOutput` with the first output at which nothing lies; for the first output at which one
 /// of them holds, `TooLarge`, or of a fixed output `NotFlatFile` or `HashMismatch`; `OutputCycle`
 /// where two different outputs lead to each other by references among the outputs. `OutOfMemory`
-/// may come in place of any answer, where memory was refused.
+/// comes where memory was refused, which is asked for only once none of those before `OutputCycle`
+/// holds.
 ///
-/// A tree is scanned as `ref_scan::scan` says, and a file's bytes are read once more for the
+/// A tree is scanned as `ref_scan::scan` says, and the bytes of a file are read once more for the
 /// digest. Takes memory for the records, and for the outputs and the references among them.
 pub fn examine(
     alloc: Global,
@@ -40,6 +41,7 @@ pub fn examine(
     ensures { IsExamining job.now permitted.now answer result }
 {
     check_complete(job, &answer)?;
+    check_trees(job, &answer)?;
     let records = records_of(alloc, job, permitted, &answer)?;
     if refer_in_cycle(alloc, job, &records)? {
         return Err(Reason::OutputCycle);
@@ -62,7 +64,7 @@ fn paths_of(alloc: Global, outputs: &[JobOutput]) -> Result<Vec<StorePath>, Allo
 {
     let mut paths = Vec::with_capacity(alloc, outputs.len())?;
     for output in outputs {
-        paths.push(copy_path(alloc, &output.path)?)?;
+        paths.push(output.path.copy(alloc)?)?;
     }
     Ok(paths)
 }
@@ -95,7 +97,41 @@ fn check_status(answer: &Answer) -> Result<(), Reason>
     }
 }
 
-// The record of what lies at each output's path.
+// Whether what lies at each output's path is taken. Takes no memory.
+fn check_trees(job: &Job, answer: &Answer) -> Result<(), Reason>
+    requires { IsThere job.now answer.now }
+    ensures taken { OnOk result (IsTaken job.now answer.now) }
+    ensures err { IfErr result (λ why. (permitted : List (List ℕ))
+        → IsVerdict job.now permitted answer.now (Err why)) }
+{
+    for n in 0..job.outputs.len() {
+        let Some(tree) = answer.tree_at(n) else {
+            unreachable!()
+        };
+        check_tree(&job.kind, tree)?;
+    }
+    Ok(())
+}
+
+// Whether an output's tree is taken.
+fn check_tree(kind: &Kind, tree: &Tree) -> Result<(), Reason>
+    ensures taken { OnOk result ((why : Reason) → IsTreeFault kind.now tree.now why → ⊥) }
+    ensures err { IfErr result (λ why. IsTreeFault kind.now tree.now why) }
+{
+    if !tree.fits() {
+        return Err(Reason::TooLarge);
+    }
+    let Kind::Fixed(_, declared) = kind else {
+        return Ok(());
+    };
+    match digest_of(tree) {
+        None => Err(Reason::NotFlatFile),
+        Some(found) if found != *declared => Err(Reason::HashMismatch),
+        Some(_) => Ok(()),
+    }
+}
+
+// The record of what lies at each output's path, which is taken.
 fn records_of(
     alloc: Global,
     job: &Job,
@@ -103,54 +139,45 @@ fn records_of(
     answer: &Answer,
 ) -> Result<Vec<Record>, Reason>
     requires rising { IsRising permitted.now }
-    requires there { IsThere job.now answer.now }
-    ensures taken { OnOk result (IsTaken job.now answer.now) }
+    requires taken { IsTaken job.now answer.now }
     ensures records { IfOk result
         (λ records. AreRecords job.now permitted.now answer.now records.items) }
-    ensures err { IfErr result (λ why. IsExamining job.now permitted.now answer.now (Err why)) }
+    ensures err { IfErr result (λ why. why ≡ OutOfMemory) }
 {
     let mut records = Vec::with_capacity(alloc, job.outputs.len())?;
     for n in 0..job.outputs.len() {
         let Some(tree) = answer.tree_at(n) else {
-            return Err(Reason::MissingOutput(n));
+            unreachable!()
         };
         records.push(record_of(alloc, &job.kind, permitted, tree)?)?;
     }
     Ok(records)
 }
 
-// The record of an output with this tree.
+// The record of an output with this tree, which is taken.
 fn record_of(
     alloc: Global,
     kind: &Kind,
     permitted: &[StorePath],
     tree: &Tree,
 ) -> Result<Record, Reason>
-    requires { IsRising permitted.now }
-    ensures taken { OnOk result ((why : Reason) → IsTreeFault kind.now tree.now why → ⊥) }
+    requires rising { IsRising permitted.now }
+    requires taken { (why : Reason) → IsTreeFault kind.now tree.now why → ⊥ }
     ensures record { IfOk result (λ info. IsRecordOf permitted.now tree.now info) }
-    ensures err { IfErr result (λ why. (why ≡ Reason.OutOfMemory)
-        ⊎ IsTreeFault kind.now tree.now why) }
+    ensures err { IfErr result (λ why. why ≡ OutOfMemory) }
 {
-    let digest = checked_digest(kind, tree)?;
     let references = scan(alloc, tree, permitted)?;
-    Ok(Record::new(references, digest)?)
+    Ok(Record::new(references, taken_digest(kind, tree))?)
 }
 
-// The digest of an output's tree, which is taken.
-fn checked_digest(kind: &Kind, tree: &Tree) -> Result<Option<[u8; 32]>, Reason>
-    ensures taken { OnOk result ((why : Reason) → IsTreeFault kind.now tree.now why → ⊥) }
-    ensures digest { IfOk result (λ digest. digest ≡ digest_of tree.now) }
-    ensures err { IfErr result (λ why. IsTreeFault kind.now tree.now why) }
+// The digest of an output's tree, which is taken: a fixed output has the declared one.
+fn taken_digest(kind: &Kind, tree: &Tree) -> Option<[u8; 32]>
+    requires { (why : Reason) → IsTreeFault kind.now tree.now why → ⊥ }
+    ensures { result ≡ digest_of tree.now }
 {
-    if !tree.fits() {
-        return Err(Reason::TooLarge);
-    }
-    let digest = digest_of(tree);
-    match (kind, &digest) {
-        (Kind::Fixed(_, _), None) => Err(Reason::NotFlatFile),
-        (Kind::Fixed(_, declared), Some(found)) if found != declared => Err(Reason::HashMismatch),
-        _ => Ok(digest),
+    match kind {
+        Kind::Addressed => digest_of(tree),
+        Kind::Fixed(_, declared) => Some(*declared),
     }
 }
 

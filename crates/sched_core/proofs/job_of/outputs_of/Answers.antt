@@ -10,7 +10,7 @@ loop-n-preserved c =
     (made_more c.args.outputs.now c.args.paths.now c.loop-n.made.items c.loop-n.n
     c.index-outputs-n.result c.index-paths-n.result _ low c.requires
     c.index-outputs-n.is c.index-paths-n.is (c.in_ok-name.ensures.items ∙ c.deref.ensures.value
-    ∙ ap (λ (o : Output). o.name.items) (sym c.index-outputs-n.is)) c.in_ok-path.ensures
+    ∙ ap (λ (o : Output). o.name.items) (sym c.index-outputs-n.is)) c.in_ok-path.ensures.same
     c.loop-n.invariant)
 
 pub returns-clause-names : goal.returns-clause-names

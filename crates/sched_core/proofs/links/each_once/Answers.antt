@@ -9,7 +9,7 @@ pub loop-output-preserved : goal.loop-output-preserved
 loop-output-preserved c =
     once_more c.args.outputs.now c.loop-output.output-index c.output-item.result _
     c.loop-output.paths.keys _ c.loop-output-test.true c.output-item.is
-    c.in_ok-copy_path.ensures c.loop-output.invariant c.in_ok-insert.ensures.keys
+    c.in_ok-copy.ensures.same c.loop-output.invariant c.in_ok-insert.ensures.keys
     c.insert.ensures.unique
 
 pub returns : goal.returns

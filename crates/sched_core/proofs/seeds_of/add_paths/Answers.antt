@@ -6,4 +6,4 @@ pub loop-path-preserved : goal.loop-path-preserved
 loop-path-preserved c =
     c.in_ok-push.ensures.items ∙ added_more c.args.seeds.now.items c.loop-path.seeds.items
     c.args.paths.now c.loop-path.path-index c.path-item.result _
-    c.loop-path-test.true c.path-item.is c.loop-path.invariant c.in_ok-copy_path.ensures
+    c.loop-path-test.true c.path-item.is c.loop-path.invariant c.in_ok-copy.ensures.same

@@ -22,7 +22,7 @@ loop-n-preserved c =
             w.if-uses.true,
             ap (λ v. v.items) w.seeds-is ∙ w.in_ok-push.ensures.items
                 ∙ ap (λ p. c.loop-n.seeds.items ++ p ∷ [])
-                (w.in_ok-path.ensures
+                (w.in_ok-path.ensures.same
                 ∙ sym (get_or_from_slice_get c.args.paths.now c.loop-n.n w.index-paths-n.result
                 [] (read_at c.args.paths.now c.loop-n.n w.index-paths-n.result
                 c.loop-n-test.true w.index-paths-n.is))),

@@ -1,13 +1,12 @@
-use Rattle.std.proofs.Common.{◌≡◌, ◌∙◌, ◌<◌, ◌≤◌, ℕ, List, ap, sym, subst, length, false, get_or}
+use Rattle.std.proofs.Common.{◌≡◌, ◌∙◌, ◌<◌, ℕ, List, ap, sym, subst, length, false, get_or}
 use Rattle.std.proofs.lemmas.List.{length-set}
-use Rattle.sched_core.specs.Agendas.{Agenda, noted, settles}
+use Rattle.sched_core.specs.Agendas.{noted}
 use Rattle.sched_core.specs.States.{is_good}
 use Rattle.sched_core.specs.declared.reason.State.TheVariants.{Done}
 use Rattle.sched_core.specs.declared.standing.Standing.TheVariants.{AllValid}
 use Rattle.sched_core.specs.declared.tally.Tally.{Tally}
 use Rattle.sched_core.specs.declared.users.Edge.{Edge}
-use Rattle.sched_core.proofs.Agendas.{one}
-use Rattle.sched_core.proofs.Telling.{can_tell, same_then, told_good, told_measure, told_room, told_same, told_settles, told_space, told_user}
+use Rattle.sched_core.proofs.Telling.{can_tell, same_then, told_edges, told_good, told_measure, told_room, told_same, told_settles, told_space, told_user}
 use Rattle.sched_core.proofs.spreading.tell.Goals as goal
 
 -- what is read past the end of a list
@@ -26,86 +25,78 @@ tally_at tallies d = get_or tallies d no_tally
 pub told-after-requires : goal.told-after-requires
 told-after-requires c =
     can_tell c.requires.told.0 c.args.users.now c.loop-edge.tallies c.loop-edge.agenda c.args.input
-    c.loop-edge.edge-index no_edge no_tally c.of-edge-items.result.now
+    c.loop-edge.edge-index no_edge no_tally c.of-edges.result.now
     (subst (λ n. c.args.input < n) (sym c.loop-edge.invariant.count) c.requires.within)
-    c.of-edge-items.ensures c.loop-edge-test.true
+    c.of-edges.ensures c.loop-edge-test.true
     (c.loop-edge.invariant.told c.requires.told.0 c.requires.told.1)
 
 pub note-requires-clause-room : goal.note-requires-clause-room
 note-requires-clause-room c =
-    subst (λ (a : Agenda). length (noted a
-    (edge_at c.of-edge-items.result.now c.loop-edge.edge-index).user
-    (tally_at c.loop-edge.tallies
-    (edge_at c.of-edge-items.result.now c.loop-edge.edge-index).user) c.told-after.result).ring
-    ≤ a.room)
-    (sym c.follow.ensures)
-    (told_room c.requires.told.0 c.args.users.now c.loop-edge.tallies c.loop-edge.agenda
-    c.args.input c.loop-edge.edge-index no_edge no_tally c.of-edge-items.result.now
+    told_room c.requires.told.0 c.args.users.now c.loop-edge.tallies c.loop-edge.agenda
+    c.args.input c.loop-edge.edge-index no_edge no_tally c.of-edges.result.now
     (subst (λ n. c.args.input < n) (sym c.loop-edge.invariant.count) c.requires.within)
-    c.of-edge-items.ensures c.loop-edge-test.true
+    c.of-edges.ensures c.loop-edge-test.true
     (c.loop-edge.invariant.told c.requires.told.0 c.requires.told.1) c.told-after.result
-    c.told-after.ensures.turns c.told-after.ensures.same)
+    c.told-after.ensures.turns c.told-after.ensures.same
 
 pub note-requires-clause-space : goal.note-requires-clause-space
 note-requires-clause-space c =
-    subst (λ (a : Agenda). length (noted a
-    (edge_at c.of-edge-items.result.now c.loop-edge.edge-index).user
-    (tally_at c.loop-edge.tallies
-    (edge_at c.of-edge-items.result.now c.loop-edge.edge-index).user) c.told-after.result).work
-    ≤ a.space)
-    (sym c.follow.ensures)
-    (told_space c.requires.told.0 c.args.users.now c.loop-edge.tallies c.loop-edge.agenda
-    c.args.input c.loop-edge.edge-index no_edge no_tally c.of-edge-items.result.now
+    told_space c.requires.told.0 c.args.users.now c.loop-edge.tallies c.loop-edge.agenda
+    c.args.input c.loop-edge.edge-index no_edge no_tally c.of-edges.result.now
     (subst (λ n. c.args.input < n) (sym c.loop-edge.invariant.count) c.requires.within)
-    c.of-edge-items.ensures c.loop-edge-test.true
+    c.of-edges.ensures c.loop-edge-test.true
     (c.loop-edge.invariant.told c.requires.told.0 c.requires.told.1) c.told-after.result
-    c.told-after.ensures.turns c.told-after.ensures.same)
+    c.told-after.ensures.turns c.told-after.ensures.same
 
 pub note-requires-clause-unsettled : goal.note-requires-clause-unsettled
 note-requires-clause-unsettled c =
-    subst (λ (a : Agenda). one (settles (tally_at c.loop-edge.tallies
-    (edge_at c.of-edge-items.result.now c.loop-edge.edge-index).user) c.told-after.result)
-    ≤ a.unsettled)
-    (sym c.follow.ensures)
-    (told_settles c.requires.told.0 c.args.users.now c.loop-edge.tallies c.loop-edge.agenda
-    c.args.input c.loop-edge.edge-index no_edge no_tally c.of-edge-items.result.now
+    told_settles c.requires.told.0 c.args.users.now c.loop-edge.tallies c.loop-edge.agenda
+    c.args.input c.loop-edge.edge-index no_edge no_tally c.of-edges.result.now
     (subst (λ n. c.args.input < n) (sym c.loop-edge.invariant.count) c.requires.within)
-    c.of-edge-items.ensures c.loop-edge-test.true
+    c.of-edges.ensures c.loop-edge-test.true
     (c.loop-edge.invariant.told c.requires.told.0 c.requires.told.1) c.told-after.result
-    c.told-after.ensures.turns c.told-after.ensures.same)
+    c.told-after.ensures.turns c.told-after.ensures.same
 
 pub loop-edge-preserved : goal.loop-edge-preserved
 loop-edge-preserved c =
-    let edge : Edge = get_or c.of-edge-items.result.now c.loop-edge.edge-index no_edge in
+    let edge : Edge = get_or c.of-edges.result.now c.loop-edge.edge-index no_edge in
     let before : Tally = get_or c.loop-edge.tallies edge.user no_tally in
     let after : Tally = c.told-after.result in
     let low = subst (λ n. c.args.input < n) (sym c.loop-edge.invariant.count) c.requires.within in
     let now : c.note.new.self ≡ noted c.loop-edge.agenda edge.user before after =
-    c.note.ensures ∙ ap (λ a. noted a edge.user before after) c.follow.ensures in
+    c.note.ensures in
     let is = c.loop-edge.invariant.told c.requires.told.0 c.requires.told.1 in
     record {
-      items = c.of-edge-items.ensures;
+      items = c.of-edges.ensures;
       count = length-set c.loop-edge.tallies edge.user after ∙ c.loop-edge.invariant.count;
       good = c.loop-edge.invariant.good
           ∙ ap is_good (sym (told_good c.requires.told.0 c.args.users.now c.loop-edge.tallies
           c.loop-edge.agenda c.args.input c.loop-edge.edge-index no_edge no_tally
-          c.of-edge-items.result.now low c.of-edge-items.ensures c.loop-edge-test.true is after
+          c.of-edges.result.now low c.of-edges.ensures c.loop-edge-test.true is after
           c.told-after.ensures.turns c.told-after.ensures.same));
       told = λ inputs start. rw now
           (told_user inputs c.args.users.now c.loop-edge.tallies
           c.loop-edge.agenda c.args.input c.loop-edge.edge-index no_edge no_tally
-          c.of-edge-items.result.now low c.of-edge-items.ensures c.loop-edge-test.true
+          c.of-edges.result.now low c.of-edges.ensures c.loop-edge-test.true
           (c.loop-edge.invariant.told inputs start) after c.told-after.ensures.turns
           c.told-after.ensures.same c.serves-good.result c.loop-edge.invariant.good
           c.told-after.ensures.is);
       same = same_then c.args.tallies.now c.loop-edge.tallies _ c.loop-edge.invariant.same
           (told_same c.requires.told.0 c.args.users.now c.loop-edge.tallies
           c.loop-edge.agenda c.args.input c.loop-edge.edge-index no_edge no_tally
-          c.of-edge-items.result.now low c.of-edge-items.ensures c.loop-edge-test.true is after
+          c.of-edges.result.now low c.of-edges.ensures c.loop-edge-test.true is after
           c.told-after.ensures.turns c.told-after.ensures.same);
       measure = rw now
           (told_measure c.requires.told.0 c.args.users.now c.loop-edge.tallies
           c.loop-edge.agenda c.args.input c.loop-edge.edge-index no_edge no_tally
-          c.of-edge-items.result.now low c.of-edge-items.ensures c.loop-edge-test.true is after
+          c.of-edges.result.now low c.of-edges.ensures c.loop-edge-test.true is after
           c.told-after.ensures.turns c.told-after.ensures.same ∙ c.loop-edge.invariant.measure);
+      ahead = rw now
+          (told_edges c.requires.told.0 c.args.users.now c.loop-edge.tallies
+          c.loop-edge.agenda c.args.input c.loop-edge.edge-index no_edge no_tally
+          c.of-edges.result.now low c.of-edges.ensures c.loop-edge-test.true is after
+          c.told-after.ensures.turns c.told-after.ensures.same ∙ c.loop-edge.invariant.ahead);
     }
+
+pub returns-clause-edges : goal.returns-clause-edges
+returns-clause-edges c = ap length c.of-edges.ensures

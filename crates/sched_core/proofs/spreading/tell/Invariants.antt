@@ -1,14 +1,15 @@
-use Rattle.std.proofs.Common.{◌≡◌, ℕ, List, drop, length}
+use Rattle.std.proofs.Common.{◌≡◌, ◌+◌, ℕ, List, drop, length}
 use Rattle.sched_core.specs.Agendas.{AreSameElse, IsSpreading, to_end}
 use Rattle.sched_core.specs.Coursing.{kept}
 use Rattle.sched_core.specs.States.{is_good}
 use Rattle.sched_core.specs.Tallies.{states_in}
-use Rattle.sched_core.specs.Users.{users_of}
+use Rattle.sched_core.specs.ToldEdges.{open_edges, sizes}
+use Rattle.sched_core.specs.Users.{users_of, users_of_all}
 use Rattle.sched_core.proofs.spreading.tell.Given as goal
 
 abbrev pub invariant-loop-edge : goal.invariant-loop-edge
 invariant-loop-edge l = record {
-  items : l.edge-items ≡ users_of l.users l.input;
+  items : l.edges ≡ users_of l.users l.input;
   count : length l.tallies ≡ length l.fn.tallies;
   good : l.good ≡ is_good (kept (states_in l.tallies) l.input);
   told : (inputs : ℕ → List ℕ)
@@ -17,4 +18,7 @@ invariant-loop-edge l = record {
       (drop l.edge-index (users_of l.users l.input));
   same : AreSameElse l.fn.tallies l.tallies;
   measure : to_end l.tallies l.agenda ≡ to_end l.fn.tallies l.fn.agenda;
+  ahead : open_edges (sizes l.users) l.tallies + length (users_of_all l.users l.agenda.work)
+      ≡ open_edges (sizes l.users) l.fn.tallies
+      + length (users_of_all l.users l.fn.agenda.work);
 }

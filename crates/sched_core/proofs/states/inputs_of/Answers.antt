@@ -3,4 +3,4 @@ use Rattle.sched_core.proofs.states.inputs_of.Goals as goal
 
 pub returns-clause-numbers : goal.returns-clause-numbers
 returns-clause-numbers c = numbers_at c.args.plan.now c.args.d c.inputs.result.now c.requires
-    c.len.ensures.sound c.inputs.ensures.numbers
+    c.inputs.ensures.sound c.inputs.ensures.numbers

@@ -1,6 +1,6 @@
-use Rattle.std.proofs.Common.{◌≡◌, ◌∙◌, ◌+◌, ◌∷◌, [], ◌++◌, ap, arith, get_or, length, refl, subst, sym}
+use Rattle.std.proofs.Common.{◌≡◌, ◌∙◌, ◌+◌, ◌∷◌, [], ◌++◌, ap, arith, get_or, length, refl, subst, sum, sym}
 use Rattle.std.specs.Prelude.{All}
-use Rattle.std.proofs.lemmas.List.{length_push}
+use Rattle.std.proofs.lemmas.List.{length_push, take_all}
 use Rattle.std.proofs.lemmas.List.Elements.{All-push}
 use Rattle.std.proofs.lemmas.List.Sums.{sum_by_more}
 use Rattle.sched_core.specs.UserSpans.{HaveRoom}
@@ -31,3 +31,10 @@ loop-count-preserved c =
           (places + get_or counts n 0) (λ n. get_or counts n 0)) c.loop-count.invariant.size
           (room_pushed spans places (λ n. get_or counts n 0) c.loop-count.invariant.room));
     }
+
+pub returns-clause-room : goal.returns-clause-room
+returns-clause-room c =
+    subst (λ n. HaveRoom c.loop-count.spans.items n (λ m. get_or c.args.counts.now m 0))
+    (c.loop-count.invariant.places
+    ∙ ap sum (take_all c.loop-count.count-index c.args.counts.now
+    (omega (arith, c.loop-count-test.false)))) c.loop-count.invariant.room

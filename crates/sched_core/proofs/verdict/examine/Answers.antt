@@ -8,8 +8,14 @@ returns-in_err-check_complete c =
     let p = err_from_is_err_and c.from_residual.result c.from_residual.ensures.1 in
     rw (p.1, p.2) (inr (c.in_err-check_complete.ensures.err c.args.permitted.now))
 
+pub returns-in_err-check_trees : goal.returns-in_err-check_trees
+returns-in_err-check_trees c =
+    let p = err_from_is_err_and c.from_residual-in_err-check_trees.result
+    c.from_residual-in_err-check_trees.ensures.1 in
+    rw (p.1, p.2) (inr (c.in_err-check_trees.ensures.err c.args.permitted.now))
+
 pub returns-then-branch : goal.returns-then-branch
 returns-then-branch c =
     let told = rw c.deref.ensures.value at c.in_ok-refer_in_cycle.ensures in
     cycle_found c.args.job.now c.args.permitted.now c.args.answer c.in_ok-records.records.items
-    c.in_ok-records.ensures.taken c.in_ok-records.ensures.records (told.0 c.if-branch.true)
+    c.in_ok-check_trees.ensures.taken c.in_ok-records.ensures.records (told.0 c.if-branch.true)

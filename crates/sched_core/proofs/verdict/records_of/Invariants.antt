@@ -1,6 +1,6 @@
--- The outputs so far are taken, with their records.
-use Rattle.sched_core.proofs.Verdicts.{TakenSoFar}
+-- The records of the outputs so far stand there.
+use Rattle.sched_core.proofs.Verdicts.{RecordsSoFar}
 use Rattle.sched_core.proofs.verdict.records_of.Given as goal
 
 abbrev pub invariant-loop-n : goal.invariant-loop-n
-invariant-loop-n l = TakenSoFar l.job l.permitted l.answer l.records.items l.n
+invariant-loop-n l = RecordsSoFar l.permitted l.answer l.records.items l.n

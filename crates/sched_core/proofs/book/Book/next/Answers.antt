@@ -39,3 +39,15 @@ returns-clause-seeds g c =
     c.in_ok-job.job (begins c.self.inside.progress.history.events) lease in
     subst (λ (l : Ledger). AreSeedsValid l.history.entries c.new.result.job) c.self.view_is
     (rw c.new.ensures.job seeds)
+
+pub returns-clause-lease : goal.returns-clause-lease
+returns-clause-lease g c =
+    let lease = begun_lease c.self.inside.progress.run c.self.inside.progress.history c.in-Some.d
+    c.in_ok-job.job c.in_ok-job.ensures.ok in
+    rw (
+      c.begin-number.ensures.run,
+      c.begin-number.ensures.history,
+      c.new.ensures.job,
+      c.new.ensures.number,
+      c.begin-number.ensures.number,
+    ) lease

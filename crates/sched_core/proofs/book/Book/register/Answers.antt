@@ -1,8 +1,9 @@
 use Rattle.std.proofs.Common.{◌∙◌, ap, refl, subst, sym}
-use Rattle.sched_core.specs.Books.{IsBooksLease, IsDone, Ledger, MayAllRefer}
+use Rattle.std.proofs.lemmas.Result.{err_from_is_err_and}
+use Rattle.sched_core.specs.Books.{IsBooksLease, IsDone, Ledger, MayAllRefer, fault_of}
 use Rattle.sched_core.specs.declared.job.Job.{Job}
 use Rattle.sched_core.proofs.Building.{builds_behind_done, builds_still}
-use Rattle.sched_core.proofs.Ending.{done_under_lease, finishing, holding, may_append}
+use Rattle.sched_core.proofs.Ending.{append_fault, done_under_lease, entry_fault, finishing, holding, may_append}
 use Rattle.sched_core.proofs.book.Book.register.Goals as goal
 
 pub append-requires-clause-new : goal.append-requires-clause-new
@@ -51,6 +52,30 @@ finish-requires-clause-done g c =
       c.args.checked.now,
       rw (c.in_ok-entry.ensures.run, c.in_ok-entry.ensures.history, c.job-job.ensures) done,
     )
+
+pub returns-in_err-entry-clause-fault : goal.returns-in_err-entry-clause-fault
+returns-in_err-entry-clause-fault g c =
+    let lease : IsBooksLease c.self.inside.progress.run c.self.inside.progress.history
+    c.args.lease.now.job c.args.lease.now.number =
+    rw (← c.job-job.ensures, ← c.number.ensures) (c.has_given.ensures.0 c.if-not-has_given.false) in
+    let p = err_from_is_err_and c.from_residual.result c.from_residual.ensures.1 in
+    rw (p.1, p.2)
+    (entry_fault c.args.self.now _ _ _ _ c.args.lease.now.job c.args.lease.now.number _
+    c.args.checked.now c.in_err-entry.field-0.0 c.self.view_is lease
+    (ap (λ (j : Job). j.derivation) c.job-job.ensures) c.in_err-entry.ensures.err)
+
+pub returns-in_err-append-clause-fault : goal.returns-in_err-append-clause-fault
+returns-in_err-append-clause-fault g c =
+    let lease : IsBooksLease c.self.inside.progress.run c.self.inside.progress.history
+    c.args.lease.now.job c.args.lease.now.number =
+    rw (← c.job-job.ensures, ← c.number.ensures) (c.has_given.ensures.0 c.if-not-has_given.false) in
+    let p = err_from_is_err_and c.from_residual-in_err-append.result
+    c.from_residual-in_err-append.ensures.1 in
+    rw p.1
+    (append_fault c.args.self.now _ _ _ _ c.args.lease.now.job c.args.lease.now.number _
+    c.args.checked.now c.in_ok-entry.field-0.entry p.0 c.self.view_is lease
+    (ap (λ (j : Job). j.derivation) c.job-job.ensures) c.in_ok-entry.ensures.entry
+    (p.2 ∙ ap fault_of c.in_err-append.ensures.memory))
 
 pub returns-clause-ok : goal.returns-clause-ok
 returns-clause-ok g c =

@@ -7,4 +7,4 @@ pub returns : goal.returns
 returns c = subst
     (λ k. MatchOption c.first.result ((d : ℕ) → IsNext k d → ⊥) (λ d. IsNext k d)) c.self.view_is
     (next_told c.self.inside.plan c.self.inside.tallies.items c.self.inside.users
-    c.self.inside.agenda c.self.invariant c.first.result c.first.ensures)
+    c.self.inside.agenda c.self.invariant.0 c.first.result c.first.ensures)

@@ -1,6 +1,6 @@
 use Rattle.std.proofs.Common.{◌≡◌, subst, sym, arith}
 use Rattle.std.proofs.lemmas.List.{length_push}
-use Rattle.sched_core.specs.Booking.{Progress}
+use Rattle.sched_core.specs.Booking.{Progress, run_over}
 use Rattle.sched_core.specs.Books.{IsDone}
 use Rattle.sched_core.specs.States.{Begun, phase_of}
 use Rattle.sched_core.proofs.Dones.{done_is_closed, done_is_new}
@@ -11,13 +11,15 @@ pub push_reserved-requires-clause-new : goal.push_reserved-requires-clause-new
 push_reserved-requires-clause-new c =
     let done = subst (λ (p : Progress). IsDone p.run p.history.entries c.args.d c.requires.done.0
     c.args.entry) (sym c.self.view_is) c.requires.done.1 in
-    done_is_new _ _ _ _ _ done.allowed done.is_entry
+    done_is_new (run_over c.self.inside.course c.self.inside.system.items) _ _ _ _ done.allowed
+    done.is_entry
 
 pub push_reserved-requires-clause-closed : goal.push_reserved-requires-clause-closed
 push_reserved-requires-clause-closed c =
     let done = subst (λ (p : Progress). IsDone p.run p.history.entries c.args.d c.requires.done.0
     c.args.entry) (sym c.self.view_is) c.requires.done.1 in
-    done_is_closed _ _ _ _ _ done.allowed done.is_entry
+    done_is_closed (run_over c.self.inside.course c.self.inside.system.items) _ _ _ _ done.allowed
+    done.is_entry
 
 pub push_reserved-requires-2 : goal.push_reserved-requires-2
 push_reserved-requires-2 c =

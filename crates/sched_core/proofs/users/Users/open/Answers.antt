@@ -1,13 +1,47 @@
-use Rattle.std.proofs.Common.{◌≡◌, ◌∙◌, ◌<◌, ◌+◌, ◌-◌, ℕ, List, ap, arith, get_or, length, subst, sym}
+use Rattle.std.proofs.Common.{◌≡◌, ◌∙◌, ◌<◌, ◌+◌, ◌-◌, ℕ, List, ap, arith, get_or, length, subst, sum, sym, ◌^◌}
 use Rattle.std.specs.Prelude.{slice_get}
 use Rattle.std.proofs.lemmas.List.{take_at}
 use Rattle.sched_core.specs.Runs.{inputs_at}
+use Rattle.sched_core.specs.Steps.{total}
+use Rattle.sched_core.specs.ToldEdges.{sizes}
 use Rattle.sched_core.specs.UserSpans.{AddsUser, HaveRoom, often, parts, uses}
 use Rattle.sched_core.specs.Users.{users_of}
 use Rattle.sched_core.specs.declared.users.Edge.{Edge}
 use Rattle.sched_core.specs.declared.users.Span.{Span}
+use Rattle.sched_core.proofs.Totals.{total_below, total_list}
 use Rattle.sched_core.proofs.UserSpans.{AreOfFirst, first_more, first_none, parts_none, room_less, room_others, room_own}
 use Rattle.sched_core.proofs.users.Users.open.Goals as goal
+
+-- the edges stand in one list, so there are few
+pub counts_of-requires : goal.counts_of-requires
+counts_of-requires c =
+    let long : c.pairs_in.result < 2 ^ 63 =
+    omega (
+      arith,
+      c.in_ok-edges.ensures.len,
+      c.in_ok-edges.edges.ok.0,
+      c.in_ok-edges.edges.ok.1,
+      c.in_ok-edges.edges.small,
+    ) in
+    omega (arith, c.pairs_in.ensures long, long)
+
+pub empty_spans-requires : goal.empty_spans-requires
+empty_spans-requires c =
+    let long : c.pairs_in.result < 2 ^ 63 =
+    omega (
+      arith,
+      c.in_ok-edges.ensures.len,
+      c.in_ok-edges.edges.ok.0,
+      c.in_ok-edges.edges.ok.1,
+      c.in_ok-edges.edges.small,
+    ) in
+    omega (
+      arith,
+      c.pairs_in.ensures long,
+      long,
+      c.in_ok-counts.ensures.total,
+      ap sum c.deref.ensures.value,
+    )
 
 pub loop-d-init : goal.loop-d-init
 loop-d-init c =
@@ -18,13 +52,28 @@ loop-d-init c =
     let counts = c.in_ok-counts.counts.items in
     let count : length spans ≡ length nodes = c.in_ok-spans.ensures.size
     ∙ ap length c.deref.ensures.value ∙ c.in_ok-counts.ensures.size in
-    let places : c.in_ok-spans.places ≡ length edges =
-    omega (arith, c.in_ok-edges.ensures.len, c.in_ok-edges.edges.ok.0) in
+    let long : c.pairs_in.result < 2 ^ 63 =
+    omega (
+      arith,
+      c.in_ok-edges.ensures.len,
+      c.in_ok-edges.edges.ok.0,
+      c.in_ok-edges.edges.ok.1,
+      c.in_ok-edges.edges.small,
+    ) in
+    let places : sum c.deref.result.now ≡ length edges =
+    omega (
+      arith,
+      ap sum c.deref.ensures.value,
+      c.in_ok-counts.ensures.total,
+      c.pairs_in.ensures long,
+      c.in_ok-edges.ensures.len,
+      c.in_ok-edges.edges.ok.0,
+    ) in
     record {
       count = count;
       room = subst (λ size. HaveRoom spans size
           (λ n. uses inputs (length nodes) n - uses inputs 0 n)) places
-          (room_less spans c.in_ok-spans.places _
+          (room_less spans (sum c.deref.result.now) _
           (λ n. uses inputs (length nodes) n - uses inputs 0 n) c.in_ok-spans.ensures.room
           (λ n within. omega (
             arith,
@@ -109,3 +158,39 @@ pub invariant_of-result : goal.invariant_of-result
 invariant_of-result c =
     room_less c.loop-d.spans.items (length c.loop-d.edges.items) _ (λ n. 0) c.loop-d.invariant.room
     (λ n within. omega arith)
+
+pub returns-clause-sizes : goal.returns-clause-sizes
+returns-clause-sizes c = λ d low.
+    let nodes = c.args.plan.now.nodes in
+    let inputs = λ (e : ℕ). inputs_at nodes (slice_get nodes e) in
+    let all : c.loop-d.d ≡ length nodes =
+    omega (arith, c.loop-d-test.false, c.loop-d.auto.d-end, c.len-d-end.ensures.value) in
+    c.loop-d.invariant.first.size d low ∙ ap (λ n. uses inputs n d) all
+
+pub returns-clause-few : goal.returns-clause-few
+returns-clause-few c =
+    let nodes = c.args.plan.now.nodes in
+    let inputs = λ (e : ℕ). inputs_at nodes (slice_get nodes e) in
+    let counts = c.in_ok-counts.counts.items in
+    let all : c.loop-d.d ≡ length nodes =
+    omega (arith, c.loop-d-test.false, c.loop-d.auto.d-end, c.len-d-end.ensures.value) in
+    let long : c.pairs_in.result < 2 ^ 63 =
+    omega (
+      arith,
+      c.in_ok-edges.ensures.len,
+      c.in_ok-edges.edges.ok.0,
+      c.in_ok-edges.edges.ok.1,
+      c.in_ok-edges.edges.small,
+    ) in
+    omega (
+      arith,
+      total_below (sizes (parts c.loop-d.spans.items c.loop-d.edges.items))
+          (λ d. get_or counts d 0) (length nodes)
+          (λ d low. c.loop-d.invariant.first.size d low ∙ ap (λ n. uses inputs n d) all
+          ∙ sym (c.in_ok-counts.ensures.each d low)),
+      ap (total (λ d. get_or counts d 0)) c.in_ok-counts.ensures.size,
+      total_list counts,
+      c.in_ok-counts.ensures.total,
+      c.pairs_in.ensures long,
+      long,
+    )

@@ -1,0 +1,48 @@
+-- How many edges to users were followed, by the tallies that are kept.
+use Rattle.std.specs.Prelude.{◌≡◌, ◌<◌, ◌+◌, ◌-◌, ◌^◌, ℕ, suc, List, [], ◌∷◌, length, slice_get, if◌then◌else◌}
+use Rattle.drv_graph.specs.Plans.{Graph}
+use Rattle.sched_core.specs.Agendas.{course_by, is_open}
+use Rattle.sched_core.specs.Courses.{Course, course_rows, course_state}
+use Rattle.sched_core.specs.Runs.{inputs_at}
+use Rattle.sched_core.specs.Steps.{edges_ahead}
+use Rattle.sched_core.specs.UserSpans.{uses}
+use Rattle.sched_core.specs.Users.{users_of}
+use Rattle.sched_core.specs.declared.tally.Tally.{Tally}
+use Rattle.sched_core.specs.declared.users.Edge.{Edge}
+
+-- how many edges lead to the users of each
+abbrev pub sizes : List (List Edge) → ℕ → ℕ
+sizes users d = length (users_of users d)
+
+-- how many edges lead to users from those that have something before them
+abbrev pub open_edges : (size : ℕ → ℕ) → List Tally → ℕ
+open_edges size [] = 0
+open_edges size (tally ∷ tallies) =
+    (if is_open tally.state then size 0 else 0) + open_edges (λ d. size (suc d)) tallies
+
+-- the course before anything has begun
+abbrev pub rested : Course → Course
+rested course = record {
+  graph = course.graph;
+  standings = course.standings;
+  wanted = course.wanted;
+  phases = [];
+}
+
+abbrev pub course_ahead : Course → ℕ
+course_ahead course = edges_ahead (course_rows course).inputs (course_state course)
+    (length course.graph.nodes)
+
+-- along how many edges users were told
+abbrev pub course_told : Course → ℕ
+course_told course = course_ahead (rested course) - course_ahead course
+
+-- So many edges were followed: all that led from derivations which had something before them, but
+-- for those that still do.
+pub record HasTold (graph : Graph) (tallies : List Tally) (users : List (List Edge)) (told : ℕ)
+    : Type 0 where
+  pub few : told + open_edges (sizes users) tallies < 2 ^ 64
+  pub size : (d : ℕ) → d < length graph.nodes → sizes users d
+      ≡ uses (λ e. inputs_at graph.nodes (slice_get graph.nodes e)) (length graph.nodes) d
+  pub all : told + open_edges (sizes users) tallies
+      ≡ course_ahead (rested (course_by graph tallies))
