@@ -15,7 +15,8 @@ pub may_refer_by_permitted : (entries : List Entry) (job other : Job) (permitted
     → ArePermittedPaths entries job permitted → IsExamining other permitted answer found
     → IfOk found (MayAllRefer entries job)
 may_refer_by_permitted entries job other permitted answer (Err reason) are examined = tt
-may_refer_by_permitted entries job other permitted answer (Ok infos) are (inl refused) = absurd cc
+may_refer_by_permitted entries job other permitted answer (Ok infos) are
+    (inl (refused, taken)) = absurd cc
 may_refer_by_permitted entries job other permitted answer (Ok infos) are
     (inr (taken, records, acyclic)) =
     λ info path has refers.

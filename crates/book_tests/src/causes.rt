@@ -2,7 +2,7 @@
 use crate::books::{has_report, open};
 use crate::builders::build_all;
 use crate::hindered::{HINDERED, Hindered};
-use sched_core::{Book, BookFault, Refusal};
+use sched_core::Book;
 use std::alloc::Global;
 use std::test::*;
 use store_run::RunFault;
@@ -56,17 +56,6 @@ fn what_is_left_out(rt: HostRuntime) -> Result<(), Fail> {
         );
     }
     Ok(())
-}
-
-#[test]
-fn numbers(rt: HostRuntime) {
-    assert_eq!(rt; Refusal::Unsupported.number(), 61);
-    assert_eq!(rt; Refusal::MissingSource(0).number(), 62);
-    assert_eq!(rt; Refusal::InputNotRealised(0).number(), 63);
-    assert_eq!(rt; BookFault::NoMemory.number(), 9);
-    assert_eq!(rt; BookFault::NoView.number(), 40);
-    assert_eq!(rt; BookFault::ForeignLease.number(), 65);
-    assert_eq!(rt; BookFault::NotLawful.number(), 66);
 }
 
 #[test]

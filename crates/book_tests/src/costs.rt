@@ -1,9 +1,10 @@
-//! What events cost: how many states they work out and how many reverse edges they follow, and that
-//! a failure takes no memory, however many users it refuses.
+//! What events cost: how many states they work out and how many reverse edges they follow, that a
+//! failure takes no memory, however many users it refuses, and that large plans and reports do.
 
-use crate::books::{book_of, state_of};
-use crate::builders::{build, fails, lease};
+use crate::books::{book_of, open, state_of};
+use crate::builders::{build, build_all, fails, lease};
 use crate::random_plans::{nothing, plan_of};
+use crate::rows::{Row, diamonds};
 use drv_graph::Plan;
 use sched_core::{Book, Lease, Reason, Refusal, State};
 use std::alloc::Global;
@@ -47,8 +48,8 @@ fn ends_badly(
     Ok(fails(book, lease?, Reason::ExitStatus(1)))
 }
 
-// Builds all that can be built.
-fn build_all(alloc: Global, book: &mut Book<ListOutlet>) -> Result<(), Fail> {
+// Builds a chain, of which each can be built behind the one before it.
+fn build_chain(alloc: Global, book: &mut Book<ListOutlet>) -> Result<(), Fail> {
     for _ in 0..book.plan().len() {
         let lease = lease(book)?;
         build(alloc, book, lease, &[])?;
@@ -65,11 +66,12 @@ fn users_of_one_that_failed(rt: HostRuntime) -> Result<(), Fail> {
     let begins = rt.println(format_args!("memory is refused from here"));
     let failed = ends_badly(&mut book, lease);
     let ends = rt.println(format_args!("up to here; {} steps", book.steps()));
-    let (refused, settled) = (refused(&book), book.settled());
+    let (refused, settled, steps) = (refused(&book), book.settled(), book.steps());
     book.close();
     assert!(rt; begins.is_ok() && ends.is_ok());
     assert!(rt; failed? && settled);
     assert_eq!(rt; refused, USERS);
+    assert_eq!(rt; steps, 2 + 2 * USERS as u64);
     Ok(())
 }
 
@@ -77,11 +79,88 @@ fn users_of_one_that_failed(rt: HostRuntime) -> Result<(), Fail> {
 fn steps_of_a_chain(rt: HostRuntime) -> Result<(), Fail> {
     let plan = chain(rt.alloc(), 1_000)?;
     let mut book = book_of(rt.alloc(), plan, Journal::new(rt.alloc()))?;
-    let built = build_all(rt.alloc(), &mut book);
+    let at_opening = book.steps();
+    let built = build_chain(rt.alloc(), &mut book);
     let (events, steps) = (book.events().len(), book.steps());
     book.close();
     built?;
+    assert_eq!(rt; at_opening, 0);
     assert_eq!(rt; events, 2_000);
-    assert!(rt; steps <= 3_998, "{steps} steps");
+    assert_eq!(rt; steps, 3_998);
+    Ok(())
+}
+
+// How many steps a run takes to its end.
+fn steps_of(alloc: Global, row: &Row) -> Result<u64, Fail> {
+    let mut book = open(alloc, row.roots, row.before)?;
+    let built = build_all(alloc, &mut book, row.scripts);
+    let steps = book.steps();
+    book.close();
+    built?;
+    Ok(steps)
+}
+
+// A step for each event, and two for each of the four pairs of a user and an input.
+#[test]
+fn steps_of_diamonds(rt: HostRuntime) -> Result<(), Fail> {
+    for (row, steps) in diamonds().iter().zip([16, 16, 10, 14, 14, 16]) {
+        assert_eq!(rt; steps_of(rt.alloc(), row)?, steps, "{}", row.label);
+    }
+    Ok(())
+}
+
+// How long the report of a run is in which the first derivation fails.
+fn report_len(book: &mut Book<ListOutlet>) -> Result<usize, Fail> {
+    let lease = lease(book);
+    if !ends_badly(book, lease)? || !book.settled() {
+        return Err("it isn't settled".into());
+    }
+    Ok(book.report()?.len())
+}
+
+// A line for each derivation: 137 bytes for each that is refused, and 77 for the one that failed.
+#[test]
+fn large_report(rt: HostRuntime) -> Result<(), Fail> {
+    let plan = star(rt.alloc(), 8_000)?;
+    let mut book = book_of(rt.alloc(), plan, Journal::new(rt.alloc()))?;
+    let len = report_len(&mut book);
+    book.close();
+    assert_eq!(rt; len?, 8_000 * 137 + 77);
+    Ok(())
+}
+
+// The plan of so many derivations, and as many users of all of these; all are roots.
+fn wide(alloc: Global, count: usize) -> Result<Plan, Fail> {
+    let mut made = nothing(alloc);
+    for _ in 0..count {
+        made.push_user(alloc, usize::MAX)?;
+    }
+    for _ in 0..count {
+        made.push_user_of_all(alloc, count)?;
+    }
+    plan_of(alloc, &made, &made.paths)
+}
+
+// Lets so many derivations fail.
+fn fail_first(book: &mut Book<ListOutlet>, count: usize) -> Result<(), Fail> {
+    for _ in 0..count {
+        let lease = lease(book);
+        if !ends_badly(book, lease)? {
+            return Err("a foreign lease".into());
+        }
+    }
+    Ok(())
+}
+
+#[test]
+fn plan_of_many_edges(rt: HostRuntime) -> Result<(), Fail> {
+    let plan = wide(rt.alloc(), 450)?;
+    let mut book = book_of(rt.alloc(), plan, Journal::new(rt.alloc()))?;
+    let failed = fail_first(&mut book, 450);
+    let (settled, steps) = (book.settled(), book.steps());
+    book.close();
+    failed?;
+    assert!(rt; settled);
+    assert_eq!(rt; steps, 2 * 450 + 2 * 450 * 450);
     Ok(())
 }

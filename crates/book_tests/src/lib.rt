@@ -10,15 +10,18 @@
 //! | `calls` | leases, and what a book tells of itself |
 //! | `verdicts` | the verdict on an answer |
 //! | `permitted` | what is permitted beside a closure |
+//! | `many` | a job with many inputs, an entry with many outputs |
 //! | `refusals` | leases of another book, records of another job |
 //! | `example` | the run of the example in the definitions, by its laws and by workers |
 //! | `growths` | memory that is refused while a lease ends |
+//! | `held_lock` | a reader that is asked while its thread holds the lock of the book |
 //! | `costs` | what events cost |
 //! | `random_runs` | random plans and answers, beside states that the test works out |
 //! | `random_plans`, `made` | derivations that are made up |
 //! | `builders` | what builders answer, and how leases end with it |
 //! | `books` | plans, journals and books that the tests are made of |
 //! | `files`, `hindered` | files of derivations |
+//! | `words` | the words and numbers of faults, reasons and refusals |
 #![tactic(auto)]
 
 #[cfg(test)]
@@ -38,9 +41,13 @@ mod files;
 #[cfg(test)]
 mod growths;
 #[cfg(test)]
+mod held_lock;
+#[cfg(test)]
 mod hindered;
 #[cfg(test)]
 mod made;
+#[cfg(test)]
+mod many;
 #[cfg(test)]
 mod permitted;
 #[cfg(test)]
@@ -55,5 +62,7 @@ mod rows;
 mod runs;
 #[cfg(test)]
 mod verdicts;
+#[cfg(test)]
+mod words;
 #[cfg(test)]
 mod workers;

@@ -268,6 +268,23 @@ impl MadeUp {
             _ => self.push(alloc, BUILDABLE, Vec::new(alloc), &[]),
         }
     }
+
+    /// Makes up one more derivation that can be built, with the first so many as inputs.
+    pub(crate) fn push_user_of_all(&mut self, alloc: Global, count: usize) -> Result<(), Fail> {
+        let mut used = Vec::new(alloc);
+        for (path, hash) in self.paths.iter().zip(&self.hashes).take(count) {
+            used.push((Vec::from_slice(alloc, path.text())?, *hash))?;
+        }
+        used.sort_unstable();
+        let mut paths = Vec::new(alloc);
+        let mut hashes = Vec::new(alloc);
+        for (path, hash) in used {
+            paths.push(path)?;
+            hashes.push(hash)?;
+        }
+        let inputs = inputs(alloc, paths)?;
+        self.push(alloc, BUILDABLE, inputs, &hashes)
+    }
 }
 
 // A letter, and a number of five digits.

@@ -8,7 +8,7 @@ ghost use Rattle.nix_names.specs.Rising.{IsRising};
 use drv_graph::{Kind, Method};
 use nix_names::{StoreDir, StorePath, parse_path};
 use ref_scan::{Member, Tree};
-use sched_core::{Answer, Checked, Job, JobOutput, Reason, Refusal, examine};
+use sched_core::{Answer, Checked, Job, JobOutput, Reason, Refusal, examine, permitted_beside};
 use std::alloc::Global;
 use std::test::Fail;
 use valid_table::Record;
@@ -43,16 +43,17 @@ fn paths(alloc: Global, a: &[u8], b: &[u8], c: &[u8]) -> Result<Vec<StorePath>, 
     Ok(vec![in alloc; path(alloc, a)?, path(alloc, b)?, path(alloc, c)?]?)
 }
 
-// A job that is to make outputs at these paths.
-fn job(alloc: Global, kind: Kind, paths: &[&[u8]]) -> Result<Job, Fail> {
-    let mut outputs = Vec::new(alloc);
-    for text in paths {
-        outputs.push(JobOutput {
-            name: Vec::new(alloc),
-            path: path(alloc, text)?,
-        })?;
-    }
-    Ok(Job {
+// An output of a job, at this path.
+fn output(alloc: Global, text: &[u8]) -> Result<JobOutput, Fail> {
+    Ok(JobOutput {
+        name: Vec::new(alloc),
+        path: path(alloc, text)?,
+    })
+}
+
+// A job that is to make these outputs.
+fn job(alloc: Global, kind: Kind, outputs: Vec<JobOutput>) -> Job {
+    Job {
         derivation: 0,
         builder: Vec::new(alloc),
         args: Vec::new(alloc),
@@ -60,28 +61,53 @@ fn job(alloc: Global, kind: Kind, paths: &[&[u8]]) -> Result<Job, Fail> {
         outputs,
         kind,
         seeds: Vec::new(alloc),
-    })
+    }
+}
+
+// A job that is to make so many outputs, at most three.
+fn small_job(alloc: Global, kind: Kind, count: usize) -> Result<Job, Fail> {
+    let mut outputs = Vec::new(alloc);
+    for text in [DEV, DOC, OUT].iter().take(count) {
+        outputs.push(output(alloc, text)?)?;
+    }
+    Ok(job(alloc, kind, outputs))
 }
 
 fn file(alloc: Global, bytes: &[u8]) -> Result<Tree, Fail> {
     Ok(Tree::File(bytes.to_vec(alloc)?))
 }
 
-// A folder of two files.
-fn two_files(alloc: Global, a: &[u8], b: &[u8]) -> Result<Tree, Fail> {
+// What is left at an output.
+enum Left {
+    Nothing,
+    File(&'static [u8]),
+    Folder,
+    // Past the limits of an output: a file, and a folder of two files.
+    LargeFile,
+    LargeFolder,
+}
+
+// A folder of two files that are too large together.
+fn large_folder(alloc: Global) -> Result<Tree, Fail> {
+    let half = vec![in alloc; 0; 33_554_433]?;
     let mut members = Vec::new(alloc);
-    for bytes in [a, b] {
+    for _ in 0..2 {
         members.push(Member {
             name: b"f".to_vec(alloc)?,
-            tree: file(alloc, bytes)?,
+            tree: file(alloc, &half)?,
         })?;
     }
     Ok(Tree::Dir(members))
 }
 
-// A file past the limits of an output.
-fn large(alloc: Global) -> Result<Tree, Fail> {
-    Ok(Tree::File(vec![in alloc; 0; 67_108_865]?))
+fn tree(alloc: Global, left: &Left) -> Result<Option<Tree>, Fail> {
+    Ok(match left {
+        Left::Nothing => None,
+        Left::File(bytes) => Some(file(alloc, bytes)?),
+        Left::Folder => Some(Tree::Dir(Vec::new(alloc))),
+        Left::LargeFile => Some(Tree::File(vec![in alloc; 0; 67_108_865]?)),
+        Left::LargeFolder => Some(large_folder(alloc)?),
+    })
 }
 
 fn ended_well(trees: Vec<Option<Tree>>) -> Answer {
@@ -91,16 +117,9 @@ fn ended_well(trees: Vec<Option<Tree>>) -> Answer {
     }
 }
 
-// The verdict on one tree at the output of a fixed derivation.
-fn fixed_verdict(alloc: Global, tree: Option<Tree>) -> Result<Option<Reason>, Fail> {
-    let job = job(alloc, Kind::Fixed(Method::Flat, EMPTY), &[OUT])?;
-    let trees = vec![in alloc; tree]?;
-    Ok(examine(alloc, &job, &[], ended_well(trees)).err())
-}
-
 // The verdict on files with these bytes, at the three outputs.
 fn verdict(alloc: Global, files: &[&[u8]]) -> Result<Result<Checked, Reason>, Fail> {
-    let job = job(alloc, Kind::Addressed, &[DEV, DOC, OUT])?;
+    let job = small_job(alloc, Kind::Addressed, 3)?;
     let permitted = paths(alloc, DEV, DOC, OUT)?;
     let mut trees = Vec::new(alloc);
     for bytes in files {
@@ -125,24 +144,146 @@ fn refers(record: Option<&Record>, texts: &[&[u8]]) -> bool {
     }
 }
 
-#[test]
-fn flat_fixed_outcomes(rt: HostRuntime) -> Result<(), Fail> {
-    let alloc = rt.alloc();
-    let rows: [(&[u8], Option<Reason>); 2] = [(b"", None), (b"x", Some(Reason::HashMismatch))];
-    for (bytes, reason) in rows {
-        assert_eq!(rt; fixed_verdict(alloc, Some(file(alloc, bytes)?))?, reason);
+const FLAT: Kind = Kind::Fixed(Method::Flat, EMPTY);
+
+// What a builder leaves at its outputs, and how it ends: the first reason that holds, or none.
+struct Row {
+    kind: Kind,
+    status: Option<i32>,
+    left: &'static [Left],
+    reason: Option<Reason>,
+}
+
+// In most rows two reasons hold, which come one behind the other in their order.
+const ROWS: [Row; 17] = [
+    Row {
+        kind: FLAT,
+        status: Some(0),
+        left: &[Left::File(NOTHING)],
+        reason: None,
+    },
+    Row {
+        kind: Kind::Addressed,
+        status: None,
+        left: &[Left::Nothing],
+        reason: Some(Reason::Killed),
+    },
+    Row {
+        kind: Kind::Addressed,
+        status: Some(7),
+        left: &[Left::Nothing],
+        reason: Some(Reason::ExitStatus(7)),
+    },
+    Row {
+        kind: Kind::Addressed,
+        status: Some(-1),
+        left: &[Left::LargeFile],
+        reason: Some(Reason::ExitStatus(-1)),
+    },
+    Row {
+        kind: Kind::Addressed,
+        status: Some(0),
+        left: &[Left::File(NOTHING), Left::Nothing, Left::Nothing],
+        reason: Some(Reason::MissingOutput(1)),
+    },
+    Row {
+        kind: Kind::Addressed,
+        status: Some(0),
+        left: &[Left::LargeFile, Left::Nothing],
+        reason: Some(Reason::MissingOutput(1)),
+    },
+    Row {
+        kind: FLAT,
+        status: Some(0),
+        left: &[Left::Folder, Left::Nothing],
+        reason: Some(Reason::MissingOutput(1)),
+    },
+    Row {
+        kind: FLAT,
+        status: Some(0),
+        left: &[Left::LargeFolder],
+        reason: Some(Reason::TooLarge),
+    },
+    Row {
+        kind: FLAT,
+        status: Some(0),
+        left: &[Left::LargeFile],
+        reason: Some(Reason::TooLarge),
+    },
+    Row {
+        kind: Kind::Addressed,
+        status: Some(0),
+        left: &[Left::File(DOC), Left::File(DEV), Left::LargeFile],
+        reason: Some(Reason::TooLarge),
+    },
+    // Of two outputs that aren't taken, the first one's reason counts.
+    Row {
+        kind: FLAT,
+        status: Some(0),
+        left: &[Left::Folder, Left::LargeFile],
+        reason: Some(Reason::NotFlatFile),
+    },
+    Row {
+        kind: FLAT,
+        status: Some(0),
+        left: &[Left::File(NOTHING), Left::Folder, Left::File(DOC)],
+        reason: Some(Reason::NotFlatFile),
+    },
+    Row {
+        kind: FLAT,
+        status: Some(0),
+        left: &[Left::File(DOC), Left::Folder],
+        reason: Some(Reason::HashMismatch),
+    },
+    Row {
+        kind: FLAT,
+        status: Some(0),
+        left: &[Left::File(DOC), Left::File(DEV)],
+        reason: Some(Reason::HashMismatch),
+    },
+    Row {
+        kind: Kind::Addressed,
+        status: Some(0),
+        left: &[Left::File(OUT), Left::File(NOTHING), Left::File(DEV)],
+        reason: Some(Reason::OutputCycle),
+    },
+    Row {
+        kind: Kind::Addressed,
+        status: Some(0),
+        left: &[Left::File(DOC), Left::File(OUT), Left::File(DEV)],
+        reason: Some(Reason::OutputCycle),
+    },
+    Row {
+        kind: Kind::Addressed,
+        status: Some(0),
+        left: &[Left::File(DEV), Left::File(OUT), Left::File(NOTHING)],
+        reason: None,
+    },
+];
+
+// The reason why a row isn't built, if there is one.
+fn reason(alloc: Global, row: &Row) -> Result<Option<Reason>, Fail> {
+    let job = small_job(alloc, row.kind, row.left.len())?;
+    let permitted = paths(alloc, DEV, DOC, OUT)?;
+    let mut trees = Vec::new(alloc);
+    for left in row.left {
+        trees.push(tree(alloc, left)?)?;
     }
-    Ok(())
+    let status = row.status;
+    Ok(examine(alloc, &job, &permitted, Answer { status, trees }).err())
 }
 
 #[test]
-fn fixed_folder_and_nothing(rt: HostRuntime) -> Result<(), Fail> {
-    let alloc = rt.alloc();
-    assert_eq!(rt;
-        fixed_verdict(alloc, Some(Tree::Dir(Vec::new(alloc))))?,
-        Some(Reason::NotFlatFile)
-    );
-    assert_eq!(rt; fixed_verdict(alloc, None)?, Some(Reason::MissingOutput(0)));
+fn order_of_reasons(rt: HostRuntime) -> Result<(), Fail> {
+    for (n, row) in ROWS.iter().enumerate() {
+        let found = reason(rt.alloc(), row)?;
+        assert!(rt;
+            found == row.reason,
+            "row {n}: {:?}, not {:?}",
+            found,
+            row.reason
+        );
+    }
     Ok(())
 }
 
@@ -158,67 +299,62 @@ fn self_reference_and_cycle(rt: HostRuntime) -> Result<(), Fail> {
 }
 
 #[test]
-fn outputs_in_a_cycle(rt: HostRuntime) -> Result<(), Fail> {
-    let alloc = rt.alloc();
-    let two = verdict(alloc, &[OUT, NOTHING, DEV])?;
-    assert_eq!(rt; two.err(), Some(Reason::OutputCycle));
-    let three = verdict(alloc, &[DOC, OUT, DEV])?;
-    assert_eq!(rt; three.err(), Some(Reason::OutputCycle));
-    Ok(())
-}
-
-#[test]
-fn order_of_reasons(rt: HostRuntime) -> Result<(), Fail> {
-    let alloc = rt.alloc();
-    let job = job(alloc, Kind::Addressed, &[OUT])?;
-    let statuses = [
-        (None, Reason::Killed),
-        (Some(7), Reason::ExitStatus(7)),
-        (Some(0), Reason::MissingOutput(0)),
-    ];
-    for (status, reason) in statuses {
-        let answer = Answer {
-            status,
-            trees: Vec::new(alloc),
-        };
-        assert_eq!(rt; examine(alloc, &job, &[], answer).err(), Some(reason));
-    }
-    Ok(())
-}
-
-#[test]
-fn missing_before_too_large(rt: HostRuntime) -> Result<(), Fail> {
-    let alloc = rt.alloc();
-    let two = job(alloc, Kind::Addressed, &[DEV, OUT])?;
-    let trees = vec![in alloc; Some(large(alloc)?)]?;
-    assert_eq!(rt;
-        examine(alloc, &two, &[], ended_well(trees)).err(),
-        Some(Reason::MissingOutput(1))
-    );
-    Ok(())
-}
-
-// A folder of two files that are too large together.
-fn large_folder(alloc: Global) -> Result<Tree, Fail> {
-    let half = vec![in alloc; 0; 33_554_433]?;
-    two_files(alloc, &half, &half)
-}
-
-#[test]
-fn too_large_before_not_flat(rt: HostRuntime) -> Result<(), Fail> {
-    let alloc = rt.alloc();
-    assert_eq!(rt;
-        fixed_verdict(alloc, Some(large_folder(alloc)?))?,
-        Some(Reason::TooLarge)
-    );
-    Ok(())
-}
-
-#[test]
 fn surplus_trees_are_ignored(rt: HostRuntime) -> Result<(), Fail> {
     let alloc = rt.alloc();
     let files = [NOTHING, NOTHING, NOTHING, OUT];
     assert_eq!(rt; verdict(alloc, &files)??.records().len(), 3);
+    Ok(())
+}
+
+const MANY: usize = 64;
+
+const DIGITS: [u8; 32] = *b"0123456789abcdfghijklmnpqrsvwxyz";
+
+// The text of the output with this number, of many.
+fn numbered(number: usize) -> [u8; 45] {
+    let mut text = *b"/nix/store/00000000000000000000000000000000-o";
+    text[41] = DIGITS[number / 32 % 32];
+    text[42] = DIGITS[number % 32];
+    text
+}
+
+// The job that is to make many outputs.
+fn large_job(alloc: Global) -> Result<Job, Fail> {
+    let mut outputs = Vec::new(alloc);
+    for number in 0..MANY {
+        outputs.push(output(alloc, &numbered(number))?)?;
+    }
+    Ok(job(alloc, Kind::Addressed, outputs))
+}
+
+// The verdict on many outputs: each holds the path of the next one, the last one these bytes.
+fn verdict_on_many(alloc: Global, last: &[u8]) -> Result<Result<Checked, Reason>, Fail> {
+    let job = large_job(alloc)?;
+    let permitted = permitted_beside(alloc, &[], &job)?;
+    let mut trees = Vec::new(alloc);
+    for number in 1..MANY {
+        trees.push(Some(file(alloc, &numbered(number))?))?;
+    }
+    trees.push(Some(file(alloc, last)?))?;
+    Ok(examine(alloc, &job, &permitted, ended_well(trees)))
+}
+
+// Whether each of many records refers to the next output, and the last one to itself.
+fn are_chained(records: &[Record]) -> bool {
+    (0..MANY).all(|n| refers(
+        records.get(n),
+        &[&numbered(n.saturating_add(1).min(MANY - 1))],
+    ))
+}
+
+#[test]
+fn many_outputs(rt: HostRuntime) -> Result<(), Fail> {
+    let alloc = rt.alloc();
+    let chained = verdict_on_many(alloc, &numbered(MANY - 1))??;
+    assert_eq!(rt; chained.records().len(), MANY);
+    assert!(rt; are_chained(chained.records()));
+    let round = verdict_on_many(alloc, &numbered(0))?;
+    assert_eq!(rt; round.err(), Some(Reason::OutputCycle));
     Ok(())
 }
 

@@ -18,10 +18,13 @@ use valid_table::{Journal, ListOutlet};
 
 mod builders;
 mod calls;
+mod folders;
 mod gates;
+mod heard;
 mod many;
 mod meanwhile;
 mod traces;
+mod waking;
 
 // So many builders that do as these scripts say.
 fn scripted(

@@ -1,5 +1,5 @@
 -- What keeps a book's history answered.
-use Rattle.std.proofs.Common.{◌≡◌, ◌∙◌, ◌⊎◌, inl, inr, ℕ, List, Option, Some, None, Result, Ok, Err, ap}
+use Rattle.std.proofs.Common.{◌≡◌, ◌∙◌, ◌⊎◌, inl, inr, ℕ, List, [], Option, Some, None, Result, Ok, Err, ap}
 use Rattle.std.specs.Prelude.{MatchOption}
 use Rattle.valid_table.specs.PathInfos.{PathInfo}
 use Rattle.valid_table.specs.declared.entry.Entry.{Entry}
@@ -14,6 +14,7 @@ use Rattle.sched_core.specs.declared.reason.Reason.TheVariants.{OutOfMemory}
 use Rattle.sched_core.proofs.ExaminedRecords.{verdicts_may_refer}
 use Rattle.store_run.specs.Builders.{IsAnswered, IsOutcomeVerdict, IsVerdictBehind, MayComeTo, answered_begin, answered_done, answered_fail}
 use Rattle.store_run.specs.Finding.{IsFoundBy, IsTold, MayBeFound, StaysPermitted}
+use Rattle.store_run.specs.declared.found.Found.TheVariants.{Examined, Unanswered}
 
 pub after_beginning : (may : Job → Result Answer Reason → Type 0) (before after : Ledger)
     (job : Job) (number : ℕ) → IsAnswered may before.run before.history
@@ -82,7 +83,7 @@ outcome_may_refer : (entries : List Entry) (job : Job) (outcome : Result Answer 
     → MayAllRefer entries job infos
 outcome_may_refer entries job (Ok answer) infos is =
     verdicts_may_refer entries job is.0 answer infos is.1 is.2
-outcome_may_refer entries job (Err reason) infos is = absurd cc
+outcome_may_refer entries job (Err reason) infos is = let no = is.2 in absurd cc
 
 pub came_may_refer : (may : Job → Result Answer Reason → Type 0) (entries : List Entry)
     (job : Job) (infos : List PathInfo) → MayComeTo may entries job (Ok infos)
@@ -95,31 +96,41 @@ same_reason : (reason : Reason) → ◌≡◌ {A = Result Answer Reason} (Err re
     → reason ≡ OutOfMemory
 same_reason reason is = cc
 
--- what was found by a list comes of an outcome that may be given, where what is permitted by that
--- list is permitted behind the entries, or memory was refused
-pub found_comes : {P : Type 0} (may : Job → Result Answer Reason → Type 0)
-    (seen entries : List Entry) (job : Job) (found : Result (List PathInfo) Reason)
-    → MayBeFound may seen job found
+-- a verdict that was found by a list comes of an outcome that may be given, where what is permitted
+-- by that list is permitted behind the entries, or memory was refused
+pub examined_comes : {P : Type 0} (may : Job → Result Answer Reason → Type 0)
+    (seen entries : List Entry) (job : Job) (verdict : Result (List PathInfo) Reason)
+    → MayBeFound may seen job (Examined verdict)
     → (P → IsShowable seen → AreSeedsValid seen job → StaysPermitted seen entries job)
-    → (found ≡ Err OutOfMemory) ⊎ (P → MayComeTo may entries job found)
-found_comes {P} may seen entries job found is stays = by is.outcome is.given is.by
+    → (verdict ≡ Err OutOfMemory) ⊎ (P → MayComeTo may entries job verdict)
+examined_comes {P} may seen entries job verdict found stays = by found.outcome found.given found.by
   where
     by : (outcome : Result Answer Reason) → (outcome ≡ Err OutOfMemory) ⊎ may job outcome
-        → IsFoundBy seen job outcome found
-        → (found ≡ Err OutOfMemory) ⊎ (P → MayComeTo may entries job found)
-    by (Ok answer) (inl refused) verdict = absurd cc
+        → IsFoundBy seen job outcome (Examined verdict)
+        → (verdict ≡ Err OutOfMemory) ⊎ (P → MayComeTo may entries job verdict)
+    by (Ok answer) (inl refused) is = absurd cc
     by (Ok answer) (inr given) (inl refused) = inl refused
-    by (Ok answer) (inr given) (inr verdict) = inr (λ p. (
+    by (Ok answer) (inr given) (inr seen) = inr (λ p. (
       Ok answer,
       given,
-      (
-        verdict.verdict.0,
-        stays p verdict.showable verdict.seeds verdict.verdict.0 verdict.verdict.1,
-        verdict.verdict.2,
-      ),
+      (seen.is.0, stays p seen.showable seen.seeds seen.is.0 seen.is.1, seen.is.2),
     ))
-    by (Err reason) (inl refused) is = inl (is ∙ ap (λ (r : Reason). Err r) (same_reason reason refused))
-    by (Err reason) (inr given) is = inr (λ p. (Err reason, given, is))
+    by (Err reason) given is = absurd is
+
+-- so does the reason of a builder that gave no answer
+pub unanswered_comes : {P : Type 0} (may : Job → Result Answer Reason → Type 0)
+    (seen entries : List Entry) (job : Job) (reason : Reason)
+    → MayBeFound may seen job (Unanswered reason)
+    → (reason ≡ OutOfMemory) ⊎ (P → MayComeTo may entries job (Err reason))
+unanswered_comes {P} may seen entries job reason found = by found.outcome found.given found.by
+  where
+    by : (outcome : Result Answer Reason) → (outcome ≡ Err OutOfMemory) ⊎ may job outcome
+        → IsFoundBy seen job outcome (Unanswered reason)
+        → (reason ≡ OutOfMemory) ⊎ (P → MayComeTo may entries job (Err reason))
+    by (Ok answer) given is = absurd is
+    by (Err why) (inl refused) is = inl (is ∙ same_reason why refused)
+    by (Err why) (inr given) is =
+        inr (λ p. (Err why, given, ([], tt, ap (λ (r : Reason). Err r) is)))
 
 -- records come of an outcome
 pub records_come : {P : Type 0} (may : Job → Result Answer Reason → Type 0) (entries : List Entry)

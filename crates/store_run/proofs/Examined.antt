@@ -9,23 +9,25 @@ use Rattle.sched_core.specs.declared.job.Answer.{Answer}
 use Rattle.sched_core.specs.declared.job.Job.{Job}
 use Rattle.sched_core.specs.declared.reason.Reason.{Reason}
 use Rattle.store_run.specs.Finding.{IsFoundBy}
+use Rattle.store_run.specs.declared.found.Found.TheVariants.{Examined}
 
 examined : (seen : List Entry) (job : Job) (permitted : List (List ℕ)) (answer : Answer)
-    (found : Result (List PathInfo) Reason) → IsShowable seen → AreSeedsValid seen job
-    → ArePermittedPaths seen job permitted → IsExamining job permitted answer found
-    → IsFoundBy seen job (Ok answer) found
-examined seen job permitted answer found showable seeds are (inl refused) = inl refused
-examined seen job permitted answer found showable seeds are (inr is) = inr (record {
+    (verdict : Result (List PathInfo) Reason) → IsShowable seen → AreSeedsValid seen job
+    → ArePermittedPaths seen job permitted → IsExamining job permitted answer verdict
+    → IsFoundBy seen job (Ok answer) (Examined verdict)
+examined seen job permitted answer verdict showable seeds are (inl (refused, taken)) =
+    inl refused
+examined seen job permitted answer verdict showable seeds are (inr is) = inr (record {
   showable = showable;
   seeds = seeds;
-  verdict = (permitted, are, is);
+  is = (permitted, are, is);
 })
 
 pub found_by_answer : (seen : List Entry) (job : Job) (permitted : List (List ℕ)) (answer : Answer)
-    (outcome : Result Answer Reason) (found : Result (List PathInfo) Reason)
+    (outcome : Result Answer Reason) (verdict : Result (List PathInfo) Reason)
     → outcome ≡ Ok answer → IsShowable seen → AreSeedsValid seen job
-    → ArePermittedPaths seen job permitted → IsExamining job permitted answer found
-    → IsFoundBy seen job outcome found
-found_by_answer seen job permitted answer outcome found was showable seeds are is =
-    subst (λ (o : Result Answer Reason). IsFoundBy seen job o found) (sym was)
-    (examined seen job permitted answer found showable seeds are is)
+    → ArePermittedPaths seen job permitted → IsExamining job permitted answer verdict
+    → IsFoundBy seen job outcome (Examined verdict)
+found_by_answer seen job permitted answer outcome verdict was showable seeds are is =
+    subst (λ (o : Result Answer Reason). IsFoundBy seen job o (Examined verdict)) (sym was)
+    (examined seen job permitted answer verdict showable seeds are is)

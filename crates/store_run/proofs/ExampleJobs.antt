@@ -27,7 +27,8 @@ use Rattle.sched_core.specs.declared.job.JobOutput.{JobOutput}
 use Rattle.sched_core.specs.declared.reason.Reason.{Reason}
 use Rattle.sched_core.specs.declared.reason.Reason.TheVariants.{ExitStatus, HashMismatch, Killed, MissingOutput, NoStart, NotFlatFile, OutOfMemory, OutputCycle, ReadFault, TooLarge}
 use Rattle.sched_core.proofs.OneVerdict.{has_one_verdict}
-use Rattle.store_run.specs.Scheduling.{HasOneOutcome, IsVerdictOn}
+use Rattle.store_run.specs.Builders.{IsVerdictOn}
+use Rattle.store_run.specs.Scheduling.{HasOneOutcome}
 use Rattle.store_run.specs.ScheduleExample.{IsEmptyFolder, Leaves, Recipe, both, failing, left, making, may_leave, node_alone, out_alone, right}
 use Rattle.store_run.proofs.AlonePlans.{kind_alone, out_short}
 use denote.RawPtr.{null_ptr}

@@ -6,23 +6,20 @@ use Rattle.nix_drv.proofs.Fixed.{eqb_same}
 use Rattle.drv_graph.specs.Plans.{Graph}
 use Rattle.valid_table.specs.PathInfos.{PathInfo}
 use Rattle.valid_table.specs.declared.entry.Entry.{Entry}
-use Rattle.sched_core.specs.Jobs.{IsJob}
-use Rattle.sched_core.specs.Legal.{begins, begun, ended, failed}
+use Rattle.sched_core.specs.Legal.{begins}
 use Rattle.sched_core.specs.Runs.{History, Run}
 use Rattle.sched_core.specs.States.{Phase, Idle, Begun, Ended, Broken, phase_of}
-use Rattle.sched_core.specs.Verdicts.{IsVerdict}
 use Rattle.sched_core.specs.declared.job.Answer.{Answer}
 use Rattle.sched_core.specs.declared.job.Job.{Job}
-use Rattle.sched_core.specs.declared.reason.Event.{Event}
 use Rattle.sched_core.specs.declared.reason.Event.TheVariants.{Begin, Done as Finish, Fail}
 use Rattle.sched_core.specs.declared.reason.Reason.{Reason}
 use Rattle.sched_core.specs.declared.reason.Reason.TheVariants.{OutOfMemory}
 use Rattle.sched_core.proofs.Histories.{ready_is_idle}
 use Rattle.sched_core.proofs.OneVerdict.{has_one_verdict}
 use Rattle.sched_core.proofs.Seeds.{same_number}
-use Rattle.store_run.specs.Builders.{IsAnswered, IsVerdictBehind, answered_begin, answered_done, answered_fail, answered_opening}
+use Rattle.store_run.specs.Builders.{IsAnswered, IsVerdictBehind, IsVerdictOn, answered_begin, answered_done, answered_fail, answered_opening}
 use Rattle.store_run.specs.GivenOutcomes.{EqualOutcomesAreAlike, GivesEach, OutcomesDecide}
-use Rattle.store_run.specs.Scheduling.{HasOneOutcome, IsEndedRun, IsVerdictOn, IsWholeRun}
+use Rattle.store_run.specs.Scheduling.{HasOneOutcome, IsEndedRun, IsWholeRun}
 use Rattle.store_run.proofs.OneThreads.{has_one_thread}
 use Rattle.store_run.proofs.SameVerdicts.{same_kind, same_outputs, verdict_too}
 use Rattle.store_run.proofs.Schedules.{any_schedule, one_report_of, whole_runs_are_alike}

@@ -13,6 +13,7 @@ pub mod RunEndings
 pub mod ExampleLoads
 pub mod ScheduleExample
 pub mod Schedules
+pub mod SameOutcomes
 pub mod SameVerdicts
 pub mod Standings
 pub mod Telling

@@ -58,7 +58,7 @@ permitted_job graph d job node entries permitted is at are =
 -- each reference of what a derivation came to is permitted there
 pub refers_behind : (may : Job → Result Answer Reason → Type 0) (run : Run) (entries : List Entry)
     (d : ℕ) (node : Node) (infos : List PathInfo) → slice_get run.graph.nodes d ≡ Some node
-    → IsVerdictBehind may run entries d (Ok infos) → ArePermittedTo run entries node infos
+    → IsVerdictBehind may run entries d (Ok infos) → ArePermittedTo run.graph entries node infos
 refers_behind may run entries d node infos at behind info path has refers =
     let job = behind.job in
     let there : MayRefer (registered entries) job.seeds.items (outputs_of job) path =
@@ -111,7 +111,7 @@ module _ (may : Job → Result Answer Reason → Type 0) (run : Run) (history : 
           → IsOutcomeVerdict came.before came.behind.job outcome (Ok infos)
           → length infos ≡ length came.behind.job.outputs.items
       by (Ok answer) is = is.2.1.count
-      by (Err reason) is = absurd cc
+      by (Err reason) is = let no = is.2 in absurd cc
 
 -- ---- two histories
 
@@ -166,10 +166,10 @@ module _ (may : Job → Result Answer Reason → Type 0) (run : Run)
           (sym (same_permitted v w came came' is.0 is'.0 is.1 is'.1)) is'.2)
       by (Ok a) (Err r) may_a may_b is is' =
           outcome d came.behind.job came'.behind.job is.0 (Ok a) (Err r) v w came.behind.is_job
-          came'.behind.is_job may_a may_b is.2 is'
+          came'.behind.is_job may_a may_b is.2 is'.2
       by (Err r) (Ok b) may_a may_b is is' =
           outcome d came.behind.job came'.behind.job is'.0 (Err r) (Ok b) v w came.behind.is_job
-          came'.behind.is_job may_a may_b is is'.2
+          came'.behind.is_job may_a may_b is.2 is'.2
       by (Err r) (Err s) may_a may_b is is' =
           outcome d came.behind.job came'.behind.job [] (Err r) (Err s) v w came.behind.is_job
-          came'.behind.is_job may_a may_b is is'
+          came'.behind.is_job may_a may_b is.2 is'.2

@@ -1,6 +1,5 @@
 -- The verdict on an answer is one for all jobs of a derivation.
-use Rattle.std.proofs.Common.{◌≡◌, ◌∙◌, ◌<◌, ℕ, pos, List, length, Option, Some, None, Result, Ok, Err, sym, ap, subst}
-use Rattle.std.specs.Prelude.{◌≢◌}
+use Rattle.std.proofs.Common.{◌≡◌, ◌∙◌, ◌<◌, ℕ, pos, List, length, Some, None, Result, Ok, Err, sym, ap, subst}
 use Rattle.std.proofs.lemmas.List.{length-map}
 use Rattle.nix_names.proofs.Lists.{same_element}
 use Rattle.drv_graph.specs.Kinds.{HasKind}
@@ -11,7 +10,7 @@ use Rattle.drv_graph.proofs.KindAnswers.{one_kind}
 use Rattle.ref_scan.specs.declared.tree.Tree.{Tree}
 use Rattle.valid_table.specs.PathInfos.{PathInfo}
 use Rattle.sched_core.specs.Jobs.{IsJob, output_paths}
-use Rattle.sched_core.specs.Verdicts.{AreRecords, IsCyclic, IsFaulty, IsFirstFault, IsFirstNumber, IsTaken, IsThere, IsTreeFault, IsVerdict, outputs_of, tree_at}
+use Rattle.sched_core.specs.Verdicts.{AreRecords, IsCyclic, IsFirstFault, IsFirstNumber, IsTaken, IsThere, IsTreeFault, IsVerdict, outputs_of, tree_at}
 use Rattle.sched_core.specs.declared.job.Answer.{Answer}
 use Rattle.sched_core.specs.declared.job.Job.{Job}
 use Rattle.sched_core.specs.declared.job.JobOutput.{JobOutput}

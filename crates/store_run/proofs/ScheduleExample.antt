@@ -107,16 +107,20 @@ none_refers info path has refers =
     (λ none. Contains-nothing info none) (Contains-cons_cases nothing_in [] info has)
 
 -- what right made may be registered
-right_allowed : IsAllowed both [] right (nothing_in ∷ [])
+right_allowed : IsAllowed both.graph [] right (nothing_in ∷ [])
 right_allowed = record {
-  count = refl;
+  records = record {
+    own = record {
+      count = refl;
+      fixed = λ method digest kind info has.
+          let clash : Addressed ≡ Fixed method digest = one_kind right.drv Addressed
+          (Fixed method digest) (kind_alone making) kind in
+          absurd cc;
+    };
+    acyclic = no_cycle (output_paths right.drv);
+  };
   new = λ path own valid. Contains-nothing path valid;
   permitted = λ info path has refers. absurd (none_refers info path has refers);
-  fixed = λ method digest kind info has.
-      let clash : Addressed ≡ Fixed method digest = one_kind right.drv Addressed
-      (Fixed method digest) (kind_alone making) kind in
-      absurd cc;
-  acyclic = no_cycle (output_paths right.drv);
 }
 
 right_entry : IsEntryOf right (nothing_in ∷ []) made

@@ -5,7 +5,7 @@ use Rattle.valid_table.specs.Valid.{IsJournal}
 use Rattle.valid_table.specs.declared.entry.Entry.{Entry}
 use Rattle.valid_table.proofs.JournalLists.{closed_references_valid}
 use Rattle.sched_core.specs.Legal.{IsLegal}
-use Rattle.sched_core.specs.Reports.{IsReport}
+use Rattle.sched_core.specs.Reports.{IsReport, IsReportIn}
 use Rattle.sched_core.specs.Runs.{History, IsWanted, Run, state_in}
 use Rattle.sched_core.specs.States.{Broken, Idle, phase_of}
 use Rattle.sched_core.specs.declared.job.Answer.{Answer}
@@ -18,7 +18,7 @@ use Rattle.sched_core.proofs.OneReport.{one_report}
 use Rattle.sched_core.proofs.Registering.{entries_are_journal}
 use Rattle.sched_core.proofs.Seeds.{opened_with}
 use Rattle.store_run.specs.OneThread.{HadTurns}
-use Rattle.store_run.specs.Scheduling.{AnySchedule, HasOneOutcome, IsWholeRun, OneReport, RealisedIsEnded, RealisedIsWhole, WholeRunsAreAlike}
+use Rattle.store_run.specs.Scheduling.{AlikeReportTheSame, AnySchedule, HasOneOutcome, IsWholeRun, OneReport, RealisedIsEnded, RealisedIsWhole, SameReports, WholeRunsAreAlike}
 use Rattle.store_run.proofs.Alike.{IsAccounted, are_alike}
 use Rattle.store_run.proofs.Telling.{begun_is, broke_is, drv_paths, from_is, made_is}
 use Rattle.store_run.proofs.ToldRuns.{IsTold, told_begin, told_done, told_fail, told_from, told_opening}
@@ -120,3 +120,26 @@ one_report_of may run history other a b whole one of_a of_b =
     (subst (λ (opens : List Entry). IsReport run.graph (IsWanted run opens) (state_in run other) b)
     turned.opening_is of_b) in
     one_report run.graph (IsWanted run history.opening) (state_in run history) a b of_a there
+
+-- so does whatever is a report
+pub alike_report_the_same : AlikeReportTheSame
+alike_report_the_same run history other alike opening text = (there, back)
+  where
+    states : state_in run history ≡ state_in run other
+    states = λ i d. alike.states d i
+
+    there : IsReportIn run history text → IsReportIn run other text
+    there is = subst (λ (s : ℕ → State). IsReport run.graph (IsWanted run other.opening) s text) states
+        (subst (λ (opens : List Entry). IsReport run.graph (IsWanted run opens) (state_in run history)
+        text) (sym opening) is)
+
+    back : IsReportIn run other text → IsReportIn run history text
+    back is = subst (λ (s : ℕ → State). IsReport run.graph (IsWanted run history.opening) s text)
+        (sym states)
+        (subst (λ (opens : List Entry). IsReport run.graph (IsWanted run opens) (state_in run other)
+        text) opening is)
+
+pub same_reports : (may : Job → Result Answer Reason → Type 0) → SameReports may
+same_reports may run history other whole one =
+    alike_report_the_same run history other (any_schedule may run history other whole one)
+    (turned_is may run whole.end.plan history.opening (length run.graph.nodes) other one).opening_is

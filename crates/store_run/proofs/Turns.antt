@@ -206,15 +206,13 @@ module _ (may : Job → Result Answer Reason → Type 0) (run : Run) (sound : Is
             verdicts_are_registrable run.graph d behind.job node is.0 answer infos behind.is_job at
                 is.2,
           )
-          by (Err reason) is = absurd cc
+          by (Err reason) is = let no = is.2 in absurd cc
 
-      allowed : IsAllowed run history.entries node infos
+      allowed : IsAllowed run.graph history.entries node infos
       allowed = record {
-        count = registrable.1.count;
+        records = registrable.1.records;
         new = outputs_new;
         permitted = refers_behind may run history.entries d node infos at behind;
-        fixed = registrable.1.fixed;
-        acyclic = registrable.1.acyclic;
       }
 
   -- a turn that was passed over

@@ -1,6 +1,6 @@
 -- *Builder*: what a job may come to, and what a run makes of it (Nix manual, "Building"; Dolstra's
 -- thesis, section 5.5.1; the relation is this product's own).
-use Rattle.std.specs.Prelude.{◌≡◌, ◌⊎◌, ℕ, Some, List, Result, Ok, Err, slice_get}
+use Rattle.std.specs.Prelude.{◌≡◌, ◌⊎◌, ℕ, Some, List, Result, Ok, Err, IfOk, slice_get}
 use Rattle.drv_graph.specs.Nodes.{Node}
 use Rattle.valid_table.specs.PathInfos.{PathInfo}
 use Rattle.valid_table.specs.declared.entry.Entry.{Entry}
@@ -14,13 +14,20 @@ use Rattle.sched_core.specs.declared.job.Job.{Job}
 use Rattle.sched_core.specs.declared.reason.Reason.{Reason}
 use Rattle.sched_core.specs.declared.reason.Reason.TheVariants.{OutOfMemory}
 
--- *Verdict* on an outcome behind some entries: the reason why there is no answer, or the verdict on
--- the answer by the paths that are permitted to the job there
+-- *Verdict* on an outcome by permitted paths: the reason why there is no answer, or the verdict on
+-- the answer
+abbrev pub IsVerdictOn : Job → (permitted : List (List ℕ)) → Result Answer Reason
+    → Result (List PathInfo) Reason → Type 0
+IsVerdictOn job permitted (Ok answer) verdict = IsVerdict job permitted answer verdict
+IsVerdictOn job permitted (Err reason) verdict = verdict ≡ Err reason
+
+-- *Verdict* on an outcome behind some entries: that by what is permitted there, which an answer
+-- alone needs
 abbrev pub IsOutcomeVerdict : List Entry → Job → Result Answer Reason
     → Result (List PathInfo) Reason → Type 0
-IsOutcomeVerdict entries job (Ok answer) verdict = (permitted : List (List ℕ))
-    × ArePermittedPaths entries job permitted × IsVerdict job permitted answer verdict
-IsOutcomeVerdict entries job (Err reason) verdict = verdict ≡ Err reason
+IsOutcomeVerdict entries job outcome verdict = (permitted : List (List ℕ))
+    × IfOk outcome (λ answer. ArePermittedPaths entries job permitted)
+    × IsVerdictOn job permitted outcome verdict
 
 -- what a job may come to behind some entries: the verdict on an outcome that may be given for it
 abbrev pub MayComeTo : (may : Job → Result Answer Reason → Type 0) → List Entry → Job

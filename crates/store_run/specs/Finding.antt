@@ -4,12 +4,14 @@ use Rattle.std.specs.Prelude.{◌≡◌, ◌⊎◌, ℕ, List, Result, Ok, Err, 
 use Rattle.valid_table.specs.PathInfos.{PathInfo}
 use Rattle.valid_table.specs.declared.entry.Entry.{Entry}
 use Rattle.valid_view.specs.Shown.{IsShowable}
-use Rattle.sched_core.specs.Books.{ArePermittedPaths, AreSeedsValid, Leased}
+use Rattle.sched_core.specs.Books.{ArePermittedPaths, AreSeedsValid, IsBooksLease, Leased, Ledger}
 use Rattle.sched_core.specs.declared.job.Answer.{Answer}
 use Rattle.sched_core.specs.declared.job.Job.{Job}
 use Rattle.sched_core.specs.declared.reason.Reason.{Reason}
 use Rattle.sched_core.specs.declared.reason.Reason.TheVariants.{OutOfMemory}
 use Rattle.store_run.specs.Builders.{IsOutcomeVerdict}
+use Rattle.store_run.specs.declared.found.Found.{Found}
+use Rattle.store_run.specs.declared.found.Found.TheVariants.{Examined, Unanswered, NoMemory, NoView}
 
 -- a lease was told of a list by which all that its job is built from is valid
 abbrev pub IsTold : {Told : Type 0} → (names : Told → List Entry → Type 0) → Leased Told → Type 0
@@ -19,23 +21,31 @@ IsTold names lease = MatchOption lease.told ⊥
 -- The verdict on an answer by a list that a view may show, in which all that the job is built from
 -- is valid.
 pub record IsSeenVerdict (seen : List Entry) (job : Job) (answer : Answer)
-    (found : Result (List PathInfo) Reason) : Type 0 where
+    (verdict : Result (List PathInfo) Reason) : Type 0 where
   pub showable : IsShowable seen
   pub seeds : AreSeedsValid seen job
-  pub verdict : IsOutcomeVerdict seen job (Ok answer) found
+  pub is : IsOutcomeVerdict seen job (Ok answer) verdict
 
--- What is found of an outcome by a list: the verdict on an answer, unless memory was refused; or
--- the reason why there is none.
-abbrev pub IsFoundBy : (seen : List Entry) → Job → Result Answer Reason
-    → Result (List PathInfo) Reason → Type 0
-IsFoundBy seen job (Ok answer) found = (found ≡ Err OutOfMemory)
-    ⊎ IsSeenVerdict seen job answer found
-IsFoundBy seen job (Err reason) found = found ≡ Err reason
+-- there is nothing to see: memory was refused, or the view is gone
+abbrev pub IsUnseen : Found → Type 0
+IsUnseen NoMemory = Unit {0}
+IsUnseen NoView = Unit {0}
+IsUnseen (Examined verdict) = ⊥
+IsUnseen (Unanswered reason) = ⊥
+
+-- What is found of an outcome by a list: of an answer the verdict, for which memory may be refused,
+-- or that there is nothing to see; and else the reason why there is no answer.
+abbrev pub IsFoundBy : (seen : List Entry) → Job → Result Answer Reason → Found → Type 0
+IsFoundBy seen job (Ok answer) (Examined verdict) = (verdict ≡ Err OutOfMemory)
+    ⊎ IsSeenVerdict seen job answer verdict
+IsFoundBy seen job (Ok answer) other = IsUnseen other
+IsFoundBy seen job (Err reason) (Unanswered why) = why ≡ reason
+IsFoundBy seen job (Err reason) other = ⊥
 
 -- What may be found of a job by a list: what is found of an outcome that a builder may give, or of
 -- none, where memory was refused to the builder.
 pub record MayBeFound (may : Job → Result Answer Reason → Type 0) (seen : List Entry) (job : Job)
-    (found : Result (List PathInfo) Reason) : Type 0 where
+    (found : Found) : Type 0 where
   pub outcome : Result Answer Reason
   pub given : (outcome ≡ Err OutOfMemory) ⊎ may job outcome
   pub by : IsFoundBy seen job outcome found
@@ -44,3 +54,9 @@ pub record MayBeFound (may : Job → Result Answer Reason → Type 0) (seen : Li
 abbrev pub StaysPermitted : (before after : List Entry) → Job → Type 0
 StaysPermitted before after job = (permitted : List (List ℕ)) → ArePermittedPaths before job permitted
     → ArePermittedPaths after job permitted
+
+-- a reader has caught up with a book: what was permitted to a job of the book's by the list that
+-- the reader saw, and in which the job's seeds are valid, is permitted behind the book's entries
+abbrev pub HasCaughtUp : (seen : List Entry) → Ledger → Job → Type 0
+HasCaughtUp seen book job = (number : ℕ) → IsBooksLease book.run book.history job number
+    → IsShowable seen → AreSeedsValid seen job → StaysPermitted seen book.history.entries job

@@ -4,6 +4,7 @@ pub mod GivenOutcomes
 pub mod Numbers
 pub mod OneThread
 pub mod Realising
+pub mod SameOutcomes
 pub mod ScheduleExample
 pub mod Scheduling
 pub mod Sharing

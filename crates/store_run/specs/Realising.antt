@@ -1,7 +1,9 @@
 -- *Realise*: how a run ends (this product's own).
-use Rattle.std.specs.Prelude.{◌≡◌, ◌≤◌, ℕ, Option, Some, None, List, Result}
+use Rattle.std.specs.Prelude.{◌≡◌, ◌≤◌, ℕ, Option, Some, None, List, Result, Ok, Err}
 use Rattle.drv_graph.specs.Plans.{Graph}
 use Rattle.valid_table.specs.declared.entry.Entry.{Entry}
+use Rattle.valid_table.specs.declared.fault.OutletFault.{OutletFault}
+use Rattle.valid_table.specs.declared.fault.OutletFault.TheVariants as outlet
 use Rattle.sched_core.specs.Books.{IsRunSettled, Ledger}
 use Rattle.sched_core.specs.Legal.{IsLegal}
 use Rattle.sched_core.specs.declared.fault.BookFault.{BookFault}
@@ -49,11 +51,50 @@ pub record IsCutOff (may : Job → Result Answer Reason → Type 0) (plan : Grap
   pub left : IsLeft may plan system opening book
   pub unsettled : IsRunSettled book.run book.history → ⊥
 
--- why a run ends whose book isn't settled, by what stopped it, if anything did
-abbrev pub fault_by : (stop : Option BookFault) → RunFault
-fault_by (Some RefusedMemory) = NoMemory
-fault_by (Some other) = ThreadFault
-fault_by None = ThreadFault
+-- the fault of a run whose outlet can't be opened
+abbrev pub fault_of_outlet : OutletFault → RunFault
+fault_of_outlet outlet.NoMemory = NoMemory
+fault_of_outlet outlet.NoView = NoView
+
+-- A book is handed out that is over what was lent, and not settled.
+pub record IsHandedOut (plan : Graph) (system : List ℕ) (opening : List Entry)
+    (book kept : Ledger) : Type 0 where
+  pub same : kept ≡ book
+  pub over : IsOverLent plan system opening book
+  pub unsettled : IsRunSettled book.run book.history → ⊥
+
+-- By which fault a run ends whose workers have ended, and with which book: by `ForeignPlan` without
+-- one, where the book isn't over what was lent; by `NoMemory` with an unsettled one exactly where
+-- want of memory stopped the run; and by `ThreadFault` with an unsettled one else.
+abbrev pub IsRunEndFault : Graph → (system : List ℕ) → (opening : List Entry) → (book : Ledger)
+    → (stop : Option BookFault) → RunFault → (left : Option Ledger) → Type 0
+IsRunEndFault plan system opening book stop ForeignPlan None =
+    IsOverLent plan system opening book → ⊥
+IsRunEndFault plan system opening book stop NoMemory (Some kept) =
+    IsHandedOut plan system opening book kept × (stop ≡ Some RefusedMemory)
+IsRunEndFault plan system opening book stop ThreadFault (Some kept) =
+    IsHandedOut plan system opening book kept × (stop ≡ Some RefusedMemory → ⊥)
+IsRunEndFault plan system opening book stop fault left = ⊥
+
+-- how a run ends whose workers have ended, by the book that they left and what stopped it, if
+-- anything did: well where the book is over what was lent, and settled
+abbrev pub IsRunEnd : Graph → (system : List ℕ) → (opening : List Entry) → (book : Ledger)
+    → (stop : Option BookFault) → Result Ledger (RunFault × Option Ledger) → Type 0
+IsRunEnd plan system opening book stop (Ok kept) = (kept ≡ book)
+    × IsOverLent plan system opening book × IsRunSettled book.run book.history
+IsRunEnd plan system opening book stop (Err e) =
+    IsRunEndFault plan system opening book stop e.0 e.1
+
+-- A run whose workers have ended: they left a book with a legal history, in which what became of
+-- each derivation is a verdict on what a builder may give, and the run ends by it.
+pub record IsRun (may : Job → Result Answer Reason → Type 0) (plan : Graph) (system : List ℕ)
+    (opening : List Entry) (result : Result Ledger (RunFault × Option Ledger))
+    : Type 0 where
+  pub book : Ledger
+  pub stop : Option BookFault
+  pub legal : IsLegal book.run book.history
+  pub answered : IsAnswered may book.run book.history
+  pub end : IsRunEnd plan system opening book stop result
 
 -- why a run by so many workers gives no settled book, and what it leaves behind
 abbrev pub IsRunFault : (may : Job → Result Answer Reason → Type 0) → Graph → (system : List ℕ)

@@ -1,6 +1,6 @@
 -- *Any schedule*: whatever the number of workers and the order of their turns, a run that had
 -- memory ends as one thread would (this product's own).
-use Rattle.std.specs.Prelude.{◌≡◌, ◌↔◌, ◌<◌, ℕ, List, Result, Ok, Err, length}
+use Rattle.std.specs.Prelude.{◌≡◌, ◌↔◌, ◌<◌, ℕ, List, Result, length}
 use Rattle.drv_graph.specs.Plans.{Graph}
 use Rattle.drv_graph.specs.SoundGraphs.{IsSound}
 use Rattle.valid_table.specs.Entries.{registered}
@@ -12,22 +12,14 @@ use Rattle.sched_core.specs.Jobs.{IsJob}
 use Rattle.sched_core.specs.Legal.{IsLegal}
 use Rattle.sched_core.specs.Reports.{IsReportIn}
 use Rattle.sched_core.specs.Runs.{History, IsWanted, Run, state_in}
-use Rattle.sched_core.specs.Verdicts.{IsVerdict}
 use Rattle.sched_core.specs.declared.job.Answer.{Answer}
 use Rattle.sched_core.specs.declared.job.Job.{Job}
 use Rattle.sched_core.specs.declared.reason.Reason.{Reason}
 use Rattle.sched_core.specs.declared.reason.Reason.TheVariants.{OutOfMemory}
 use Rattle.sched_core.specs.declared.reason.State.TheVariants.{Failed}
-use Rattle.store_run.specs.Builders.{IsAnswered}
+use Rattle.store_run.specs.Builders.{IsAnswered, IsVerdictOn}
 use Rattle.store_run.specs.OneThread.{IsOneThread}
 use Rattle.store_run.specs.Realising.{IsRealised}
-
--- *Verdict* on an outcome by permitted paths: the reason why there is no answer, or the verdict on
--- the answer
-abbrev pub IsVerdictOn : Job → (permitted : List (List ℕ)) → Result Answer Reason
-    → Result (List PathInfo) Reason → Type 0
-IsVerdictOn job permitted (Ok answer) verdict = IsVerdict job permitted answer verdict
-IsVerdictOn job permitted (Err reason) verdict = verdict ≡ Err reason
 
 -- each derivation of a plan has one outcome: whatever paths are permitted, the verdicts on two
 -- outcomes that may be given for jobs of it are the same
@@ -83,6 +75,12 @@ abbrev pub WholeRunsAreAlike : (may : Job → Result Answer Reason → Type 0) �
 WholeRunsAreAlike may = (run : Run) (history other : History) → IsWholeRun may run history
     → IsWholeRun may run other → other.opening ≡ history.opening → AreAlike run history other
 
+-- alike histories over one opening have the same reports
+abbrev pub AlikeReportTheSame : Type 0
+AlikeReportTheSame = (run : Run) (history other : History) → AreAlike run history other
+    → other.opening ≡ history.opening
+    → (text : List ℕ) → IsReportIn run history text ↔ IsReportIn run other text
+
 -- *Any schedule*: what a whole run leaves behind is alike with what one thread would leave behind
 abbrev pub AnySchedule : (may : Job → Result Answer Reason → Type 0) → Type 0
 AnySchedule may = (run : Run) (history other : History) → IsWholeRun may run history
@@ -98,3 +96,9 @@ abbrev pub OneReport : (may : Job → Result Answer Reason → Type 0) → Type 
 OneReport may = (run : Run) (history other : History) (a b : List ℕ) → IsWholeRun may run history
     → IsOneThread may run history.opening other
     → IsReportIn run history a → IsReportIn run other b → a ≡ b
+
+-- whatever is a report of the run is one of the thread, and the other way round
+abbrev pub SameReports : (may : Job → Result Answer Reason → Type 0) → Type 0
+SameReports may = (run : Run) (history other : History) → IsWholeRun may run history
+    → IsOneThread may run history.opening other
+    → (text : List ℕ) → IsReportIn run history text ↔ IsReportIn run other text

@@ -7,8 +7,15 @@ use Rattle.sched_core.specs.declared.fault.BookFault.TheVariants.{NoMemory, NoVi
 use Rattle.sched_core.specs.declared.job.Job.{Job}
 use Rattle.sched_core.specs.declared.reason.Reason.{Reason}
 use Rattle.sched_core.specs.declared.reason.Reason.TheVariants.{OutOfMemory}
-use Rattle.store_run.specs.declared.shared.Step.{Step}
-use Rattle.store_run.specs.declared.shared.Step.TheVariants.{Build, Wait, End}
+use Rattle.valid_view.specs.declared.fault.ViewFault.{ViewFault}
+use Rattle.store_run.specs.declared.found.Found.{Found}
+use Rattle.store_run.specs.declared.found.Found.TheVariants as found
+use Rattle.store_run.specs.declared.found.LeaseEnd.{LeaseEnd}
+use Rattle.store_run.specs.declared.found.LeaseEnd.TheVariants.{Registered, Failed, Stopped}
+use Rattle.store_run.specs.declared.turn.Step.{Step}
+use Rattle.store_run.specs.declared.turn.Step.TheVariants.{Build, Wait, End}
+use Rattle.store_run.specs.declared.turn.Wake.{Wake}
+use Rattle.store_run.specs.declared.turn.Wake.TheVariants.{Nobody, One, All}
 
 -- What is shared: the book, and why the run stops, if it does.
 pub record Share : Type 0 where
@@ -63,6 +70,19 @@ IsStep before after (Build lease) = IsGiving before after lease.job lease.number
 IsStep before after Wait = IsWaiting before after
 IsStep before after End = IsOver before after ⊎ IsRefused before after
 
+-- something more can begin
+abbrev pub CanGoOn : Share → Type 0
+CanGoOn share = (d : ℕ) × CanBegin share.book.run share.book.history d
+
+-- whom a worker wakes behind its step: all where the run ends, one where it takes a lease and
+-- something more can begin, and else nobody
+abbrev pub IsWake : {Told : Type 0} → (after : Share) → Step Told → Wake → Type 0
+IsWake after (Build lease) Nobody = CanGoOn after → ⊥
+IsWake after (Build lease) One = CanGoOn after
+IsWake after (Build lease) All = ⊥
+IsWake after Wait wake = wake ≡ Nobody
+IsWake after End wake = wake ≡ All
+
 -- the first cause of a stop: what was the cause before, or else this fault
 abbrev pub first_cause : Option BookFault → BookFault → Option BookFault
 first_cause (Some cause) fault = Some cause
@@ -82,8 +102,14 @@ pub record IsForeign (before after : Share) (job : Job) (number : ℕ) : Type 0 
 pub record IsUnlawful (before after : Share) (job : Job) (number : ℕ) (infos : List PathInfo)
     : Type 0 where
   pub lease : HasGiven before job number
-  pub not_allowed : IsNotAllowed before.book.run before.book.history.entries job.derivation infos
+  pub not_allowed : IsNotAllowed before.book.run.graph before.book.history.entries
+      job.derivation infos
   pub stopping : IsStopping before after NotLawful
+
+-- A lease was given up, since there is no verdict that can be used: the view is gone.
+pub record IsGone (before after : Share) (end : LeaseEnd) : Type 0 where
+  pub is : end ≡ Stopped NoView
+  pub stopping : IsStopping before after NoView
 
 -- A lease's outputs were registered with these records.
 pub record IsBuilt (before after : Share) (job : Job) (number : ℕ) (infos : List PathInfo)
@@ -98,20 +124,45 @@ pub record IsFailed (before after : Share) (job : Job) (number : ℕ) (reason : 
   pub stop : after.stop ≡ before.stop
 
 -- how a lease ends for a reason: its derivation failed, or it isn't the book's
-abbrev pub IsNoting : (before after : Share) → Job → (number : ℕ) → Reason → Type 0
-IsNoting before after job number reason = IsFailed before after job number reason
-    ⊎ IsForeign before after job number
+abbrev pub IsNoting : (before after : Share) → Job → (number : ℕ) → Reason → LeaseEnd → Type 0
+IsNoting before after job number reason Registered = ⊥
+IsNoting before after job number reason (Failed why) =
+    (why ≡ reason) × IsFailed before after job number reason
+IsNoting before after job number reason (Stopped ForeignLease) = IsForeign before after job number
+IsNoting before after job number reason (Stopped other) = ⊥
 
--- how a lease ends with these records: its outputs were registered, or may not be so; or it ends
--- since memory was refused
-abbrev pub IsRegistering : (before after : Share) → Job → (number : ℕ) → List PathInfo → Type 0
-IsRegistering before after job number infos = IsBuilt before after job number infos
-    ⊎ IsUnlawful before after job number infos ⊎ IsNoting before after job number OutOfMemory
-
--- how a lease ends by what was found of its job; or the view is gone, which stops the run
-abbrev pub IsEnding : (before after : Share) → Job → (number : ℕ) → Result (List PathInfo) Reason
+-- how a lease ends with these records: its outputs were registered; memory was refused for that; or
+-- the lease isn't the book's, or may not be registered so
+abbrev pub IsRegistering : (before after : Share) → Job → (number : ℕ) → List PathInfo → LeaseEnd
     → Type 0
-IsEnding before after job number (Ok infos) =
-    IsRegistering before after job number infos ⊎ IsStopping before after NoView
-IsEnding before after job number (Err reason) =
-    IsNoting before after job number reason ⊎ IsStopping before after NoView
+IsRegistering before after job number infos Registered = IsBuilt before after job number infos
+IsRegistering before after job number infos (Failed why) =
+    (why ≡ OutOfMemory) × IsFailed before after job number OutOfMemory
+IsRegistering before after job number infos (Stopped ForeignLease) =
+    IsForeign before after job number
+IsRegistering before after job number infos (Stopped NotLawful) =
+    IsUnlawful before after job number infos
+IsRegistering before after job number infos (Stopped other) = ⊥
+
+-- how a lease ends by a verdict
+abbrev pub IsNotingVerdict : (before after : Share) → Job → (number : ℕ)
+    → Result (List PathInfo) Reason → LeaseEnd → Type 0
+IsNotingVerdict before after job number (Ok infos) end =
+    IsRegistering before after job number infos end
+IsNotingVerdict before after job number (Err reason) end =
+    IsNoting before after job number reason end
+
+-- How a lease ends by what was found of its job, and by whether the reader caught up with the book:
+-- a verdict is noted where it did, and the run stops where the view is gone, for no other cause but
+-- those above.
+abbrev pub IsEnding : {A : Type 0} → (before after : Share) → Job → (number : ℕ) → Found
+    → (caught_up : Result A ViewFault) → LeaseEnd → Type 0
+IsEnding before after job number (found.Examined verdict) (Ok up) end =
+    IsNotingVerdict before after job number verdict end
+IsEnding before after job number (found.Examined verdict) (Err fault) end =
+    IsGone before after end
+IsEnding before after job number (found.Unanswered reason) caught_up end =
+    IsNoting before after job number reason end
+IsEnding before after job number found.NoMemory caught_up end =
+    IsNoting before after job number OutOfMemory end
+IsEnding before after job number found.NoView caught_up end = IsGone before after end

@@ -2,7 +2,9 @@
 ghost use Rattle.std.specs.Prelude.{◌≡◌};
 ghost use Rattle.store_run.specs.Numbers.{fault_number_of};
 
+use std::alloc::AllocError;
 use thiserror::Error;
+use valid_table::OutletFault;
 
 /// Why a run ends without a settled book.
 #[derive(Clone, Copy, Debug, PartialEq, Eq, Error)]
@@ -35,6 +37,29 @@ impl RunFault {
             RunFault::ThreadFault => 71,
             RunFault::NoMemory => 72,
             RunFault::ForeignPlan => 73,
+        }
+    }
+}
+
+impl From<AllocError> for RunFault {
+    ghost use Rattle.store_run.specs.declared.fault.RunFault.TheVariants.{NoMemory};
+
+    ghost from_gives = { λ _ fault. fault ≡ NoMemory };
+
+    fn from(_: AllocError) -> Self {
+        RunFault::NoMemory
+    }
+}
+
+impl From<OutletFault> for RunFault {
+    ghost use Rattle.store_run.specs.Realising.{fault_of_outlet};
+
+    ghost from_gives = { λ outlet fault. fault ≡ fault_of_outlet outlet };
+
+    fn from(fault: OutletFault) -> Self {
+        match fault {
+            OutletFault::NoMemory => RunFault::NoMemory,
+            OutletFault::NoView => RunFault::NoView,
         }
     }
 }

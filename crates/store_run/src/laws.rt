@@ -8,17 +8,25 @@ ghost use Rattle.sched_core.specs.declared.reason.Reason.TheVariants.{ExitStatus
 ghost use Rattle.sched_core.specs.declared.reason.State.TheVariants.{Done, Failed};
 ghost use Rattle.store_run.specs.GivenOutcomes.{EqualOutcomesAreAlike, OutcomesDecide};
 ghost use Rattle.store_run.specs.OneThread.{IsOneThread};
+ghost use Rattle.store_run.specs.SameOutcomes.{AllowedIsOne};
 ghost use Rattle.store_run.specs.ScheduleExample.{Overlap, both, in_turn, left, may_leave, right, side_by_side, two_files};
-ghost use Rattle.store_run.specs.Scheduling.{AnySchedule, HasOneThread, IsWholeRun, OneReport, RealisedIsEnded, RealisedIsWhole, WholeRunsAreAlike};
+ghost use Rattle.store_run.specs.Scheduling.{AlikeReportTheSame, AnySchedule, HasOneThread, IsWholeRun, OneReport, RealisedIsEnded, RealisedIsWhole, SameReports, WholeRunsAreAlike};
 
 use crate::build::Build;
 
 /// What a whole run leaves behind, one that had memory and whose builders may give one outcome to
 /// each derivation, is alike with what one thread would leave behind: each derivation in the same
-/// state, each path with the same record; and the report is the same.
+/// state, each path with the same record; the report is the same, and a report of the one is one of
+/// the other.
 pub fn any_schedule<B: Build>()
     ensures alike { AnySchedule B.may }
     ensures report { OneReport B.may }
+    ensures same { SameReports B.may }
+{}
+
+/// Alike histories over one opening have the same reports.
+pub fn alike_runs_report_the_same()
+    ensures { AlikeReportTheSame }
 {}
 
 /// To each whole run there is a history of one thread over the same opening.
@@ -29,6 +37,12 @@ pub fn one_thread_is_there<B: Build>()
 /// Two whole runs over one opening are alike.
 pub fn whole_runs_are_alike<B: Build>()
     ensures { WholeRunsAreAlike B.may }
+{}
+
+/// Where builders may give one outcome to each derivation of a plan, trees of the same bytes counting
+/// as one, the verdicts are one.
+pub fn allowed_outcomes_are_one<B: Build>()
+    ensures { AllowedIsOne B.may }
 {}
 
 /// What `realise` leaves behind at Ok over a loaded plan is a run that went to its end with memory

@@ -3,7 +3,9 @@
 //! | Module | What is in it |
 //! |---|---|
 //! | `build` | builders, which make what a job asks for |
+//! | `found` | what a worker finds of a job, and what becomes of a lease |
 //! | `shared` | what the workers of a run share: the book, and why the run stops |
+//! | `turn` | what a worker is to do next, and whom it wakes |
 //! | `verdict` | the verdict on what the job of a lease came to, by what a reader sees |
 //! | `locked` | that, behind a lock on which workers wait |
 //! | `worker` | what one worker does |
@@ -15,11 +17,13 @@
 
 mod build;
 mod fault;
+mod found;
 pub mod laws;
 mod lent;
 mod locked;
 mod run;
 mod shared;
+mod turn;
 mod verdict;
 mod worker;
 

@@ -2,10 +2,13 @@
 ghost use Rattle.std.specs.Prelude.{IfSome};
 ghost use Rattle.store_run.specs.Builders.{IsAnswered};
 ghost use Rattle.store_run.specs.Finding.{IsTold, MayBeFound};
+ghost use Rattle.store_run.specs.Sharing.{IfGiven};
 
 use crate::build::Build;
-use crate::shared::{Shared, Step};
-use sched_core::{Book, BookFault, Checked, Lease, Reason};
+use crate::found::{Found, LeaseEnd};
+use crate::shared::Shared;
+use crate::turn::{Step, Turn, Wake};
+use sched_core::{Book, BookFault, Lease};
 use std::sync::{Condvar, Mutex, Wait};
 use valid_table::Outlet;
 use valid_view::{Naming, Tells, ViewReader};
@@ -29,49 +32,53 @@ impl<O: Outlet, B: Build> Locked<O, B> {
         }
     }
 
-    // A lease of something that is ready, for which the worker waits, and how many derivations are
-    // unsettled then; none where the run ends. Each lease wakes another worker, for which something
-    // may be ready, and the end wakes all.
+    // A lease of something that is ready, for which the worker waits, and how many wanted
+    // derivations are unsettled then; none where the run ends. Wakes whom its turn says.
     pub(crate) fn take<R: Wait>(&self, rt: &R) -> Option<(Lease<O::Told>, usize)>
         ensures { IfSome result (λ taken. IsTold O.names taken.0) }
     {
         let mut shared = self.shared.lock(rt);
         for _ in rt.forever() {
-            match shared.step() {
-                Step::Build(lease) => {
-                    let unsettled = shared.unsettled();
-                    drop(shared);
-                    self.changed.notify_one();
-                    return Some((lease, unsettled));
+            let Turn {
+                step,
+                wake,
+                unsettled,
+            } = shared.turn();
+            let taken = match step {
+                Step::Build(lease) => Some((lease, unsettled)),
+                Step::End => None,
+                Step::Wait => {
+                    shared = self.changed.wait(rt, shared);
+                    continue;
                 }
-                Step::Wait => shared = self.changed.wait(rt, shared),
-                Step::End => break,
-            }
+            };
+            drop(shared);
+            self.wake(wake);
+            return taken;
         }
-        drop(shared);
-        self.changed.notify_all();
-        None
+        unreachable!()
     }
 
-    // Ends a lease by what was found of its job by the list that the reader saw, or gives it up
-    // where nothing was, since the view is gone. Answers how many derivations are unsettled then.
+    // Ends a lease by what was found of its job by the list that the reader saw, and has a turn, in
+    // one hold of the lock; then wakes whom the turn says. Waits for nothing but the lock.
     pub(crate) fn end<R: Wait, J: Naming>(
         &self,
         rt: &R,
         reader: &mut ViewReader<J>,
         lease: Lease<O::Told>,
-        found: Option<Result<Checked, Reason>>,
-    ) -> usize
+        found: Found,
+    ) -> (LeaseEnd, Turn<O::Told>)
     where
         O: Tells<J>,
-        requires { IfSome found (MayBeFound B.may reader.old.seen lease.job) }
+        requires { MayBeFound B.may reader.old.seen lease.job found }
+        ensures { IfGiven result.1.step (IsTold O.names) }
     {
         let mut shared = self.shared.lock(rt);
-        match found {
-            Some(found) => shared.end(reader, lease, found),
-            None => shared.end_unseen(lease),
-        }
-        shared.unsettled()
+        let end = shared.end(reader, lease, found);
+        let turn = shared.turn();
+        drop(shared);
+        self.wake(turn.wake);
+        (end, turn)
     }
 
     /// The book, and why the run stopped, if it did.
@@ -83,5 +90,14 @@ impl<O: Outlet, B: Build> Locked<O, B> {
             changed: _changed,
         } = self;
         shared.into_inner().into_parts()
+    }
+
+    // Wakes those that wait, so many as this says.
+    fn wake(&self, whom: Wake) {
+        match whom {
+            Wake::Nobody => {}
+            Wake::One => self.changed.notify_one(),
+            Wake::All => self.changed.notify_all(),
+        }
     }
 }

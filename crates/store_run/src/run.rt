@@ -1,7 +1,9 @@
 //! Runs.
-ghost use Rattle.std.specs.Prelude.{◌≡◌, ◌⊎◌, IfErr, IfOk, IfSome, OnErr, Some, vec_len};
-ghost use Rattle.sched_core.specs.Books.{IsRunSettled, opened};
-ghost use Rattle.store_run.specs.Realising.{AreWorkers, IsRealised, IsRunFault, fault_by};
+ghost use Rattle.std.specs.Prelude.{◌≡◌, ◌⊎◌, IfErr, IfOk, vec_len};
+ghost use Rattle.sched_core.specs.Books.{opened};
+ghost use Rattle.sched_core.specs.Legal.{IsLegal};
+ghost use Rattle.store_run.specs.Builders.{IsAnswered};
+ghost use Rattle.store_run.specs.Realising.{AreWorkers, IsOverLent, IsRealised, IsRun, IsRunEnd, IsRunFault};
 ghost use Rattle.store_run.specs.declared.fault.RunFault.TheVariants.{NoMemory, NoView};
 
 use crate::build::Build;
@@ -9,13 +11,13 @@ use crate::fault::RunFault;
 use crate::lent::is_over;
 use crate::locked::Locked;
 use crate::worker::work;
-use drv_graph::Plan;
+use drv_graph::{GraphFault, Plan};
 use sched_core::{Book, BookFault};
 use std::alloc::Global;
 use std::sync::Wait;
 use std::thread;
 use std::thread::Threads;
-use valid_table::{Journal, Outlet, OutletFault};
+use valid_table::{Journal, Outlet, TableFault};
 use valid_view::{Name, Naming, Tells, ViewReader, ViewWriter};
 
 // How many workers there may be.
@@ -61,14 +63,7 @@ pub fn realise<'a, J: Naming + Send + Sync, R: Threads + Wait + Sync, B: Build +
         Ok(opened) => opened,
         Err(fault) => return Err((fault, None)),
     };
-    let locked = Locked::new(book);
-    run_workers(rt, alloc, &locked, builders, readers);
-    let (book, stop) = locked.into_parts();
-    if !is_over(&book, plan, system, journal) {
-        book.close();
-        return Err((RunFault::ForeignPlan, None));
-    }
-    ending(book, stop)
+    run_book(rt, alloc, book, readers, builders, plan, system, journal)
 }
 
 // A book over what is lent, in which nothing began, and so many readers of its outlet.
@@ -83,36 +78,69 @@ fn opened_over<'a, J: Naming + Send, R: Wait>(
 ) -> Result<(Book<ViewWriter<J, &'a R>>, Vec<ViewReader<J>>), RunFault>
     requires name { name ≡ J.book }
     requires count { AreWorkers count }
+    ensures over { IfOk result
+        (λ pair. IsOverLent plan.now system.now journal.now.entries pair.0) }
     ensures opened { IfOk result (λ pair. pair.0.history ≡ opened journal.now.entries) }
     ensures err { IfErr result (λ fault. (fault ≡ NoMemory) ⊎ (fault ≡ NoView)) }
 {
-    let Some((plan, copy, system)) = copied(alloc, plan, journal, system) else {
-        return Err(RunFault::NoMemory);
-    };
-    let (outlet, readers) = match valid_view::open::<J, &R>(alloc, rt, name, journal, count) {
-        Ok(view) => view,
-        Err(OutletFault::NoMemory) => return Err(RunFault::NoMemory),
-        Err(OutletFault::NoView) => return Err(RunFault::NoView),
-    };
+    let (plan, copy, system) = copied(alloc, plan, journal, system)?;
+    let (outlet, readers) = valid_view::open::<J, &R>(alloc, rt, name, journal, count)?;
     match Book::open(alloc, plan, copy, system, outlet) {
         Ok(book) => Ok((book, readers)),
-        Err(_) => Err(RunFault::NoMemory),
+        Err(BookFault::NoMemory) => Err(RunFault::NoMemory),
+        Err(_) => unreachable!(),
     }
 }
 
-// Copies of what is lent. None where memory is refused.
+// Copies of what is lent. `NoMemory`, the only fault, where memory is refused.
 fn copied(
     alloc: Global,
     plan: &Plan,
     journal: &Journal,
     system: &[u8],
-) -> Option<(Plan, Journal, Vec<u8>)>
-    ensures { IfSome result (λ copy. copy.1.entries ≡ journal.now.entries) }
+) -> Result<(Plan, Journal, Vec<u8>), RunFault>
+    ensures plan { IfOk result (λ copy. copy.0 ≡ plan.now) }
+    ensures journal { IfOk result (λ copy. copy.1.entries ≡ journal.now.entries) }
+    ensures system { IfOk result (λ copy. copy.2.items ≡ system.now) }
+    ensures err { IfErr result (λ fault. fault ≡ NoMemory) }
 {
-    let plan = plan.copy(alloc).ok()?;
-    let journal = journal.copy(alloc).ok()?;
-    let system = Vec::from_slice(alloc, system).ok()?;
-    Some((plan, journal, system))
+    let plan = match plan.copy(alloc) {
+        Ok(plan) => plan,
+        Err(GraphFault::NoMemory) => return Err(RunFault::NoMemory),
+        Err(_) => unreachable!(),
+    };
+    let journal = match journal.copy(alloc) {
+        Ok(journal) => journal,
+        Err(TableFault::NoMemory) => return Err(RunFault::NoMemory),
+        Err(_) => unreachable!(),
+    };
+    Ok((plan, journal, Vec::from_slice(alloc, system)?))
+}
+
+// Lets the builders work over a book until all have ended; then the run ends by the book that they
+// left and by what stopped it.
+fn run_book<R, J, O, B>(
+    rt: &R,
+    alloc: Global,
+    book: Book<O>,
+    readers: Vec<ViewReader<J>>,
+    builders: Vec<B>,
+    plan: &Plan,
+    system: &[u8],
+    journal: &Journal,
+) -> Result<Book<O>, (RunFault, Option<Book<O>>)>
+where
+    R: Threads + Wait + Sync,
+    J: Naming + Send + Sync,
+    O: Tells<J> + Send,
+    B: Build + Send + Drop,
+    requires { IsAnswered B.may book.run book.history }
+    ensures { IsRun B.may plan.now system.now journal.now.entries result }
+{
+    let locked = Locked::new(book);
+    run_workers(rt, alloc, &locked, builders, readers);
+    let (book, stop) = locked.into_parts();
+    ending(book, stop, plan, system, journal)
 }
 
 // Lets each builder work in a thread of its own, with a reader of its own, until all have ended.
@@ -137,16 +165,23 @@ where
     });
 }
 
-// How a run ends, by its book and why it stopped: well where the book is settled, whatever stopped
-// it.
+// How a run ends whose workers have ended, by the book that they left and what stopped it, if
+// anything did. Without the book where that isn't over what was lent; else well where it is
+// settled, whatever stopped the run, and by a fault where it isn't.
 fn ending<O: Outlet>(
     book: Book<O>,
     stop: Option<BookFault>,
+    plan: &Plan,
+    system: &[u8],
+    journal: &Journal,
 ) -> Result<Book<O>, (RunFault, Option<Book<O>>)>
-    ensures ok { IfOk result (λ kept. (kept ≡ book) × IsRunSettled book.run book.history) }
-    ensures unsettled { OnErr result (IsRunSettled book.run book.history → ⊥) }
-    ensures err { IfErr result (λ e. (e.0 ≡ fault_by stop) × (e.1 ≡ Some book)) }
+    ensures end { IsRunEnd plan.now system.now journal.now.entries book stop result }
+    ensures legal { IsLegal book.run book.history }
 {
+    if !is_over(&book, plan, system, journal) {
+        book.close();
+        return Err((RunFault::ForeignPlan, None));
+    }
     if book.settled() {
         return Ok(book);
     }

@@ -1,19 +1,23 @@
 //! What the workers of a run share.
-ghost use Rattle.std.specs.Prelude.{◌≡◌, ◌⊎◌, ℕ, Err, IsTrue, None, Ok};
-ghost use Rattle.valid_view.specs.Shown.{IsShowable};
-ghost use Rattle.sched_core.specs.Books.{AreSeedsValid, IsBooksLease, IsUnsettled};
+ghost use Rattle.std.specs.Prelude.{◌≡◌, ◌⊎◌, ℕ, Err, IfErr, List, None, Ok, OnOk, Result, ⊤};
+ghost use Rattle.valid_table.specs.declared.entry.Entry.{Entry};
+ghost use Rattle.valid_view.specs.declared.fault.ViewFault.{ViewFault};
+ghost use Rattle.valid_view.specs.declared.fault.ViewFault.TheVariants.{NoView as ViewIsGone};
+ghost use Rattle.sched_core.specs.Books.{IsBooksLease, IsUnsettled};
 ghost use Rattle.sched_core.specs.Counts.{AreSoMany};
-ghost use Rattle.sched_core.specs.declared.fault.BookFault.TheVariants.{NoView};
 ghost use Rattle.sched_core.specs.declared.reason.Reason.TheVariants.{OutOfMemory};
 ghost use Rattle.store_run.specs.Builders.{IsAnswered, MayComeTo};
-ghost use Rattle.store_run.specs.Finding.{IsTold, MayBeFound, StaysPermitted};
-ghost use Rattle.store_run.specs.Sharing.{IfGiven, IsEnding, IsNoting, IsRegistering, IsStep, IsStopping};
+ghost use Rattle.store_run.specs.Finding.{HasCaughtUp, IsTold, MayBeFound};
+ghost use Rattle.store_run.specs.Sharing.{IfGiven, IsEnding, IsNoting, IsNotingVerdict, IsRegistering, IsStep, IsStopping, IsWake};
+ghost use Rattle.store_run.specs.declared.found.LeaseEnd.TheVariants.{Stopped};
 
 use crate::build::Build;
+use crate::found::{Found, LeaseEnd};
+use crate::turn::{Step, Turn, Wake};
 use sched_core::{Book, BookFault, Checked, Job, Lease, Reason};
 use std::marker::{Model, PhantomData};
 use valid_table::Outlet;
-use valid_view::{Naming, Tells, ViewReader};
+use valid_view::{Naming, Tells, ViewFault, ViewReader};
 
 /// The book of a run and, once a call of it was refused, why the run stops. A contract sees both.
 /// What became of each derivation is a verdict on what a builder may give.
@@ -34,16 +38,6 @@ impl<O: Outlet, B: Build> Model for Shared<O, B> {
     ghost invariant = { λ s. IsAnswered B.may s.book.run s.book.history };
 }
 
-/// What a worker is to do next.
-pub enum Step<T> {
-    /// Build what this lease is for.
-    Build(Lease<T>),
-    /// Wait until another worker has ended a lease.
-    Wait,
-    /// End: the book is settled, or the run stops.
-    End,
-}
-
 impl<O: Outlet, B: Build> Shared<O, B> {
     /// A book that is shared by builders of a type, before anything stops the run.
     pub fn new(book: Book<O>) -> Shared<O, B>
@@ -58,9 +52,62 @@ impl<O: Outlet, B: Build> Shared<O, B> {
         }
     }
 
-    /// The next step of a worker: the end where the run stops or the book is settled, else a lease
-    /// if something is ready. A refusal of the book's stops the run.
-    pub fn step(&mut self) -> Step<O::Told>
+    /// A worker's turn: its next step, whom it wakes then, and how many wanted derivations are
+    /// blocked, ready or building. It wakes all where the run ends, and one where more is ready
+    /// than the lease that it takes itself.
+    pub fn turn(&mut self) -> Turn<O::Told>
+        ensures step { IsStep self.old self.new result.step }
+        ensures told { IfGiven result.step (IsTold O.names) }
+        ensures wake { IsWake self.new result.step result.wake }
+        ensures unsettled { AreSoMany (IsUnsettled self.new.book.run self.new.book.history)
+            result.unsettled }
+    {
+        let step = self.step();
+        let unsettled = self.book.unsettled();
+        let wake = match &step {
+            Step::Build(_) if self.book.can_begin() => Wake::One,
+            Step::Build(_) | Step::Wait => Wake::Nobody,
+            Step::End => Wake::All,
+        };
+        Turn {
+            step,
+            wake,
+            unsettled,
+        }
+    }
+
+    /// Ends a lease by what was found of its job by the list that the reader saw. Has the reader
+    /// catch up with the book first. Costs one look of the reader and what `Book::finish` costs:
+    /// no closure, and no pass over what was built.
+    pub fn end<J: Naming>(
+        &mut self,
+        reader: &mut ViewReader<J>,
+        lease: Lease<O::Told>,
+        found: Found,
+    ) -> LeaseEnd
+    where
+        O: Tells<J>,
+        requires { MayBeFound B.may reader.old.seen lease.job found }
+        ensures { (caught_up : Result ⊤ ViewFault)
+            × IsEnding self.old self.new lease.job lease.number found caught_up result }
+    {
+        let caught_up = catch_up::<J, O>(&self.book, reader, lease.job());
+        self.end_by(lease, found, caught_up)
+    }
+
+    /// The book, and why the run stopped, if it did.
+    pub fn into_parts(self) -> (Book<O>, Option<BookFault>)
+        ensures book { result.0 ≡ self.book }
+        ensures stop { result.1 ≡ self.stop }
+        ensures answered { IsAnswered B.may result.0.run result.0.history }
+    {
+        let Shared { book, stop, of: _ } = self;
+        (book, stop)
+    }
+
+    // The next step of a worker: the end where the run stops or the book is settled, else a lease
+    // if something is ready. A refusal of the book's stops the run.
+    fn step(&mut self) -> Step<O::Told>
         ensures step { IsStep self.old self.new result }
         ensures told { IfGiven result (IsTold O.names) }
     {
@@ -77,104 +124,100 @@ impl<O: Outlet, B: Build> Shared<O, B> {
         }
     }
 
-    /// How many wanted derivations are blocked, ready or building.
-    pub fn unsettled(&self) -> usize
-        ensures { AreSoMany (IsUnsettled self.now.book.run self.now.book.history) result }
+    // Ends a lease by what was found of its job, and by whether the reader then caught up with the
+    // book: registers what was built, or notes why there is nothing. Where memory is refused the
+    // derivation failed for that reason. A lease that isn't the book's, or whose derivation may not
+    // be registered so, is given up, and so is one whose verdict can't be used, since the view is
+    // gone; that stops the run.
+    fn end_by(
+        &mut self,
+        lease: Lease<O::Told>,
+        found: Found,
+        caught_up: Result<(), ViewFault>,
+    ) -> LeaseEnd
+        requires { (seen : List Entry) × MayBeFound B.may seen lease.job found
+            × OnOk caught_up (HasCaughtUp seen self.old.book lease.job) }
+        ensures { IsEnding self.old self.new lease.job lease.number found caught_up result }
     {
-        self.book.unsettled()
+        match found {
+            Found::Examined(verdict) => match caught_up {
+                Ok(()) => self.note(lease, verdict),
+                Err(_) => self.give_up(lease, BookFault::NoView),
+            },
+            Found::Unanswered(reason) => self.fail(lease, reason),
+            Found::NoMemory => self.fail(lease, Reason::OutOfMemory),
+            Found::NoView => self.give_up(lease, BookFault::NoView),
+        }
     }
 
-    /// Ends a lease by what was found of its job by the list that the reader saw: by registering
-    /// the records, or noting why there are none. Where memory is refused the derivation failed for
-    /// that reason. A lease that isn't the book's, or whose derivation may not be registered so, is
-    /// given up, which stops the run; so does a view that is gone. Costs one look of the reader and
-    /// what `Book::finish` costs: no closure, and no pass over what was built.
-    pub fn end<J: Naming>(
-        &mut self,
-        reader: &mut ViewReader<J>,
-        lease: Lease<O::Told>,
-        found: Result<Checked, Reason>,
-    )
-    where
-        O: Tells<J>,
-        requires { MayBeFound B.may reader.old.seen lease.job found }
-        ensures { IsEnding self.old self.new lease.job lease.number found }
+    // Ends a lease by a verdict that holds behind the book's entries.
+    fn note(&mut self, lease: Lease<O::Told>, verdict: Result<Checked, Reason>) -> LeaseEnd
+        requires { (verdict ≡ Err OutOfMemory)
+            ⊎ (IsBooksLease self.old.book.run self.old.book.history lease.job lease.number
+            → MayComeTo B.may self.old.book.history.entries lease.job verdict) }
+        ensures { IsNotingVerdict self.old self.new lease.job lease.number verdict result }
     {
-        if !catches_up::<J, O>(&self.book, reader, lease.job()) {
-            self.end_unseen(lease);
-            return;
-        }
-        match found {
+        match verdict {
             Ok(checked) => self.register(lease, checked),
             Err(reason) => self.fail(lease, reason),
         }
     }
 
-    /// Gives up a lease of whose job nothing was found, since the view is gone; this stops the run.
-    pub fn end_unseen(&mut self, lease: Lease<O::Told>)
-        ensures { IsStopping self.old self.new NoView }
-    {
-        self.give_up(lease, BookFault::NoView);
-    }
-
-    /// The book, and why the run stopped, if it did.
-    pub fn into_parts(self) -> (Book<O>, Option<BookFault>)
-        ensures book { result.0 ≡ self.book }
-        ensures stop { result.1 ≡ self.stop }
-        ensures answered { IsAnswered B.may result.0.run result.0.history }
-    {
-        let Shared { book, stop, of: _ } = self;
-        (book, stop)
-    }
-
     // Ends a lease by registering what was built.
-    fn register(&mut self, lease: Lease<O::Told>, checked: Checked)
+    fn register(&mut self, lease: Lease<O::Told>, checked: Checked) -> LeaseEnd
         requires { IsBooksLease self.old.book.run self.old.book.history lease.job lease.number
             → MayComeTo B.may self.old.book.history.entries lease.job (Ok checked) }
-        ensures { IsRegistering self.old self.new lease.job lease.number checked }
+        ensures { IsRegistering self.old self.new lease.job lease.number checked result }
     {
         match self.book.finish(lease, checked) {
-            Ok(()) => {}
+            Ok(()) => LeaseEnd::Registered,
             Err((BookFault::NoMemory, lease, _checked)) => self.fail(lease, Reason::OutOfMemory),
             Err((fault, lease, _checked)) => self.give_up(lease, fault),
         }
     }
 
     // Ends a lease by noting why building its derivation failed.
-    fn fail(&mut self, lease: Lease<O::Told>, reason: Reason)
+    fn fail(&mut self, lease: Lease<O::Told>, reason: Reason) -> LeaseEnd
         requires { (reason ≡ OutOfMemory)
             ⊎ (IsBooksLease self.old.book.run self.old.book.history lease.job lease.number
             → MayComeTo B.may self.old.book.history.entries lease.job (Err reason)) }
-        ensures { IsNoting self.old self.new lease.job lease.number reason }
+        ensures { IsNoting self.old self.new lease.job lease.number reason result }
     {
-        if let Err(lease) = self.book.fail(lease, reason) {
-            self.give_up(lease, BookFault::ForeignLease);
+        match self.book.fail(lease, reason) {
+            Ok(()) => LeaseEnd::Failed(reason),
+            Err(lease) => self.give_up(lease, BookFault::ForeignLease),
         }
     }
 
     // Gives a lease up, and stops the run for this fault, if nothing stopped it before.
-    fn give_up(&mut self, lease: Lease<O::Told>, fault: BookFault)
-        ensures { IsStopping self.old self.new fault }
+    fn give_up(&mut self, lease: Lease<O::Told>, fault: BookFault) -> LeaseEnd
+        ensures stopping { IsStopping self.old self.new fault }
+        ensures end { result ≡ Stopped fault }
     {
         lease.give_up();
         if self.stop.is_none() {
             self.stop = Some(fault);
         }
+        LeaseEnd::Stopped(fault)
     }
 }
 
 // Has a reader see the list that the outlet shows, so that what was permitted to the job of a lease
-// by the list that it saw before is permitted behind the book's entries. Says whether it could; it
-// can't where the view is gone.
-fn catches_up<J: Naming, O: Tells<J>>(book: &Book<O>, reader: &mut ViewReader<J>, job: &Job) -> bool
-    ensures { IsTrue result → (number : ℕ) → IsBooksLease book.now.run book.now.history job.now number
-        → IsShowable reader.old.seen → AreSeedsValid reader.old.seen job.now
-        → StaysPermitted reader.old.seen book.now.history.entries job.now }
+// by the list that it saw before is permitted behind the book's entries. `NoView` where the view is
+// gone; no other fault.
+fn catch_up<J: Naming, O: Tells<J>>(
+    book: &Book<O>,
+    reader: &mut ViewReader<J>,
+    job: &Job,
+) -> Result<(), ViewFault>
+    ensures ok { OnOk result (HasCaughtUp reader.old.seen book.now job.now) }
+    ensures err { IfErr result (λ fault. fault ≡ ViewIsGone) }
 {
     let Some(seed) = job.seeds.first() else {
         // Nothing leads anywhere from no seeds, whatever is valid.
-        return true;
+        return Ok(());
     };
     reader.learn(O::front(book.tell()));
-    reader.look(seed).is_ok()
+    reader.look(seed)?;
+    Ok(())
 }

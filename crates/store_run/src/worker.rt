@@ -1,8 +1,13 @@
 //! What one worker does.
+ghost use Rattle.std.specs.Prelude.{IfSome};
+ghost use Rattle.store_run.specs.Finding.{IsTold};
 
 use crate::build::Build;
+use crate::found::LeaseEnd;
 use crate::locked::Locked;
+use crate::turn::{Step, Turn};
 use crate::verdict::{learn, verdict};
+use sched_core::Lease;
 use std::alloc::Global;
 use std::sync::Wait;
 use valid_view::{Naming, Tells, ViewReader};
@@ -11,7 +16,7 @@ use valid_view::{Naming, Tells, ViewReader};
 /// waits while nothing is ready. No lock is held while the builder runs, nor while the verdict is
 /// found: what is permitted is asked of the reader, whose view is the book's outlet. A lease whose
 /// worker was refused memory is abandoned. The builder hears, without the lock too, of each lease
-/// that was taken and of each that has ended.
+/// that was taken and of each that has ended; whoever else can go on then was woken before.
 pub fn work<R: Wait, J: Naming, O: Tells<J>, B: Build>(
     rt: &R,
     alloc: Global,
@@ -19,16 +24,45 @@ pub fn work<R: Wait, J: Naming, O: Tells<J>, B: Build>(
     mut reader: ViewReader<J>,
     builder: &B,
 ) {
+    let mut taken = locked.take(rt);
     for _ in rt.forever() {
-        let Some((mut lease, unsettled)) = locked.take(rt) else {
-            return;
+        taken = match taken {
+            Some((lease, unsettled)) => {
+                builder.begun(unsettled);
+                build(rt, alloc, locked, &mut reader, builder, lease)
+            }
+            None => return,
         };
-        builder.begun(unsettled);
-        let outcome = builder.run(lease.number(), lease.job());
-        learn::<J, O>(&mut reader, &mut lease);
-        let found = verdict(alloc, &mut reader, lease.job(), outcome);
-        let is_good = matches!(found, Some(Ok(_)));
-        let unsettled = locked.end(rt, &mut reader, lease, found);
-        builder.ended(is_good, unsettled);
+    }
+    unreachable!()
+}
+
+// Builds the job of a lease, and ends the lease. The next lease, with how many wanted derivations
+// were unsettled when it was taken; none where the run ends.
+fn build<R: Wait, J: Naming, O: Tells<J>, B: Build>(
+    rt: &R,
+    alloc: Global,
+    locked: &Locked<O, B>,
+    reader: &mut ViewReader<J>,
+    builder: &B,
+    mut lease: Lease<O::Told>,
+) -> Option<(Lease<O::Told>, usize)>
+    requires { IsTold O.names lease }
+    ensures { IfSome result (λ taken. IsTold O.names taken.0) }
+{
+    let outcome = builder.run(lease.number(), lease.job());
+    learn::<J, O>(reader, &mut lease);
+    let found = verdict(alloc, reader, lease.job(), outcome);
+    let (end, turn) = locked.end(rt, reader, lease, found);
+    let Turn {
+        step,
+        wake: _,
+        unsettled,
+    } = turn;
+    builder.ended(matches!(end, LeaseEnd::Registered), unsettled);
+    match step {
+        Step::Build(lease) => Some((lease, unsettled)),
+        Step::Wait => locked.take(rt),
+        Step::End => None,
     }
 }

@@ -7,7 +7,7 @@ use Rattle.store_run.proofs.lent.is_over.Goals.{then-eq, else-eq}
 -- src/lent.rt:20:19
 pub slice_bounds-opening-end : goal.slice_bounds-opening-end
 slice_bounds-opening-end g c =
-    rw (c.opening.ensures, c.entries.ensures.value, c.journal.ensures.entries)
+    rw (c.opening.ensures.count, c.entries.ensures.value, c.journal.ensures.entries)
     (sym (ap length (opening_is_taken c.args.book.now.run c.args.book.now.history
     c.journal.ensures.legal)))
 
@@ -16,7 +16,7 @@ pub returns-then-eq-2-clause-over : goal.returns-then-eq-2-clause-over
 returns-then-eq-2-clause-over g c =
     let book = c.args.book.now in
     let taken : take c.opening.result c.entries.result.now ≡ book.history.opening =
-    rw (c.opening.ensures, c.entries.ensures.value, c.journal.ensures.entries)
+    rw (c.opening.ensures.count, c.entries.ensures.value, c.journal.ensures.entries)
     (opening_is_taken book.run book.history c.journal.ensures.legal) in
     let same_opening : IsTrue c.eq-then-eq-2.result
     ↔ (book.history.opening ≡ c.args.journal.now.entries) =

@@ -1,25 +1,22 @@
 use Rattle.std.proofs.Common.{◌∙◌, List, ap, subst, sym}
 use Rattle.std.specs.Option.{option_copied}
-use Rattle.std.specs.Prelude.{IsTrue}
+use Rattle.std.specs.Result.{is_ok}
 use mathlib.Core.List.{IsPrefix}
 use Rattle.valid_table.specs.declared.entry.Entry.{Entry}
 use Rattle.valid_view.proofs.Prefixes.{prefix_trans}
 use Rattle.store_run.proofs.Permits.{journal_showable, none_first, stays_by_view, stays_without_seeds, where_answered}
-use Rattle.store_run.proofs.shared.catches_up.Goals as goal
+use Rattle.store_run.proofs.shared.catch_up.Goals as goal
 
--- src/shared.rt:172:9
-pub returns-in_default : goal.returns-in_default
-returns-in_default g c = λ _ number lease showable valid.
+pub returns-in_default-clause-ok : goal.returns-in_default-clause-ok
+returns-in_default-clause-ok g c = λ number lease showable valid.
     stays_without_seeds c.args.reader.now.seen c.args.book.now.history.entries c.args.job.now
     (sym c.deref.ensures.value
     ∙ none_first c.deref.result.now
     (sym c.first.ensures.value ∙ ap option_copied c.in_default.is))
 
--- src/shared.rt:161:1
-pub returns : goal.returns
-returns g c = λ yes number lease showable valid.
-    let known = where_answered c.look.result (subst IsTrue c.is_ok.ensures.value yes)
-    c.look.ensures.known in
+pub returns-clause-ok : goal.returns-clause-ok
+returns-clause-ok g c = λ number lease showable valid.
+    let known = where_answered c.look.result (ap is_ok c.in_ok-look.was) c.look.ensures.known in
     let told : IsPrefix c.args.book.now.shown c.learn.new.self.told =
     subst (λ (front : List Entry). IsPrefix front c.learn.new.self.told)
     (c.front.ensures c.args.book.now.shown c.tell.ensures.told) c.learn.ensures.told in

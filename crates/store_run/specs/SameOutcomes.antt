@@ -1,0 +1,46 @@
+-- *Same outcomes*: where builders may give one outcome to each derivation, trees of the same bytes
+-- counting as one, the verdicts are one (this product's own).
+use Rattle.std.specs.Prelude.{◌≡◌, ◌↔◌, ℕ, Option, Some, None, Result, Ok, Err}
+use Rattle.drv_graph.specs.Plans.{Graph}
+use Rattle.ref_scan.specs.Trees.{Fits, pieces}
+use Rattle.ref_scan.specs.declared.tree.Tree.{Tree}
+use Rattle.sched_core.specs.Jobs.{IsJob}
+use Rattle.sched_core.specs.Verdicts.{digest_of, tree_at}
+use Rattle.sched_core.specs.declared.job.Answer.{Answer}
+use Rattle.sched_core.specs.declared.job.Job.{Job}
+use Rattle.sched_core.specs.declared.reason.Reason.{Reason}
+use Rattle.store_run.specs.Scheduling.{HasOneOutcome}
+
+-- Two trees have the same bytes: in their files and names, and in a file's digest; and both keep
+-- the limits, or neither does.
+pub record HaveSameBytes (tree other : Tree) : Type 0 where
+  pub bytes : pieces tree ≡ pieces other
+  pub digest : digest_of tree ≡ digest_of other
+  pub fits : Fits tree ↔ Fits other
+
+-- at an output there are two trees with the same bytes, or none twice
+abbrev pub AreSameTrees : Option Tree → Option Tree → Type 0
+AreSameTrees None None = Unit {0}
+AreSameTrees (Some tree) (Some other) = HaveSameBytes tree other
+AreSameTrees None (Some other) = ⊥
+AreSameTrees (Some tree) None = ⊥
+
+-- Two answers are the same, trees of the same bytes counting as one.
+pub record AreSameAnswers (answer other : Answer) : Type 0 where
+  pub status : answer.status ≡ other.status
+  pub trees : (n : ℕ) → AreSameTrees (tree_at answer n) (tree_at other n)
+
+abbrev pub AreSameOutcomes : Result Answer Reason → Result Answer Reason → Type 0
+AreSameOutcomes (Ok answer) (Ok other) = AreSameAnswers answer other
+AreSameOutcomes (Err reason) (Err other) = reason ≡ other
+AreSameOutcomes (Ok answer) (Err other) = ⊥
+AreSameOutcomes (Err reason) (Ok other) = ⊥
+
+-- one outcome may be given to each derivation of a plan
+abbrev pub AllowsOneOutcome : (may : Job → Result Answer Reason → Type 0) → Graph → Type 0
+AllowsOneOutcome may graph = (d : ℕ) (job again : Job) (x y : Result Answer Reason)
+    → IsJob graph d job → IsJob graph d again → may job x → may again y → AreSameOutcomes x y
+
+-- so the verdicts are one
+abbrev pub AllowedIsOne : (may : Job → Result Answer Reason → Type 0) → Type 0
+AllowedIsOne may = (graph : Graph) → AllowsOneOutcome may graph → HasOneOutcome may graph

@@ -1,0 +1,34 @@
+//! What a worker is to do next, and whom it wakes.
+
+use sched_core::Lease;
+
+/// What a worker is to do next.
+pub enum Step<T> {
+    /// Build what this lease is for.
+    Build(Lease<T>),
+    /// Wait until another worker has ended a lease.
+    Wait,
+    /// End: the book is settled, or the run stops.
+    End,
+}
+
+/// Whom a worker wakes once it has let go of the lock.
+#[derive(Clone, Copy, Debug, PartialEq, Eq)]
+pub enum Wake {
+    /// Nobody: nothing more is ready.
+    Nobody,
+    /// One that waits, if any does: more is ready than the worker took itself.
+    One,
+    /// All that wait: the run ends.
+    All,
+}
+
+/// A worker's turn at the lock.
+pub struct Turn<T> {
+    /// What the worker is to do next.
+    pub step: Step<T>,
+    /// Whom it wakes.
+    pub wake: Wake,
+    /// How many wanted derivations are blocked, ready or building.
+    pub unsettled: usize,
+}
