@@ -17,13 +17,21 @@ use subcommands::{print_no_memory, refuse_words, run};
 fn main(rt: HostRuntime) -> ExitCode {
     let make = ByProcesses::new(&rt, &rt);
     let mut err = rt.stderr();
-    let status = if err.is_terminal() {
+    let status = if err.is_terminal() && !is_dumb(&rt) {
         let progress = Progress::new(err);
         run_streams(&rt, &Watching::new(&rt, &make, &progress), &mut err)
     } else {
         run_streams(&rt, &make, &mut err)
     };
     ExitCode::from(status)
+}
+
+// Whether the terminal is said to understand no escapes.
+fn is_dumb<R: Env + AllocGlobal>(rt: &R) -> bool {
+    match env::var(rt, "TERM") {
+        Ok(term) => term.as_str() == "dumb",
+        Err(_) => false,
+    }
 }
 
 // Runs the program on the arguments and the standard output of the process.

@@ -1,9 +1,25 @@
 -- What an error of the system is for this program (the documentation of std, `io::Error`).
-use Rattle.std.specs.Prelude.{◌≡◌, None}
+use Rattle.std.specs.Prelude.{◌≡◌, ◌↔◌, None}
 use Rattle.std.specs.IoError.{error_kind, raw_os_error}
 use Rattle.std.specs.declared.io.Error.{Error}
-use Rattle.std.specs.declared.io.ErrorKind.TheVariants.{OutOfMemory}
+use Rattle.std.specs.declared.io.ErrorKind.TheVariants as kind
+use Rattle.process_build.specs.declared.failures.Failure.{Failure}
+use Rattle.process_build.specs.declared.failures.Failure.TheVariants.{NoMemory, NotFound, Taken}
 
 -- the error is the program's own want of memory, and none of the system's faults
 abbrev pub IsNoMemory : Error → Type 0
-IsNoMemory error = (error_kind error ≡ OutOfMemory) × (raw_os_error error ≡ None)
+IsNoMemory error = (error_kind error ≡ kind.OutOfMemory) × (raw_os_error error ≡ None)
+
+-- nothing is found at the path
+abbrev pub IsNotFound : Error → Type 0
+IsNotFound error = error_kind error ≡ kind.NotFound
+
+-- something lies at the path already
+abbrev pub IsTaken : Error → Type 0
+IsTaken error = error_kind error ≡ kind.AlreadyExists
+
+-- what an error means: each of these three exactly for its kind, and `Other` for all the rest
+abbrev pub IsFailure : Error → Failure → Type 0
+IsFailure error failure =
+    ((failure ≡ NoMemory) ↔ IsNoMemory error) × ((failure ≡ NotFound) ↔ IsNotFound error)
+    × ((failure ≡ Taken) ↔ IsTaken error)

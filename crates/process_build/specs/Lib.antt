@@ -1,2 +1,4 @@
+pub mod Answers
 pub mod BuilderCalls
 pub mod Errors
+pub mod Folders

@@ -1,6 +1,5 @@
-//! Paths of files, and errors of the system.
-ghost use Rattle.std.specs.Prelude.{◌≡◌, ◌↔◌, IsOkAnd, IsTrue};
-ghost use Rattle.process_build.specs.Errors.{IsNoMemory};
+//! Paths of files.
+ghost use Rattle.std.specs.Prelude.{◌≡◌, IsOkAnd};
 
 use nix_names::StorePath;
 use std::io::ErrorKind;
@@ -14,14 +13,4 @@ pub fn file_path(path: &StorePath) -> io::Result<&str>
         return Err(io::Error::from(ErrorKind::InvalidInput));
     };
     Ok(text)
-}
-
-/// Whether an error is this program's own want of memory, and none of the system's faults.
-pub fn is_no_memory(error: &io::Error) -> bool
-    ensures { IsTrue result ↔ IsNoMemory error.now }
-{
-    match error.kind() {
-        ErrorKind::OutOfMemory => error.raw_os_error().is_none(),
-        _ => false,
-    }
 }

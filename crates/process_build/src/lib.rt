@@ -7,17 +7,20 @@
 //! | `call` | the texts of a job that a process is started with |
 //! | `environment` | the environment that a builder finds |
 //! | `start` | a builder that is started and waited for |
-//! | `removal` | what lies at a path, removed whole |
+//! | `folders` | the store folder, the build folder of a lease, and what is cleared for it |
+//! | `removal` | what lies at a path of the store folder, taken away |
 //! | `reading` | what lies at the outputs' paths, read within the limits of an output |
-//! | `reasons` | what an error of the system means for a build |
-//! | `files` | paths of files, and errors of the system |
+//! | `failures`, `reasons` | what an error of the system means at a path, and for a build |
+//! | `files` | paths of files |
 //! | `progress` | the line of progress |
 #![tactic(auto)]
 
 mod builders;
 mod call;
 mod environment;
+mod failures;
 mod files;
+mod folders;
 mod processes;
 mod progress;
 mod reading;
@@ -26,6 +29,7 @@ mod removal;
 mod start;
 
 pub use builders::Builders;
-pub use files::{file_path, is_no_memory};
+pub use failures::Failure;
+pub use files::file_path;
 pub use processes::{ByProcesses, ProcessBuild};
 pub use progress::{Progress, Watching};

@@ -1,11 +1,13 @@
 //! A builder that runs a job's program as a process.
+ghost use Rattle.std.specs.Prelude.{IfOk};
+ghost use Rattle.process_build.specs.Answers.{IsAnswerOf};
 
 use crate::builders::Builders;
 use crate::call::Call;
-use crate::files::file_path;
+use crate::folders::BuildFolder;
 use crate::reading::read_outputs;
-use crate::reasons::no_start;
-use crate::removal::remove;
+use crate::reasons::{no_room, no_start};
+use crate::removal::clear;
 use crate::start::run_builder;
 use sched_core::{Answer, Job, Reason};
 use std::alloc::{AllocError, Global};
@@ -16,9 +18,10 @@ use store_run::Build;
 
 /// Builds each job by a process of its own, in a folder of its own within the store folder.
 ///
-/// What lies at the job's output paths and at the build folder's is removed first. The builder then
-/// runs in the build folder, its standard input empty, what it prints not shown. Where its exit
-/// status is 0, what it left at the output paths is read. The build folder is removed at the end.
+/// What lies at the job's output paths and at the build folder's is removed first, or moved aside
+/// where it can't be removed. The builder then runs in the build folder, its standard input empty,
+/// what it prints not shown. Where its exit status is 0, what it left at the output paths is read.
+/// The build folder is removed at the end, or moved aside.
 #[derive(Drop)]
 pub struct ProcessBuild<'a, R, P> {
     rt: &'a R,
@@ -75,22 +78,24 @@ impl<R: Files + AllocGlobal, P: Processes> Build for ProcessBuild<'_, R, P> {
 
     /// Builds a job. `NoStart` where it has a text that no process can be started with, which
     /// leaves all files as they are, or where making room for the builder or its start fails.
-    /// `ReadFault` and `TooLarge` where an output can't be read or passes a limit. `OutOfMemory`
-    /// where memory was refused.
+    /// `ReadFault` where its end can't be waited for. `ReadFault` and `TooLarge` where an output
+    /// can't be read or passes a limit. `OutOfMemory` where memory was refused.
     fn run(&self, number: u64, job: &Job) -> Result<Answer, Reason> {
         let alloc = self.rt.alloc();
         let call = Call::of(alloc, job)?;
-        let folder = format!(in alloc; "{}/.build-{number}", self.store_dir)?;
-        let answer = self.build(folder.as_str(), &call, job);
+        let folder = BuildFolder::new(alloc, self.store_dir.as_str(), number)?;
+        let answer = self.build(&folder, &call, job);
         // The answer stands, be the folder removed or not.
-        let _ = remove(self.rt, folder.as_str());
+        let _ = clear(self.rt, self.store_dir.as_str(), folder.path());
         answer
     }
 }
 
 impl<R: Files + AllocGlobal, P: Processes> ProcessBuild<'_, R, P> {
     // Makes room, runs the builder, and reads what it left, if its exit status is 0.
-    fn build(&self, folder: &str, call: &Call<'_>, job: &Job) -> Result<Answer, Reason> {
+    fn build(&self, folder: &BuildFolder, call: &Call<'_>, job: &Job) -> Result<Answer, Reason>
+        ensures { IfOk result (IsAnswerOf job.now) }
+    {
         self.make_room(folder, job)?;
         let alloc = self.rt.alloc();
         let status = run_builder(alloc, self.processes, self.store_dir.as_str(), folder, call)?;
@@ -101,13 +106,11 @@ impl<R: Files + AllocGlobal, P: Processes> ProcessBuild<'_, R, P> {
         Ok(Answer { status, trees })
     }
 
-    // Removes what lies at the outputs' paths and at the build folder's, and makes the folder.
-    fn make_room(&self, folder: &str, job: &Job) -> Result<(), Reason> {
-        for output in &job.outputs {
-            let path = file_path(&output.path).map_err(no_start)?;
-            remove(self.rt, path).map_err(no_start)?;
+    // Clears the places of the job's outputs and of the build folder, and makes the folder.
+    fn make_room(&self, folder: &BuildFolder, job: &Job) -> Result<(), Reason> {
+        for place in folder.places(self.rt.alloc(), job).map_err(no_start)? {
+            clear(self.rt, self.store_dir.as_str(), place).map_err(no_room)?;
         }
-        remove(self.rt, folder).map_err(no_start)?;
-        fs::create_dir(self.rt, folder).map_err(no_start)
+        fs::create_dir(self.rt, folder.path()).map_err(no_start)
     }
 }

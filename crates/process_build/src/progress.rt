@@ -10,6 +10,11 @@ use store_run::Build;
 // What takes a terminal's line away: to its first column, and nothing from there on (ECMA-48, EL).
 const NO_LINE: &str = "\r\x1b[K";
 
+// What has a terminal cut what follows at its last column, and begin a new line there again (DECAWM).
+const CUT: &str = "\x1b[?7l";
+
+const WRAP: &str = "\x1b[?7h";
+
 // How many jobs run, and how those that ended did; how many derivations were to be built, and how
 // many of them have still something before them.
 #[derive(Clone, Copy)]
@@ -57,7 +62,7 @@ impl Tally {
         self.unsettled = self.unsettled.min(unsettled);
     }
 
-    // The line, in the place of the one before.
+    // The line, in the place of the one before. A narrow terminal shows its beginning.
     fn line(&self, alloc: Global) -> Result<String, AllocError> {
         let Tally {
             running,
@@ -68,7 +73,7 @@ impl Tally {
         } = self;
         let waiting = unsettled.saturating_sub(*running);
         format!(in alloc;
-            "{NO_LINE}nix_realise: {running} running, {built} built, {failed} failed, {waiting} waiting, of {all}"
+            "{NO_LINE}{CUT}nix_realise: {running} running, {built} built, {failed} failed, {waiting} waiting, of {all}{WRAP}"
         )
     }
 }

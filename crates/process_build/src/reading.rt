@@ -1,14 +1,17 @@
 //! What lies at the outputs' paths, read within the limits of an output.
-ghost use Rattle.std.specs.Prelude.{◌≤◌, IfOk, length};
+ghost use Rattle.std.specs.Prelude.{◌≡◌, ◌≤◌, IfErr, IfOk, length};
+ghost use Rattle.std.specs.Fs.{file_type};
+ghost use Rattle.process_build.specs.Answers.{IsNodeAt, IsNodeOf, IsNoNode};
 
 use crate::files::file_path;
 use crate::reasons::read_fault;
 use ref_scan::{Member, Tree};
 use sched_core::{Job, Reason};
 use std::alloc::{AllocError, Global};
+use std::fs::Metadata;
 use std::io::{ErrorKind, Read};
 use std::rt::Files;
-use std::{fs, str};
+use std::{fs, io, str};
 
 // The most levels of an output's tree.
 const MAX_DEPTH: usize = 32;
@@ -27,10 +30,9 @@ const NAMES_AT_ONCE: usize = 4_096;
 
 /// What lies at the path of each output of a job, in the job's order, none where nothing does; or
 /// the first fault. A folder's entries are read in the byte order of their names.
-pub fn read_outputs<R: Files + AllocGlobal>(
-    rt: &R,
-    job: &Job,
-) -> Result<Vec<Option<Tree>>, Reason> {
+pub fn read_outputs<R: Files + AllocGlobal>(rt: &R, job: &Job) -> Result<Vec<Option<Tree>>, Reason>
+    ensures { IfOk result (λ trees. length trees.items ≡ length job.now.outputs.items) }
+{
     let mut trees = Vec::new(rt.alloc());
     for output in &job.outputs {
         let path = file_path(&output.path).map_err(read_fault)?;
@@ -41,45 +43,70 @@ pub fn read_outputs<R: Files + AllocGlobal>(
 
 // What lies at a path, if anything does.
 fn read_output<R: Files + AllocGlobal>(rt: &R, path: &str) -> Result<Option<Tree>, Reason> {
-    if is_missing(rt, path)? {
-        return Ok(None);
+    match node_of(fs::symlink_metadata(rt, path))? {
+        Some(node) => Ok(Some(Reader::new(rt)?.tree(node, path, MAX_DEPTH - 1)?)),
+        None => Ok(None),
     }
-    let mut reader = Reader {
-        rt,
-        entries: MAX_ENTRIES,
-        bytes: MAX_FILE_BYTES,
-    };
-    Ok(Some(reader.tree(path, MAX_DEPTH - 1)?))
 }
 
-// Whether nothing lies at a path.
-fn is_missing<R: Files>(rt: &R, path: &str) -> Result<bool, Reason> {
-    match fs::symlink_metadata(rt, path) {
-        Ok(_) => Ok(false),
-        Err(error) if error.kind() == ErrorKind::NotFound => Ok(true),
+/// What an output may have.
+#[derive(Clone, Copy)]
+pub enum Node {
+    /// A regular file.
+    File,
+    /// A folder.
+    Folder,
+}
+
+// What lies at a path, by what asking for it gave; a fault where that is neither a file nor a
+// folder.
+fn node_of(asked: io::Result<Metadata>) -> Result<Option<Node>, Reason>
+    ensures found { IfOk asked (λ found. IsNodeOf (file_type found) result) }
+    ensures fault { IfErr asked (λ error. IsNoNode error result) }
+{
+    match asked {
+        Ok(found) => Ok(Some(node_at(&found)?)),
+        Err(error) if error.kind() == ErrorKind::NotFound => Ok(None),
         Err(error) => Err(read_fault(error)),
     }
 }
 
-// What an output may have.
-enum Node {
-    File,
-    Folder,
+// What was found as a part of an output.
+fn node_at(found: &Metadata) -> Result<Node, Reason>
+    ensures { IsNodeAt (file_type found.now) result }
+{
+    match (found.is_file(), found.is_dir()) {
+        (true, _) => Ok(Node::File),
+        (_, true) => Ok(Node::Folder),
+        _ => Err(Reason::ReadFault),
+    }
 }
 
-// Reads one output, and knows how many entries and bytes of files it may still have.
+// Reads one output, and knows how many entries and bytes of files it may still have. Each file is
+// read through the buffer.
 #[derive(Drop)]
 struct Reader<'a, R> {
     rt: &'a R,
     entries: usize,
     bytes: usize,
+    buffer: Vec<u8>,
 }
 
-impl<R: Files + AllocGlobal> Reader<'_, R> {
-    // What lies at a path, with at most so many levels below its own.
+impl<'a, R: Files + AllocGlobal> Reader<'a, R> {
+    // Nothing is read yet.
+    fn new(rt: &'a R) -> Result<Reader<'a, R>, AllocError> {
+        Ok(Reader {
+            rt,
+            entries: MAX_ENTRIES,
+            bytes: MAX_FILE_BYTES,
+            buffer: vec![in rt.alloc(); 0; MAX_PIECE]?,
+        })
+    }
+
+    // What lies at a path, where this was found, with at most so many levels below its own.
     #[cycle(tree)]
-    fn tree(&mut self, path: &str, below: usize) -> Result<Tree, Reason> {
-        match self.node(path)? {
+    fn tree(&mut self, node: Node, path: &str, below: usize) -> Result<Tree, Reason> {
+        match node {
             Node::File => Ok(Tree::Pieces(self.pieces(path)?)),
             Node::Folder => Ok(Tree::Dir(self.members(path, below)?)),
         }
@@ -103,18 +130,11 @@ impl<R: Files + AllocGlobal> Reader<'_, R> {
             return Err(Reason::TooLarge);
         };
         let path = child_path(self.rt.alloc(), path, &name)?;
-        let tree = self.tree(path.as_str(), below)?;
+        let Some(node) = node_of(fs::symlink_metadata(self.rt, path.as_str()))? else {
+            return Err(Reason::ReadFault);
+        };
+        let tree = self.tree(node, path.as_str(), below)?;
         Ok(Member { name, tree })
-    }
-
-    // Whether a file or a folder lies at a path; a fault where anything else does.
-    fn node(&self, path: &str) -> Result<Node, Reason> {
-        let found = fs::symlink_metadata(self.rt, path).map_err(read_fault)?;
-        match (found.is_file(), found.is_dir()) {
-            (true, _) => Ok(Node::File),
-            (_, true) => Ok(Node::Folder),
-            _ => Err(Reason::ReadFault),
-        }
     }
 
     // The names in a folder, in byte order. A link in its place is not followed.
@@ -161,23 +181,33 @@ impl<R: Files + AllocGlobal> Reader<'_, R> {
         Ok(pieces)
     }
 
-    // The next piece of a file, without bytes at its end.
+    // The next piece of a file, just what one reading gave, without bytes at its end.
     fn piece<F: Read>(&mut self, file: &mut F) -> Result<Vec<u8>, Reason>
         ensures { IfOk result (λ piece. length piece.items ≤ 65536) }
     {
         let most = self.bytes.saturating_add(1).min(MAX_PIECE);
-        let mut piece = Vec::new(self.rt.alloc());
-        let start = file.by_ref().take(most as u64).read_to_end(&mut piece);
-        start.map_err(read_fault)?;
-        // A reader of bytes that are not known may say more than it was asked for.
-        piece.truncate(most);
-        piece.shrink_to_fit();
-        let Some(left) = self.bytes.checked_sub(piece.len()) else {
+        let room = most.min(self.buffer.len());
+        let count = read_once(file, &mut self.buffer[..room]).map_err(read_fault)?;
+        let Some(left) = self.bytes.checked_sub(count) else {
             return Err(Reason::TooLarge);
         };
         self.bytes = left;
-        Ok(piece)
+        Ok(Vec::from_slice(self.rt.alloc(), &self.buffer[..count])?)
     }
+}
+
+// Reads once, or anew where a signal came between.
+fn read_once<F: Read>(file: &mut F, buffer: &mut [u8]) -> io::Result<usize>
+    ensures same { length buffer.new ≡ length buffer.old }
+    ensures count { IfOk result (λ count. count ≤ length buffer.old) }
+{
+    for _ in 0..u64::MAX {
+        match file.read(buffer) {
+            Err(error) if error.kind() == ErrorKind::Interrupted => {}
+            answer => return answer,
+        }
+    }
+    Err(io::Error::from(ErrorKind::Interrupted))
 }
 
 // Whether a name that was read in a folder is that of a member: it is not empty, and neither the

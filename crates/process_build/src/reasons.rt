@@ -1,33 +1,40 @@
-//! What an error of the system means for a build.
-ghost use Rattle.std.specs.Prelude.{◌≡◌};
+//! What a failure of the system means for a build.
+ghost use Rattle.std.specs.Prelude.{◌≡◌, ◌≢◌};
 ghost use Rattle.process_build.specs.Errors.{IsNoMemory};
 ghost use Rattle.sched_core.specs.declared.reason.Reason.TheVariants.{NoStart, OutOfMemory};
 ghost use Rattle.sched_core.specs.declared.reason.Reason.TheVariants.{ReadFault};
 
-use crate::files::is_no_memory;
+use crate::failures::Failure;
 use sched_core::Reason;
 use std::io;
+
+/// The reason of a failure before the builder has started.
+pub fn no_room(failure: Failure) -> Reason
+    ensures no_memory { failure ≡ Failure.NoMemory → result ≡ OutOfMemory }
+    ensures other { failure ≢ Failure.NoMemory → result ≡ NoStart }
+{
+    match failure {
+        Failure::NoMemory => Reason::OutOfMemory,
+        _ => Reason::NoStart,
+    }
+}
 
 /// The reason of an error before the builder has started.
 pub fn no_start(error: io::Error) -> Reason
     ensures no_memory { IsNoMemory error → result ≡ OutOfMemory }
     ensures other { ¬ IsNoMemory error → result ≡ NoStart }
 {
-    if is_no_memory(&error) {
-        Reason::OutOfMemory
-    } else {
-        Reason::NoStart
-    }
+    no_room(Failure::from(error))
 }
 
-/// The reason of an error in the reading of an output.
+/// The reason of an error after the builder has started: in the wait for it, or in the reading of
+/// an output.
 pub fn read_fault(error: io::Error) -> Reason
     ensures no_memory { IsNoMemory error → result ≡ OutOfMemory }
     ensures other { ¬ IsNoMemory error → result ≡ ReadFault }
 {
-    if is_no_memory(&error) {
-        Reason::OutOfMemory
-    } else {
-        Reason::ReadFault
+    match Failure::from(error) {
+        Failure::NoMemory => Reason::OutOfMemory,
+        _ => Reason::ReadFault,
     }
 }

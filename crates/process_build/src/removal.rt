@@ -1,71 +1,92 @@
-//! What lies at a path, removed whole.
-use std::alloc::Global;
-use std::fs::{DirEntry, Permissions};
-use std::io::ErrorKind;
-use std::os::unix::fs::PermissionsExt;
+//! What lies at a path of the store folder, taken away.
+ghost use Rattle.std.specs.Prelude.{◌≡◌, IfErr, IfOk, Ok, string_bytes, true};
+ghost use Rattle.process_build.specs.Folders.{aside_of, gone_after, IsThere};
+
+use crate::failures::Failure;
+use std::alloc::{AllocError, Global};
+use std::fs::Metadata;
 use std::rt::Files;
 use std::{fs, io};
 
-// Who owns a folder may do all with it.
-const ALL_BY_OWNER: u32 = 0o700;
+/// Takes away what lies at a path of the store folder, if anything does. A link is removed, and not
+/// what it leads to; a folder is removed with all that is in it. What can't be removed is moved
+/// aside, to a name of the store folder that begins with `.nix_realise-left-`. No permissions are
+/// changed.
+pub fn clear<R: Files + AllocGlobal>(rt: &R, store_dir: &str, path: &str) -> Result<(), Failure> {
+    if is_gone(remove(rt, path))? {
+        return Ok(());
+    }
+    move_aside(rt, store_dir, path)
+}
 
-/// Removes what lies at a path, if anything does. A link is removed, and not what it leads to. A
-/// folder is removed with all that is in it, be it one that must not be written.
-pub fn remove<R: Files + AllocGlobal>(rt: &R, path: &str) -> io::Result<()> {
-    match fs::symlink_metadata(rt, path) {
-        Ok(found) if found.is_dir() => remove_folder(rt, path),
-        Ok(_) => fs::remove_file(rt, path),
-        Err(error) if error.kind() == ErrorKind::NotFound => Ok(()),
-        Err(error) => Err(error),
+// Whether nothing is left at a path, by what its removal gave.
+fn is_gone(removed: Result<(), Failure>) -> Result<bool, Failure>
+    ensures { result ≡ gone_after removed }
+{
+    match removed {
+        Ok(()) => Ok(true),
+        Err(Failure::NotFound) => Ok(true),
+        Err(Failure::NoMemory) => Err(Failure::NoMemory),
+        Err(_) => Ok(false),
     }
 }
 
-// Removes a folder with all that is in it.
-fn remove_folder<R: Files + AllocGlobal>(rt: &R, path: &str) -> io::Result<()> {
-    match fs::remove_dir_all(rt, path) {
-        Err(error) if error.kind() == ErrorKind::PermissionDenied => {
-            unlock_all(rt, path)?;
-            fs::remove_dir_all(rt, path)
-        }
-        removed => removed,
-    }
-}
-
-// Lets the owner read and write a folder and all folders in it, but for one whose name isn't UTF-8.
-fn unlock_all<R: Files + AllocGlobal>(rt: &R, path: &str) -> io::Result<()> {
-    let alloc = rt.alloc();
-    let mut locked = Vec::new(alloc);
-    locked.push(String::from_str(alloc, path)?)?;
-    for _ in 0..u64::MAX {
-        let Some(folder) = locked.pop() else {
-            break;
-        };
-        unlock(rt, folder.as_str(), &mut locked)?;
+// Removes what lies at a path, a folder with all that is in it.
+fn remove<R: Files + AllocGlobal>(rt: &R, path: &str) -> Result<(), Failure> {
+    if fs::symlink_metadata(rt, path)?.is_dir() {
+        fs::remove_dir_all(rt, path)?;
+    } else {
+        fs::remove_file(rt, path)?;
     }
     Ok(())
 }
 
-// Lets the owner read and write a folder, and adds the paths of those in it to the list.
-fn unlock<R: Files + AllocGlobal>(rt: &R, path: &str, locked: &mut Vec<String>) -> io::Result<()> {
-    fs::set_permissions(rt, path, Permissions::from_mode(ALL_BY_OWNER))?;
-    for entry in fs::read_dir(&rt, path)? {
-        match entry {
-            Ok(entry) => push_folder(rt.alloc(), &entry, locked)?,
-            Err(error) if error.kind() == ErrorKind::InvalidFilename => {}
-            Err(error) => return Err(error),
+// Moves what lies at a path to the first name for such things that is free.
+fn move_aside<R: Files + AllocGlobal>(rt: &R, store_dir: &str, path: &str) -> Result<(), Failure> {
+    for number in 0..u64::MAX {
+        let aside = aside_path(rt.alloc(), store_dir, number)?;
+        if moves_to(rt, path, aside.as_str())? {
+            return Ok(());
         }
     }
-    Ok(())
+    Err(Failure::Other)
 }
 
-// Adds the path of an entry to the list, if it is a folder.
-fn push_folder<R: Files>(
-    alloc: Global,
-    entry: &DirEntry<R>,
-    folders: &mut Vec<String>,
-) -> io::Result<()> {
-    if entry.file_type()?.is_dir() {
-        folders.push(String::from_str(alloc, entry.path().as_str())?)?;
+// Moves what lies at a path to another, unless something lies there, and says whether it did.
+fn moves_to<R: Files + AllocGlobal>(rt: &R, path: &str, aside: &str) -> Result<bool, Failure> {
+    if is_there(fs::symlink_metadata(rt, aside))? {
+        return Ok(false);
     }
-    Ok(())
+    let Err(error) = fs::rename(rt, path, aside) else {
+        // It is tried once more, now that no one finds it by its old path; it may stay there.
+        let _ = remove(rt, aside);
+        return Ok(true);
+    };
+    // Another worker may have taken the name.
+    if is_there(fs::symlink_metadata(rt, aside))? {
+        return Ok(false);
+    }
+    Err(Failure::from(error))
+}
+
+// Whether something lies at a path, by what asking for it gave.
+fn is_there(asked: io::Result<Metadata>) -> Result<bool, Failure>
+    ensures found { IfOk asked (λ _. result ≡ Ok true) }
+    ensures fault { IfErr asked (λ error. IsThere error result) }
+{
+    match asked {
+        Ok(_) => Ok(true),
+        Err(error) => match Failure::from(error) {
+            Failure::NotFound => Ok(false),
+            failure => Err(failure),
+        },
+    }
+}
+
+// The path with this number for what can't be removed.
+fn aside_path(alloc: Global, store_dir: &str, number: u64) -> Result<String, AllocError>
+    ensures { IfOk result (λ path. string_bytes path ≡ aside_of store_dir.now number) }
+{
+    let path = format!(in alloc; "{store_dir}/.nix_realise-left-{number}")?;
+    Ok(path)
 }

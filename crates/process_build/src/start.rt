@@ -7,23 +7,26 @@ ghost use Rattle.process_build.specs.BuilderCalls.{program_of, Runs};
 
 use crate::call::Call;
 use crate::environment::{set_environment, settings};
-use crate::reasons::no_start;
+use crate::folders::BuildFolder;
+use crate::reasons::{no_start, read_fault};
 use sched_core::Reason;
 use std::alloc::{AllocError, Global};
 use std::os::unix::process::CommandExt;
 use std::process::{Command, Processes, Stdio};
 
 /// Runs a builder in its folder, and gives its exit status, none where a signal ended it. It waits
-/// for the builder alone, and not for what that one has started.
+/// for the builder alone, and not for what that one has started. `NoStart` where it can't be
+/// started, `ReadFault` where it was and its end can't be waited for.
 pub fn run_builder<P: Processes>(
     alloc: Global,
     processes: &P,
     store_dir: &str,
-    folder: &str,
+    folder: &BuildFolder,
     call: &Call<'_>,
 ) -> Result<Option<i32>, Reason> {
     let mut command = command(alloc, store_dir, folder, call)?;
-    let status = command.status(processes).map_err(no_start)?;
+    let mut builder = command.spawn(processes).map_err(no_start)?;
+    let status = builder.wait().map_err(read_fault)?;
     Ok(status.code())
 }
 
@@ -31,17 +34,18 @@ pub fn run_builder<P: Processes>(
 fn command(
     alloc: Global,
     store_dir: &str,
-    folder: &str,
+    folder: &BuildFolder,
     call: &Call<'_>,
 ) -> Result<Command, AllocError>
     ensures { IfOk result (Runs (program_of call.now.builder.now)
         (map (λ a. a.now) call.now.args.items)
-        (entries_in_order store_dir.now folder.now (map entry_of_setting call.now.env.items))
-        folder.now) }
+        (entries_in_order store_dir.now (string_bytes folder.now.path)
+        (map entry_of_setting call.now.env.items))
+        (string_bytes folder.now.path)) }
 {
-    let mut command = in_folder(alloc, folder, call.builder)?;
+    let mut command = in_folder(alloc, folder.path(), call.builder)?;
     set_args(&mut command, &call.args)?;
-    let settings = settings(alloc, store_dir, folder, &call.env)?;
+    let settings = settings(alloc, store_dir, folder.path(), &call.env)?;
     set_environment(&mut command, &settings)?;
     be_silent(&mut command);
     Ok(command)

@@ -65,6 +65,18 @@ impl Scene {
         Ok(fs::read(rt, file.as_str())?.ends_with(text.as_bytes()))
     }
 
+    // Whether a file or folder has these permissions.
+    pub(crate) fn has_mode<R: Host>(&self, rt: &R, path: &str, mode: u32) -> Result<bool, Fail> {
+        let path = self.said(rt.alloc(), path)?;
+        Ok(
+            fs::symlink_metadata(rt, path.as_str())?
+                .permissions()
+                .mode()
+                & 0o777
+                == mode,
+        )
+    }
+
     // Whether a link stands at a path.
     pub(crate) fn is_link<R: Host>(&self, rt: &R, path: &str) -> Result<bool, Fail> {
         let path = self.said(rt.alloc(), path)?;

@@ -45,8 +45,8 @@ static IN_PLACE: [Row; 3] = [
             Step::Stands("<dir>/kept/file", true),
         ],
     },
-    // What an earlier run left at an output's path is removed, be it a folder that must not be
-    // written or read.
+    // What an earlier run left at an output's path is gone, be it a folder that must not be written
+    // or read. (The superuser may remove it; tests/left-folders is of a user who may not.)
     Row {
         name: "locked",
         steps: &[
@@ -54,9 +54,9 @@ static IN_PLACE: [Row; 3] = [
                 "mkdir -p $out/a/b; : > $out/a/b/f; chmod 0 $out/a/b; chmod 500 $out/a $out; exit \
                     1",
                 &["out"],
-                Made::Any,
+                Made::Ended(Some(1)),
             ),
-            Step::Script("echo made > $out", &["out"], Made::Any),
+            Step::Script("echo made > $out", &["out"], Made::File("made\n")),
             Step::Script("echo again > $out", &["out"], Made::File("again\n")),
         ],
     },
@@ -70,24 +70,32 @@ static BUILD_FOLDERS: [Row; 3] = [
             Step::Script(
                 "test -z \"$(ls -A)\" && mkdir -p a/b && : > a/b/f && chmod -R a-w a && : > $out",
                 &["out"],
-                Made::Any,
+                Made::File(""),
             ),
             Step::Stands(BUILD, false),
             Step::Script(
                 "test -z \"$(ls -A)\" && : > f && exit 3",
                 &["out"],
-                Made::Any,
+                Made::Ended(Some(3)),
             ),
             Step::Stands(BUILD, false),
-            Step::Script(": > f; kill -9 $$", &["out"], Made::Any),
+            Step::Script(": > f; kill -9 $$", &["out"], Made::Ended(None)),
             Step::Stands(BUILD, false),
-            Step::Script(": > f; ln -s / $out", &["out"], Made::Any),
+            Step::Script(
+                ": > f; ln -s / $out",
+                &["out"],
+                Made::Failed(Reason::ReadFault),
+            ),
             Step::Stands(BUILD, false),
-            Step::Script(": > f; mkdir -p $out/$(seq -s / 2 40)", &["out"], Made::Any),
+            Step::Script(
+                ": > f; mkdir -p $out/$(seq -s / 2 40)",
+                &["out"],
+                Made::Failed(Reason::TooLarge),
+            ),
             Step::Stands(BUILD, false),
-            Step::Script("rm -r $PWD; : > $out", &["out"], Made::Any),
+            Step::Script("rm -r $PWD; : > $out", &["out"], Made::File("")),
             Step::Stands(BUILD, false),
-            Step::Script("rm -r $PWD; : > $PWD", &["out"], Made::Any),
+            Step::Script("rm -r $PWD; : > $PWD", &["out"], Made::Trees(1, 1)),
             Step::Stands(BUILD, false),
         ],
     },

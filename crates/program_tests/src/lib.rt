@@ -11,6 +11,8 @@
 //! | `realising`, `realisations`, `many` | `realise`: its faults, its reports, many derivations |
 //! | `progress` | the line of progress |
 //! | `starts`, `folders`, `outputs` | a builder's start, its folder, what is read of its outputs |
+//! | `places` | what is no regular file, and the permissions of a new file |
+//! | `calls`, `double` | the calls of the system, each refused; a runtime that notes them |
 //! | `steps`, `scene` | the steps of which most rows are made, and how they are taken |
 //! | `texts`, `files`, `commands`, `sites` | paths, files, command lines and builders of a step |
 //! | `running` | runs of the program |
@@ -19,9 +21,13 @@
 #[cfg(test)]
 mod added_texts;
 #[cfg(test)]
+mod calls;
+#[cfg(test)]
 mod checks;
 #[cfg(test)]
 mod commands;
+#[cfg(test)]
+mod double;
 #[cfg(test)]
 mod drvs;
 #[cfg(test)]
@@ -36,6 +42,8 @@ mod lines;
 mod many;
 #[cfg(test)]
 mod outputs;
+#[cfg(test)]
+mod places;
 #[cfg(test)]
 mod progress;
 #[cfg(test)]

@@ -9,10 +9,10 @@ use std::test::Fail;
 
 // What one worker writes of a diamond of which both sides fail: a line while each of the three
 // builders runs, and none behind it. Once the first side failed nothing waits but the other.
-const WRITTEN: &str = "\r\x1b[Knix_realise: 1 running, 0 built, 0 failed, 3 waiting, of 4\
-    \r\x1b[K\r\x1b[Knix_realise: 1 running, 1 built, 0 failed, 2 waiting, of 4\
-    \r\x1b[K\r\x1b[Knix_realise: 1 running, 1 built, 1 failed, 0 waiting, of 4\
-    \r\x1b[K";
+const WRITTEN: &str = "\r\x1b[K\x1b[?7lnix_realise: 1 running, 0 built, 0 failed, 3 waiting, of 4\
+    \x1b[?7h\r\x1b[K\r\x1b[K\x1b[?7lnix_realise: 1 running, 1 built, 0 failed, 2 waiting, of 4\
+    \x1b[?7h\r\x1b[K\r\x1b[K\x1b[?7lnix_realise: 1 running, 1 built, 1 failed, 0 waiting, of 4\
+    \x1b[?7h\r\x1b[K";
 
 static STEPS: [Step; 7] = [
     Step::Put(

@@ -102,6 +102,7 @@ impl Scene {
         match step {
             Step::Holds(file, text) => self.holds(rt, file, text),
             Step::Ends(file, text) => self.ends(rt, file, text),
+            Step::HasMode(path, mode) => self.has_mode(rt, path, *mode),
             Step::IsLink(path) => self.is_link(rt, path),
             Step::Stands(path, wanted) => Ok(self.stands(rt, path)? == *wanted),
             Step::Left(count) => self.left(rt, *count),

@@ -27,8 +27,6 @@ pub struct Call {
 
 /// What comes of a builder.
 pub enum Made {
-    /// Whatever it is.
-    Any,
     /// An answer, whatever it is.
     Answered,
     /// It fails for this reason.
@@ -132,7 +130,6 @@ impl Scene {
         made: &Made,
     ) -> Result<bool, Fail> {
         match (came, made) {
-            (_, Made::Any) => Ok(true),
             (Ok(answer), Made::File(text)) => {
                 is_file(alloc, answer, self.said(alloc, text)?.as_bytes())
             }

@@ -6,7 +6,9 @@ use crate::steps::{Row, Step};
 use process_build::{ByProcesses, ProcessBuild};
 use sched_core::{Job, Reason};
 use std::alloc::Allocator;
-use std::process::{Child, Command, Processes, Stdio};
+use std::process::{
+    Child, ChildStderr, ChildStdin, ChildStdout, Command, ExitStatus, OpenProcess, Processes, Stdio,
+};
 use std::rt::Files;
 use std::test::Fail;
 use std::{fs, io, process};
@@ -318,6 +320,44 @@ impl Processes for NoProcess {
     }
 }
 
+// Processes that run, and of which none can be waited for.
+#[derive(Drop)]
+struct LostProcesses;
+
+// A process that can't be waited for.
+#[derive(Drop)]
+struct LostProcess;
+
+impl OpenProcess for LostProcess {
+    type Stdin = ChildStdin;
+
+    type Stdout = ChildStdout;
+
+    type Stderr = ChildStderr;
+
+    fn id(&self) -> u32 {
+        1
+    }
+
+    fn wait(&mut self) -> io::Result<ExitStatus> {
+        Err(io::Error::from(io::ErrorKind::Other))
+    }
+}
+
+impl Processes for LostProcesses {
+    type Started = LostProcess;
+
+    fn spawn<B: Allocator + Clone>(
+        &self,
+        _command: &Command<B>,
+        _stdin: &Stdio,
+        _stdout: &Stdio,
+        _stderr: &Stdio,
+    ) -> io::Result<Child<LostProcess>> {
+        Ok(Child::from_parts(LostProcess, None, None, None))
+    }
+}
+
 // Why a job of which no process can be started fails, if the build folder is removed.
 fn refusal<R: Files + AllocGlobal>(
     rt: &R,
@@ -333,7 +373,8 @@ fn refusal<R: Files + AllocGlobal>(
     Ok(if stands { None } else { reason })
 }
 
-// Want of memory at the start is told as such, any other cause as a start that failed.
+// Want of memory at the start is told as such, any other cause as a start that failed; a wait that
+// fails is none of these.
 #[test]
 fn refused_starts(rt: HostRuntime) -> Result<(), Fail> {
     let folder = new_folder(&rt, process::id(rt.process()), "refused-starts")?;
@@ -348,5 +389,10 @@ fn refused_starts(rt: HostRuntime) -> Result<(), Fail> {
             "at {reason:?}"
         );
     }
+    let lost = ProcessBuild::new(rt.alloc(), &rt, &LostProcesses, site.folder.as_str())?;
+    assert!(rt;
+        lost.run(0, &job).err() == Some(Reason::ReadFault),
+        "at a wait"
+    );
     Ok(fs::remove_dir_all(&rt, site.folder.as_str())?)
 }

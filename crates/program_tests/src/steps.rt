@@ -54,6 +54,8 @@ pub enum Step {
     Holds(&'static str, &'static str),
     /// A file's text ends so.
     Ends(&'static str, &'static str),
+    /// A file or folder has these permissions.
+    HasMode(&'static str, u32),
     /// A link stands at the path.
     IsLink(&'static str),
     /// Whether something lies at a path, be it a link that leads nowhere.

@@ -1,12 +1,14 @@
 -- How a run of `add-text` ends where its text is refused, or where a file is not written.
-use Rattle.std.proofs.Common.{refl, ℕ, List, Option, Err}
+use Rattle.std.proofs.Common.{refl, ℕ, List, Option, Result, Ok, Err}
+use Rattle.std.specs.Io.KnownBytes.{Appends}
 use Rattle.subcommands.specs.AddedText.{FileBytes, IsAddingText}
-use Rattle.subcommands.specs.Endings.{EndsBy, IsPrinted, IsWriteFault}
+use Rattle.subcommands.specs.Endings.{EndsBy, IsPut, IsWriteFault, path_line}
+use Rattle.subcommands.specs.StoreDirs.{IsStoreDirOf}
 use Rattle.subcommands.specs.declared.added_text.AddedText.{AddedText}
 use Rattle.subcommands.specs.declared.options.AddTextRequest.{AddTextRequest}
 use Rattle.subcommands.specs.declared.stop.Stop.{Stop}
 use Rattle.subcommands.specs.declared.stop.Stop.TheVariants.{NotWritten, JournalNotWritten}
-use Rattle.subcommands.specs.declared.stop.Stop.TheVariants.{NoMemory, Unwritable}
+use Rattle.subcommands.specs.declared.stop.Stop.TheVariants.{BadStoreDir, NoMemory, Unwritable}
 
 -- a refused text ends the run with nothing printed
 pub text_refused : (request : AddTextRequest) (gave journal : FileBytes) (before : Option (List ℕ))
@@ -19,15 +21,34 @@ text_refused request gave journal before Unwritable h = absurd h
 text_refused request gave journal before NoMemory h = h
 text_refused request gave journal before stop h = (refl, h)
 
+-- a folder that is none ends the run before a file is opened
+pub folder_refused : (request : AddTextRequest) (gave journal : FileBytes)
+    (before : Option (List ℕ)) (stop : Stop)
+    → IsStoreDirOf request.store_dir (Err stop)
+    → EndsBy request gave journal before before (Err stop)
+folder_refused request gave journal before (BadStoreDir blamed) h = (refl, h)
+folder_refused request gave journal before NoMemory h = h
+folder_refused request gave journal before stop h = absurd h
+
 -- a file is not written behind the printed path
-pub file_not_written : (request : AddTextRequest) (gave journal : FileBytes)
-    (before after : Option (List ℕ)) (added : AddedText) (stop : Stop)
-    → IsPrinted request gave journal before after added → IsWriteFault added stop
-    → EndsBy request gave journal before after (Err stop)
-file_not_written request gave journal before after added (NotWritten path) printed h =
-    (added, printed, h)
-file_not_written request gave journal before after added JournalNotWritten printed h =
-    (added, printed, h)
-file_not_written request gave journal before after added NoMemory printed h =
-    λ none. none printed.0.0.0.0
-file_not_written request gave journal before after added stop printed h = absurd h
+pub file_not_written : (added : AddedText) (before after : Option (List ℕ)) (stop : Stop)
+    → Appends before after (path_line added.path) → IsWriteFault added stop
+    → IsPut added before after (Err stop)
+file_not_written added before after (NotWritten path) printed h = (h, printed)
+file_not_written added before after JournalNotWritten printed h = (h, printed)
+file_not_written added before after NoMemory printed h = (h, printed)
+file_not_written added before after stop printed h = absurd h
+
+-- how the printing and the writing end is how the run does
+pub put_ends : (request : AddTextRequest) (gave journal : FileBytes)
+    (before after : Option (List ℕ)) (added : AddedText) (result : Result ℕ Stop)
+    → IsAddingText request gave journal (Ok added) → IsPut added before after result
+    → EndsBy request gave journal before after result
+put_ends request gave journal before after added (Ok status) is h = (h.0, (added, (is, h.1)))
+put_ends request gave journal before after added (Err (NotWritten path)) is h =
+    (added, (is, h.1), h.0)
+put_ends request gave journal before after added (Err JournalNotWritten) is h =
+    (added, (is, h.1), h.0)
+put_ends request gave journal before after added (Err Unwritable) is h = (added, is)
+put_ends request gave journal before after added (Err NoMemory) is h = λ none. none is.0.0.0
+put_ends request gave journal before after added (Err stop) is h = absurd h.0

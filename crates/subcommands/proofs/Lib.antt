@@ -5,3 +5,4 @@ pub mod Registrations
 pub mod Reports
 pub mod Rows
 pub mod Tasks
+pub mod Unwritten

@@ -21,6 +21,15 @@ IsWriteFault added JournalNotWritten = IsSome added.journal
 IsWriteFault added NoMemory = Unit {0}
 IsWriteFault added stop = ⊥
 
+-- How the printing of an accepted text's path and the writing of its files end. Of a refused line
+-- nothing more is said.
+abbrev pub IsPut : AddedText → (before after : Option (List ℕ)) → Result ℕ Stop → Type 0
+IsPut added before after (Ok status) =
+    (status ≡ 0) × Appends before after (path_line added.path)
+IsPut added before after (Err Unwritable) = Unit {0}
+IsPut added before after (Err stop) =
+    IsWriteFault added stop × Appends before after (path_line added.path)
+
 -- The text was accepted, and the line of its path was printed.
 abbrev pub IsPrinted : AddTextRequest → (gave journal : FileBytes)
     → (before after : Option (List ℕ)) → AddedText → Type 0

@@ -5,6 +5,7 @@ pub mod CommandLine
 pub mod DrvEndings
 pub mod Endings
 pub mod FaultWords
+pub mod Files
 pub mod Folders
 pub mod GraphWords
 pub mod JournalFiles

@@ -60,7 +60,8 @@ RunEnds may request task before after result =
     × IsFallingShort may request task fault)
 
 -- How a run ends, by what the journal file gave. Nothing is printed where the request is refused,
--- or where there is no memory for the builders.
+-- where it is found out that the journal can't be written, or where there is no memory for that or
+-- for the builders.
 abbrev pub RealiseEndsBy : May → RealiseRequest → (gave : FileBytes)
     → (before after : Option (List ℕ)) → Result ℕ Stop → Type 0
 RealiseEndsBy may request gave before after result =
@@ -68,7 +69,7 @@ RealiseEndsBy may request gave before after result =
     × IsTaking (λ _ answer. may_give answer) request gave (Err stop))
     ⊎ ((task : Task) × IsTaking (λ _ answer. may_give answer) request gave (Ok task)
     × (RunEnds may request task before after result
-    ⊎ ((result ≡ Err NoMemory) × (after ≡ before))))
+    ⊎ (((result ≡ Err JournalNotWritten) ⊎ (result ≡ Err NoMemory)) × (after ≡ before))))
 
 -- how a run ends: nothing is known of what the journal file gave
 abbrev pub RealiseEnds : May → RealiseRequest → (before after : Option (List ℕ)) → Result ℕ Stop

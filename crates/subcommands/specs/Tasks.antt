@@ -1,6 +1,6 @@
 -- What `realise` makes of its request and of what its files gave: a plan and a journal, or the
 -- first of its faults.
-use Rattle.std.specs.Prelude.{◌≡◌, ℕ, List, All, Some, None, Result, Ok, Err, map}
+use Rattle.std.specs.Prelude.{◌≡◌, ◌⊎◌, ℕ, List, All, Some, None, Result, Ok, Err, map}
 use Rattle.std.specs.Borrow.{Bor}
 use Rattle.std.specs.Global.{Vec}
 use Rattle.nix_names.specs.Firsts.{IsFirst}
@@ -11,12 +11,10 @@ use Rattle.nix_drv.specs.Sources.{Answer}
 use Rattle.drv_graph.specs.Loading.{IsLoading}
 use Rattle.drv_graph.specs.Plans.{Graph, IsPlan}
 use Rattle.drv_graph.specs.declared.fault.GraphFault.TheVariants as graph
-use Rattle.subcommands.specs.AddedText.{FileBytes, IsBadJournal, IsJournalOf}
-use Rattle.subcommands.specs.declared.files.FileFault.TheVariants as file
+use Rattle.subcommands.specs.AddedText.{FileBytes, IsJournalOf}
 use Rattle.subcommands.specs.declared.options.RealiseRequest.{RealiseRequest}
 use Rattle.subcommands.specs.declared.stop.Stop.{Stop}
 use Rattle.subcommands.specs.declared.stop.Stop.TheVariants.{BadStoreDir, NoPath, BadDrv}
-use Rattle.subcommands.specs.declared.stop.Stop.TheVariants.{JournalUnreadable, BadJournal}
 use Rattle.subcommands.specs.declared.stop.Stop.TheVariants.{NoMemory}
 use Rattle.subcommands.specs.declared.task.Task.{Task}
 
@@ -69,25 +67,27 @@ abbrev pub HasPlan : (gives : List ℕ → Answer → Type 0) → RealiseRequest
 HasPlan gives request plan =
     HasRoots request × IsPlan request.store_dir.now gives (words_of request) plan
 
--- What is answered. The store folder is tested first, then the words DRV, the plan and the journal,
--- and each fault comes only where nothing is wrong with what is tested before it, by answers that
--- the source may give; want of memory never stands in the place of a refused folder.
+-- What is answered in place of a plan. The store folder is tested first, then the words DRV, and each
+-- fault comes only where nothing is wrong with what is tested before it, by answers that the source
+-- may give; want of memory never stands in the place of a refused folder.
+abbrev pub IsNotPlanned : (gives : List ℕ → Answer → Type 0) → RealiseRequest → Stop → Type 0
+IsNotPlanned gives request (BadStoreDir blamed) =
+    (blamed ≡ request.store_dir) × ¬ (IsStoreDir request.store_dir.now)
+IsNotPlanned gives request (NoPath blamed fault) =
+    IsStoreDir request.store_dir.now
+    × IsFirstStray request.store_dir.now (words_of request) blamed.now fault
+IsNotPlanned gives request (BadDrv path fault) =
+    HasRoots request
+    × IsLoading request.store_dir.now gives (words_of request) (Err (graph.At path fault))
+IsNotPlanned gives request NoMemory = ¬ (¬ (IsStoreDir request.store_dir.now))
+IsNotPlanned gives request stop = ⊥
+
+-- What is answered. Behind the plan comes the journal: its fault comes only where there is a plan.
 abbrev pub IsTaking : (gives : List ℕ → Answer → Type 0) → RealiseRequest → (gave : FileBytes)
     → Result Task Stop → Type 0
 IsTaking gives request gave (Ok task) =
     HasPlan gives request task.plan × IsJournalOf request.store_dir.now gave (Ok task.journal)
-IsTaking gives request gave (Err (BadStoreDir blamed)) =
-    (blamed ≡ request.store_dir) × ¬ (IsStoreDir request.store_dir.now)
-IsTaking gives request gave (Err (NoPath blamed fault)) =
-    IsStoreDir request.store_dir.now
-    × IsFirstStray request.store_dir.now (words_of request) blamed.now fault
-IsTaking gives request gave (Err (BadDrv path fault)) =
-    HasRoots request
-    × IsLoading request.store_dir.now gives (words_of request) (Err (graph.At path fault))
-IsTaking gives request gave (Err JournalUnreadable) =
-    ((plan : Graph) × HasPlan gives request plan) × (gave ≡ Err file.Unreadable)
-IsTaking gives request gave (Err (BadJournal fault)) =
-    ((plan : Graph) × HasPlan gives request plan)
-    × IsBadJournal request.store_dir.now gave fault
-IsTaking gives request gave (Err NoMemory) = ¬ (¬ (IsStoreDir request.store_dir.now))
-IsTaking gives request gave (Err stop) = ⊥
+IsTaking gives request gave (Err stop) =
+    IsNotPlanned gives request stop
+    ⊎ (((plan : Graph) × HasPlan gives request plan)
+    × IsJournalOf request.store_dir.now gave (Err stop))

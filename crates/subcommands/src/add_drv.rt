@@ -10,11 +10,13 @@ use crate::files::read_text;
 use crate::folder::FolderSource;
 use crate::options::AddDrvRequest;
 use crate::stop::Stop;
+use crate::store_dir::store_dir;
 use std::io::Write;
 use std::rt::Files;
 
 /// Fills the outputs of a file's draft, writes the derivation at its path, in place of what is
-/// there, and prints the path. What is refused, and in which order, is `added_drv`'s answer.
+/// there, and prints the path. The store folder is tested before a file is opened; what is refused
+/// then, and in which order, is `added_drv`'s answer.
 /// Nothing is printed where the draft is refused or its file is not written.
 pub fn add_drv<'a, R: Files + AllocGlobal, O: Write>(
     rt: &R,
@@ -23,6 +25,7 @@ pub fn add_drv<'a, R: Files + AllocGlobal, O: Write>(
 ) -> Result<u8, Stop<'a>>
     ensures { DrvEnds request.now (O.contents out.old) (O.contents out.new) result }
 {
+    store_dir(rt.alloc(), request.store_dir)?;
     let draft = read_text(rt, request.file);
     let mut source = FolderSource::new(rt);
     let added = added_drv(rt.alloc(), &mut source, request, draft)?;

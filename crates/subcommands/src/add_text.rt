@@ -1,25 +1,27 @@
 //! The subcommand `add-text`.
 ghost use Rattle.std.specs.Prelude.{◌≡◌, ◌⊎◌, IfErr, IfOk, OnOk};
 ghost use Rattle.std.specs.Io.KnownBytes.{Appends};
-ghost use Rattle.subcommands.specs.Endings.{Ends, IsWriteFault, path_line};
+ghost use Rattle.subcommands.specs.Endings.{Ends, IsPut, IsWriteFault, path_line};
 
 use crate::added_text::{AddedText, added_text};
 use crate::files::read_text;
-use crate::journal_file::{read_journal, write_journal};
+use crate::journal_file::JournalFile;
 use crate::options::AddTextRequest;
 use crate::printing::print_bytes;
 use crate::stop::Stop;
+use crate::store_dir::store_dir;
 use crate::whole_file::write_whole;
 use nix_names::StorePath;
-use process_build::{file_path, is_no_memory};
+use process_build::{Failure, file_path};
 use std::io;
 use std::io::Write;
 use std::rt::Files;
 
 /// Prints the path of a file's bytes as a text without references, and then, unless the path is
-/// valid by the journal, writes them there and the journal with one entry more. Both files are read
-/// first; what is refused, and in which order, is `added_text`'s answer. Nothing is printed where
-/// the text is refused, and nothing is written where the path's line is.
+/// valid by the journal, writes them there and the journal with one entry more. The store folder is
+/// tested before a file is opened, and both files are read then; what is refused, and in which
+/// order, is `added_text`'s answer. Nothing is printed where the text is refused, and nothing is
+/// written where the path's line is.
 pub fn add_text<'a, R: Files + AllocGlobal, O: Write>(
     rt: &R,
     request: &AddTextRequest<'a>,
@@ -27,13 +29,27 @@ pub fn add_text<'a, R: Files + AllocGlobal, O: Write>(
 ) -> Result<u8, Stop<'a>>
     ensures { Ends request.now (O.contents out.old) (O.contents out.new) result }
 {
+    store_dir(rt.alloc(), request.store_dir)?;
+    let file = JournalFile::new(rt.alloc(), request.store_dir, request.journal)?;
     let text = read_text(rt, request.file);
-    let journal = read_journal(rt, request.store_dir, request.journal);
+    let journal = file.read(rt);
     let added = added_text(rt.alloc(), request, text, journal)?;
+    put(rt, &file, added, out)
+}
+
+// Prints the path of an accepted text, and writes the files.
+fn put<'a, R: Files + AllocGlobal, O: Write>(
+    rt: &R,
+    file: &JournalFile,
+    added: AddedText,
+    out: &mut O,
+) -> Result<u8, Stop<'a>>
+    ensures { IsPut added (O.contents out.old) (O.contents out.new) result }
+{
     let Ok(()) = print_path(&added.path, out) else {
         return Err(Stop::Unwritable);
     };
-    write_files(rt, request, added)?;
+    write_files(rt, file, added)?;
     Ok(0)
 }
 
@@ -48,7 +64,7 @@ pub fn print_path<O: Write>(path: &StorePath, out: &mut O) -> io::Result<()>
 // Writes the text at its path and then the journal, unless the path is valid already.
 fn write_files<'a, R: Files + AllocGlobal>(
     rt: &R,
-    request: &AddTextRequest<'a>,
+    file: &JournalFile,
     added: AddedText,
 ) -> Result<(), Stop<'a>>
     ensures { IfErr result (IsWriteFault added) }
@@ -62,7 +78,8 @@ fn write_files<'a, R: Files + AllocGlobal>(
         return Ok(());
     };
     write_text(rt, path, &text)?;
-    write_journal(rt, request.store_dir, request.journal, &journal)
+    file.write(rt, &journal)?.used();
+    Ok(())
 }
 
 /// Writes a text at its path, in place of what is there, and hands the path back.
@@ -74,9 +91,15 @@ pub fn write_text<'a, R: Files + AllocGlobal>(
     ensures ok { IfOk result (λ same. same ≡ path) }
     ensures err { IfErr result (λ stop. (stop ≡ Stop.NoMemory) ⊎ (stop ≡ Stop.NotWritten path)) }
 {
-    match file_path(&path).and_then(|file| write_whole(rt, file, bytes)) {
+    match write_at(rt, &path, bytes) {
         Ok(()) => Ok(path),
-        Err(error) if is_no_memory(&error) => Err(Stop::NoMemory),
+        Err(Failure::NoMemory) => Err(Stop::NoMemory),
         Err(_) => Err(Stop::NotWritten(path)),
     }
+}
+
+// Writes a text at its path.
+fn write_at<R: Files + AllocGlobal>(rt: &R, path: &StorePath, bytes: &[u8]) -> Result<(), Failure> {
+    write_whole(rt, file_path(path)?, bytes)?.used();
+    Ok(())
 }

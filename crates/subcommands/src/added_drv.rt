@@ -107,6 +107,7 @@ fn text_of<'a>(alloc: Global, drv: &Derivation) -> Result<Vec<u8>, Stop<'a>>
 {
     match write(alloc, drv) {
         Ok(text) => Ok(text),
-        Err(_) => Err(Stop::NoMemory),
+        Err(DrvFault::NoMemory) => Err(Stop::NoMemory),
+        Err(_) => unreachable!(),
     }
 }

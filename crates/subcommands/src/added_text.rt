@@ -139,9 +139,7 @@ fn register_text(
     if journal.registers(path) {
         return Ok(false);
     }
-    let Ok(path) = path.copy(alloc) else {
-        return Err(TableFault::NoMemory);
-    };
+    let path = path.copy(alloc)?;
     let info = Record::new(Vec::new(alloc), Some(digest))?;
     journal.add(path, info)?;
     Ok(true)

@@ -154,9 +154,6 @@ pub fn write_with_string(name: &[u8], text: &[u8], out: &mut Vec<u8>) -> Result<
 {
     out.extend_from_slice(name)?;
     out.extend_from_slice(b"(")?;
-    // A list refuses a write for want of memory alone.
-    let Ok(()) = write_string(out, text) else {
-        return Err(AllocError);
-    };
+    write_string(out, text)?;
     out.extend_from_slice(b")")
 }

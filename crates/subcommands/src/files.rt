@@ -1,15 +1,20 @@
 //! Files that are read.
-ghost use Rattle.std.specs.Prelude.{◌≡◌, ◌≤◌, IfOk, length};
+ghost use Rattle.std.specs.Prelude.{◌≡◌, ◌≤◌, IfErr, IfOk, length};
+ghost use Rattle.std.specs.Fs.{file_type};
+ghost use Rattle.process_build.specs.Errors.{IsFailure, IsNoMemory};
+ghost use Rattle.subcommands.specs.Files.{IsRegular};
 
-use process_build::is_no_memory;
+use nix_drv::MAX_LEN;
+use process_build::Failure;
 use std::alloc::{AllocError, Global};
+use std::fs::Metadata;
 use std::io::Read;
 use std::rt::Files;
 use std::{fs, io};
 
 /// How many bytes of a text's file are read: one more than a text may have, so that a longer one is
 /// known by their number.
-pub const MAX_READ: u64 = 4_194_305;
+pub const MAX_READ: u64 = MAX_LEN as u64 + 1;
 
 /// Why a file gave no bytes.
 #[derive(Clone, Copy, Debug, PartialEq, Eq)]
@@ -30,28 +35,77 @@ impl From<AllocError> for FileFault {
     }
 }
 
-impl From<io::Error> for FileFault {
-    fn from(error: io::Error) -> Self {
-        if is_no_memory(&error) {
-            FileFault::NoMemory
-        } else {
-            FileFault::Unreadable
+impl From<Failure> for FileFault {
+    ghost use Rattle.subcommands.specs.Files.{file_fault_of};
+
+    ghost from_gives = { λ failure fault. fault ≡ file_fault_of failure };
+
+    fn from(failure: Failure) -> Self {
+        match failure {
+            Failure::NoMemory => FileFault::NoMemory,
+            _ => FileFault::Unreadable,
         }
     }
 }
 
-/// The first bytes of the file at a path, at most so many of them.
-pub fn read_start<R: Files>(alloc: Global, files: &R, path: &str, most: u64) -> io::Result<Vec<u8>>
+/// The first bytes of the file at a path, at most so many of them, be it a file of any kind.
+pub fn read_start<R: Files>(
+    alloc: Global,
+    files: &R,
+    path: &str,
+    most: u64,
+) -> Result<Vec<u8>, Failure>
     ensures { IfOk result (λ bytes. length bytes.items ≤ most) }
 {
     let mut bytes = Vec::new(alloc);
-    fs::open(files, path)?.take(most).read_to_end(&mut bytes)?;
+    let file = fs::open(files, path)?;
+    if let Err(error) = file.take(most).read_to_end(&mut bytes) {
+        return Err(unread(error));
+    }
     // A reader of bytes that are not known may say more than it was asked for.
     bytes.truncate(most as usize);
     Ok(bytes)
 }
 
-/// The bytes of a text's file, one more than a text may have at most.
+// What an error in the reading of an open file means: such a file is not missing.
+fn unread(error: io::Error) -> Failure
+    ensures memory { IsNoMemory error → result ≡ Failure.NoMemory }
+    ensures other { ¬ IsNoMemory error → result ≡ Failure.Other }
+{
+    match Failure::from(error) {
+        Failure::NoMemory => Failure::NoMemory,
+        _ => Failure::Other,
+    }
+}
+
+/// The same of a regular file, which a link may lead to. What is none is never opened: a pipe
+/// would hold the program up.
+pub fn read_regular<R: Files>(
+    alloc: Global,
+    files: &R,
+    path: &str,
+    most: u64,
+) -> Result<Vec<u8>, Failure>
+    ensures { IfOk result (λ bytes. length bytes.items ≤ most) }
+{
+    is_regular(fs::metadata(files, path))?;
+    read_start(alloc, files, path, most)
+}
+
+// Whether a regular file lies at a path, by what asking for it gave; a fault where none does.
+fn is_regular(asked: io::Result<Metadata>) -> Result<(), Failure>
+    ensures found { IfOk asked (λ found. IsRegular (file_type found) result) }
+    ensures fault { IfErr asked (λ error. IfErr result (IsFailure error)) }
+    ensures refused { IfErr asked (λ _. IfOk result (λ _. ⊥)) }
+{
+    if asked?.is_file() {
+        Ok(())
+    } else {
+        Err(Failure::Other)
+    }
+}
+
+/// The bytes of a text's file of any kind, one more than a text may have at most.
 pub fn read_text<R: Files + AllocGlobal>(rt: &R, path: &str) -> Result<Vec<u8>, FileFault>
     ensures { IfOk result (λ bytes. length bytes.items ≤ 4194305) }
 {

@@ -1,16 +1,13 @@
 //! Derivations read from the files of a folder.
-ghost use Rattle.std.specs.Prelude.{◌≡◌, ◌≢◌, ◌≤◌, ◌↔◌, Err, IfOk, None, length};
-ghost use Rattle.std.specs.IoError.{error_kind, raw_os_error};
+ghost use Rattle.std.specs.Prelude.{◌≡◌, ◌≢◌, ◌≤◌, ◌↔◌, Err, IfOk, length};
 ghost use Rattle.nix_drv.specs.Sources.{IsCounted};
 ghost use Rattle.subcommands.specs.Folders.{may_give};
 
-use crate::files::{MAX_READ, read_start};
+use crate::files::{MAX_READ, read_regular};
 use nix_drv::{DrvSource, SourceFault};
 use nix_names::StorePath;
-use process_build::file_path;
+use process_build::{Failure, file_path};
 use std::alloc::Global;
-use std::io;
-use std::io::ErrorKind;
 use std::marker::Model;
 use std::rt::Files;
 
@@ -46,18 +43,16 @@ impl<'a, R> FolderSource<'a, R> {
     }
 
     // What a failed read answers, counted where the device is to blame.
-    fn fault_of(&mut self, error: &io::Error) -> SourceFault
-        ensures missing { (result ≡ SourceFault.Missing)
-            ↔ (error_kind error.now ≡ ErrorKind.NotFound) }
-        ensures memory { (result ≡ SourceFault.NoMemory)
-            ↔ ((error_kind error.now ≡ ErrorKind.OutOfMemory) × (raw_os_error error.now ≡ None)) }
+    fn fault_of(&mut self, failure: Failure) -> SourceFault
+        ensures missing { (result ≡ SourceFault.Missing) ↔ (failure ≡ Failure.NotFound) }
+        ensures memory { (result ≡ SourceFault.NoMemory) ↔ (failure ≡ Failure.NoMemory) }
         ensures counted { IsCounted self.old self.new (Err result) }
         ensures counts { self.old ≤ self.new }
         ensures same { result ≢ SourceFault.Device → self.new ≡ self.old }
     {
-        match error.kind() {
-            ErrorKind::NotFound => SourceFault::Missing,
-            ErrorKind::OutOfMemory if error.raw_os_error().is_none() => SourceFault::NoMemory,
+        match failure {
+            Failure::NotFound => SourceFault::Missing,
+            Failure::NoMemory => SourceFault::NoMemory,
             _ => {
                 self.failures = self.failures.saturating_add(1);
                 SourceFault::Device
@@ -74,14 +69,14 @@ impl<R: Files> DrvSource for FolderSource<'_, R> {
     fn fetch(&mut self, alloc: Global, path: &StorePath) -> Result<Vec<u8>, SourceFault> {
         match read_store_file(alloc, self.files, path) {
             Ok(bytes) => Ok(bytes),
-            Err(error) => Err(self.fault_of(&error)),
+            Err(failure) => Err(self.fault_of(failure)),
         }
     }
 }
 
-// The first bytes of the file at a store path.
-fn read_store_file<R: Files>(alloc: Global, files: &R, path: &StorePath) -> io::Result<Vec<u8>>
+// The first bytes of the regular file at a store path.
+fn read_store_file<R: Files>(alloc: Global, files: &R, path: &StorePath) -> Result<Vec<u8>, Failure>
     ensures { IfOk result (λ bytes. length bytes.items ≤ 4194305) }
 {
-    read_start(alloc, files, file_path(path)?, MAX_READ)
+    read_regular(alloc, files, file_path(path)?, MAX_READ)
 }

@@ -88,6 +88,5 @@ fn open(name: &[u8], out: &mut Vec<u8>) -> Result<(), AllocError>
 fn write_spelled(text: &[u8], out: &mut Vec<u8>) -> Result<(), AllocError>
     ensures { OnOk result (out.new.items ≡ out.old.items ++ string_text text.now) }
 {
-    // A list refuses a write for want of memory alone.
-    write_string(out, text).map_err(|_| AllocError)
+    write_string(out, text)
 }

@@ -1,67 +1,96 @@
-//! The journal file: its path, read and written.
-ghost use Rattle.std.specs.Prelude.{◌≡◌, ◌≤◌, ◌⊎◌, IfErr, IfOk, length};
+//! The journal file of a run: its path, read and written.
+ghost use Rattle.std.specs.Prelude.{◌≡◌, ◌≢◌, ◌≤◌, ◌⊎◌, IfErr, IfOk, length};
 ghost use Rattle.std.specs.Prelude.{option_map, string_bytes};
+ghost use Rattle.subcommands.specs.Files.{IsJournalGiven};
 ghost use Rattle.subcommands.specs.JournalFiles.{journal_path_of};
 
-use crate::files::{FileFault, read_start};
+use crate::files::{FileFault, read_regular};
 use crate::stop::Stop;
-use crate::whole_file::write_whole;
-use process_build::is_no_memory;
+use crate::whole_file::{Written, try_out, write_whole};
+use process_build::Failure;
 use std::alloc::{AllocError, Global};
-use std::io::ErrorKind;
 use std::rt::Files;
 
 // How many bytes of a journal file are read: one more than a journal may have.
 const MAX_READ: u64 = 67_108_865;
 
-/// The path of the journal file: the one that was given, else that of `realiser-journal` in the
-/// store folder.
-pub fn journal_path(
-    alloc: Global,
-    store_dir: &str,
-    given: Option<&str>,
-) -> Result<String, AllocError>
-    ensures { IfOk result (λ path. string_bytes path
-        ≡ journal_path_of store_dir.now (option_map (λ f. f.now) given.entry)) }
-{
-    match given {
-        Some(path) => String::from_str(alloc, path),
-        None => format!(in alloc; "{store_dir}/realiser-journal"),
+/// The one journal file of a run.
+#[derive(Drop)]
+pub struct JournalFile {
+    path: String,
+}
+
+impl JournalFile {
+    /// The file at the path that was given, else `realiser-journal` in the store folder.
+    pub fn new(
+        alloc: Global,
+        store_dir: &str,
+        given: Option<&str>,
+    ) -> Result<JournalFile, AllocError>
+        ensures { IfOk result (λ file. string_bytes file.path
+            ≡ journal_path_of store_dir.now (option_map (λ f. f.now) given.entry)) }
+    {
+        let path = match given {
+            Some(path) => String::from_str(alloc, path)?,
+            None => format!(in alloc; "{store_dir}/realiser-journal")?,
+        };
+        Ok(JournalFile { path })
+    }
+
+    /// The bytes of the file, one more than a journal may have at most; none where it is not found.
+    pub fn read<R: Files + AllocGlobal>(&self, rt: &R) -> Result<Vec<u8>, FileFault>
+        ensures { IfOk result (λ bytes. length bytes.items ≤ 67108865) }
+    {
+        let alloc = rt.alloc();
+        given_bytes(alloc, read_regular(alloc, rt, self.path.as_str(), MAX_READ))
+    }
+
+    /// Finds out whether the file can be written, and leaves all as it is.
+    pub fn try_out<'a, R: Files + AllocGlobal>(&self, rt: &R) -> Result<(), Stop<'a>>
+        ensures { IfErr result (λ stop. (stop ≡ Stop.NoMemory) ⊎ (stop ≡ Stop.JournalNotWritten)) }
+    {
+        match try_out(rt, self.path.as_str()) {
+            Ok(()) => Ok(()),
+            Err(failure) => Err(not_written(failure)),
+        }
+    }
+
+    /// Puts a file with these bytes in the place of the one that is there, if any.
+    pub fn write<'a, 'b, R: Files + AllocGlobal>(
+        &'b self,
+        rt: &R,
+        bytes: &'b [u8],
+    ) -> Result<Written<'b>, Stop<'a>>
+        ensures ok { IfOk result (λ written. (written.path.now ≡ string_bytes self.entry.now.path)
+            × (written.bytes.now ≡ bytes.entry.now)) }
+        ensures err { IfErr result
+            (λ stop. (stop ≡ Stop.NoMemory) ⊎ (stop ≡ Stop.JournalNotWritten)) }
+    {
+        match write_whole(rt, self.path.as_str(), bytes) {
+            Ok(written) => Ok(written),
+            Err(failure) => Err(not_written(failure)),
+        }
     }
 }
 
-/// The bytes of the journal file, the one that was given or that in the store folder, one more than
-/// a journal may have at most; none where no file is found.
-pub fn read_journal<R: Files + AllocGlobal>(
-    rt: &R,
-    store_dir: &str,
-    given: Option<&str>,
-) -> Result<Vec<u8>, FileFault>
-    ensures { IfOk result (λ bytes. length bytes.items ≤ 67108865) }
+// The bytes of the journal file, by what reading it gave.
+fn given_bytes(alloc: Global, read: Result<Vec<u8>, Failure>) -> Result<Vec<u8>, FileFault>
+    ensures { IsJournalGiven read result }
 {
-    let alloc = rt.alloc();
-    let path = journal_path(alloc, store_dir, given)?;
-    match read_start(alloc, rt, &path, MAX_READ) {
+    match read {
         Ok(bytes) => Ok(bytes),
-        Err(error) if error.kind() == ErrorKind::NotFound => Ok(Vec::new(alloc)),
-        Err(error) => Err(FileFault::from(error)),
+        Err(Failure::NotFound) => Ok(Vec::new(alloc)),
+        Err(failure) => Err(FileFault::from(failure)),
     }
 }
 
-/// Puts a journal file with these bytes in the place of the one that is there, if any: at the path
-/// that was given, else in the store folder.
-pub fn write_journal<'a, R: Files + AllocGlobal>(
-    rt: &R,
-    store_dir: &str,
-    given: Option<&str>,
-    bytes: &[u8],
-) -> Result<(), Stop<'a>>
-    ensures { IfErr result (λ stop. (stop ≡ Stop.NoMemory) ⊎ (stop ≡ Stop.JournalNotWritten)) }
+// What ends a run whose journal file is not written.
+fn not_written<'a>(failure: Failure) -> Stop<'a>
+    ensures memory { failure ≡ Failure.NoMemory → result ≡ Stop.NoMemory }
+    ensures other { failure ≢ Failure.NoMemory → result ≡ Stop.JournalNotWritten }
 {
-    let path = journal_path(rt.alloc(), store_dir, given)?;
-    match write_whole(rt, &path, bytes) {
-        Ok(()) => Ok(()),
-        Err(error) if is_no_memory(&error) => Err(Stop::NoMemory),
-        Err(_) => Err(Stop::JournalNotWritten),
+    match failure {
+        Failure::NoMemory => Stop::NoMemory,
+        _ => Stop::JournalNotWritten,
     }
 }

@@ -19,6 +19,7 @@ use crate::stop::Stop;
 use crate::store_dir::store_dir;
 use crate::words::{not_text, request};
 use clap::error::ErrorKind;
+use nix_drv::DrvFault;
 use process_build::Builders;
 use std::alloc::Global;
 use std::io::Write;
@@ -62,9 +63,19 @@ where
         Request::AddDrv(request) => add_drv(rt, request, out),
         Request::Realise(request) => realise(rt, make, request, out),
     };
+    end(rt.alloc(), outcome, err)
+}
+
+// Ends a run with its status, or with the line and the status of what stopped it.
+fn end<E: Write>(alloc: Global, outcome: Result<u8, Stop<'_>>, err: &mut E) -> u8
+    ensures done { IfOk outcome.entry (λ status. (result ≡ status)
+        × (E.contents err.new ≡ E.contents err.old)) }
+    ensures stopped { IfErr outcome.entry (λ stop.
+        IsTold (E.contents err.old) (E.contents err.new) stop result) }
+{
     match outcome {
         Ok(status) => status,
-        Err(stop) => print_stop(rt.alloc(), &stop, err),
+        Err(stop) => print_stop(alloc, &stop, err),
     }
 }
 
@@ -160,6 +171,7 @@ fn report<'a, R: Files + AllocGlobal>(
     let mut source = FolderSource::new(rt);
     match check_lines(rt.alloc(), &mut source, &dir, &request.drvs) {
         Ok(report) => Ok(report),
-        Err(_) => Err(Stop::NoMemory),
+        Err(DrvFault::NoMemory) => Err(Stop::NoMemory),
+        Err(_) => unreachable!(),
     }
 }

@@ -1,16 +1,20 @@
 //! The subcommand `realise`.
-ghost use Rattle.std.specs.Prelude.{◌≡◌, ◌⊎◌, IfErr, length};
+ghost use Rattle.std.specs.Prelude.{◌≡◌, Err, IfErr, IfOk, Ok, length};
 ghost use Rattle.sched_core.specs.Books.{IsRunSettled};
+ghost use Rattle.subcommands.specs.AddedText.{FileBytes};
+ghost use Rattle.subcommands.specs.Folders.{may_give};
 ghost use Rattle.subcommands.specs.Realising.{BookEnds, RealiseEnds, RunEnds};
+ghost use Rattle.subcommands.specs.Tasks.{IsTaking};
 
+use crate::added_text::journal_of;
 use crate::builders::make_all;
 use crate::folder::FolderSource;
-use crate::journal_file::{read_journal, write_journal};
+use crate::journal_file::JournalFile;
 use crate::options::RealiseRequest;
 use crate::printing::print_bytes;
 use crate::settled::{journal_bytes, report_of, roots_status};
 use crate::stop::Stop;
-use crate::task::{Task, task_of};
+use crate::task::{Task, planned};
 use process_build::Builders;
 use sched_core::Book;
 use std::io::Write;
@@ -23,9 +27,10 @@ use valid_table::Outlet;
 use valid_view::{Name, Naming};
 
 /// Builds what is wanted of the request's derivations, writes the journal and prints the report.
-/// What is refused, and in which order, is the answer of `task_of`; nothing is run then. Once the
-/// workers gave a book the journal is written, whatever became of them; nothing is printed where
-/// they ended before all was settled, or where the journal is not written.
+/// The plan is loaded, then the journal is read, and then it is found out whether it can be written;
+/// what is refused is told and nothing is run. Once the workers gave a book the journal is written,
+/// whatever became of them; nothing is printed where they ended before all was settled, or where the
+/// journal is not written.
 pub fn realise<'a, R, M, O>(
     rt: &R,
     make: &M,
@@ -39,11 +44,27 @@ where
     ensures { RealiseEnds M.Builder.may request.now (O.contents out.old) (O.contents out.new)
         result }
 {
-    let journal = read_journal(rt, request.store_dir, request.journal);
-    let mut source = FolderSource::new(rt);
-    let task = task_of(rt.alloc(), &mut source, request, journal)?;
+    let (file, task) = taken(rt, request)?;
+    file.try_out(rt)?;
     let builders = make_all(rt.alloc(), make, request)?;
-    run_task(rt, request, &task, builders, out)
+    run_task(rt, request, &file, &task, builders, out)
+}
+
+// The journal file of a request, and what its run is over.
+fn taken<'a, R: Files + AllocGlobal>(
+    rt: &R,
+    request: &RealiseRequest<'a>,
+) -> Result<(JournalFile, Task), Stop<'a>>
+    ensures ok { IfOk result (λ t. (gave : FileBytes)
+        × IsTaking (λ _ answer. may_give answer) request.now gave (Ok t.1)) }
+    ensures err { IfErr result (λ stop. (gave : FileBytes)
+        × IsTaking (λ _ answer. may_give answer) request.now gave (Err stop)) }
+{
+    let (dir, plan) = planned(rt.alloc(), &mut FolderSource::new(rt), request)?;
+    let file = JournalFile::new(rt.alloc(), request.store_dir, request.journal)?;
+    let gave = file.read(rt);
+    let journal = journal_of(rt.alloc(), &dir, gave)?;
+    Ok((file, Task { plan, journal }))
 }
 
 /// Builds what is wanted of a task, by one worker for each builder, writes the journal and prints
@@ -51,6 +72,7 @@ where
 pub fn run_task<'a, R, B, O>(
     rt: &R,
     request: &RealiseRequest<'a>,
+    file: &JournalFile,
     task: &Task,
     builders: Vec<B>,
     out: &mut O,
@@ -62,7 +84,7 @@ where
     requires { length builders.items ≡ request.now.jobs }
     ensures { RunEnds B.may request.now task.now (O.contents out.old) (O.contents out.new) result }
 {
-    run_named::<Brand, _, _, _>(rt, Name::new(), request, task, builders, out)
+    run_named::<Brand, _, _, _>(rt, Name::new(), request, file, task, builders, out)
 }
 
 // Does what `run_task` does, over a view of this name.
@@ -70,6 +92,7 @@ fn run_named<'a, J, R, B, O>(
     rt: &R,
     name: Name,
     request: &RealiseRequest<'a>,
+    file: &JournalFile,
     task: &Task,
     builders: Vec<B>,
     out: &mut O,
@@ -86,22 +109,22 @@ where
     let system = request.system.as_bytes();
     let (plan, journal) = (&task.plan, &task.journal);
     match store_run::realise::<J, R, B>(rt, rt.alloc(), name, plan, journal, system, builders) {
-        Ok(book) => end(rt, request, book, out),
-        Err((fault, book)) => Err(fall_short(rt, request, fault, book)),
+        Ok(book) => end(rt, file, book, out),
+        Err((fault, book)) => Err(fall_short(rt, file, fault, book)),
     }
 }
 
 // Ends a run with its settled book.
 fn end<'a, R: Files + AllocGlobal, V: Outlet, O: Write>(
     rt: &R,
-    request: &RealiseRequest<'a>,
+    file: &JournalFile,
     book: Book<V>,
     out: &mut O,
 ) -> Result<u8, Stop<'a>>
     requires { IsRunSettled book.run book.history }
     ensures { BookEnds book (O.contents out.old) (O.contents out.new) result }
 {
-    let ended = tell(rt, request, &book, out);
+    let ended = tell(rt, file, &book, out);
     book.close();
     ended
 }
@@ -109,7 +132,7 @@ fn end<'a, R: Files + AllocGlobal, V: Outlet, O: Write>(
 // Ends a run for a fault of its workers; where they left a book its journal is written.
 fn fall_short<'a, R: Files + AllocGlobal, V: Outlet>(
     rt: &R,
-    request: &RealiseRequest<'a>,
+    file: &JournalFile,
     fault: RunFault,
     book: Option<Book<V>>,
 ) -> Stop<'a>
@@ -117,7 +140,7 @@ fn fall_short<'a, R: Files + AllocGlobal, V: Outlet>(
 {
     if let Some(book) = book {
         // The first fault is the one that is told.
-        let _ = write_book(rt, request, &book);
+        let _ = write_book(rt, file, &book);
         book.close();
     }
     Stop::Run(fault)
@@ -126,15 +149,16 @@ fn fall_short<'a, R: Files + AllocGlobal, V: Outlet>(
 // Writes the journal of a settled book, and prints its report.
 fn tell<'a, R: Files + AllocGlobal, V: Outlet, O: Write>(
     rt: &R,
-    request: &RealiseRequest<'a>,
+    file: &JournalFile,
     book: &Book<V>,
     out: &mut O,
 ) -> Result<u8, Stop<'a>>
     requires { IsRunSettled book.now.run book.now.history }
     ensures { BookEnds book.now (O.contents out.old) (O.contents out.new) result }
 {
-    write_book(rt, request, book)?;
-    let report = report_of(book)?;
+    let bytes = journal_bytes(rt.alloc(), book)?;
+    let written = file.write(rt, &bytes)?;
+    let report = report_of(book, written)?;
     match print_bytes(&report, out) {
         Ok(()) => Ok(roots_status(book)),
         Err(_) => Err(Stop::Unwritable),
@@ -144,11 +168,10 @@ fn tell<'a, R: Files + AllocGlobal, V: Outlet, O: Write>(
 // Puts the journal of a book in the place of the one that is there.
 fn write_book<'a, R: Files + AllocGlobal, V: Outlet>(
     rt: &R,
-    request: &RealiseRequest<'a>,
+    file: &JournalFile,
     book: &Book<V>,
-) -> Result<(), Stop<'a>>
-    ensures { IfErr result (λ stop. (stop ≡ Stop.NoMemory) ⊎ (stop ≡ Stop.JournalNotWritten)) }
-{
+) -> Result<(), Stop<'a>> {
     let bytes = journal_bytes(rt.alloc(), book)?;
-    write_journal(rt, request.store_dir, request.journal, &bytes)
+    file.write(rt, &bytes)?.used();
+    Ok(())
 }

@@ -7,7 +7,8 @@ ghost use Rattle.sched_core.specs.States.{is_good};
 ghost use Rattle.subcommands.specs.Realising.{roots_status};
 
 use crate::stop::Stop;
-use sched_core::{Book, State};
+use crate::whole_file::Written;
+use sched_core::{Book, BookFault, State};
 use std::alloc::Global;
 use valid_table::Outlet;
 
@@ -38,20 +39,20 @@ pub fn journal_bytes<'a, O: Outlet>(alloc: Global, book: &Book<O>) -> Result<Vec
     ensures ok { IfOk result (λ bytes. bytes.items ≡ journal_text book.now.history.entries) }
     ensures err { IfErr result (λ stop. stop ≡ Stop.NoMemory) }
 {
-    match book.journal().write(alloc) {
-        Ok(bytes) => Ok(bytes),
-        Err(_) => Err(Stop::NoMemory),
-    }
+    Ok(book.journal().write(alloc)?)
 }
 
-/// The report of a book that is settled.
-pub fn report_of<'a, O: Outlet>(book: &Book<O>) -> Result<Vec<u8>, Stop<'a>>
-    requires { IsRunSettled book.now.run book.now.history }
+/// The report of a book that is settled, whose journal was written.
+pub fn report_of<'a, O: Outlet>(book: &Book<O>, journal: Written<'_>) -> Result<Vec<u8>, Stop<'a>>
+    requires settled { IsRunSettled book.now.run book.now.history }
+    requires written { journal.bytes.now ≡ journal_text book.now.history.entries }
     ensures ok { IfOk result (λ text. IsReportIn book.now.run book.now.history text.items) }
     ensures err { IfErr result (λ stop. stop ≡ Stop.NoMemory) }
 {
+    journal.used();
     match book.report() {
         Ok(text) => Ok(text),
-        Err(_) => Err(Stop::NoMemory),
+        Err(BookFault::NoMemory) => Err(Stop::NoMemory),
+        Err(_) => unreachable!(),
     }
 }

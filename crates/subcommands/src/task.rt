@@ -1,11 +1,8 @@
 //! What a run of `realise` is over: the plan of its roots, and the journal. No file is reached here
 //! but through the source.
-ghost use Rattle.std.specs.Prelude.{map};
-ghost use Rattle.subcommands.specs.AddedText.{file_bytes};
-ghost use Rattle.subcommands.specs.Tasks.{ArePathsOf, IsPathOf, IsPlanOf, IsTaking};
+ghost use Rattle.std.specs.Prelude.{◌≡◌, IfErr, IfOk, map};
+ghost use Rattle.subcommands.specs.Tasks.{ArePathsOf, HasPlan, IsNotPlanned, IsPathOf, IsPlanOf};
 
-use crate::added_text::journal_of;
-use crate::files::FileFault;
 use crate::options::RealiseRequest;
 use crate::stop::Stop;
 use crate::store_dir::store_dir;
@@ -24,26 +21,23 @@ pub struct Task {
     pub journal: Journal,
 }
 
-/// The plan of the request's derivations, which the source gives, and the journal whose text
-/// `journal` is: what the journal file gave. In this order: `BadStoreDir`; `NoPath` for the first
-/// word that is no path of the folder; `BadDrv` with a fault of `Plan::load`; `JournalUnreadable`;
-/// `BadJournal` with the fault of `Journal::read`. `NoMemory` may come in the place of all but the
-/// first.
-///
-/// Costs a loading of the plan and a reading of the journal.
-pub fn task_of<'a, S: DrvSource>(
+/// The store folder of a request, and the plan of its derivations, which the source gives. In this
+/// order: `BadStoreDir`; `NoPath` for the first word that is no path of the folder; `BadDrv` with a
+/// fault of `Plan::load`. `NoMemory` may come in the place of all but the first. No file is reached
+/// but through the source, and none before all words are paths.
+pub fn planned<'a, S: DrvSource>(
     alloc: Global,
     source: &mut S,
     request: &RealiseRequest<'a>,
-    journal: Result<Vec<u8>, FileFault>,
-) -> Result<Task, Stop<'a>>
-    ensures { IsTaking (S.gives source.old) request.now (file_bytes journal) result }
+) -> Result<(StoreDir, Plan), Stop<'a>>
+    ensures ok { IfOk result (λ found. (found.0 ≡ request.now.store_dir.now)
+        × HasPlan (S.gives source.old) request.now found.1) }
+    ensures err { IfErr result (IsNotPlanned (S.gives source.old) request.now) }
 {
     let dir = store_dir(alloc, request.store_dir)?;
     let roots = paths_of(alloc, &dir, &request.drvs)?;
     let plan = plan_of(alloc, source, &dir, &roots)?;
-    let journal = journal_of(alloc, &dir, journal)?;
-    Ok(Task { plan, journal })
+    Ok((dir, plan))
 }
 
 // The paths that are spelled by some words, in their order.
@@ -84,6 +78,7 @@ fn plan_of<'a, S: DrvSource>(
     match Plan::load(alloc, source, dir, roots) {
         Ok(plan) => Ok(plan),
         Err(GraphFault::At(path, fault)) => Err(Stop::BadDrv(path, fault)),
-        Err(_) => Err(Stop::NoMemory),
+        Err(GraphFault::NoMemory) => Err(Stop::NoMemory),
+        Err(_) => unreachable!(),
     }
 }

@@ -1,51 +1,144 @@
 //! A file that is written whole or not at all.
-use std::alloc::Global;
-use std::fs::{File, OpenFile};
-use std::io::{ErrorKind, Write};
+ghost use Rattle.std.specs.Prelude.{◌≡◌, ◌++◌, IfErr, IfOk, OnOk, codes, decimal, string_bytes};
+ghost use Rattle.std.specs.Io.KnownBytes.{Appends};
+ghost use Rattle.subcommands.specs.Files.{IsNoPlace, IsPlaceOf};
+
+use process_build::Failure;
+use std::alloc::{AllocError, Global};
+use std::fs::{File, Metadata, OpenFile, Permissions};
+use std::io::Write;
 use std::path::{Path, PathBuf};
 use std::rt::Files;
 use std::{fs, io};
 
+/// That a file was written: its path and its bytes. Only `write_whole` makes one, and it must be
+/// used.
+pub struct Written<'a> {
+    path: &'a str,
+    bytes: &'a [u8],
+}
+
+impl Written<'_> {
+    /// Uses the value where nothing else is made of it.
+    pub fn used(self) {
+        let Written { path: _, bytes: _ } = self;
+    }
+}
+
 /// Puts a file with these bytes at a path, in place of the file or the link that is there, be it
-/// one that must not be written; a folder there is a fault. Who opens the path finds the old file
-/// whole or the new one whole, also where this process is killed on the way.
+/// one that must not be written; a fault where anything else is there. Who opens the path finds the
+/// old file whole or the new one whole, also where this process is killed on the way. The new file
+/// gets the permissions of the file that it replaces.
 ///
 /// The bytes are written under another name in the same folder, which begins with a dot, are
 /// handed to the disk, and then get the path's name. A fault removes that file and leaves the path
 /// as it was; a process that is killed leaves it behind. That a loss of power keeps the new name is
 /// not promised.
-pub fn write_whole<R: Files + AllocGlobal>(rt: &R, path: &str, bytes: &[u8]) -> io::Result<()> {
+pub fn write_whole<'a, R: Files + AllocGlobal>(
+    rt: &R,
+    path: &'a str,
+    bytes: &'a [u8],
+) -> Result<Written<'a>, Failure>
+    ensures { IfOk result (λ written.
+        (written.path.now ≡ path.entry.now) × (written.bytes.now ≡ bytes.entry.now)) }
+{
+    let mode = place_of(fs::symlink_metadata(rt, path))?;
     let (file, temporary) = create_beside(rt, path)?;
-    let written = fill(file, bytes).and_then(|()| fs::rename(rt, temporary.as_path(), path));
-    if written.is_err() {
+    let put = put_at(rt, file, mode, bytes, temporary.as_path(), path);
+    if let Err(failure) = put {
         // The first fault is the one that is told.
         let _ = fs::remove_file(rt, temporary.as_path());
+        return Err(failure);
     }
-    written
+    Ok(Written { path, bytes })
+}
+
+/// Finds out whether a file can be written at a path: what is in its place may be replaced, and a
+/// file can be made in its folder. That one is removed, and the path is left as it is.
+pub fn try_out<R: Files + AllocGlobal>(rt: &R, path: &str) -> Result<(), Failure> {
+    place_of(fs::symlink_metadata(rt, path))?;
+    let (_file, temporary) = create_beside(rt, path)?;
+    Ok(fs::remove_file(rt, temporary.as_path())?)
+}
+
+// The permissions of the file in the place of one that is to be written, none where nothing or a
+// link is there, by what asking for it gave; a fault where anything else is.
+fn place_of(asked: io::Result<Metadata>) -> Result<Option<Permissions>, Failure>
+    ensures found { IfOk asked (λ found. IsPlaceOf found result) }
+    ensures fault { IfErr asked (λ error. IsNoPlace error result) }
+{
+    match asked {
+        Ok(found) => place_with(&found),
+        Err(error) => match Failure::from(error) {
+            Failure::NotFound => Ok(None),
+            failure => Err(failure),
+        },
+    }
+}
+
+// The same where this was found.
+fn place_with(found: &Metadata) -> Result<Option<Permissions>, Failure>
+    ensures { IsPlaceOf found.now result }
+{
+    match (found.is_file(), found.is_symlink()) {
+        (true, _) => Ok(Some(found.permissions())),
+        (_, true) => Ok(None),
+        _ => Err(Failure::Other),
+    }
 }
 
 // A new file in the folder of a path, under the first name that is free there: another process may
 // be writing under one, and one that was killed may have left its own.
-fn create_beside<R: Files + AllocGlobal>(rt: &R, path: &str) -> io::Result<(R::File, PathBuf)> {
+fn create_beside<R: Files + AllocGlobal>(
+    rt: &R,
+    path: &str,
+) -> Result<(R::File, PathBuf), Failure> {
     for number in 0..u32::MAX {
         let temporary = temporary_path(rt.alloc(), path, number)?;
         match File::create_new(rt, temporary.as_path()) {
             Ok(file) => return Ok((file, temporary)),
-            Err(error) if error.kind() == ErrorKind::AlreadyExists => {}
-            Err(error) => return Err(error),
+            Err(error) => match Failure::from(error) {
+                Failure::Taken => {}
+                failure => return Err(failure),
+            },
         }
     }
-    Err(io::Error::from(ErrorKind::AlreadyExists))
+    Err(Failure::Other)
 }
 
 // The path with this number under which the bytes for a path are written, in the same folder.
-fn temporary_path(alloc: Global, path: &str, number: u32) -> io::Result<PathBuf> {
-    let name = format!(in alloc; ".nix_realise-{number}")?;
-    Ok(Path::new(path).with_file_name(alloc, name.as_str())?)
+fn temporary_path(alloc: Global, path: &str, number: u32) -> Result<PathBuf, AllocError> {
+    let name = temporary_name(alloc, number)?;
+    Path::new(path).with_file_name(alloc, name.as_str())
 }
 
-// Writes the bytes, and hands them to the disk.
-fn fill<F: Write + OpenFile + Drop>(mut file: F, bytes: &[u8]) -> io::Result<()> {
+// The name with this number.
+fn temporary_name(alloc: Global, number: u32) -> Result<String, AllocError>
+    ensures { IfOk result (λ name. string_bytes name ≡ codes ".nix_realise-" ++ decimal number) }
+{
+    format!(in alloc; ".nix_realise-{number}")
+}
+
+// Fills a new file, and gives it the name of the path.
+fn put_at<R: Files>(
+    rt: &R,
+    mut file: R::File,
+    mode: Option<Permissions>,
+    bytes: &[u8],
+    temporary: Path<'_>,
+    path: &str,
+) -> Result<(), Failure> {
+    if let Some(mode) = mode {
+        file.set_permissions(mode)?;
+    }
+    fill(&mut file, bytes)?;
+    Ok(fs::rename(rt, temporary, path)?)
+}
+
+// Writes all the bytes, and hands them to the disk.
+fn fill<F: Write + OpenFile>(file: &mut F, bytes: &[u8]) -> Result<(), Failure>
+    ensures { OnOk result (Appends (F.contents file.old) (F.contents file.new) bytes.now) }
+{
     file.write_all(bytes)?;
-    file.sync_all()
+    Ok(file.sync_all()?)
 }

@@ -1,12 +1,21 @@
-use Rattle.std.proofs.Common.{inl, inr, refl}
+use Rattle.std.proofs.Common.{inl, inr, refl, Err}
 use Rattle.std.proofs.lemmas.Result.{err_from_is_err_and}
 use Rattle.subcommands.specs.AddedText.{FileBytes, file_bytes}
+use Rattle.subcommands.specs.declared.files.FileFault.TheVariants.{Unreadable}
 use Rattle.subcommands.proofs.add_drv.add_drv.Goals as goal
+
+pub returns-in_err-store_dir : goal.returns-in_err-store_dir
+returns-in_err-store_dir g c =
+    let none : FileBytes = Err Unreadable in
+    let step = c.from_residual in
+    let e = err_from_is_err_and step.result step.ensures.1 in
+    (none, rw (e.1, e.2) (inl (refl, inl c.in_err-store_dir.ensures)))
 
 pub returns-in_err-added : goal.returns-in_err-added
 returns-in_err-added g c =
     let gave : FileBytes = file_bytes c.read_text-draft.result in
-    let e = err_from_is_err_and c.from_residual.result c.from_residual.ensures.1 in
+    let step = c.from_residual-in_err-added in
+    let e = err_from_is_err_and step.result step.ensures.1 in
     (gave, rw (e.1, e.2) (inl (refl, c.in_err-added.ensures)))
 
 pub returns-in_err-put : goal.returns-in_err-put

@@ -1,23 +1,31 @@
 use Rattle.std.proofs.Common.{◌∙◌, ap, inl, inr, refl, Err}
 use Rattle.std.proofs.lemmas.Result.{err_from_is_err_and}
-use Rattle.subcommands.specs.AddedText.{FileBytes, file_bytes}
+use Rattle.subcommands.proofs.Unwritten.{told}
 use Rattle.subcommands.proofs.realise.realise.Goals as goal
 
-pub returns-in_err-task : goal.returns-in_err-task
-returns-in_err-task g c =
-    let gave : FileBytes = file_bytes c.read_journal-journal.result in
-    let e = err_from_is_err_and c.from_residual.result c.from_residual.ensures.1 in
-    (gave, inl (c.in_err-task.field-0.0, e.1 ∙ ap Err e.2, refl, c.in_err-task.ensures))
+pub returns-in_err-file : goal.returns-in_err-file
+returns-in_err-file g c =
+    let step = c.from_residual in
+    let e = err_from_is_err_and step.result step.ensures.1 in
+    let t = c.in_err-file.ensures.err in
+    (t.0, inl (c.in_err-file.field-0.0, e.1 ∙ ap Err e.2, refl, t.1))
+
+pub returns-in_err-try_out : goal.returns-in_err-try_out
+returns-in_err-try_out g c =
+    let step = c.from_residual-in_err-try_out in
+    let e = err_from_is_err_and step.result step.ensures.1 in
+    let t = c.in_ok-file.ensures.ok in
+    let fault =
+    told step.result c.in_err-try_out.field-0.0 (e.1 ∙ ap Err e.2) c.in_err-try_out.ensures in
+    (t.0, inr (c.in_ok-file.task, t.1, inr (fault, refl)))
 
 pub returns-in_err-builders : goal.returns-in_err-builders
 returns-in_err-builders g c =
-    let gave : FileBytes = file_bytes c.read_journal-journal.result in
     let step = c.from_residual-in_err-builders in
     let e = err_from_is_err_and step.result step.ensures.1 in
-    (gave, inr (c.in_ok-task.task, c.in_ok-task.ensures, inr (e.1 ∙ ap Err e.2, refl)))
+    let t = c.in_ok-file.ensures.ok in
+    (t.0, inr (c.in_ok-file.task, t.1, inr (inr (e.1 ∙ ap Err e.2), refl)))
 
 pub returns : goal.returns
-returns g c = (
-  file_bytes c.read_journal-journal.result,
-  inr (c.in_ok-task.task, c.in_ok-task.ensures, inl c.run_task.ensures),
-)
+returns g c =
+    let t = c.in_ok-file.ensures.ok in (t.0, inr (c.in_ok-file.task, t.1, inl c.run_task.ensures))

@@ -1,0 +1,46 @@
+//! The store folder, the build folder of a lease, and what is cleared for it.
+ghost use Rattle.std.specs.Prelude.{◌≡◌, IfOk, map, string_bytes};
+ghost use Rattle.process_build.specs.Folders.{build_folder_of, places_of};
+
+use crate::files::file_path;
+use sched_core::Job;
+use std::alloc::{AllocError, Global};
+use std::io;
+
+/// The folder in which one builder runs.
+#[derive(Drop)]
+pub struct BuildFolder {
+    path: String,
+}
+
+impl BuildFolder {
+    /// The build folder of the lease with this number, in a store folder.
+    pub fn new(alloc: Global, store_dir: &str, number: u64) -> Result<BuildFolder, AllocError>
+        ensures { IfOk result (λ folder.
+            string_bytes folder.path ≡ build_folder_of store_dir.now number) }
+    {
+        let path = format!(in alloc; "{store_dir}/.build-{number}")?;
+        Ok(BuildFolder { path })
+    }
+
+    /// Its path.
+    pub fn path(&self) -> &str
+        ensures { result.now ≡ string_bytes self.now.path }
+    {
+        self.path.as_str()
+    }
+
+    /// The paths that are cleared before the job's builder runs here: those of its outputs, and
+    /// the folder's own.
+    pub fn places<'a>(&'a self, alloc: Global, job: &'a Job) -> io::Result<Vec<&'a str>>
+        ensures { IfOk result (λ places. map (λ p. p.now) places.items
+            ≡ places_of job.entry.now (string_bytes self.entry.now.path)) }
+    {
+        let mut places = Vec::new(alloc);
+        for output in &job.outputs {
+            places.push(file_path(&output.path)?)?;
+        }
+        places.push(self.path())?;
+        Ok(places)
+    }
+}

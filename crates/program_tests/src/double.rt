@@ -1,0 +1,262 @@
+//! A runtime over another that keeps a log of each call of the system and can refuse one of them.
+use crate::running::Host;
+use std::alloc::{Allocator, Global};
+use std::fs::{Metadata, OpenFile, OpenOptions, Permissions};
+use std::io;
+use std::io::{ErrorKind, Read, Seek, SeekFrom, Write};
+use std::process::{Child, Command, ExitStatus, OpenProcess, Processes, Stdio};
+use std::rt::Files;
+use std::sync::{Arc, Mutex, Wait};
+use std::thread::Threads;
+
+/// The calls so far, and which of them is refused, counted from 1, and with which kind of error.
+#[derive(Drop)]
+pub struct Log {
+    calls: Vec<String>,
+    refused: usize,
+    kind: ErrorKind,
+}
+
+/// A log that a runtime and its open files share.
+#[derive(Drop)]
+pub struct Shared<R> {
+    rt: R,
+    log: Arc<Mutex<Log>>,
+}
+
+impl<R: Host> Shared<R> {
+    // Notes a call, and answers an error where it is the refused one.
+    fn note(&self, call: &str, path: &str) -> io::Result<()> {
+        let line = format!(in self.rt.alloc(); "{call} {path}\n")?;
+        let mut log = self.log.lock(&self.rt);
+        log.calls.push(line)?;
+        if log.calls.len() == log.refused {
+            return Err(io::Error::from(log.kind));
+        }
+        Ok(())
+    }
+
+    // The same log once more.
+    fn again(&self) -> io::Result<Shared<R>> {
+        Ok(Shared {
+            rt: self.rt.clone()?,
+            log: self.log.clone()?,
+        })
+    }
+}
+
+/// A runtime over another.
+#[derive(Drop)]
+pub struct Double<R> {
+    shared: Shared<R>,
+}
+
+impl<R: Host> Double<R> {
+    /// Over this runtime. The call with this number, counted from 1, is refused with an error of
+    /// this kind.
+    pub fn new(rt: R, refused: usize, kind: ErrorKind) -> io::Result<Double<R>> {
+        let calls = Vec::new(rt.alloc());
+        let log = Mutex::new(Log {
+            calls,
+            refused,
+            kind,
+        });
+        let log = Arc::new(rt.alloc(), log)?;
+        Ok(Double {
+            shared: Shared { rt, log },
+        })
+    }
+
+    /// The calls so far, each in a line of its own.
+    pub fn calls(&self) -> io::Result<String> {
+        let alloc = self.shared.rt.alloc();
+        let log = self.shared.log.lock(&self.shared.rt);
+        Ok(log.calls.concat(alloc)?)
+    }
+}
+
+impl<R: Host> Alloc for Double<R> {
+    type A = Global;
+
+    fn alloc(&self) -> Global {
+        self.shared.rt.alloc()
+    }
+}
+
+impl<R: Host> Wait for Double<R> {}
+
+impl<R: Host> Threads for Double<R> {}
+
+impl<R: Host> Files for Double<R> {
+    type File = Noted<R, R::File>;
+
+    type Dir = R::Dir;
+
+    fn open_file(&self, how: &OpenOptions, path: &str) -> io::Result<Noted<R, R::File>> {
+        let call = if how.asks_create_new() {
+            "create"
+        } else {
+            "open"
+        };
+        self.shared.note(call, path)?;
+        Ok(Noted {
+            shared: self.shared.again()?,
+            file: self.shared.rt.open_file(how, path)?,
+        })
+    }
+
+    fn open_dir(&self, path: &str) -> io::Result<R::Dir> {
+        self.shared.note("list", path)?;
+        self.shared.rt.open_dir(path)
+    }
+
+    fn metadata(&self, path: &str) -> io::Result<Metadata> {
+        self.shared.note("stat", path)?;
+        self.shared.rt.metadata(path)
+    }
+
+    fn symlink_metadata(&self, path: &str) -> io::Result<Metadata> {
+        self.shared.note("lstat", path)?;
+        self.shared.rt.symlink_metadata(path)
+    }
+
+    fn copy(&self, from: &str, to: &str) -> io::Result<u64> {
+        self.shared.note("copy", to)?;
+        self.shared.rt.copy(from, to)
+    }
+
+    fn rename(&self, from: &str, to: &str) -> io::Result<()> {
+        self.shared.note("rename", to)?;
+        self.shared.rt.rename(from, to)
+    }
+
+    fn remove_file(&self, path: &str) -> io::Result<()> {
+        self.shared.note("unlink", path)?;
+        self.shared.rt.remove_file(path)
+    }
+
+    fn create_dir(&self, path: &str) -> io::Result<()> {
+        self.shared.note("mkdir", path)?;
+        self.shared.rt.create_dir(path)
+    }
+
+    fn remove_dir(&self, path: &str) -> io::Result<()> {
+        self.shared.note("rmdir", path)?;
+        self.shared.rt.remove_dir(path)
+    }
+
+    fn remove_dir_all<B: Allocator>(&self, alloc: B, path: &str) -> io::Result<()> {
+        self.shared.note("remove", path)?;
+        self.shared.rt.remove_dir_all(alloc, path)
+    }
+
+    fn set_permissions(&self, path: &str, permissions: Permissions) -> io::Result<()> {
+        self.shared.note("chmod", path)?;
+        self.shared.rt.set_permissions(path, permissions)
+    }
+}
+
+/// An open file whose calls are noted.
+#[derive(Drop)]
+pub struct Noted<R, F> {
+    shared: Shared<R>,
+    file: F,
+}
+
+impl<R: Host, F: Read> Read for Noted<R, F> {
+    fn read(&mut self, buf: &mut [u8]) -> io::Result<usize> {
+        self.shared.note("read", "")?;
+        self.file.read(buf)
+    }
+}
+
+impl<R: Host, F: Write> Write for Noted<R, F> {
+    fn write(&mut self, buf: &[u8]) -> io::Result<usize> {
+        self.shared.note("write", "")?;
+        self.file.write(buf)
+    }
+
+    fn flush(&mut self) -> io::Result<()> {
+        self.file.flush()
+    }
+}
+
+impl<R: Host, F: Seek> Seek for Noted<R, F> {
+    fn seek(&mut self, to: SeekFrom) -> io::Result<u64> {
+        self.file.seek(to)
+    }
+}
+
+impl<R: Host, F: OpenFile> OpenFile for Noted<R, F> {
+    fn metadata(&self) -> io::Result<Metadata> {
+        self.file.metadata()
+    }
+
+    fn set_len(&self, size: u64) -> io::Result<()> {
+        self.shared.note("truncate", "")?;
+        self.file.set_len(size)
+    }
+
+    fn sync_all(&self) -> io::Result<()> {
+        self.shared.note("sync", "")?;
+        self.file.sync_all()
+    }
+
+    fn sync_data(&self) -> io::Result<()> {
+        self.shared.note("sync data", "")?;
+        self.file.sync_data()
+    }
+
+    fn set_permissions(&self, permissions: Permissions) -> io::Result<()> {
+        self.shared.note("fchmod", "")?;
+        self.file.set_permissions(permissions)
+    }
+}
+
+impl<R: Host + Processes> Processes for Double<R> {
+    type Started = Watched<R, R::Started>;
+
+    fn spawn<B: Allocator + Clone>(
+        &self,
+        command: &Command<B>,
+        stdin: &Stdio,
+        stdout: &Stdio,
+        stderr: &Stdio,
+    ) -> io::Result<Child<Watched<R, R::Started>>> {
+        let called = format!(in self.shared.rt.alloc();
+            "{command:?} {stdin:?} {stdout:?} {stderr:?}"
+        )?;
+        self.shared.note("spawn", called.as_str())?;
+        let child = self.shared.rt.spawn(command, stdin, stdout, stderr)?;
+        let watched = Watched {
+            shared: self.shared.again()?,
+            child,
+        };
+        Ok(Child::from_parts(watched, None, None, None))
+    }
+}
+
+/// A started process whose end is noted.
+#[derive(Drop)]
+pub struct Watched<R, P: OpenProcess> {
+    shared: Shared<R>,
+    child: Child<P>,
+}
+
+impl<R: Host, P: OpenProcess + Drop> OpenProcess for Watched<R, P> {
+    type Stdin = P::Stdin;
+
+    type Stdout = P::Stdout;
+
+    type Stderr = P::Stderr;
+
+    fn id(&self) -> u32 {
+        self.child.id()
+    }
+
+    fn wait(&mut self) -> io::Result<ExitStatus> {
+        let ended = self.child.wait();
+        self.shared.note("wait", "")?;
+        ended
+    }
+}

@@ -1,0 +1,211 @@
+//! What is no regular file, where a file is read or written, and the permissions of a new file.
+use crate::scene::first_fault;
+use crate::sites::Made;
+use crate::steps::{Row, Step};
+use process_build::ByProcesses;
+use std::process;
+use std::test::Fail;
+
+const DRV: &str = "<dir>/cccccccccccccccccccccccccccccccc-x.drv";
+
+const FILE: &str = "<dir>/file";
+
+const JOURNAL: &str = "<dir>/realiser-journal";
+
+const PIPE: &str = "<dir>/pipe";
+
+// A script that makes a pipe to which no one writes: who opens it waits.
+const MAKE_PIPE: Step = Step::Script("mkfifo $NIX_STORE/pipe; : > $out", &["out"], Made::File(""));
+
+const ADD: &str = "nix_realise add-text --store-dir <dir> greeting <dir>/file";
+
+const REALISE_DRV: &str =
+    "nix_realise realise --store-dir <dir> <dir>/cccccccccccccccccccccccccccccccc-x.drv";
+
+const REALISE: &str = "nix_realise realise --store-dir <dir> <any>";
+
+const DRAFT: &str = "Derive([(\"out\",\"\",\"\",\"\")],[],[],\"x86_64-linux\",\"/bin/sh\",[\"-c\",\
+    \"echo made > $out\"],[(\"out\",\"\")])";
+
+static PIPES: [Row; 3] = [
+    // A derivation's file that is a pipe is not opened: not as a word, and not as a root.
+    Row {
+        name: "pipe-for-a-derivation",
+        steps: &[
+            MAKE_PIPE,
+            Step::Move(PIPE, DRV),
+            Step::Run(
+                "nix_realise check --store-dir <dir> <dir>/cccccccccccccccccccccccccccccccc-x.drv",
+                "bad <dir>/cccccccccccccccccccccccccccccccc-x.drv: Unreadable\n",
+                "",
+                2,
+            ),
+            Step::Run(
+                REALISE_DRV,
+                "",
+                "nix_realise: <dir>/cccccccccccccccccccccccccccccccc-x.drv: Unreadable\n",
+                2,
+            ),
+        ],
+    },
+    // A journal that is a pipe or a device is not opened, and stays as it is.
+    Row {
+        name: "pipe-for-the-journal",
+        steps: &[
+            MAKE_PIPE,
+            Step::Put("any", DRAFT),
+            Step::Move(PIPE, JOURNAL),
+            Step::Run(ADD, "", "nix_realise: journal: Unreadable\n", 3),
+            Step::Run(REALISE, "", "nix_realise: journal: Unreadable\n", 3),
+            Step::Remove(JOURNAL),
+            Step::Link("/dev/null", JOURNAL),
+            Step::Run(REALISE, "", "nix_realise: journal: Unreadable\n", 3),
+            Step::IsLink(JOURNAL),
+            Step::Stands("<any.out>", false),
+        ],
+    },
+    // The store folder is looked at before a file is opened.
+    Row {
+        name: "pipe-for-a-file",
+        steps: &[
+            MAKE_PIPE,
+            Step::Run(
+                "nix_realise add-text --store-dir store x <dir>/pipe",
+                "",
+                "nix_realise: store: BadStoreDir\n",
+                2,
+            ),
+            Step::Run(
+                "nix_realise add-drv --store-dir store x <dir>/pipe",
+                "",
+                "nix_realise: store: BadStoreDir\n",
+                2,
+            ),
+        ],
+    },
+];
+
+static WRITTEN: [Row; 5] = [
+    // What is neither a file nor a link is not replaced by a text, and then the journal is not
+    // written.
+    Row {
+        name: "pipe-for-a-text",
+        steps: &[
+            MAKE_PIPE,
+            Step::Write(FILE, "hello\n"),
+            Step::TextPath("text", "greeting", "hello\n"),
+            Step::Move(PIPE, "<text>"),
+            Step::Run(ADD, "<text>\n", "nix_realise: <text>: Unwritable\n", 3),
+            Step::Stands(JOURNAL, false),
+            Step::Script(
+                "test -p $NIX_STORE/*-greeting && : > $out",
+                &["out"],
+                Made::File(""),
+            ),
+        ],
+    },
+    // Nor by a derivation.
+    Row {
+        name: "pipe-for-a-draft",
+        steps: &[
+            MAKE_PIPE,
+            Step::Put("any", DRAFT),
+            Step::Write(FILE, DRAFT),
+            Step::Remove("<any>"),
+            Step::Move(PIPE, "<any>"),
+            Step::Run(
+                "nix_realise add-drv --store-dir <dir> any <dir>/file",
+                "",
+                "nix_realise: <any>: Unwritable\n",
+                3,
+            ),
+            Step::Script(
+                "test -p $NIX_STORE/*-any.drv && : > $out",
+                &["out"],
+                Made::File(""),
+            ),
+        ],
+    },
+    // The new journal has the permissions of the old one; a link is replaced by a file of its own.
+    Row {
+        name: "modes",
+        steps: &[
+            Step::Write(FILE, "hello\n"),
+            Step::Write(JOURNAL, "realiser-journal 1\n"),
+            Step::Mode(JOURNAL, 0o600),
+            Step::TextPath("text", "greeting", "hello\n"),
+            Step::Run(ADD, "<text>\n", "", 0),
+            Step::HasMode(JOURNAL, 0o600),
+            Step::Ends(
+                JOURNAL,
+                "5891b5b522d5df086d0ff0b110fbd9d21bb4fc7163af34d08286a2e846f6be03\n",
+            ),
+            Step::Put("any", DRAFT),
+            Step::Move(JOURNAL, "<dir>/moved"),
+            Step::Link("<dir>/moved", JOURNAL),
+            Step::Run(REALISE, "built <any>\noutput <any.out>\n", "", 0),
+            Step::Ends(
+                JOURNAL,
+                "O <any.out> 9ccbd3f1b19a1cdfd8d7c6ae48e9e822e2345f5be1a6187b19e41486c6941004\n",
+            ),
+            Step::HasMode("<dir>/moved", 0o600),
+            Step::Ends(
+                "<dir>/moved",
+                "5891b5b522d5df086d0ff0b110fbd9d21bb4fc7163af34d08286a2e846f6be03\n",
+            ),
+        ],
+    },
+    // A journal that can't be written is found out before anything is removed or built.
+    Row {
+        name: "journal-in-no-folder",
+        steps: &[
+            Step::Put("any", DRAFT),
+            Step::Write("<any.out>", "kept"),
+            Step::Run(
+                "nix_realise realise --store-dir <dir> --journal <dir>/none/f <any>",
+                "",
+                "nix_realise: journal: Unwritable\n",
+                3,
+            ),
+            Step::Holds("<any.out>", "kept"),
+            Step::Left(3),
+        ],
+    },
+    // The plan is looked at before the journal, which one that can't be read doesn't hide.
+    Row {
+        name: "plan-before-journal",
+        steps: &[
+            Step::Folder(JOURNAL),
+            Step::Run(
+                REALISE_DRV,
+                "",
+                "nix_realise: <dir>/cccccccccccccccccccccccccccccccc-x.drv: Unreadable\n",
+                2,
+            ),
+        ],
+    },
+];
+
+fn pipes() -> &'static [Row] {
+    &PIPES
+}
+
+fn written() -> &'static [Row] {
+    &WRITTEN
+}
+
+#[test]
+fn files_that_are_not_opened(rt: HostRuntime) -> Result<(), Fail> {
+    let make = ByProcesses::new(&rt, &rt);
+    let fault = first_fault(&rt, &make, process::id(rt.process()), pipes())?;
+    assert_eq!(rt; fault, None);
+    Ok(())
+}
+
+#[test]
+fn places_of_written_files(rt: HostRuntime) -> Result<(), Fail> {
+    let make = ByProcesses::new(&rt, &rt);
+    let fault = first_fault(&rt, &make, process::id(rt.process()), written())?;
+    assert_eq!(rt; fault, None);
+    Ok(())
+}
