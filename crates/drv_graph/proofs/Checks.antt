@@ -30,6 +30,7 @@ use Rattle.drv_graph.specs.Outputs.{AreSound, HasOtherEntry, IsKnownUse, IsOutpu
 use Rattle.drv_graph.specs.declared.kinds.Kind.{Kind}
 use Rattle.drv_graph.specs.declared.fault.OutputFault.{OutputFault}
 use Rattle.drv_graph.specs.declared.fault.OutputFault.TheVariants.{NoMemory, MixedOutputs, UnknownMethod, BadName, UnknownOutput, OutputMismatch, EnvMismatch}
+use Rattle.drv_graph.proofs.KindAnswers.{kind_not_mixed}
 use Rattle.drv_graph.proofs.Loops.{beside, zipped_from_map, slice_get-take}
 use Rattle.drv_graph.proofs.OneText.{one_path}
 use Rattle.nix_names.proofs.Lists.{Contains-from_get, Contains-map, get_from_contains, split_get}
@@ -38,7 +39,7 @@ use Rattle.nix_names.proofs.Lists.{Contains-from_get, Contains-map, get_from_con
 
 pub kind_is_sound : (name : List ℕ) (drv : Drv) (used : List Drv) (fault : OutputFault)
     → IsKindFault drv fault → IsSoundCheck name drv used (Err fault)
-kind_is_sound name drv used NoMemory h = tt
+kind_is_sound name drv used NoMemory h = h
 kind_is_sound name drv used MixedOutputs h = h
 kind_is_sound name drv used (UnknownMethod output) h = h
 kind_is_sound name drv used BadName h = absurd h
@@ -49,7 +50,7 @@ kind_is_sound name drv used (EnvMismatch output) h = h
 pub name_is_sound : (name : List ℕ) (drv : Drv) (used : List Drv) (kind : Kind)
     (outputs : List Output) (fault : OutputFault) → HasKind drv kind → outputs ≡ drv.outputs
     → IsNameFault name outputs fault → IsSoundCheck name drv used (Err fault)
-name_is_sound name drv used kind outputs NoMemory is same h = tt
+name_is_sound name drv used kind outputs NoMemory is same h = kind_not_mixed drv kind is
 name_is_sound name drv used kind outputs BadName is same h =
     (kind, is, subst (λ (os : List Output). IsNameFault name os BadName) same h)
 name_is_sound name drv used kind outputs MixedOutputs is same h = absurd h
@@ -63,7 +64,8 @@ pub use_is_sound : (name : List ℕ) (drv : Drv) (used : List Drv) (kind : Kind)
     ≡ drv.outputs
     → All (IsWellNamed name) outputs → inputs ≡ drv.inputs → IsUseFault (uses inputs used) fault
     → IsSoundCheck name drv used (Err fault)
-use_is_sound name drv used kind outputs inputs NoMemory is same named here h = tt
+use_is_sound name drv used kind outputs inputs NoMemory is same named here h =
+    kind_not_mixed drv kind is
 use_is_sound name drv used kind outputs inputs (UnknownOutput input output) is same named here h = (
   kind,
   is,
@@ -264,7 +266,7 @@ module _ (in_draft : Bool) (dir name : List ℕ) (kind : Kind) (drv : Drv) (hash
       let first = first_mismatch o path pair in (kind, sound, (o, first.0, first.1, is))
   value_is_checked used (EnvMismatch output) sound (fit, (o, path, pair, is)) =
       (kind, sound, paths_fit fit, (o, first_other o path pair, is))
-  value_is_checked used NoMemory sound h = tt
+  value_is_checked used NoMemory sound h = kind_not_mixed drv kind sound.has_kind
   value_is_checked used MixedOutputs sound h = absurd h
   value_is_checked used (UnknownMethod output) sound h = absurd h
   value_is_checked used BadName sound h = absurd h

@@ -43,6 +43,14 @@ not_mixed drv only is named (inr (o, has, says, other)) =
       | inr later ↦ Contains-nothing o later
     ]
 
+-- outputs of one kind aren't mixed
+pub kind_not_mixed : (drv : Drv) (kind : Kind) → HasKind drv kind → AreMixed drv → ⊥
+kind_not_mixed drv Addressed has (inl none) = has.0 none
+kind_not_mixed drv Addressed has (inr (o, here, says, other)) =
+    says (All-contains IsAddressed drv.outputs o has.1 here)
+kind_not_mixed drv (Fixed method digest) (only, is, fixed) mixed =
+    not_mixed drv only is.0 is.1 mixed
+
 -- the only output says something
 says_alone : (only : Output) (outputs : List Output) → outputs ≡ only ∷ [] → (o : Output)
     × Contains outputs o × (IsAddressed o → ⊥) → IsAddressed only → ⊥
@@ -77,7 +85,8 @@ fixed_fault : (drv : Drv) (outputs : List Output) (only : Output) (fault : Outpu
     → SaysSome outputs → IsFixedKind only (Err fault) → IsKindFault drv fault
 fixed_fault drv outputs only (UnknownMethod output) here is named says h =
     unknown drv outputs only output.items here is named says h.0 h.1
-fixed_fault drv outputs only NoMemory here is named says h = tt
+fixed_fault drv outputs only NoMemory here is named says h =
+    not_mixed drv only (sym here ∙ is) named
 fixed_fault drv outputs only MixedOutputs here is named says h = absurd h
 fixed_fault drv outputs only BadName here is named says h = h
 fixed_fault drv outputs only (UnknownOutput input output) here is named says h = h

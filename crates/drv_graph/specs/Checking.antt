@@ -48,7 +48,7 @@ abbrev pub IsKindFault : Drv → OutputFault → Type 0
 IsKindFault drv MixedOutputs = AreMixed drv
 IsKindFault drv (UnknownMethod output) = (AreMixed drv → ⊥)
     × ((o : Output) × Contains drv.outputs o × IsUnknown o × (output.items ≡ o.name))
-IsKindFault drv NoMemory = ⊤
+IsKindFault drv NoMemory = AreMixed drv → ⊥
 IsKindFault drv BadName = ⊥
 IsKindFault drv (UnknownOutput input output) = ⊥
 IsKindFault drv (OutputMismatch output expected) = ⊥
@@ -87,7 +87,7 @@ IsSoundCheck name drv used (Err BadName) = (kind : Kind) × HasKind drv kind
 IsSoundCheck name drv used (Err (UnknownOutput input output)) =
     (kind : Kind) × HasKind drv kind × All (IsWellNamed name) drv.outputs
     × IsUseFault (uses drv.inputs used) (UnknownOutput input output)
-IsSoundCheck name drv used (Err NoMemory) = ⊤
+IsSoundCheck name drv used (Err NoMemory) = AreMixed drv → ⊥
 IsSoundCheck name drv used (Err (OutputMismatch output expected)) = ⊥
 IsSoundCheck name drv used (Err (EnvMismatch output)) = ⊥
 

@@ -1,6 +1,6 @@
 -- What is right of a derivation's outputs, and the first thing that is wrong (Nix manual, "Store
 -- Derivation"; the order of faults is this product's own).
-use Rattle.std.specs.Prelude.{◌≡◌, ◌⊎◌, ◌++◌, ⊤, ℕ, List, [], ◌∷◌, map, All, Contains, IsTrue, Result, Ok, Err}
+use Rattle.std.specs.Prelude.{◌≡◌, ◌⊎◌, ◌++◌, ℕ, List, [], ◌∷◌, map, All, Contains, IsTrue, Result, Ok, Err}
 use Rattle.nix_names.specs.Names.{is_name}
 use Rattle.nix_names.specs.Firsts.{IsFirstWhere}
 use Rattle.nix_drv.specs.Derivation.{Drv, Output, Input, EnvEntry}
@@ -66,7 +66,7 @@ HasOtherEntry Fits Expected drv output =
 -- hashes. The first of these that holds: mixed outputs; a method or a hash that isn't known; a name
 -- that is none; the first use of an output that isn't there; the first output with a path that
 -- doesn't fit the expected one; the first output with such an entry. Want of memory may come in
--- any's place.
+-- place of any but the first.
 abbrev pub IsOutputsCheck : (Fits : List ℕ → List ℕ → Type 0) → (dir name : List ℕ) → Drv
     → (used : List Drv) → (hashes : List (List ℕ)) → Result Kind OutputFault → Type 0
 IsOutputsCheck Fits dir name drv used hashes (Ok kind) =
@@ -94,4 +94,4 @@ IsOutputsCheck Fits dir name drv used hashes (Err (EnvMismatch output)) =
     × PathsFit Fits (IsExpected dir name kind drv hashes) drv
     × ((o : Output) × IsFirstWhere (HasOtherEntry Fits (IsExpected dir name kind drv hashes) drv)
     drv.outputs o × (output.items ≡ o.name))
-IsOutputsCheck Fits dir name drv used hashes (Err NoMemory) = ⊤
+IsOutputsCheck Fits dir name drv used hashes (Err NoMemory) = AreMixed drv → ⊥

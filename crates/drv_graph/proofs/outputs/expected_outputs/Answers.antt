@@ -5,7 +5,20 @@ use Rattle.drv_graph.specs.Checking.{AreExpected}
 use Rattle.drv_graph.specs.Expected.{IsExpected}
 use Rattle.drv_graph.specs.UsedInputs.{drvs_of, hashes_of}
 use Rattle.drv_graph.proofs.Checks.{all_right, value_is_checked}
+use Rattle.drv_graph.proofs.KindAnswers.{kind_not_mixed}
 use Rattle.drv_graph.proofs.outputs.expected_outputs.Goals as goal
+
+pub returns-in_err-hashes : goal.returns-in_err-hashes
+returns-in_err-hashes c =
+    let p = err_from_is_err_and c.from_residual-in_err-hashes.result
+    c.from_residual-in_err-hashes.ensures.1 in
+    rw (p.1, p.2) (kind_not_mixed c.args.drv.now c.in_ok-kind.kind c.in_ok-kind.ensures.has_kind)
+
+pub returns-in_err-paths : goal.returns-in_err-paths
+returns-in_err-paths c =
+    let p = err_from_is_err_and c.from_residual-in_err-paths.result
+    c.from_residual-in_err-paths.ensures.1 in
+    rw (p.1, p.2) (kind_not_mixed c.args.drv.now c.in_ok-kind.kind c.in_ok-kind.ensures.has_kind)
 
 pub check_values-requires : goal.check_values-requires
 check_values-requires c =
