@@ -5,10 +5,12 @@ use Rattle.std.proofs.Math.Seq.{split_at}
 use Rattle.std.proofs.lemmas.List.{length-map, length-take-le}
 use Rattle.std.proofs.lemmas.List.Elements.{All-contains}
 use Rattle.std.proofs.lemmas.Option.{get_or_from_slice_get, slice_get_read, slice_get_within}
+use Rattle.nix_names.specs.StorePaths.{IsDrvPath}
 use Rattle.nix_drv.specs.Derivation.{Drv}
+use Rattle.drv_graph.specs.Loading.{AreDistinct}
 use Rattle.drv_graph.specs.Nodes.{Node, inputs_of, paths_of}
 use Rattle.drv_graph.specs.Plans.{AreDrvsOf, AreNumbers, Graph}
-use Rattle.drv_graph.specs.PlanNodes.{AreKept, IsKept, drvs_of, node_of, nodes_of}
+use Rattle.drv_graph.specs.PlanNodes.{AreKept, IsKept, drvs_of, node_of, nodes_of, output_paths_of}
 use Rattle.drv_graph.specs.SoundGraphs.{IsSound}
 use Rattle.drv_graph.specs.declared.node.PlanNode.{PlanNode}
 use Rattle.drv_graph.proofs.Numbers.{number_grows}
@@ -35,6 +37,26 @@ pub kept_path : (kept : List PlanNode) (n : ℕ) (node : PlanNode) → n < lengt
     ≡ get_or kept n node → slice_get (paths_of (nodes_of kept)) n ≡ Some node.path
 kept_path kept n node lt is = get_mapped (λ (m : Node). m.path) (nodes_of kept) n (node_of node)
     (kept_node kept n node lt is)
+
+-- its path has the name of a derivation's file
+pub kept_named : (kept : List PlanNode) (roots : List ℕ) (n : ℕ) (node : PlanNode) → n
+    < length (nodes_of kept) → node ≡ get_or kept n node
+    → IsSound (record { nodes = nodes_of kept; roots = roots }) → IsDrvPath node.path
+kept_named kept roots n node lt is sound =
+    All-contains (λ (m : Node). IsDrvPath m.path) (nodes_of kept) (node_of node) sound.named
+    (Contains-from_get (nodes_of kept) n (node_of node) (kept_node kept n node lt is))
+
+-- the paths of its outputs are kept, each once
+pub kept_distinct : (kept : List PlanNode) (roots : List ℕ) (n : ℕ) (node : PlanNode) → n
+    < length (nodes_of kept) → node ≡ get_or kept n node → AreKept kept
+    → IsSound (record { nodes = nodes_of kept; roots = roots }) → AreDistinct node.outputs.items
+kept_distinct kept roots n node lt is are sound =
+    let own : IsKept (nodes_of kept) node = All-contains (IsKept (nodes_of kept)) kept node are
+    (Contains-from_get kept n node (kept_at kept n node lt is)) in
+    subst AreDistinct (sym own.outputs)
+    (All-contains (λ (m : Node). AreDistinct (output_paths_of m.drv)) (nodes_of kept)
+    (node_of node) sound.own_outputs
+    (Contains-from_get (nodes_of kept) n (node_of node) (kept_node kept n node lt is)))
 
 -- what is used stands among the nodes
 pub drvs_paths : (nodes : List Node) (paths : List (List ℕ)) (drvs : List Drv)

@@ -1,10 +1,11 @@
 //! Plans of derivations.
 ghost use Rattle.std.specs.Prelude.{◌≡◌, ◌<◌, ◌≤◌, All, IfErr, IfOk, IfSome, Some, length, slice_get};
 ghost use Rattle.std.specs.Cmp.Lexicographic.{pointwise};
+ghost use Rattle.nix_names.specs.StorePaths.{IsDrvPath};
 ghost use Rattle.nix_drv.specs.Sources.{GivesSame};
 ghost use Rattle.drv_graph.specs.Equality.{same_node};
 ghost use Rattle.drv_graph.specs.Kinds.{HasKind};
-ghost use Rattle.drv_graph.specs.Loading.{IsCountedFault, IsLoading};
+ghost use Rattle.drv_graph.specs.Loading.{AreDistinct, IsCountedFault, IsLoading};
 ghost use Rattle.drv_graph.specs.Nodes.{inputs_of, paths_of};
 ghost use Rattle.drv_graph.specs.Plans.{AreNumbers};
 ghost use Rattle.drv_graph.specs.PlanNodes.{AreKept, drvs_of, nodes_of, output_paths_of};
@@ -108,10 +109,12 @@ impl Plan {
         &self.nodes[number].drv
     }
 
-    /// The path of the text of the derivation with this number.
+    /// The path of the text of the derivation with this number. Its name is that of a derivation's
+    /// file.
     pub fn path(&self, number: usize) -> &StorePath
         requires { number < length self.now.nodes }
-        ensures { slice_get (paths_of self.now.nodes) number ≡ Some result.now }
+        ensures value { slice_get (paths_of self.now.nodes) number ≡ Some result.now }
+        ensures sound { IsDrvPath result.now }
     {
         &self.nodes[number].path
     }
@@ -136,11 +139,13 @@ impl Plan {
         self.nodes[number].kind
     }
 
-    /// The paths of the outputs of the derivation with this number, in its text's order.
+    /// The paths of the outputs of the derivation with this number, in its text's order. No two are
+    /// the same.
     pub fn output_paths(&self, number: usize) -> &[StorePath]
         requires { number < length self.now.nodes }
-        ensures { IfSome (slice_get self.now.nodes number)
+        ensures value { IfSome (slice_get self.now.nodes number)
             (λ node. result.now ≡ output_paths_of node.drv) }
+        ensures distinct { AreDistinct result.now }
     {
         &self.nodes[number].outputs
     }

@@ -7,14 +7,12 @@ use Rattle.std.proofs.lemmas.List.{length-map, take_all}
 use Rattle.std.proofs.lemmas.List.Elements.{All-contains, All-push}
 use Rattle.std.proofs.lemmas.List.Sorted.{Contains-permutation, IsPermutation-sym}
 use Rattle.std.proofs.lemmas.Option.{slice_get-map}
-use Rattle.nix_names.specs.StorePaths.{IsDrvPath}
 use Rattle.nix_drv.specs.Derivation.{Drv, Output}
 use Rattle.drv_graph.specs.Kinds.{HasKind}
 use Rattle.drv_graph.specs.Loading.{AreDistinct}
 use Rattle.drv_graph.specs.Nodes.{Node, paths_of as node_paths}
 use Rattle.drv_graph.specs.PlanNodes.{output_paths_of}
 use Rattle.drv_graph.specs.Plans.{Graph}
-use Rattle.drv_graph.specs.SoundGraphs.{IsSound}
 use Rattle.drv_graph.specs.declared.kinds.Kind.{Kind}
 use Rattle.drv_graph.specs.declared.kinds.Kind.TheVariants.{Addressed, Fixed}
 use Rattle.valid_table.specs.Entries.{IsSortedOf, paths_of, registered}
@@ -25,7 +23,6 @@ use Rattle.valid_table.specs.declared.entry.Entry.TheVariants.{Done}
 use Rattle.valid_table.specs.declared.entry.Registration.{Registration}
 use Rattle.sched_core.specs.Books.{AreNewRecords, IsNotAllowed}
 use Rattle.sched_core.specs.Dones.{AreFitting, HaveDigest, IsDoneEntry, IsDoneFault, infos_of}
-use Rattle.sched_core.specs.Jobs.{output_paths}
 use Rattle.sched_core.specs.Legal.{AreNewOutputs, AreOutputRecords, IsEntryOf}
 use Rattle.sched_core.specs.Verdicts.{IsCyclic}
 use Rattle.sched_core.specs.declared.fault.BookFault.{BookFault}
@@ -74,7 +71,7 @@ judged known kind paths infos digests count new told = (
 
 -- the records of outputs of a kind at their paths, by what is tested
 fitting_own : (entries : List Entry) (drv : Drv) (kind : Kind) (infos : List PathInfo)
-    → HasKind drv kind → AreFitting (registered entries) kind (output_paths drv) infos
+    → HasKind drv kind → AreFitting (registered entries) kind (output_paths_of drv) infos
     → AreOutputRecords drv infos × AreNewOutputs entries drv
 fitting_own entries drv kind infos has_kind fitting = (
   record {
@@ -85,16 +82,16 @@ fitting_own entries drv kind infos has_kind fitting = (
         (subst (λ (k : Kind). HaveDigest k infos) other.1 fitting.digests)
         has;
   },
-  λ path has. All-contains (IsNotValid (registered entries)) (output_paths drv) path
+  λ path has. All-contains (IsNotValid (registered entries)) (output_paths_of drv) path
       fitting.new has,
 )
 
 own_fitting : (entries : List Entry) (drv : Drv) (kind : Kind) (infos : List PathInfo)
     → HasKind drv kind → AreOutputRecords drv infos → AreNewOutputs entries drv
-    → AreFitting (registered entries) kind (output_paths drv) infos
+    → AreFitting (registered entries) kind (output_paths_of drv) infos
 own_fitting entries drv kind infos has_kind own new = record {
   count = own.count ∙ sym (length-map drv.outputs (λ (o : Output). o.path));
-  new = All-from_contains (IsNotValid (registered entries)) (output_paths drv) new;
+  new = All-from_contains (IsNotValid (registered entries)) (output_paths_of drv) new;
   digests = digests kind has_kind;
 }
   where
@@ -140,7 +137,7 @@ beside all path info = (there, back)
         subst (Contains all) same (Contains-from_get all n one.0 one.1)
 
 sorted_entry : (node : Node) (infos : List PathInfo) (all outputs : List Registration)
-    → paths_of all ≡ output_paths node.drv
+    → paths_of all ≡ output_paths_of node.drv
     → infos_of all ≡ infos → IsSortedOf all outputs
     → IsEntryOf node infos (Done node.path outputs)
 sorted_entry node infos all outputs paths same sorted = record {
@@ -150,7 +147,7 @@ sorted_entry node infos all outputs paths same sorted = record {
   each = λ path info.
       let r : Registration = record { path = path; info = info } in
       let at : Contains all r
-      ↔ ((n : ℕ) × (slice_get (output_paths node.drv) n ≡ Some path)
+      ↔ ((n : ℕ) × (slice_get (output_paths_of node.drv) n ≡ Some path)
       × (slice_get infos n ≡ Some info)) =
       rw (paths, same) at (beside all path info) in (
         λ has. at.0 (Contains-permutation outputs all r (IsPermutation-sym all outputs sorted.same)
@@ -185,7 +182,7 @@ pub fitting_new : (graph : Graph) (d : ℕ) (entries : List Entry) (kind : Kind)
     (paths : List (List ℕ)) (infos : List PathInfo) → IsTold graph d kind paths
     → AreFitting (registered entries) kind paths infos → AreNewRecords graph entries d infos
 fitting_new graph d entries kind paths infos told fitting node at =
-    let own : paths ≡ output_paths node.drv =
+    let own : paths ≡ output_paths_of node.drv =
     node_at graph.nodes d node (λ n. paths ≡ output_paths_of n.drv) told.outputs at in
     let has_kind = node_at graph.nodes d node (λ n. HasKind n.drv kind) told.has_kind at in
     fitting_own entries node.drv kind infos has_kind
@@ -200,7 +197,7 @@ pub done_is : (graph : Graph) (d : ℕ) (entries : List Entry) (kind : Kind) (pa
     → IsDoneEntry graph d entries infos (Done path outputs)
 done_is graph d entries kind paths infos all outputs path told is fitting acyclic are same sorted
     node at =
-    let own : paths ≡ output_paths node.drv =
+    let own : paths ≡ output_paths_of node.drv =
     node_at graph.nodes d node (λ n. paths ≡ output_paths_of n.drv) told.outputs at in
     let new = fitting_new graph d entries kind paths infos told fitting node at in (
       subst (λ (p : List ℕ). IsEntryOf node infos (Done p outputs))
@@ -226,7 +223,7 @@ pub not_fitting : (graph : Graph) (d : ℕ) (entries : List Entry) (kind : Kind)
     → (AreFitting (registered entries) kind paths infos → ⊥)
     → IsNotAllowed graph entries d infos
 not_fitting graph d entries kind paths infos told not_fit node at allowed =
-    let own : paths ≡ output_paths node.drv =
+    let own : paths ≡ output_paths_of node.drv =
     node_at graph.nodes d node (λ n. paths ≡ output_paths_of n.drv) told.outputs at in
     let has_kind = node_at graph.nodes d node (λ n. HasKind n.drv kind) told.has_kind at in
     not_fit (subst (λ (ps : List (List ℕ)). AreFitting (registered entries) kind ps infos)
@@ -237,27 +234,24 @@ pub cycle_not_allowed : (graph : Graph) (d : ℕ) (entries : List Entry) (kind :
     (paths : List (List ℕ)) (infos : List PathInfo) → IsTold graph d kind paths
     → IsCyclic paths infos → IsNotAllowed graph entries d infos
 cycle_not_allowed graph d entries kind paths infos told cyclic node at allowed =
-    let own : paths ≡ output_paths node.drv =
+    let own : paths ≡ output_paths_of node.drv =
     node_at graph.nodes d node (λ n. paths ≡ output_paths_of n.drv) told.outputs at in
     allowed.records.acyclic (subst (λ (ps : List (List ℕ)). IsCyclic ps infos) own cyclic)
 
 -- outputs of a derivation of a plan can be sorted: there are some, and their paths differ
 pub can_be_sorted : (graph : Graph) (d : ℕ) (kind : Kind) (paths : List (List ℕ))
     (all : List Registration) → d < length graph.nodes
-    → IsSound graph
+    → AreDistinct paths
     → IsTold graph d kind paths → paths_of all ≡ paths → (all ≢ []) × IsOnce all
-can_be_sorted graph d kind paths all within sound told are =
+can_be_sorted graph d kind paths all within distinct told are =
     let found = element_at graph.nodes d within in
     let node = found.0 in
-    let own : paths ≡ output_paths node.drv =
+    let own : paths ≡ output_paths_of node.drv =
     node_at graph.nodes d node (λ n. paths ≡ output_paths_of n.drv) told.outputs found.1 in
-    let has_kind = node_at graph.nodes d node (λ n. HasKind n.drv kind) told.has_kind found.1 in
-    let distinct : AreDistinct (output_paths node.drv) =
-    All-contains (λ (n : Node). AreDistinct (output_paths_of n.drv)) graph.nodes node
-    sound.own_outputs (Contains-from_get graph.nodes d node found.1) in (
+    let has_kind = node_at graph.nodes d node (λ n. HasKind n.drv kind) told.has_kind found.1 in (
       λ none. some_outputs node.drv kind has_kind
           (no_outputs node.drv.outputs (sym own ∙ sym are ∙ ap paths_of none)),
-      subst AreDistinct (sym own ∙ sym are) distinct,
+      subst AreDistinct (sym are) distinct,
     )
   where
     some_outputs : (drv : Drv) (k : Kind) → HasKind drv k → drv.outputs ≡ [] → ⊥
@@ -268,13 +262,3 @@ can_be_sorted graph d kind paths all within sound told are =
     no_outputs : (outputs : List Output) → map (λ (o : Output). o.path) outputs ≡ [] → outputs ≡ []
     no_outputs [] none = refl
     no_outputs (o ∷ os) none = absurd cc
-
--- and stand at a derivation's file
-pub is_drv_path : (graph : Graph) (d : ℕ) (path : List ℕ) → IsSound graph
-    → slice_get (node_paths graph.nodes) d ≡ Some path
-    → IsDrvPath path
-is_drv_path graph d path sound at =
-    let one = get_source (λ (n : Node). n.path) graph.nodes d path at in
-    subst IsDrvPath one.2
-    (All-contains (λ (n : Node). IsDrvPath n.path) graph.nodes one.0 sound.named
-    (Contains-from_get graph.nodes d one.0 one.1))

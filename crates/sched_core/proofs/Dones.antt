@@ -12,6 +12,7 @@ use Rattle.nix_names.proofs.RisingLists.{distinct_from_rising}
 use Rattle.nix_drv.specs.Derivation.{Output}
 use Rattle.drv_graph.specs.Loading.{AreDistinct}
 use Rattle.drv_graph.specs.Nodes.{Node}
+use Rattle.drv_graph.specs.PlanNodes.{output_paths_of}
 use Rattle.drv_graph.specs.Plans.{Graph}
 use Rattle.drv_graph.specs.SoundGraphs.{IsSound}
 use Rattle.valid_table.specs.Adding.{AreClosed, AreNew}
@@ -25,7 +26,6 @@ use Rattle.valid_table.specs.declared.entry.Registration.{Registration}
 use Rattle.valid_table.proofs.AddedEntries.{journal_push}
 use Rattle.valid_table.proofs.JournalLists.{still_valid}
 use Rattle.valid_table.proofs.TakenIn.{once_more, valid_by_some}
-use Rattle.sched_core.specs.Jobs.{output_paths}
 use Rattle.sched_core.specs.Legal.{IsAllowed, IsEntryOf}
 use Rattle.sched_core.specs.Runs.{Run}
 use Rattle.nix_names.proofs.Lists.{All-from_contains, Contains-first, Contains-from_get, Contains-from_map, Contains-later, Contains-map, Contains-nothing, element_at, get_from_contains}
@@ -62,29 +62,29 @@ reached_is_valid registrations from to (next ∷ steps) leads =
 pub output_registered : (node : Node) (infos : List PathInfo) (outputs : List Registration)
     (entry : Entry)
     (is : IsEntryOf node infos entry)
-    → length infos ≡ length (output_paths node.drv) → (path : List ℕ)
-    → Contains (output_paths node.drv) path → IsValid is.outputs path
+    → length infos ≡ length (output_paths_of node.drv) → (path : List ℕ)
+    → Contains (output_paths_of node.drv) path → IsValid is.outputs path
 output_registered node infos outputs entry is count path has =
-    let at = get_from_contains (output_paths node.drv) path has in
+    let at = get_from_contains (output_paths_of node.drv) path has in
     let info = element_at infos at.0
-    (omega (arith, count, slice_get_within (output_paths node.drv) at.0 path at.1)) in
+    (omega (arith, count, slice_get_within (output_paths_of node.drv) at.0 path at.1)) in
     Contains-map (λ (r : Registration). r.path) is.outputs (record { path = path; info = info.0 })
     ((is.each path info.0).1 (at.0, at.1, info.1))
 
 -- and nothing else
 pub registered_output : (node : Node) (infos : List PathInfo) (entry : Entry)
     (is : IsEntryOf node infos entry) (r : Registration)
-    → Contains is.outputs r → Contains (output_paths node.drv) r.path × Contains infos r.info
+    → Contains is.outputs r → Contains (output_paths_of node.drv) r.path × Contains infos r.info
 registered_output node infos entry is r has =
     let at = (is.each r.path r.info).0 has in (
-      Contains-from_get (output_paths node.drv) at.0 r.path at.1,
+      Contains-from_get (output_paths_of node.drv) at.0 r.path at.1,
       Contains-from_get infos at.0 r.info at.2,
     )
 
 -- as many records as outputs
 pub records_for_paths : (run : Run) (entries : List Entry) (node : Node) (infos : List PathInfo)
     → IsAllowed run.graph entries node infos
-    → length infos ≡ length (output_paths node.drv)
+    → length infos ≡ length (output_paths_of node.drv)
 records_for_paths run entries node infos allowed = allowed.records.own.count
     ∙ sym (length-map node.drv.outputs (λ (o : Output). o.path))
 
@@ -97,7 +97,7 @@ module _ (run : Run) (entries : List Entry) (node : Node) (infos : List PathInfo
       (λ path there valid.
       let r = Contains-from_map (λ (x : Registration). x.path) is.outputs path there in
       let own = registered_output node infos entry is r.0 r.1 in
-      allowed.new path (subst (Contains (output_paths node.drv)) r.2 own.0) valid)
+      allowed.new path (subst (Contains (output_paths_of node.drv)) r.2 own.0) valid)
 
   closed_outputs : AreClosed (registered entries) is.outputs
   closed_outputs = All-from_contains (IsValid (registered entries ++ is.outputs))
@@ -134,17 +134,17 @@ module _ (run : Run) (entries : List Entry) (node : Node) (infos : List PathInfo
       (once_more (registered entries) is.outputs journal.once is.rising new_outputs))
 
   -- it registers as many paths as there are outputs, where no two outputs have one
-  pub done_counts : AreDistinct (output_paths node.drv) → length (registered_by entry)
+  pub done_counts : AreDistinct (output_paths_of node.drv) → length (registered_by entry)
       ≡ length node.drv.outputs
   done_counts distinct =
       let path_in : Registration → List ℕ = λ r. r.path in
-      let few = no_more_than (paths_of is.outputs) (output_paths node.drv)
+      let few = no_more_than (paths_of is.outputs) (output_paths_of node.drv)
       (distinct_from_rising (paths_of is.outputs) is.rising)
       (λ path there.
       let r = Contains-from_map path_in is.outputs path there in
-      subst (Contains (output_paths node.drv)) r.2
+      subst (Contains (output_paths_of node.drv)) r.2
       (registered_output node infos entry is r.0 r.1).0) in
-      let many = no_more_than (output_paths node.drv) (paths_of is.outputs) distinct
+      let many = no_more_than (output_paths_of node.drv) (paths_of is.outputs) distinct
       (output_registered node infos is.outputs entry is
       (records_for_paths run entries node infos allowed)) in
       ap (λ (e : Entry). length (registered_by e)) is.is_done

@@ -1,19 +1,20 @@
 -- How a lease ends.
 use Rattle.std.proofs.Common.{◌≡◌, ◌++◌, ◌∷◌, [], ℕ, List, ap, append_assoc, refl, subst, sym, ◌∙◌}
+use Rattle.drv_graph.specs.PlanNodes.{output_paths_of}
 use Rattle.valid_table.specs.Adding.{AreClosed, AreNew}
 use Rattle.valid_table.specs.Entries.{registered, registered_by}
 use Rattle.valid_table.specs.PathInfos.{PathInfo}
+use Rattle.valid_table.specs.Valid.{HasDrvPath, IsJournal}
 use Rattle.valid_table.specs.declared.entry.Entry.{Entry}
 use Rattle.sched_core.specs.Books.{IsBooksLease, IsDone, IsFinishFault, IsFinishing, Ledger, MayAllRefer}
 use Rattle.sched_core.specs.Dones.{IsDoneEntry, IsDoneFault}
-use Rattle.sched_core.specs.Jobs.{output_paths}
 use Rattle.sched_core.specs.Legal.{ArePermittedTo, MayRefer, ended}
 use Rattle.sched_core.specs.Runs.{History, Run}
 use Rattle.sched_core.specs.declared.fault.BookFault.{BookFault}
 use Rattle.sched_core.specs.declared.fault.BookFault.TheVariants.{ForeignLease, NoMemory, NoView, NotLawful}
 use Rattle.sched_core.specs.declared.job.Job.{Job}
 use Rattle.sched_core.proofs.DoneEntries.{entry_new}
-use Rattle.sched_core.proofs.Dones.{done_is_closed, done_is_new}
+use Rattle.sched_core.proofs.Dones.{done_is_closed, done_is_journal, done_is_new}
 
 -- the entry of a lease's derivation with records whose references are permitted to its job
 pub done_under_lease : (run : Run) (history : History) (job : Job) (number : ℕ)
@@ -26,7 +27,7 @@ done_under_lease run history job number infos entry lease may told =
     let all = told node lease.is_job.is_node in
     let permitted : ArePermittedTo run.graph history.entries node infos = λ info path has refers.
     subst (λ (seeds : List (List ℕ)). MayRefer (registered history.entries) seeds
-    (output_paths node.drv) path) lease.is_job.seeds
+    (output_paths_of node.drv) path) lease.is_job.seeds
     (subst (λ (outputs : List (List ℕ)). MayRefer (registered history.entries) job.seeds.items
     outputs path) lease.is_job.paths (may info path has refers)) in
     record {
@@ -89,6 +90,15 @@ holding entries more shown after_shown pending after_pending entry copy held mor
     rw (same, added, same_entry, more_is)
     (sym (append_assoc shown pending (entry ∷ []))
     ∙ ap (λ es. es ++ entry ∷ []) held)
+
+-- the entries are a journal behind the entry, too
+pub journal_behind : (run : Run) (entries more : List Entry) (d : ℕ) (infos : List PathInfo)
+    (entry : Entry) → IsDone run entries d infos entry → HasDrvPath entry → IsJournal entries
+    → more ≡ entries ++ entry ∷ [] → IsJournal more
+journal_behind run entries more d infos entry done derived journal more_is =
+    rw more_is
+    (done_is_journal run entries done.node infos entry done.allowed done.is_entry journal
+    (subst HasDrvPath done.is_entry.is_done derived))
 
 -- what ending a lease by a Done comes to
 pub finishing : (before : Ledger) (run after_run : Run) (history between after : History)

@@ -19,7 +19,6 @@ use Rattle.valid_table.specs.Entries.{paths_of, registered}
 use Rattle.valid_table.specs.Valid.{IsValid}
 use Rattle.valid_table.specs.declared.entry.Entry.{Entry}
 use Rattle.sched_core.specs.Courses.{AreStandings}
-use Rattle.sched_core.specs.Jobs.{output_paths}
 use Rattle.sched_core.specs.Runs.{cause_at, is_unsupported, is_valid, left_out, own_cause, standing_at}
 use Rattle.sched_core.specs.declared.reason.Refusal.TheVariants.{MissingSource}
 use Rattle.sched_core.specs.declared.standing.Standing.{Standing}
@@ -116,7 +115,7 @@ last_cause system entries nodes d drv outputs sources first is_drv lent given ow
         let here : same_bytes node.drv.system system
         ≡ true = ap (λ (x : Drv). same_bytes x.system system) (sym same) ∙ own_system in
         let taken : is_unsupported node.drv ≡ false = ap is_unsupported (sym same) ∙ supported in
-        let out : position (is_valid entries) (output_paths node.drv)
+        let out : position (is_valid entries) (output_paths_of node.drv)
         ≡ None = ap (position (is_valid entries)) (sym paths) ∙ none in
         rw (here, taken, out, of_node) refl
 

@@ -12,6 +12,7 @@ use Rattle.std.proofs.lemmas.List.Elements.{Contains-append_cases}
 use Rattle.nix_names.specs.Names.{same_bytes}
 use Rattle.nix_drv.specs.Derivation.{Input, Output}
 use Rattle.drv_graph.specs.Nodes.{Node, inputs_of, paths_of as node_paths}
+use Rattle.drv_graph.specs.PlanNodes.{output_paths_of}
 use Rattle.valid_table.specs.Entries.{paths_of, registered, registered_by}
 use Rattle.valid_table.specs.Valid.{IsValid}
 use Rattle.valid_table.specs.declared.entry.Entry.{Entry}
@@ -23,7 +24,7 @@ use Rattle.valid_table.proofs.ClosureLaws.{leads_before, leads_behind}
 use Rattle.std.proofs.lemmas.Map.Views.{Contains-from_any}
 use Rattle.nix_names.proofs.RisingLists.{equal_from_eq}
 use Rattle.sched_core.specs.Headline.{PermittedStays, SeedsAreValid}
-use Rattle.sched_core.specs.Jobs.{named_outputs, output_paths, paths_of_found, seeds_of}
+use Rattle.sched_core.specs.Jobs.{named_outputs, paths_of_found, seeds_of}
 use Rattle.sched_core.specs.Legal.{IsLegal, legal_opening, legal_begin, legal_done, legal_fail, begins}
 use Rattle.sched_core.specs.Runs.{History, Run, by_cause, cause_at, input_numbers, inputs_at, is_unsupported, is_valid, or_else, own_cause, rows_of, standing_at, standing_of, state_in}
 use Rattle.sched_core.specs.States.{Phase, Idle, Begun, Ended, Broken, by_first, by_inputs, by_phase, by_standing, is_bad, is_good, later, phase_by, phase_of, state, states, table}
@@ -87,7 +88,7 @@ valid_behind entries entry path valid =
 -- the outputs of a derivation that was built are valid
 pub ended_is_valid : (run : Run) (history : History) → IsLegal run history → (d : ℕ) (node : Node)
     → slice_get run.graph.nodes d ≡ Some node
-    → phase_of history.events d ≡ Ended → (path : List ℕ) → Contains (output_paths node.drv) path
+    → phase_of history.events d ≡ Ended → (path : List ℕ) → Contains (output_paths_of node.drv) path
     → IsValid (registered history.entries) path
 ended_is_valid run _ (legal_opening entries journal) d node is_node ended path has = absurd cc
 ended_is_valid run _ (legal_begin history e legal within wanted ready) d node is_node ended path
@@ -107,8 +108,8 @@ ended_is_valid run _
     let number : e ≡ d = same_number e d same in
     let one : Some own ≡ Some node = sym is_own ∙ ap (slice_get run.graph.nodes) number ∙ is_node in
     let node_is : own ≡ node = cc in
-    let own_has : Contains (output_paths own.drv) path =
-    subst (λ (n : Node). Contains (output_paths n.drv) path) (sym node_is) has in
+    let own_has : Contains (output_paths_of own.drv) path =
+    subst (λ (n : Node). Contains (output_paths_of n.drv) path) (sym node_is) has in
     let there = output_registered own infos is_entry.outputs entry is_entry
     (records_for_paths run history.entries own infos allowed) path own_has in
     subst (λ (rs : List Registration). IsValid rs path)
@@ -235,7 +236,7 @@ not_false false is = absurd cc
 at_number : (run : Run) (history : History) → IsLegal run history → (i : ℕ)
     → is_good (state_in run history i) ≡ true
     → (node : Node) → slice_get run.graph.nodes i ≡ Some node → (path : List ℕ)
-    → Contains (output_paths node.drv) path → IsValid (registered history.entries) path
+    → Contains (output_paths_of node.drv) path → IsValid (registered history.entries) path
 unfolding state table
 at_number run history legal i good node is_node path has =
     let rows = rows_of run history.opening history.events in
@@ -245,10 +246,10 @@ at_number run history legal i good node is_node path has =
     (λ all.
     let own : standing_of run.system history.opening node.drv ≡ AllValid =
     sym (ap (standing_at run.system history.opening) is_node) ∙ all in
-    let there = standing_all (list_all (is_valid history.opening) (output_paths node.drv))
+    let there = standing_all (list_all (is_valid history.opening) (output_paths_of node.drv))
     (own_cause run.system history.opening node.drv) own in
     opening_stays_valid run history legal path
-    (list_all_has (is_valid history.opening) (output_paths node.drv) path there has))
+    (list_all_has (is_valid history.opening) (output_paths_of node.drv) path there has))
     (good_by (phase_of history.events i) (rows.standing i)
     (find (λ j. is_bad (f j)) (rows.inputs i)) (list_all (λ j. is_good (f j)) (rows.inputs i)) good)
 
@@ -289,13 +290,13 @@ pub named_at : (nodes : List Node) (input : Input) (path : List ℕ)
     → Contains (named_outputs nodes input) path
     → (node : Node)
     × (slice_get nodes (position_or_len (same_bytes input.path) (node_paths nodes)) ≡ Some node)
-    × Contains (output_paths node.drv) path
+    × Contains (output_paths_of node.drv) path
 named_at nodes input path has =
     by (slice_get nodes (position_or_len (same_bytes input.path) (node_paths nodes)))
     (found_by_number nodes input.path)
   where
     by : (o : Option Node) → find (λ (n : Node). same_bytes input.path n.path) nodes ≡ o
-        → (node : Node) × (o ≡ Some node) × Contains (output_paths node.drv) path
+        → (node : Node) × (o ≡ Some node) × Contains (output_paths_of node.drv) path
     by None e = absurd
         (Contains-nothing path
         (subst (λ (o : Option Node). Contains (paths_of_found input.names o) path) e has))
@@ -309,7 +310,7 @@ named_at nodes input path has =
         node.drv.outputs output.0 output.1 in (
           node,
           refl,
-          subst (Contains (output_paths node.drv)) output.2
+          subst (Contains (output_paths_of node.drv)) output.2
               (Contains-map (λ (o : Output). o.path) node.drv.outputs output.0 among),
         )
 
@@ -331,12 +332,12 @@ seeds_at run history legal d ready node is_node path has =
     ready in
     let free : standing_of run.system history.opening node.drv
     ≡ Free = sym (ap (standing_at run.system history.opening) is_node) ∙ facts.free in
-    let no_cause = standing_free (list_all (is_valid history.opening) (output_paths node.drv))
+    let no_cause = standing_free (list_all (is_valid history.opening) (output_paths_of node.drv))
     (own_cause run.system history.opening node.drv) free in
     let none_missing = cause_none MissingSource
     (position (λ p. not (is_valid history.opening p)) node.drv.sources)
     (or_else_none
-    (cause_at PartlyValid (position (is_valid history.opening) (output_paths node.drv))) _
+    (cause_at PartlyValid (position (is_valid history.opening) (output_paths_of node.drv))) _
     (or_else_none (if is_unsupported node.drv then Some Unsupported else None) _
     (or_else_none (if same_bytes node.drv.system run.system then None else Some WrongSystem) _
     no_cause))) in

@@ -7,13 +7,10 @@ use Rattle.nix_drv.specs.Derivation.{Drv, Input, Output}
 use Rattle.nix_drv.specs.Parts.{bytes_of, entry_of}
 use Rattle.drv_graph.specs.Kinds.{HasKind}
 use Rattle.drv_graph.specs.Nodes.{Node}
+use Rattle.drv_graph.specs.PlanNodes.{output_paths_of}
 use Rattle.drv_graph.specs.Plans.{Graph}
 use Rattle.sched_core.specs.declared.job.Job.{Job}
 use Rattle.sched_core.specs.declared.job.JobOutput.{JobOutput}
-
--- the paths of a derivation's outputs, in its text's order
-abbrev pub output_paths : Drv → List (List ℕ)
-output_paths drv = map (λ (o : Output). o.path) drv.outputs
 
 -- the paths of those of a derivation's outputs that have one of these names
 abbrev pub paths_named : (names : List (List ℕ)) → Drv → List (List ℕ)
@@ -45,6 +42,6 @@ pub record IsJob (graph : Graph) (d : ℕ) (job : Job) : Type 0 where
   pub env : map entry_of job.env.items ≡ node.drv.env
   pub names : map (λ (o : JobOutput). o.name.items) job.outputs.items
       ≡ map (λ (o : Output). o.name) node.drv.outputs
-  pub paths : map (λ (o : JobOutput). o.path) job.outputs.items ≡ output_paths node.drv
+  pub paths : map (λ (o : JobOutput). o.path) job.outputs.items ≡ output_paths_of node.drv
   pub kind : HasKind node.drv job.kind
   pub seeds : job.seeds.items ≡ seeds_of graph.nodes node.drv

@@ -5,6 +5,7 @@ use Rattle.nix_names.specs.Rising.{IsRising}
 use Rattle.nix_drv.specs.Derivation.{Drv}
 use Rattle.drv_graph.specs.Kinds.{HasKind}
 use Rattle.drv_graph.specs.Nodes.{Node}
+use Rattle.drv_graph.specs.PlanNodes.{output_paths_of}
 use Rattle.drv_graph.specs.Plans.{Graph}
 use Rattle.drv_graph.specs.declared.kinds.Kind.TheVariants.{Fixed}
 use Rattle.drv_graph.specs.declared.kinds.Method.{Method}
@@ -15,7 +16,7 @@ use Rattle.valid_table.specs.Valid.{IsJournal, IsValid}
 use Rattle.valid_table.specs.declared.entry.Entry.{Entry}
 use Rattle.valid_table.specs.declared.entry.Entry.TheVariants.{Done}
 use Rattle.valid_table.specs.declared.entry.Registration.{Registration}
-use Rattle.sched_core.specs.Jobs.{output_paths, seeds_of}
+use Rattle.sched_core.specs.Jobs.{seeds_of}
 use Rattle.sched_core.specs.Runs.{History, IsWanted, Run, state_in}
 use Rattle.sched_core.specs.States.{Begun, phase_of}
 use Rattle.sched_core.specs.Verdicts.{IsCyclic}
@@ -74,14 +75,14 @@ pub record IsEntryOf (node : Node) (infos : List PathInfo) (entry : Entry) : Typ
   pub rising : IsRising (paths_of outputs)
   pub each : (path : List ℕ) (info : PathInfo)
       → Contains outputs (record { path = path; info = info })
-      ↔ ((n : ℕ) × (slice_get (output_paths node.drv) n ≡ Some path)
+      ↔ ((n : ℕ) × (slice_get (output_paths_of node.drv) n ≡ Some path)
       × (slice_get infos n ≡ Some info))
 
 -- each reference in some records is permitted to a derivation of a plan, behind some entries
 abbrev pub ArePermittedTo : Graph → List Entry → Node → List PathInfo → Type 0
 ArePermittedTo graph entries node infos = (info : PathInfo) (path : List ℕ) → Contains infos info
     → Contains info.references path
-    → MayRefer (registered entries) (seeds_of graph.nodes node.drv) (output_paths node.drv) path
+    → MayRefer (registered entries) (seeds_of graph.nodes node.drv) (output_paths_of node.drv) path
 
 -- Records of a derivation's outputs: one for each, with the declared digest where it is fixed.
 pub record AreOutputRecords (drv : Drv) (infos : List PathInfo) : Type 0 where
@@ -92,11 +93,11 @@ pub record AreOutputRecords (drv : Drv) (infos : List PathInfo) : Type 0 where
 -- Such records by which no two different outputs lead to each other.
 pub record AreAcyclicRecords (drv : Drv) (infos : List PathInfo) : Type 0 where
   pub own : AreOutputRecords drv infos
-  pub acyclic : IsCyclic (output_paths drv) infos → ⊥
+  pub acyclic : IsCyclic (output_paths_of drv) infos → ⊥
 
 -- none of a derivation's outputs is valid behind some entries
 abbrev pub AreNewOutputs : List Entry → Drv → Type 0
-AreNewOutputs entries drv = (path : List ℕ) → Contains (output_paths drv) path
+AreNewOutputs entries drv = (path : List ℕ) → Contains (output_paths_of drv) path
     → IsValid (registered entries) path → ⊥
 
 -- What a Done of a derivation may register behind some entries.

@@ -4,9 +4,9 @@ use Rattle.std.specs.Prelude.{◌≡◌, ◌<◌, ◌↔◌, true, false, ℕ, O
 use Rattle.std.specs.List.{slice_index_or}
 use Rattle.nix_names.specs.Rising.{IsRising}
 use Rattle.drv_graph.specs.Nodes.{Node, paths_of}
+use Rattle.drv_graph.specs.PlanNodes.{output_paths_of}
 use Rattle.drv_graph.specs.Plans.{Graph}
 use Rattle.sched_core.specs.Courses.{Course, course_state}
-use Rattle.sched_core.specs.Jobs.{output_paths}
 use Rattle.sched_core.specs.Runs.{History, IsWanted, Run, state_in}
 use Rattle.sched_core.specs.States.{is_good}
 use Rattle.sched_core.specs.Words.{reason_words, refusal_words}
@@ -35,7 +35,7 @@ line_of nodes node state = []
 -- a line for each output of a derivation that was built or reused, in its text's order
 abbrev pub output_lines : Node → State → List ℕ
 output_lines node state = if is_good state then flat_map (path_line (codes "output "))
-    (output_paths node.drv) else []
+    (output_paths_of node.drv) else []
 
 -- lines of a node, if there is one
 abbrev pub lines_if_some : (Node → List ℕ) → Option Node → List ℕ

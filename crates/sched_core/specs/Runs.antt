@@ -5,10 +5,10 @@ use Rattle.std.specs.List.{list_any, list_all, position, position_or_len, starts
 use Rattle.nix_names.specs.Names.{same_bytes}
 use Rattle.nix_drv.specs.Derivation.{Drv, EnvEntry, Output}
 use Rattle.drv_graph.specs.Nodes.{Node, inputs_of, paths_of}
+use Rattle.drv_graph.specs.PlanNodes.{output_paths_of}
 use Rattle.drv_graph.specs.Plans.{Graph}
 use Rattle.valid_table.specs.Entries.{registered, paths_of as registered_paths}
 use Rattle.valid_table.specs.declared.entry.Entry.{Entry}
-use Rattle.sched_core.specs.Jobs.{output_paths}
 use Rattle.sched_core.specs.States.{Rows, phase_of, state}
 use Rattle.sched_core.specs.declared.reason.Event.{Event}
 use Rattle.sched_core.specs.declared.reason.Refusal.{Refusal}
@@ -64,7 +64,7 @@ abbrev pub own_cause : (system : List ℕ) → (opening : List Entry) → Drv �
 own_cause system opening drv =
     or_else (if same_bytes drv.system system then None else Some WrongSystem)
     (or_else (if is_unsupported drv then Some Unsupported else None)
-    (or_else (cause_at PartlyValid (position (is_valid opening) (output_paths drv)))
+    (or_else (cause_at PartlyValid (position (is_valid opening) (output_paths_of drv)))
     (cause_at MissingSource (position (λ path. not (is_valid opening path)) drv.sources))))
 
 -- where a derivation stands by its cause, if it has one
@@ -75,7 +75,7 @@ by_cause None = Free
 -- where a derivation stands by itself behind these entries
 abbrev pub standing_of : (system : List ℕ) → (opening : List Entry) → Drv → Standing
 standing_of system opening drv =
-    if list_all (is_valid opening) (output_paths drv) then AllValid
+    if list_all (is_valid opening) (output_paths_of drv) then AllValid
     else by_cause (own_cause system opening drv)
 
 -- the numbers of a derivation's inputs, in its text's order

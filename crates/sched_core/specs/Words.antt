@@ -5,7 +5,7 @@ use Rattle.std.specs.Fmt.{signed_decimal}
 use Rattle.nix_drv.specs.Derivation.{Drv, Output}
 use Rattle.nix_drv.specs.Strings.{string_text}
 use Rattle.drv_graph.specs.Nodes.{Node, paths_of}
-use Rattle.sched_core.specs.Jobs.{output_paths}
+use Rattle.drv_graph.specs.PlanNodes.{output_paths_of}
 use Rattle.sched_core.specs.declared.reason.Reason.{Reason}
 use Rattle.sched_core.specs.declared.reason.Reason.TheVariants.{ExitStatus, NoStart, MissingOutput, NotFlatFile, HashMismatch, OutputCycle, TooLarge, ReadFault, OutOfMemory, Killed}
 use Rattle.sched_core.specs.declared.reason.Refusal.{Refusal}
@@ -51,4 +51,4 @@ refusal_words nodes drv (MissingSource source) =
 refusal_words nodes drv (InputNotRealised input) =
     with_text (codes "InputNotRealised") (paths_of nodes) input
 refusal_words nodes drv (PartlyValid output) =
-    with_text (codes "PartlyValid") (output_paths drv) output
+    with_text (codes "PartlyValid") (output_paths_of drv) output

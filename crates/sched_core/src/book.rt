@@ -35,6 +35,7 @@ pub struct Book<O: Outlet> {
 
 impl<O: Outlet> Model for Book<O> {
     ghost use Rattle.std.specs.Prelude.{◌≡◌, ◌++◌};
+    ghost use Rattle.valid_table.specs.Valid.{IsJournal};
     ghost use Rattle.sched_core.specs.Books.{BuildsOver, Ledger};
 
     ghost Value = { Ledger };
@@ -47,7 +48,8 @@ impl<O: Outlet> Model for Book<O> {
     } };
 
     ghost invariant = { λ b. (O.shown b.outlet ++ O.pending b.outlet ≡ b.progress.history.entries)
-        × BuildsOver b.progress.run b.progress.history (O.shown b.outlet) };
+        × BuildsOver b.progress.run b.progress.history (O.shown b.outlet)
+        × IsJournal b.progress.history.entries };
 }
 
 impl<O: Outlet> Book<O> {
@@ -108,8 +110,6 @@ impl<O: Outlet> Book<O> {
         let Some(d) = self.progress.next() else {
             return Ok(None);
         };
-        // Its contract says that the history is legal.
-        let _ = self.progress.journal();
         self.outlet.publish()?;
         let job = self.progress.job(d)?;
         let number = self.progress.begin(d);
@@ -209,8 +209,6 @@ impl<O: Outlet> Book<O> {
         ensures is_journal { IsJournal self.now.history.entries }
         ensures seeds { BuildsOver self.now.run self.now.history self.now.shown }
     {
-        // Its contract says that the entries are a journal.
-        let _ = self.progress.journal();
         self.outlet.tell()
     }
 

@@ -41,8 +41,6 @@ pub(crate) fn done_entry(
         return Err(BookFault::NotLawful);
     }
     let registrations = registrations_of(alloc, paths, records)?;
-    // Its contract says that a derivation's outputs have different paths.
-    let _ = plan.len();
     let Some(outputs) = Outputs::sorted(registrations) else {
         unreachable!()
     };

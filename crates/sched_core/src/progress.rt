@@ -82,6 +82,7 @@ impl Progress {
     ) -> Result<Progress, BookFault>
         ensures run { IfOk result (λ p. p.run ≡ record { graph = plan; system = system.items }) }
         ensures history { IfOk result (λ p. p.history ≡ opened journal.entries) }
+        ensures is_journal { IfOk result (λ p. IsJournal p.history.entries) }
         ensures err { IfErr result (λ fault. fault ≡ NoMemory) }
     {
         let standings = standings_of(alloc, &plan, &journal, &system)?;
@@ -113,12 +114,9 @@ impl Progress {
 
     // The journal of all entries.
     pub(crate) fn journal(&self) -> &Journal
-        ensures is_journal { IsJournal self.now.history.entries }
         ensures entries { result.now.entries ≡ self.now.history.entries }
         ensures legal { IsLegal self.now.run self.now.history }
     {
-        // Its contract says that the entries are a journal.
-        let _ = self.journal.entries();
         &self.journal
     }
 
@@ -179,8 +177,9 @@ impl Progress {
 
     // A derivation that can be begun, if there is one.
     pub(crate) fn next(&self) -> Option<usize>
-        ensures { MatchOption result ((d : ℕ) → CanBegin self.now.run self.now.history d → ⊥)
+        ensures can { MatchOption result ((d : ℕ) → CanBegin self.now.run self.now.history d → ⊥)
             (CanBegin self.now.run self.now.history) }
+        ensures legal { IsLegal self.now.run self.now.history }
     {
         self.course.next()
     }

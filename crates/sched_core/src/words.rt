@@ -2,7 +2,7 @@
 ghost use Rattle.std.specs.Prelude.{◌≡◌, ◌++◌, OnOk, codes, decimal};
 ghost use Rattle.nix_drv.specs.Strings.{string_text};
 ghost use Rattle.drv_graph.specs.Nodes.{paths_of};
-ghost use Rattle.sched_core.specs.Jobs.{output_paths};
+ghost use Rattle.drv_graph.specs.PlanNodes.{output_paths_of};
 ghost use Rattle.sched_core.specs.Words.{reason_words, refusal_words, spelled_names, with_text, with_value};
 
 use crate::reason::{Reason, Refusal};
@@ -99,7 +99,7 @@ fn write_failed_input(plan: &Plan, input: usize, out: &mut Vec<u8>) -> Result<()
 // Adds that an output is valid while another isn't: its path.
 fn write_valid_output(drv: &Derivation, output: usize, out: &mut Vec<u8>) -> Result<(), AllocError>
     ensures { OnOk result (out.new.items ≡ out.old.items
-        ++ with_text (codes "PartlyValid") (output_paths drv.now) output) }
+        ++ with_text (codes "PartlyValid") (output_paths_of drv.now) output) }
 {
     match drv.outputs().get(output) {
         Some(found) => write_with_value(b"PartlyValid", &found.path, out),

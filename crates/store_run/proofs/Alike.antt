@@ -10,6 +10,7 @@ use Rattle.nix_names.proofs.Lists.{Contains-from_get, Contains-map, element_at, 
 use Rattle.nix_names.proofs.RisingLists.{equal_from_eq}
 use Rattle.nix_drv.specs.Derivation.{Input}
 use Rattle.drv_graph.specs.Nodes.{Node, inputs_of, paths_of as node_paths}
+use Rattle.drv_graph.specs.PlanNodes.{output_paths_of}
 use Rattle.drv_graph.specs.SoundGraphs.{IsSound}
 use Rattle.valid_table.specs.Entries.{paths_of, registered, registered_by}
 use Rattle.valid_table.specs.PathInfos.{PathInfo}
@@ -19,7 +20,7 @@ use Rattle.valid_table.specs.declared.entry.Registration.{Registration}
 use Rattle.valid_table.proofs.Following.{one_info}
 use Rattle.valid_table.proofs.JournalLists.{registered-append}
 use Rattle.sched_core.specs.Books.{IsRunSettled}
-use Rattle.sched_core.specs.Jobs.{named_outputs, output_paths, seeds_of}
+use Rattle.sched_core.specs.Jobs.{named_outputs, seeds_of}
 use Rattle.sched_core.specs.Legal.{IsEntryOf}
 use Rattle.sched_core.specs.Runs.{History, IsWanted, Run, input_numbers, inputs_at, is_valid, standing_at, state_in}
 use Rattle.sched_core.specs.States.{Phase, Idle, Begun, Ended, Broken, is_good, phase_of}
@@ -57,7 +58,7 @@ pub record IsAccounted (may : Job → Result Answer Reason → Type 0) (run : Ru
 abbrev pub Carries : Run → (history other : History) → ℕ → Type 0
 Carries run history other d = is_good (state_in run history d) ≡ true → (node : Node)
     → slice_get run.graph.nodes d ≡ Some node → (path : List ℕ)
-    → Contains (output_paths node.drv) path
+    → Contains (output_paths_of node.drv) path
     → IsCarried (registered history.entries) (registered other.entries) path
 
 -- A derivation is in the same state in two histories, and its outputs are carried both ways.
@@ -164,7 +165,7 @@ module _ (may : Job → Result Answer Reason → Type 0) (run : Run) (history : 
 
   -- each output is registered with its record
   record_registered : (n : ℕ) (path : List ℕ) (info : PathInfo)
-      → slice_get (output_paths node.drv) n ≡ Some path → slice_get made.infos n ≡ Some info
+      → slice_get (output_paths_of node.drv) n ≡ Some path → slice_get made.infos n ≡ Some info
       → Registers (registered history.entries) path info
   record_registered n path info path_at info_at =
       let is = its_entry in
@@ -174,13 +175,13 @@ module _ (may : Job → Result Answer Reason → Type 0) (run : Run) (history : 
       ((is.each path info).1 (n, path_at, info_at)))
 
   -- and with no other
-  record_is : (path : List ℕ) (info : PathInfo) → Contains (output_paths node.drv) path
+  record_is : (path : List ℕ) (info : PathInfo) → Contains (output_paths_of node.drv) path
       → Registers (registered history.entries) path info
-      → (n : ℕ) × (slice_get (output_paths node.drv) n ≡ Some path)
+      → (n : ℕ) × (slice_get (output_paths_of node.drv) n ≡ Some path)
       × (slice_get made.infos n ≡ Some info)
   record_is path info own has =
-      let place = get_from_contains (output_paths node.drv) path own in
-      let below = slice_get_within (output_paths node.drv) place.0 path place.1 in
+      let place = get_from_contains (output_paths_of node.drv) path own in
+      let below = slice_get_within (output_paths_of node.drv) place.0 path place.1 in
       let count = came_count may run history once d node at made.infos made.came in
       let found = element_at made.infos place.0 (omega (arith, below, count)) in
       let same : found.0 ≡ info = one_info (registered history.entries) once path found.0 info
@@ -195,11 +196,11 @@ made_carried : (may : Job → Result Answer Reason → Type 0) (run : Run) (hist
     → made.infos ≡ made'.infos
     → ((seed : List ℕ) → Contains (seeds_of run.graph.nodes node.drv) seed
     → IsCarried (registered history.entries) (registered other.entries) seed)
-    → (path : List ℕ) → Contains (output_paths node.drv) path
+    → (path : List ℕ) → Contains (output_paths_of node.drv) path
     → IsCarried (registered history.entries) (registered other.entries) path
 made_carried may run history other once once' d node at made made' same carried =
     outputs_carried (registered history.entries) (registered other.entries)
-    (seeds_of run.graph.nodes node.drv) (output_paths node.drv) carried
+    (seeds_of run.graph.nodes node.drv) (output_paths_of node.drv) carried
     (λ path info own has.
     let place = record_is may run history once d node at made path info own has in
     record_registered may run other once' d node at made' place.0 path info place.1

@@ -11,6 +11,7 @@ use Rattle.nix_drv.specs.Parts.{bytes_of}
 use Rattle.nix_drv.specs.declared.derivation.EnvEntry.{EnvEntry as EnvEntryStruct}
 use Rattle.drv_graph.specs.Kinds.{HasKind}
 use Rattle.drv_graph.specs.Nodes.{Node}
+use Rattle.drv_graph.specs.PlanNodes.{output_paths_of}
 use Rattle.drv_graph.specs.Plans.{Graph, Leads}
 use Rattle.drv_graph.specs.declared.kinds.Kind.{Kind}
 use Rattle.drv_graph.specs.declared.kinds.Kind.TheVariants.{Addressed}
@@ -19,7 +20,7 @@ use Rattle.ref_scan.specs.Scan.{IsFoundIn}
 use Rattle.ref_scan.specs.Trees.{Fits, depth_among, entry_count_among, file_bytes_among, pieces, pieces_among}
 use Rattle.ref_scan.specs.declared.tree.Tree.{Tree, File, Pieces, Dir', Row_of-Member, end_of-Member, more_of-Member}
 use Rattle.valid_table.specs.PathInfos.{PathInfo}
-use Rattle.sched_core.specs.Jobs.{IsJob, output_paths}
+use Rattle.sched_core.specs.Jobs.{IsJob}
 use Rattle.sched_core.specs.Verdicts.{IsCyclic, IsRecordAt, IsRecordOf, IsTreeFault, IsVerdict, RefersTo, outputs_of, tree_at}
 use Rattle.sched_core.specs.declared.job.Answer.{Answer}
 use Rattle.sched_core.specs.declared.job.Job.{Job}
@@ -118,7 +119,7 @@ module _ (job : Job) (is_job : IsJob both.graph 1 job) (answer : Answer)
   one_output : length job.outputs.items ≡ 1
   one_output = sym (length-map job.outputs.items (λ (o : JobOutput). o.path))
       ∙ ap length is_job.paths
-      ∙ ap (λ (n : Node). length (output_paths n.drv)) (right_node job is_job)
+      ∙ ap (λ (n : Node). length (output_paths_of n.drv)) (right_node job is_job)
 
   job_kind : job.kind ≡ Addressed
   job_kind = one_kind right.drv job.kind Addressed

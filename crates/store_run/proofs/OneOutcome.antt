@@ -6,6 +6,7 @@ use Rattle.std.proofs.lemmas.List.{length-map}
 use Rattle.nix_names.proofs.Lists.{same_element}
 use Rattle.nix_names.proofs.RisingLists.{rising_same}
 use Rattle.drv_graph.specs.Nodes.{Node}
+use Rattle.drv_graph.specs.PlanNodes.{output_paths_of}
 use Rattle.drv_graph.specs.Plans.{Graph}
 use Rattle.valid_table.specs.Entries.{registered}
 use Rattle.valid_table.specs.PathInfos.{PathInfo}
@@ -14,7 +15,7 @@ use Rattle.valid_table.specs.declared.entry.Entry.{Entry}
 use Rattle.valid_table.specs.declared.entry.Registration.{Registration}
 use Rattle.valid_table.proofs.JournalLists.{registered-append}
 use Rattle.sched_core.specs.Books.{ArePermittedPaths}
-use Rattle.sched_core.specs.Jobs.{IsJob, output_paths, seeds_of}
+use Rattle.sched_core.specs.Jobs.{IsJob, seeds_of}
 use Rattle.sched_core.specs.Legal.{ArePermitted, ArePermittedTo, MayRefer}
 use Rattle.sched_core.specs.Runs.{History, Run}
 use Rattle.sched_core.specs.Verdicts.{IsVerdict, outputs_of}
@@ -38,20 +39,20 @@ job_seeds graph d job node is at =
     (same_element graph.nodes d is.node node is.is_node at)
 
 pub job_outputs : (graph : Graph) (d : ℕ) (job : Job) (node : Node) → IsJob graph d job
-    → slice_get graph.nodes d ≡ Some node → outputs_of job ≡ output_paths node.drv
+    → slice_get graph.nodes d ≡ Some node → outputs_of job ≡ output_paths_of node.drv
 job_outputs graph d job node is at =
-    is.paths ∙ ap (λ (n : Node). output_paths n.drv)
+    is.paths ∙ ap (λ (n : Node). output_paths_of n.drv)
     (same_element graph.nodes d is.node node is.is_node at)
 
 -- what is permitted to the job is permitted to the derivation
 pub permitted_job : (graph : Graph) (d : ℕ) (job : Job) (node : Node) (entries : List Entry)
     (permitted : List (List ℕ)) → IsJob graph d job → slice_get graph.nodes d ≡ Some node
     → ArePermittedPaths entries job permitted
-    → ArePermitted (registered entries) (seeds_of graph.nodes node.drv) (output_paths node.drv)
+    → ArePermitted (registered entries) (seeds_of graph.nodes node.drv) (output_paths_of node.drv)
     permitted
 permitted_job graph d job node entries permitted is at are =
     subst (λ (seeds : List (List ℕ)). ArePermitted (registered entries) seeds
-    (output_paths node.drv) permitted) (job_seeds graph d job node is at)
+    (output_paths_of node.drv) permitted) (job_seeds graph d job node is at)
     (subst (λ (outputs : List (List ℕ)). ArePermitted (registered entries) job.seeds.items outputs
     permitted) (job_outputs graph d job node is at) are)
 
@@ -63,7 +64,7 @@ refers_behind may run entries d node infos at behind info path has refers =
     let job = behind.job in
     let there : MayRefer (registered entries) job.seeds.items (outputs_of job) path =
     came_may_refer may entries job infos behind.comes_to info path has refers in
-    subst (λ (seeds : List (List ℕ)). MayRefer (registered entries) seeds (output_paths node.drv)
+    subst (λ (seeds : List (List ℕ)). MayRefer (registered entries) seeds (output_paths_of node.drv)
     path) (job_seeds run.graph d job node behind.is_job at)
     (subst (λ (outputs : List (List ℕ)). MayRefer (registered entries) job.seeds.items outputs
     path) (job_outputs run.graph d job node behind.is_job at) there)
@@ -76,12 +77,12 @@ module _ (may : Job → Result Answer Reason → Type 0) (run : Run) (history : 
   pub permitted_whole : (verdict : Result (List PathInfo) Reason)
       (came : CameTo may run history d verdict) (path : List ℕ)
       → MayRefer (registered came.before) (seeds_of run.graph.nodes node.drv)
-      (output_paths node.drv) path
+      (output_paths_of node.drv) path
       ↔ MayRefer (registered history.entries) (seeds_of run.graph.nodes node.drv)
-      (output_paths node.drv) path
+      (output_paths_of node.drv) path
   permitted_whole verdict came path =
       let seeds = seeds_of run.graph.nodes node.drv in
-      let outputs = output_paths node.drv in
+      let outputs = output_paths_of node.drv in
       let whole : registered history.entries ≡ registered came.before ++ registered came.more =
       ap registered came.parts ∙ registered-append came.before came.more in
       subst (λ (rs : List Registration). MayRefer (registered came.before) seeds outputs path
@@ -93,14 +94,14 @@ module _ (may : Job → Result Answer Reason → Type 0) (run : Run) (history : 
   pub came_refers : (infos : List PathInfo) → CameTo may run history d (Ok infos)
       → (info : PathInfo) (path : List ℕ) → Contains infos info → Contains info.references path
       → MayRefer (registered history.entries) (seeds_of run.graph.nodes node.drv)
-      (output_paths node.drv) path
+      (output_paths_of node.drv) path
   came_refers infos came info path has refers =
       (permitted_whole (Ok infos) came path).0
       (refers_behind may run came.before d node infos at came.behind info path has refers)
 
   -- there is a record for each output
   pub came_count : (infos : List PathInfo) → CameTo may run history d (Ok infos)
-      → length infos ≡ length (output_paths node.drv)
+      → length infos ≡ length (output_paths_of node.drv)
   came_count infos came =
       let job = came.behind.job in
       by came.behind.comes_to.0 came.behind.comes_to.2
@@ -129,7 +130,7 @@ module _ (may : Job → Result Answer Reason → Type 0) (run : Run)
       → ArePermittedPaths came'.before came'.behind.job q → p ≡ q
   same_permitted v w came came' p q of_p of_q =
       let seeds = seeds_of run.graph.nodes node.drv in
-      let outputs = output_paths node.drv in
+      let outputs = output_paths_of node.drv in
       let are = permitted_job run.graph d came.behind.job node came.before p came.behind.is_job at
       of_p in
       let are' = permitted_job run.graph d came'.behind.job node came'.before q

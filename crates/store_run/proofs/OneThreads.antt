@@ -2,12 +2,13 @@
 use Rattle.std.proofs.Common.{◌≡◌, ◌↔◌, ◌∙◌, ◌<◌, ℕ, zero, suc, List, length, Result, Ok, Err, Some, refl, sym, subst, ⊎_elim, arith}
 use Rattle.std.specs.Prelude.{Contains, slice_get}
 use Rattle.drv_graph.specs.Nodes.{Node}
+use Rattle.drv_graph.specs.PlanNodes.{output_paths_of}
 use Rattle.valid_table.specs.Entries.{registered}
 use Rattle.valid_table.specs.PathInfos.{PathInfo}
 use Rattle.valid_table.specs.Valid.{IsOnce}
 use Rattle.valid_table.specs.declared.entry.Entry.{Entry}
 use Rattle.sched_core.specs.Books.{ArePermittedPaths, CanBegin, opened}
-use Rattle.sched_core.specs.Jobs.{output_paths, seeds_of}
+use Rattle.sched_core.specs.Jobs.{seeds_of}
 use Rattle.sched_core.specs.Legal.{MayRefer, begins, begun, ended, failed}
 use Rattle.sched_core.specs.Runs.{History, IsWanted, Run}
 use Rattle.sched_core.specs.States.{Phase, Idle, Begun, Ended, Broken, phase_of}
@@ -44,7 +45,7 @@ module _ (may : Job → Result Answer Reason → Type 0) (run : Run) (history ot
   permitted_there permitted of =
       let job = came.behind.job in
       let seeds = seeds_of run.graph.nodes node.drv in
-      let outputs = output_paths node.drv in
+      let outputs = output_paths_of node.drv in
       let are = permitted_job run.graph d job node came.before permitted came.behind.is_job at of in
       let whole = permitted_whole may run history once d node at verdict came in
       record {

@@ -4,12 +4,13 @@ use Rattle.std.proofs.lemmas.List.{length-map}
 use Rattle.nix_names.proofs.Lists.{same_element}
 use Rattle.drv_graph.specs.Kinds.{HasKind}
 use Rattle.drv_graph.specs.Nodes.{Node}
+use Rattle.drv_graph.specs.PlanNodes.{output_paths_of}
 use Rattle.drv_graph.specs.Plans.{Graph}
 use Rattle.drv_graph.specs.declared.kinds.Kind.{Kind}
 use Rattle.drv_graph.proofs.KindAnswers.{one_kind}
 use Rattle.ref_scan.specs.declared.tree.Tree.{Tree}
 use Rattle.valid_table.specs.PathInfos.{PathInfo}
-use Rattle.sched_core.specs.Jobs.{IsJob, output_paths}
+use Rattle.sched_core.specs.Jobs.{IsJob}
 use Rattle.sched_core.specs.Verdicts.{AreRecords, IsCyclic, IsFirstFault, IsFirstNumber, IsTaken, IsThere, IsTreeFault, IsVerdict, outputs_of, tree_at}
 use Rattle.sched_core.specs.declared.job.Answer.{Answer}
 use Rattle.sched_core.specs.declared.job.Job.{Job}
@@ -94,7 +95,7 @@ module _ (graph : Graph) (d : ℕ) (job again : Job) (is : IsJob graph d job)
   same_node = same_element graph.nodes d is.node is'.node is.is_node is'.is_node
 
   pub same_outputs : outputs_of job ≡ outputs_of again
-  same_outputs = is.paths ∙ ap (λ (n : Node). output_paths n.drv) same_node ∙ sym is'.paths
+  same_outputs = is.paths ∙ ap (λ (n : Node). output_paths_of n.drv) same_node ∙ sym is'.paths
 
   pub same_kind : job.kind ≡ again.kind
   same_kind = one_kind is'.node.drv job.kind again.kind

@@ -5,6 +5,7 @@ use Rattle.std.specs.List.{IsDistinct}
 use Rattle.std.proofs.lemmas.List.Elements.{All-nil}
 use Rattle.nix_names.proofs.Lists.{Contains-cons_cases, Contains-first, Contains-later, Contains-nothing}
 use Rattle.drv_graph.specs.Nodes.{Node}
+use Rattle.drv_graph.specs.PlanNodes.{output_paths_of}
 use Rattle.drv_graph.specs.declared.kinds.Kind.TheVariants.{Addressed, Fixed}
 use Rattle.drv_graph.proofs.KindAnswers.{one_kind}
 use Rattle.valid_table.specs.Entries.{registered}
@@ -14,7 +15,7 @@ use Rattle.valid_table.specs.declared.entry.Entry.{Entry}
 use Rattle.valid_table.specs.declared.entry.Registration.{Registration}
 use Rattle.sched_core.specs.Books.{ArePermittedPaths, IsRunSettled, opened}
 use Rattle.sched_core.specs.Courses.{IsOpen}
-use Rattle.sched_core.specs.Jobs.{IsJob, output_paths, seeds_of}
+use Rattle.sched_core.specs.Jobs.{IsJob, seeds_of}
 use Rattle.sched_core.specs.Legal.{ArePermitted, IsAllowed, IsEntryOf, IsLegal, begun, ended, failed, legal_begin, legal_done, legal_fail, legal_opening}
 use Rattle.sched_core.specs.Runs.{IsWanted, state_in, wanted_root}
 use Rattle.sched_core.specs.States.{state, states, table}
@@ -38,7 +39,7 @@ use Rattle.store_run.proofs.ExampleJobs.{both_outcome, left_answer, left_is_job,
 -- to a job without seeds just its own outputs are permitted
 permitted_own : (entries : List Entry) (d : ℕ) (job : Job) (node : Node) → IsJob both.graph d job
     → slice_get both.graph.nodes d ≡ Some node → seeds_of both.graph.nodes node.drv ≡ []
-    → (path : List ℕ) → output_paths node.drv ≡ path ∷ []
+    → (path : List ℕ) → output_paths_of node.drv ≡ path ∷ []
     → ArePermittedPaths entries job (path ∷ [])
 permitted_own entries d job node is at none path one =
     let seeds : job.seeds.items ≡ [] = job_seeds both.graph d job node is at ∙ none in
@@ -63,9 +64,9 @@ left_behind entries = record {
     Ok left_answer,
     left_may,
     (
-      output_paths left.drv,
+      output_paths_of left.drv,
       permitted_own entries 0 left_job left left_is_job refl refl _ refl,
-      left_verdict left_job (output_paths left.drv) left_answer left_leaves,
+      left_verdict left_job (output_paths_of left.drv) left_answer left_leaves,
     ),
   );
 }
@@ -79,9 +80,9 @@ right_behind entries = record {
     Ok right_answer,
     right_may,
     (
-      output_paths right.drv,
+      output_paths_of right.drv,
       permitted_own entries 1 right_job right right_is_job refl refl _ refl,
-      right_verdict right_job right_is_job right_answer right_leaves (output_paths right.drv),
+      right_verdict right_job right_is_job right_answer right_leaves (output_paths_of right.drv),
     ),
   );
 }
@@ -117,7 +118,7 @@ right_allowed = record {
           (Fixed method digest) (kind_alone making) kind in
           absurd cc;
     };
-    acyclic = no_cycle (output_paths right.drv);
+    acyclic = no_cycle (output_paths_of right.drv);
   };
   new = λ path own valid. Contains-nothing path valid;
   permitted = λ info path has refers. absurd (none_refers info path has refers);
@@ -139,14 +140,14 @@ right_entry = record {
           path = out_alone making;
           info = nothing_in;
         } ∷ []) (record { path = path; info = info })
-        → (n : ℕ) × (slice_get (output_paths right.drv) n ≡ Some path)
+        → (n : ℕ) × (slice_get (output_paths_of right.drv) n ≡ Some path)
         × (slice_get (nothing_in ∷ []) n ≡ Some info)
     there path info (zero, low, is) =
         (0, ap (λ (r : Registration). Some r.path) is, ap (λ (r : Registration). Some r.info) is)
     there path info (suc k, low, is) = absurd (omega arith)
 
     back : (path : List ℕ) (info : PathInfo)
-        → (n : ℕ) × (slice_get (output_paths right.drv) n ≡ Some path)
+        → (n : ℕ) × (slice_get (output_paths_of right.drv) n ≡ Some path)
         × (slice_get (nothing_in ∷ []) n ≡ Some info)
         → Contains {X = Registration} (record {
           path = out_alone making;

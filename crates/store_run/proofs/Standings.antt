@@ -4,8 +4,8 @@ use Rattle.std.specs.Prelude.{Contains, not, if◌then◌else◌}
 use Rattle.std.specs.List.{list_all, position}
 use Rattle.nix_names.specs.Names.{same_bytes}
 use Rattle.nix_drv.specs.Derivation.{Drv}
+use Rattle.drv_graph.specs.PlanNodes.{output_paths_of}
 use Rattle.valid_table.specs.declared.entry.Entry.{Entry}
-use Rattle.sched_core.specs.Jobs.{output_paths}
 use Rattle.sched_core.specs.Runs.{cause_at, is_unsupported, is_valid, or_else, own_cause, standing_of}
 use Rattle.sched_core.specs.declared.reason.Refusal.{Refusal}
 use Rattle.sched_core.specs.declared.reason.Refusal.TheVariants.{MissingSource, PartlyValid, Unsupported, WrongSystem}
@@ -19,20 +19,20 @@ or_else_first None b is = refl
 module _ (system : List ℕ) (opening : List Entry) (drv : Drv) where
   -- where all outputs are valid, each of them is
   pub output_of_reused : standing_of system opening drv ≡ AllValid → (path : List ℕ)
-      → Contains (output_paths drv) path → is_valid opening path ≡ true
+      → Contains (output_paths_of drv) path → is_valid opening path ≡ true
   output_of_reused all path has =
-      list_all_has (is_valid opening) (output_paths drv) path
-      (standing_all (list_all (is_valid opening) (output_paths drv)) (own_cause system opening drv)
+      list_all_has (is_valid opening) (output_paths_of drv) path
+      (standing_all (list_all (is_valid opening) (output_paths_of drv)) (own_cause system opening drv)
       all) has
 
   -- the last two causes of one that is free
   last_causes : standing_of system opening drv ≡ Free
-      → or_else (cause_at PartlyValid (position (is_valid opening) (output_paths drv)))
+      → or_else (cause_at PartlyValid (position (is_valid opening) (output_paths_of drv)))
       (cause_at MissingSource (position (λ path. not (is_valid opening path)) drv.sources)) ≡ None
   last_causes free =
       or_else_none (if is_unsupported drv then Some Unsupported else None) _
       (or_else_none (if same_bytes drv.system system then None else Some WrongSystem) _
-      (standing_free (list_all (is_valid opening) (output_paths drv)) (own_cause system opening drv)
+      (standing_free (list_all (is_valid opening) (output_paths_of drv)) (own_cause system opening drv)
       free))
 
   -- the sources of one that is free are valid
@@ -42,15 +42,15 @@ module _ (system : List ℕ) (opening : List Entry) (drv : Drv) where
       not_false (is_valid opening path)
       (none_found (λ p. not (is_valid opening p)) drv.sources
       (cause_none MissingSource (position (λ p. not (is_valid opening p)) drv.sources)
-      (or_else_none (cause_at PartlyValid (position (is_valid opening) (output_paths drv))) _
+      (or_else_none (cause_at PartlyValid (position (is_valid opening) (output_paths_of drv))) _
       (last_causes free))) path has)
 
   -- and none of its outputs is
   pub output_of_free : standing_of system opening drv ≡ Free → (path : List ℕ)
-      → Contains (output_paths drv) path → is_valid opening path ≡ false
+      → Contains (output_paths_of drv) path → is_valid opening path ≡ false
   output_of_free free path has =
-      none_found (is_valid opening) (output_paths drv)
-      (cause_none PartlyValid (position (is_valid opening) (output_paths drv))
-      (or_else_first (cause_at PartlyValid (position (is_valid opening) (output_paths drv)))
+      none_found (is_valid opening) (output_paths_of drv)
+      (cause_none PartlyValid (position (is_valid opening) (output_paths_of drv))
+      (or_else_first (cause_at PartlyValid (position (is_valid opening) (output_paths_of drv)))
       (cause_at MissingSource (position (λ p. not (is_valid opening p)) drv.sources))
       (last_causes free))) path has

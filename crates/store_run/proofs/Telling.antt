@@ -8,6 +8,7 @@ use Rattle.nix_names.specs.StorePaths.{IsDrvPath}
 use Rattle.nix_names.proofs.Lists.{either_side}
 use Rattle.nix_drv.proofs.Fixed.{eqb_same}
 use Rattle.drv_graph.specs.Nodes.{Node}
+use Rattle.drv_graph.specs.PlanNodes.{output_paths_of}
 use Rattle.drv_graph.specs.SoundGraphs.{IsSound}
 use Rattle.valid_table.specs.Entries.{registered, registered_by}
 use Rattle.valid_table.specs.PathInfos.{PathInfo}
@@ -17,7 +18,7 @@ use Rattle.valid_table.specs.declared.entry.Registration.{Registration}
 use Rattle.valid_table.proofs.AddedEntries.{registered_push}
 use Rattle.valid_table.proofs.JournalLists.{closed_references_valid, registered-append}
 use Rattle.sched_core.specs.Headline.{AreDrvPaths}
-use Rattle.sched_core.specs.Jobs.{output_paths, seeds_of}
+use Rattle.sched_core.specs.Jobs.{seeds_of}
 use Rattle.sched_core.specs.Legal.{IsEntryOf, IsLegal, begins, begun, ended, failed}
 use Rattle.sched_core.specs.Runs.{History, IsWanted, Run, standing_at, state_in}
 use Rattle.sched_core.specs.States.{Phase, Idle, Begun, Ended, Broken, is_good, later, phase_by, phase_of}
@@ -368,7 +369,7 @@ module _ (excused : Reason → Type 0) (may : Job → Result Answer Reason → T
 pub data IsFrom (run : Run) (history : History) (path : List ℕ) (info : PathInfo) : Type 0 where
   from_opening : Registers (registered history.opening) path info → IsFrom run history path info
   from_built : (d : ℕ) (node : Node) → slice_get run.graph.nodes d ≡ Some node
-      → phase_of history.events d ≡ Ended → Contains (output_paths node.drv) path
+      → phase_of history.events d ≡ Ended → Contains (output_paths_of node.drv) path
       → IsFrom run history path info
 
 module _ (excused : Reason → Type 0) (may : Job → Result Answer Reason → Type 0) (run : Run) where

@@ -10,6 +10,7 @@ use Rattle.std.proofs.lemmas.Option.{slice_get_within}
 use Rattle.nix_names.proofs.Lists.{Contains-first, Contains-from_get, Contains-from_map, Contains-later, either_side, element_at, get_grows, same_element, split_get}
 use Rattle.nix_drv.specs.Derivation.{Output}
 use Rattle.drv_graph.specs.Nodes.{Node}
+use Rattle.drv_graph.specs.PlanNodes.{output_paths_of}
 use Rattle.drv_graph.specs.Plans.{Graph}
 use Rattle.drv_graph.specs.SoundGraphs.{IsSound}
 use Rattle.valid_table.specs.Entries.{paths_of, registered}
@@ -19,7 +20,6 @@ use Rattle.valid_table.specs.declared.entry.Entry.{Entry}
 use Rattle.valid_table.proofs.ClosureLaws.{registers_from_valid}
 use Rattle.sched_core.specs.Books.{CanBegin, IsRunSettled}
 use Rattle.sched_core.specs.Courses.{IsOpen}
-use Rattle.sched_core.specs.Jobs.{output_paths}
 use Rattle.sched_core.specs.Legal.{IsAllowed, IsLegal, legal_begin, legal_done, legal_fail, legal_opening, begins, begun, ended, failed}
 use Rattle.sched_core.specs.Runs.{History, IsWanted, Run, is_valid, standing_at, state_in, wanted_input}
 use Rattle.sched_core.specs.States.{Idle, Ended, Broken, by_first, by_phase, by_standing, is_bad, is_good, phase_of}
@@ -60,7 +60,7 @@ before_at nodes a b x y less at at' =
 
 not_shared : (graph : Graph) → IsSound graph → (a b : ℕ) (x y : Node) (path : List ℕ) → a < b
     → slice_get graph.nodes a ≡ Some x → slice_get graph.nodes b ≡ Some y
-    → Contains (output_paths x.drv) path → Contains (output_paths y.drv) path → ⊥
+    → Contains (output_paths_of x.drv) path → Contains (output_paths_of y.drv) path → ⊥
 not_shared graph sound a b x y path less at at' own own' =
     let lawful = sound.lawful (take b graph.nodes) (drop (suc b) graph.nodes) y
     (split_get graph.nodes b y at') in
@@ -72,7 +72,7 @@ not_shared graph sound a b x y path less at at' own own' =
 
 one_maker : (graph : Graph) → IsSound graph → (a b : ℕ) (x y : Node) (path : List ℕ)
     → slice_get graph.nodes a ≡ Some x → slice_get graph.nodes b ≡ Some y
-    → Contains (output_paths x.drv) path → Contains (output_paths y.drv) path → a ≡ b
+    → Contains (output_paths_of x.drv) path → Contains (output_paths_of y.drv) path → a ≡ b
 one_maker graph sound a b x y path at at' own own' =
     ⊎_elim (λ same. same)
     (λ apart. ⊎_elim
@@ -172,7 +172,7 @@ module _ (may : Job → Result Answer Reason → Type 0) (run : Run) (sound : Is
       (infos : List PathInfo) (at : slice_get run.graph.nodes d ≡ Some node)
       (can : CanBegin run history d) (behind : IsVerdictBehind may run history.entries d (Ok infos))
     where
-      outputs_new : (path : List ℕ) → Contains (output_paths node.drv) path
+      outputs_new : (path : List ℕ) → Contains (output_paths_of node.drv) path
           → IsValid (registered history.entries) path → ⊥
       outputs_new path own valid =
           let had = registers_from_valid (registered history.entries) path valid in

@@ -1,7 +1,7 @@
 use Rattle.std.proofs.Common.{◌∙◌, sym}
 use Rattle.std.proofs.lemmas.Bool.{false≢true}
 use Rattle.std.proofs.lemmas.Result.{err_from_is_err_and}
-use Rattle.sched_core.proofs.DoneEntries.{can_be_sorted, cycle_not_allowed, done_is, fitting_new, is_drv_path, not_fitting}
+use Rattle.sched_core.proofs.DoneEntries.{can_be_sorted, cycle_not_allowed, done_is, fitting_new, not_fitting}
 use Rattle.sched_core.proofs.done_entry.done_entry.Goals as goal
 
 pub returns-then-not-are_fitting-clause-err : goal.returns-then-not-are_fitting-clause-err
@@ -9,7 +9,7 @@ returns-then-not-are_fitting-clause-err c =
     let told = rw c.records-records.ensures at c.are_fitting.ensures in
     not_fitting c.args.plan.now c.args.d c.args.journal.now.entries c.kind.result
     c.output_paths-paths.result.now c.args.checked.now
-    (record { has_kind = c.kind.ensures; outputs = c.output_paths-paths.ensures })
+    (record { has_kind = c.kind.ensures; outputs = c.output_paths-paths.ensures.value })
     (λ fitting. false≢true (sym c.if-not-are_fitting.true ∙ told.1 fitting))
 
 pub returns-in_err-is_cyclic-clause-err : goal.returns-in_err-is_cyclic-clause-err
@@ -19,7 +19,7 @@ returns-in_err-is_cyclic-clause-err c =
     rw (p.1, p.2)
     (fitting_new c.args.plan.now c.args.d c.args.journal.now.entries c.kind.result
     c.output_paths-paths.result.now c.args.checked.now
-    (record { has_kind = c.kind.ensures; outputs = c.output_paths-paths.ensures })
+    (record { has_kind = c.kind.ensures; outputs = c.output_paths-paths.ensures.value })
     (told.0 c.if-not-are_fitting.false))
 
 pub returns-then-branch-clause-err : goal.returns-then-branch-clause-err
@@ -27,7 +27,7 @@ returns-then-branch-clause-err c =
     let cyclic = rw c.records-records.ensures at c.in_ok-is_cyclic.ensures in
     cycle_not_allowed c.args.plan.now c.args.d c.args.journal.now.entries c.kind.result
     c.output_paths-paths.result.now c.args.checked.now
-    (record { has_kind = c.kind.ensures; outputs = c.output_paths-paths.ensures })
+    (record { has_kind = c.kind.ensures; outputs = c.output_paths-paths.ensures.value })
     (cyclic.0 c.if-branch.true)
 
 pub returns-in_err-registrations-clause-err : goal.returns-in_err-registrations-clause-err
@@ -38,7 +38,7 @@ returns-in_err-registrations-clause-err c =
     rw (p.1, p.2)
     (fitting_new c.args.plan.now c.args.d c.args.journal.now.entries c.kind.result
     c.output_paths-paths.result.now c.args.checked.now
-    (record { has_kind = c.kind.ensures; outputs = c.output_paths-paths.ensures })
+    (record { has_kind = c.kind.ensures; outputs = c.output_paths-paths.ensures.value })
     (told.0 c.if-not-are_fitting.false))
 
 pub returns-in_err-copy-clause-err : goal.returns-in_err-copy-clause-err
@@ -49,15 +49,15 @@ returns-in_err-copy-clause-err c =
     rw (p.1, p.2)
     (fitting_new c.args.plan.now c.args.d c.args.journal.now.entries c.kind.result
     c.output_paths-paths.result.now c.args.checked.now
-    (record { has_kind = c.kind.ensures; outputs = c.output_paths-paths.ensures })
+    (record { has_kind = c.kind.ensures; outputs = c.output_paths-paths.ensures.value })
     (told.0 c.if-not-are_fitting.false))
 
 pub unreachable-requires : goal.unreachable-requires
 unreachable-requires c =
     c.in_default.ensures
     (can_be_sorted c.args.plan.now c.args.d c.kind.result c.output_paths-paths.result.now
-    c.in_ok-registrations.registrations.items c.requires c.len.ensures.sound
-    (record { has_kind = c.kind.ensures; outputs = c.output_paths-paths.ensures })
+    c.in_ok-registrations.registrations.items c.requires c.output_paths-paths.ensures.distinct
+    (record { has_kind = c.kind.ensures; outputs = c.output_paths-paths.ensures.value })
     c.in_ok-registrations.ensures.paths)
 
 pub returns-clause-ok : goal.returns-clause-ok
@@ -68,13 +68,11 @@ returns-clause-ok c =
     c.output_paths-paths.result.now c.args.checked.now
     c.in_ok-registrations.registrations.items c.in-Some.outputs
     c.in_ok-copy.field-0
-    (record { has_kind = c.kind.ensures; outputs = c.output_paths-paths.ensures })
-    (rw c.in_ok-copy.ensures.same c.path.ensures) (told.0 c.if-not-are_fitting.false)
+    (record { has_kind = c.kind.ensures; outputs = c.output_paths-paths.ensures.value })
+    (rw c.in_ok-copy.ensures.same c.path.ensures.value) (told.0 c.if-not-are_fitting.false)
     (λ round. false≢true (sym c.if-branch.false ∙ cyclic.1 round))
     c.in_ok-registrations.ensures.paths (c.in_ok-registrations.ensures.infos
     ∙ c.records-records.ensures) c.in-Some.ensures
 
 pub returns-clause-derived : goal.returns-clause-derived
-returns-clause-derived c = is_drv_path c.args.plan.now c.args.d c.in_ok-copy.field-0
-    c.len.ensures.sound
-    (rw c.in_ok-copy.ensures.same c.path.ensures)
+returns-clause-derived c = rw c.in_ok-copy.ensures.same c.path.ensures.sound

@@ -22,7 +22,7 @@ returns-then-not-has_recipe c = (
 
 pub makes-requires : goal.makes-requires
 makes-requires c = as_many_paths c.args.plan.now _ _ _ _ c.requires c.drv-drv.ensures
-    c.outputs.ensures c.output_paths.ensures
+    c.outputs.ensures c.output_paths.ensures.value
 
 pub returns-then-not-makes : goal.returns-then-not-makes
 returns-then-not-makes c = (
@@ -34,7 +34,7 @@ returns-then-not-makes c = (
       ∙ c.makes.ensures.1
       (rw c.deref.ensures.value
       (makes_of c.args.plan.now c.args.d c.args.job.now _ _ _ c.drv-drv.ensures
-      c.outputs.ensures c.output_paths.ensures is)))),
+      c.outputs.ensures c.output_paths.ensures.value is)))),
 )
 
 pub returns : goal.returns
@@ -42,7 +42,7 @@ returns c =
     job_by_parts c.args.plan.now c.args.d c.args.job.now _ _ _ _ c.has_seeds.result c.requires
     c.drv-drv.ensures c.if-job-d.false c.kind.ensures
     (c.same_kind.ensures.0 c.if-not-same_kind.false)
-    (c.has_recipe.ensures.0 c.if-not-has_recipe.false) c.outputs.ensures c.output_paths.ensures
+    (c.has_recipe.ensures.0 c.if-not-has_recipe.false) c.outputs.ensures c.output_paths.ensures.value
     (subst (MakesAt c.outputs.result.now c.output_paths.result.now) c.deref.ensures.value
     (c.makes.ensures.0 c.if-not-makes.false))
     (rw (← c.deref-2.ensures.value) c.has_seeds.ensures)

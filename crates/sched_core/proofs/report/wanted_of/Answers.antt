@@ -21,7 +21,7 @@ loop-number-preserved c =
           (subst (λ (g : Graph). AreDistinct (paths_of g.nodes)) c.plan-plan.ensures
           c.len-number-end.ensures.sound.distinct) refl
           (subst (λ (g : Graph). slice_get (paths_of g.nodes) c.loop-number.number
-          ≡ Some w.path-path.result.now) c.plan-plan.ensures w.path-path.ensures)
+          ≡ Some w.path-path.result.now) c.plan-plan.ensures w.path-path.ensures.value)
           (sym c.is_wanted.ensures ∙ w.if-is_wanted.true)
           (ap (λ (v : Vec Wanted). v.items) w.wanted-is ∙ w.in_ok-push.ensures.items)
           c.loop-number.invariant

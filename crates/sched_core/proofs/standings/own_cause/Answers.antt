@@ -13,7 +13,7 @@ returns-in_err-source c =
     ≡ own_cause c.args.system.now c.args.journal.now.entries node.drv)) c.in_err-source.was
     (last_cause c.args.system.now c.args.journal.now.entries c.args.plan.now.nodes c.args.d
     c.drv-drv.result.now c.output_paths.result.now c.sources.result.now c.first_missing.result
-    c.drv-drv.ensures c.output_paths.ensures c.sources.ensures (search rules)
+    c.drv-drv.ensures c.output_paths.ensures.value c.sources.ensures (search rules)
     (sym c.is_unsupported.ensures ∙ c.if-is_unsupported.false) (search rules)
     c.first_missing.ensures))
 
@@ -24,6 +24,6 @@ returns c =
     ≡ own_cause c.args.system.now c.args.journal.now.entries node.drv)) c.in_ok-source.was
     (last_cause c.args.system.now c.args.journal.now.entries c.args.plan.now.nodes c.args.d
     c.drv-drv.result.now c.output_paths.result.now c.sources.result.now c.first_missing.result
-    c.drv-drv.ensures c.output_paths.ensures c.sources.ensures (search rules)
+    c.drv-drv.ensures c.output_paths.ensures.value c.sources.ensures (search rules)
     (sym c.is_unsupported.ensures ∙ c.if-is_unsupported.false) (search rules)
     c.first_missing.ensures)

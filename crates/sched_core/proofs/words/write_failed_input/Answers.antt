@@ -11,7 +11,7 @@ returns-then-input-len c =
     added_same c.write_with_value.result _ _ _ _
     (ap (with_value (codes "InputNotRealised")) c.text.ensures.value
     ∙ with_found (codes "InputNotRealised") (paths_of c.args.plan.now.nodes) c.args.input _
-    c.path.ensures)
+    c.path.ensures.value)
     c.write_with_value.ensures
 
 pub returns-else-input-len : goal.returns-else-input-len

@@ -1,7 +1,7 @@
 use Rattle.std.proofs.Common.{◌∙◌, codes, ap}
 use Rattle.nix_drv.specs.Derivation.{Output}
 use Rattle.nix_drv.specs.Parts.{output_of}
-use Rattle.sched_core.specs.Jobs.{output_paths}
+use Rattle.drv_graph.specs.PlanNodes.{output_paths_of}
 use Rattle.sched_core.specs.Words.{with_value}
 use Rattle.sched_core.proofs.Wordings.{added_same, found_again, found_mapped, none_again, none_mapped, with_found, with_none}
 use Rattle.sched_core.proofs.words.write_valid_output.Goals as goal
@@ -14,7 +14,7 @@ returns-in-Some c =
     c.outputs.ensures in
     added_same c.write_with_value.result _ _ _ _
     (ap (with_value (codes "PartlyValid")) c.deref.ensures.value
-    ∙ with_found (codes "PartlyValid") (output_paths drv) c.args.output _
+    ∙ with_found (codes "PartlyValid") (output_paths_of drv) c.args.output _
     (found_again (λ (o : Output). o.path) drv.outputs c.args.output _ at))
     c.write_with_value.ensures
 
@@ -24,6 +24,6 @@ returns-in-None c =
     let none = none_mapped output_of c.outputs.result.now drv.outputs c.args.output
     c.in-None.ensures.lookup.3 c.outputs.ensures in
     added_same c.write_with_number.result _ _ _ _
-    (with_none (codes "PartlyValid") (output_paths drv) c.args.output
+    (with_none (codes "PartlyValid") (output_paths_of drv) c.args.output
     (none_again (λ (o : Output). o.path) drv.outputs c.args.output none))
     c.write_with_number.ensures

@@ -11,4 +11,4 @@ found_is_there (Some d) can = ((λ yes. (d, can)), (λ any. refl))
 
 pub returns : goal.returns
 returns g c = rw (← c.self.view_is, c.is_some.ensures)
-    (found_is_there c.next.result c.next.ensures)
+    (found_is_there c.next.result c.next.ensures.can)

@@ -3,7 +3,7 @@ use Rattle.std.proofs.lemmas.Result.{err_from_is_err_and}
 use Rattle.sched_core.specs.Books.{IsBooksLease, IsDone, Ledger, MayAllRefer, fault_of}
 use Rattle.sched_core.specs.declared.job.Job.{Job}
 use Rattle.sched_core.proofs.Building.{builds_behind_done, builds_still}
-use Rattle.sched_core.proofs.Ending.{append_fault, done_under_lease, entry_fault, finishing, holding, may_append}
+use Rattle.sched_core.proofs.Ending.{append_fault, done_under_lease, entry_fault, finishing, holding, journal_behind, may_append}
 use Rattle.sched_core.proofs.book.Book.register.Goals as goal
 
 pub append-requires-clause-new : goal.append-requires-clause-new
@@ -104,6 +104,7 @@ invariant_of-self g c =
       rw c.prepare.ensures.history c.self.invariant.0,
       builds_still _ _ _ _ shown shown c.self.invariant.1 c.prepare.ensures.run
           c.prepare.ensures.history refl,
+      rw c.prepare.ensures.history c.self.invariant.2,
     )
 
 pub invariant_of-self-in_err-append : goal.invariant_of-self-in_err-append
@@ -112,14 +113,28 @@ invariant_of-self-in_err-append g c = (
       c.self.invariant.0,
   builds_still _ _ _ _ _ _ c.self.invariant.1 c.in_ok-entry.ensures.run
       c.in_ok-entry.ensures.history c.in_err-append.ensures.same,
+  rw c.in_ok-entry.ensures.history c.self.invariant.2,
 )
 
 pub invariant_of-self-2 : goal.invariant_of-self-2
-invariant_of-self-2 g c = (
-  holding _ _ _ _ _ _ _ _ c.self.invariant.0
-      (rw (c.finish.ensures.history, c.in_ok-entry.ensures.history) refl)
-      c.in_ok-append.ensures.same c.in_ok-append.ensures.ok c.in_ok-entry.ensures.shown,
-  builds_behind_done _ _ _ _ _ _ _ _ _ _ c.self.invariant.1
-      (c.finish.ensures.run ∙ c.in_ok-entry.ensures.run) c.in_ok-entry.ensures.history
-      c.finish.ensures.history c.in_ok-append.ensures.same,
-)
+invariant_of-self-2 g c =
+    let asked = subst (λ (l : Ledger). IsBooksLease l.run l.history c.args.lease.now.job
+    c.args.lease.now.number → MayAllRefer l.history.entries c.args.lease.now.job
+    c.args.checked.now)
+    (sym c.self.view_is) c.requires in
+    let lease : IsBooksLease c.self.inside.progress.run c.self.inside.progress.history
+    c.args.lease.now.job c.args.lease.now.number =
+    rw (← c.job-job.ensures, ← c.number.ensures) (c.has_given.ensures.0 c.if-not-has_given.false) in
+    let done : IsDone c.self.inside.progress.run c.self.inside.progress.history.entries
+    c.args.lease.now.job.derivation c.args.checked.now c.in_ok-entry.field-0.entry =
+    done_under_lease _ _ _ _ _ _ lease (asked lease)
+    (rw (← c.job-job.ensures) c.in_ok-entry.ensures.entry) in (
+      holding _ _ _ _ _ _ _ _ c.self.invariant.0
+          (rw (c.finish.ensures.history, c.in_ok-entry.ensures.history) refl)
+          c.in_ok-append.ensures.same c.in_ok-append.ensures.ok c.in_ok-entry.ensures.shown,
+      builds_behind_done _ _ _ _ _ _ _ _ _ _ c.self.invariant.1
+          (c.finish.ensures.run ∙ c.in_ok-entry.ensures.run) c.in_ok-entry.ensures.history
+          c.finish.ensures.history c.in_ok-append.ensures.same,
+      journal_behind _ _ _ _ _ _ done c.in_ok-entry.ensures.derived c.self.invariant.2
+          (rw (c.finish.ensures.history, c.in_ok-entry.ensures.history) refl),
+    )

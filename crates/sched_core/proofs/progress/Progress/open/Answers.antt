@@ -1,4 +1,5 @@
 use Rattle.std.proofs.Common.{ap, length, refl, subst, sym, arith}
+use Rattle.valid_table.specs.Valid.{IsJournal}
 use Rattle.sched_core.specs.Courses.{AreStandings}
 use Rattle.sched_core.specs.Runs.{Run}
 use Rattle.sched_core.proofs.Keeping.{opening_kept}
@@ -35,3 +36,7 @@ invariant_of-result c =
           (omega (arith, c.in_ok-events.ensures.capacity, c.len.ensures)),
       omega (arith, ap length same),
     )
+
+pub returns-clause-is_journal : goal.returns-clause-is_journal
+returns-clause-is_journal c =
+    subst IsJournal c.entries-opening.ensures.value c.entries-opening.ensures.is_journal
