@@ -17,7 +17,7 @@ use std::sync::Wait;
 use std::test::*;
 use std::thread::Threads;
 use store_run::laws::{any_schedule, builds_may_overlap, outcomes_decide};
-use store_run::{Build, Ended, realise};
+use store_run::{Build, Ended, Watch, realise};
 use valid_table::{Journal, Outlet};
 use valid_view::{Name, Naming};
 
@@ -58,6 +58,12 @@ impl Build for Program {
             trees,
         })
     }
+}
+
+impl Watch for Program {
+    fn begun(&self, _unsettled: usize) {}
+
+    fn ended(&self, _is_good: bool, _unsettled: usize) {}
 }
 
 // The law at this builder: both histories of the example are alike.

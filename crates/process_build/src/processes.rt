@@ -14,7 +14,7 @@ use std::alloc::{AllocError, Global};
 use std::fs;
 use std::process::Processes;
 use std::rt::Files;
-use store_run::Build;
+use store_run::{Build, Watch};
 
 /// Builds each job by a process of its own, in a folder of its own within the store folder.
 ///
@@ -89,6 +89,13 @@ impl<R: Files + AllocGlobal, P: Processes> Build for ProcessBuild<'_, R, P> {
         let _ = clear(self.rt, self.store_dir.as_str(), folder.path());
         answer
     }
+}
+
+/// Nothing is heard.
+impl<R, P> Watch for ProcessBuild<'_, R, P> {
+    fn begun(&self, _unsettled: usize) {}
+
+    fn ended(&self, _is_good: bool, _unsettled: usize) {}
 }
 
 impl<R: Files + AllocGlobal, P: Processes> ProcessBuild<'_, R, P> {

@@ -5,7 +5,7 @@ use sched_core::{Answer, Job, Reason};
 use std::alloc::{AllocError, Global};
 use std::io::Write;
 use std::sync::{Mutex, Wait};
-use store_run::Build;
+use store_run::{Build, Watch};
 
 // What takes a terminal's line away: to its first column, and nothing from there on (ECMA-48, EL).
 const NO_LINE: &str = "\r\x1b[K";
@@ -144,7 +144,9 @@ impl<R: Wait + AllocGlobal, B: Build, W: Write> Build for Watched<'_, R, B, W> {
     fn run(&self, number: u64, job: &Job) -> Result<Answer, Reason> {
         self.builder.run(number, job)
     }
+}
 
+impl<R: Wait + AllocGlobal, B: Watch, W: Write> Watch for Watched<'_, R, B, W> {
     /// Tells the line that a job begins, and the builder.
     fn begun(&self, unsettled: usize) {
         self.progress.begin(self.rt, unsettled);

@@ -8,7 +8,7 @@ use std::rt::{Env, Files};
 use std::sync::Wait;
 use std::thread::Threads;
 use std::{env, fs, io};
-use store_run::Build;
+use store_run::{Build, Watch};
 use subcommands::run;
 
 /// The derivation of which nothing is set.
@@ -40,6 +40,12 @@ impl Build for Idle {
     fn run(&self, _number: u64, _job: &Job) -> Result<Answer, Reason> {
         Err(Reason::NoStart)
     }
+}
+
+impl Watch for Idle {
+    fn begun(&self, _unsettled: usize) {}
+
+    fn ended(&self, _is_good: bool, _unsettled: usize) {}
 }
 
 impl Builders for Idle {

@@ -1,4 +1,4 @@
-//! Builders.
+//! Builders, and who hears of what they build.
 ghost use Rattle.std.specs.Prelude.{◌≡◌, ◌⊎◌, Result, Err};
 ghost use Rattle.sched_core.specs.declared.job.Answer.{Answer};
 ghost use Rattle.sched_core.specs.declared.job.Job.{Job};
@@ -17,15 +17,19 @@ pub trait Build {
     /// output's path, or why nothing can be said of it; `OutOfMemory` where memory was refused.
     fn run(&self, number: u64, job: &Job) -> Result<Answer, Reason>
         ensures { (result ≡ Err OutOfMemory) ⊎ may job.now result };
+}
 
+/// Who hears of the jobs that a worker runs. No part of building: nothing is promised of it. There
+/// are no bodies by default, so that a builder around another one can't forget to pass the calls
+/// on.
+pub trait Watch {
     /// Hears that a job is to be run next: so many wanted derivations were blocked, ready or
-    /// building once its lease was taken. For whoever watches a run; does nothing where a builder
-    /// has no use for it, and nothing is promised of it. No lock is held. Calls of other workers
-    /// may come between, and with newer numbers.
-    fn begun(&self, _unsettled: usize) {}
+    /// building once its lease was taken. No lock is held. Calls of other workers may come between,
+    /// and with newer numbers.
+    fn begun(&self, unsettled: usize);
 
     /// Hears that the lease of the job that was run has ended, by a verdict that accepts what was
     /// built or by another, and so many wanted derivations were blocked, ready or building then.
     /// As `begun` besides.
-    fn ended(&self, _is_good: bool, _unsettled: usize) {}
+    fn ended(&self, is_good: bool, unsettled: usize);
 }

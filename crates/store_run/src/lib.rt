@@ -2,7 +2,7 @@
 //!
 //! | Module | What is in it |
 //! |---|---|
-//! | `build` | builders, which make what a job asks for |
+//! | `build` | builders, which make what a job asks for, and hear of it |
 //! | `found` | what a worker finds of a job, and what becomes of a lease |
 //! | `shared` | what the workers of a run share: the book, and why the run stops |
 //! | `turn` | what a worker is to do next, and whom it wakes |
@@ -27,7 +27,7 @@ mod turn;
 mod verdict;
 mod worker;
 
-pub use build::Build;
+pub use build::{Build, Watch};
 pub use fault::RunFault;
 pub use locked::Locked;
 pub use run::{Ended, realise};

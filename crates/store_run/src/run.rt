@@ -6,7 +6,7 @@ ghost use Rattle.store_run.specs.Builders.{IsAnswered};
 ghost use Rattle.store_run.specs.Realising.{AreWorkers, IsOverLent, IsRealised, IsRun, IsRunEnd, IsRunFault};
 ghost use Rattle.store_run.specs.declared.fault.RunFault.TheVariants.{NoMemory, NoView};
 
-use crate::build::Build;
+use crate::build::{Build, Watch};
 use crate::fault::RunFault;
 use crate::lent::is_over;
 use crate::locked::Locked;
@@ -40,7 +40,12 @@ pub type Ended<'a, J, R> = Result<
 /// was started, and else with it, unsettled. `ThreadFault`, with the book, where all workers that
 /// could be started have ended and it isn't settled. All workers have ended on every path. Copies
 /// plan, journal and system, and the journal's table twice.
-pub fn realise<'a, J: Naming + Send + Sync, R: Threads + Wait + Sync, B: Build + Send + Drop>(
+pub fn realise<
+    'a,
+    J: Naming + Send + Sync,
+    R: Threads + Wait + Sync,
+    B: Build + Watch + Send + Drop,
+>(
     rt: &'a R,
     alloc: Global,
     name: Name,
@@ -133,7 +138,7 @@ where
     R: Threads + Wait + Sync,
     J: Naming + Send + Sync,
     O: Tells<J> + Send,
-    B: Build + Send + Drop,
+    B: Build + Watch + Send + Drop,
     requires { IsAnswered B.may book.run book.history }
     ensures { IsRun B.may plan.now system.now journal.now.entries result }
 {
@@ -156,7 +161,7 @@ where
     R: Threads + Wait + Sync,
     J: Naming + Send + Sync,
     O: Tells<J> + Send,
-    B: Build + Send + Drop,
+    B: Build + Watch + Send + Drop,
 {
     thread::scope(thread::scope_env(), rt, |scope| {
         for (builder, reader) in builders.into_iter().zip(readers) {

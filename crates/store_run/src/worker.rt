@@ -2,7 +2,7 @@
 ghost use Rattle.std.specs.Prelude.{IfSome};
 ghost use Rattle.store_run.specs.Finding.{IsTold};
 
-use crate::build::Build;
+use crate::build::{Build, Watch};
 use crate::found::LeaseEnd;
 use crate::locked::Locked;
 use crate::turn::{Step, Turn};
@@ -17,7 +17,7 @@ use valid_view::{Naming, Tells, ViewReader};
 /// found: what is permitted is asked of the reader, whose view is the book's outlet. A lease whose
 /// worker was refused memory is abandoned. The builder hears, without the lock too, of each lease
 /// that was taken and of each that has ended; whoever else can go on then was woken before.
-pub fn work<R: Wait, J: Naming, O: Tells<J>, B: Build>(
+pub fn work<R: Wait, J: Naming, O: Tells<J>, B: Build + Watch>(
     rt: &R,
     alloc: Global,
     locked: &Locked<O, B>,
@@ -39,7 +39,7 @@ pub fn work<R: Wait, J: Naming, O: Tells<J>, B: Build>(
 
 // Builds the job of a lease, and ends the lease. The next lease, with how many wanted derivations
 // were unsettled when it was taken; none where the run ends.
-fn build<R: Wait, J: Naming, O: Tells<J>, B: Build>(
+fn build<R: Wait, J: Naming, O: Tells<J>, B: Build + Watch>(
     rt: &R,
     alloc: Global,
     locked: &Locked<O, B>,

@@ -22,7 +22,7 @@ use std::marker::Brand;
 use std::rt::Files;
 use std::sync::Wait;
 use std::thread::Threads;
-use store_run::{Build, RunFault};
+use store_run::{Build, RunFault, Watch};
 use valid_table::Outlet;
 use valid_view::{Name, Naming};
 
@@ -79,7 +79,7 @@ pub fn run_task<'a, R, B, O>(
 ) -> Result<u8, Stop<'a>>
 where
     R: Files + AllocGlobal + Threads + Wait + Sync,
-    B: Build + Send + Drop,
+    B: Build + Watch + Send + Drop,
     O: Write,
     requires { length builders.items ≡ request.now.jobs }
     ensures { RunEnds B.may request.now task.now (O.contents out.old) (O.contents out.new) result }
@@ -100,7 +100,7 @@ fn run_named<'a, J, R, B, O>(
 where
     J: Naming + Send + Sync,
     R: Files + AllocGlobal + Threads + Wait + Sync,
-    B: Build + Send + Drop,
+    B: Build + Watch + Send + Drop,
     O: Write,
     requires named { name ≡ J.book }
     requires jobs { length builders.items ≡ request.now.jobs }

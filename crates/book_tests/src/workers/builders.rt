@@ -6,7 +6,7 @@ use sched_core::{Answer, Job, Reason};
 use std::alloc::Global;
 use std::sync::atomic::{AtomicU64, Ordering};
 use std::thread;
-use store_run::Build;
+use store_run::{Build, Watch};
 
 /// A builder that does as these scripts say.
 #[derive(Clone, Copy)]
@@ -23,6 +23,12 @@ impl Build for Scripted {
     }
 }
 
+impl Watch for Scripted {
+    fn begun(&self, _unsettled: usize) {}
+
+    fn ended(&self, _is_good: bool, _unsettled: usize) {}
+}
+
 /// A builder that is refused memory.
 #[derive(Clone, Copy)]
 pub(super) struct Hungry;
@@ -33,6 +39,12 @@ impl Build for Hungry {
     fn run(&self, _number: u64, _job: &Job) -> Result<Answer, Reason> {
         Err(Reason::OutOfMemory)
     }
+}
+
+impl Watch for Hungry {
+    fn begun(&self, _unsettled: usize) {}
+
+    fn ended(&self, _is_good: bool, _unsettled: usize) {}
 }
 
 // How often a gate looks whether enough builds have begun.
@@ -62,6 +74,12 @@ impl<'a> Build for Gate<'a> {
     }
 }
 
+impl<'a> Watch for Gate<'a> {
+    fn begun(&self, _unsettled: usize) {}
+
+    fn ended(&self, _is_good: bool, _unsettled: usize) {}
+}
+
 /// A builder of those that count their calls together, from 0: the call with this number is ended
 /// by a signal, and any other leaves empty files.
 #[derive(Clone, Copy)]
@@ -80,6 +98,12 @@ impl<'a> Build for Counting<'a> {
         }
         Ok(left(self.alloc, job, b"")?)
     }
+}
+
+impl<'a> Watch for Counting<'a> {
+    fn begun(&self, _unsettled: usize) {}
+
+    fn ended(&self, _is_good: bool, _unsettled: usize) {}
 }
 
 /// A builder whose outcome depends on the derivation's number alone: of sixteen, one ends with a
@@ -104,6 +128,12 @@ impl Build for Wild {
             _ => Ok(left(self.alloc, job, b"")?),
         }
     }
+}
+
+impl Watch for Wild {
+    fn begun(&self, _unsettled: usize) {}
+
+    fn ended(&self, _is_good: bool, _unsettled: usize) {}
 }
 
 // The next of a row of numbers that look random (Knuth's MMIX).

@@ -12,7 +12,7 @@ use std::sync::Wait;
 use std::sync::atomic::{AtomicU64, Ordering};
 use std::test::*;
 use std::thread::Threads;
-use store_run::Build;
+use store_run::{Build, Watch};
 use valid_table::Journal;
 
 // What was heard in a run over four derivations: which numbers were left when a job began, and when
@@ -64,7 +64,9 @@ impl<'a> Build for Listening<'a> {
         }
         Ok(answer(self.alloc, job, self.scripts)?)
     }
+}
 
+impl<'a> Watch for Listening<'a> {
     fn begun(&self, unsettled: usize) {
         note(&self.heard.begun, unsettled);
     }

@@ -13,7 +13,7 @@ use std::sync::atomic::{AtomicU64, Ordering};
 use std::test::*;
 use std::thread;
 use std::thread::Threads;
-use store_run::Build;
+use store_run::{Build, Watch};
 use valid_table::{Entry, Journal, Registration};
 
 // What a builder leaves for a derivation, how many stages it goes on, and which it waits for.
@@ -70,6 +70,12 @@ impl<'a> Build for Staged<'a> {
         }
         Ok(left_nothing(self.alloc, 99))
     }
+}
+
+impl<'a> Watch for Staged<'a> {
+    fn begun(&self, _unsettled: usize) {}
+
+    fn ended(&self, _is_good: bool, _unsettled: usize) {}
 }
 
 // The part of the derivation that a job is for.

@@ -9,7 +9,7 @@ use std::marker::Brand;
 use std::sync::Wait;
 use std::test::Fail;
 use std::thread::Threads;
-use store_run::{Build, Ended, RunFault, realise};
+use store_run::{Build, Ended, RunFault, Watch, realise};
 use valid_table::{Entry, Journal, Outlet, TableFault};
 use valid_view::{Name, Naming};
 
@@ -66,7 +66,7 @@ fn settled<O: Outlet>(
 }
 
 // What a run over a view of this name leaves behind.
-fn run_named<J: Naming + Send + Sync, R: Threads + Wait + Sync, B: Build + Send + Drop>(
+fn run_named<J: Naming + Send + Sync, R: Threads + Wait + Sync, B: Build + Watch + Send + Drop>(
     rt: &R,
     alloc: Global,
     name: Name,
@@ -84,7 +84,7 @@ fn run_named<J: Naming + Send + Sync, R: Threads + Wait + Sync, B: Build + Send 
 }
 
 /// What a run by these builders leaves behind.
-pub(super) fn realised<R: Threads + Wait + Sync, B: Build + Send + Drop>(
+pub(super) fn realised<R: Threads + Wait + Sync, B: Build + Watch + Send + Drop>(
     rt: &R,
     alloc: Global,
     plan: &Plan,
@@ -95,7 +95,7 @@ pub(super) fn realised<R: Threads + Wait + Sync, B: Build + Send + Drop>(
 }
 
 /// The report of a run by these builders, over an empty journal.
-pub(super) fn report_of<R: Threads + Wait + Sync, B: Build + Send + Drop>(
+pub(super) fn report_of<R: Threads + Wait + Sync, B: Build + Watch + Send + Drop>(
     rt: &R,
     alloc: Global,
     plan: &Plan,
@@ -118,7 +118,7 @@ fn fault_without_book<O: Outlet>(
 }
 
 // How a run over a view of this name ended, if without a book.
-fn fault_named<J: Naming + Send + Sync, R: Threads + Wait + Sync, B: Build + Send + Drop>(
+fn fault_named<J: Naming + Send + Sync, R: Threads + Wait + Sync, B: Build + Watch + Send + Drop>(
     rt: &R,
     alloc: Global,
     name: Name,
@@ -133,7 +133,7 @@ fn fault_named<J: Naming + Send + Sync, R: Threads + Wait + Sync, B: Build + Sen
 }
 
 /// How a run by these builders ended, if without a book.
-pub(super) fn fault_of<R: Threads + Wait + Sync, B: Build + Send + Drop>(
+pub(super) fn fault_of<R: Threads + Wait + Sync, B: Build + Watch + Send + Drop>(
     rt: &R,
     alloc: Global,
     plan: &Plan,

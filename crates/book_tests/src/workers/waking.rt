@@ -16,7 +16,7 @@ use std::test::*;
 use std::thread;
 use std::thread::Threads;
 use std::time::{Clock, Duration};
-use store_run::Build;
+use store_run::{Build, Watch};
 
 // How many milliseconds the base's builder takes, so that all other workers wait when it ends.
 const HEAD_START: u64 = 100;
@@ -51,6 +51,12 @@ impl<'a, R: Clock> Build for Together<'a, R> {
         }
         Ok(left_nothing(self.alloc, 99))
     }
+}
+
+impl<'a, R> Watch for Together<'a, R> {
+    fn begun(&self, _unsettled: usize) {}
+
+    fn ended(&self, _is_good: bool, _unsettled: usize) {}
 }
 
 // The plan of a base, and of so many derivations with it as their only input; all are roots.
