@@ -20,3 +20,4 @@ pub mod Telling
 pub mod ToldRuns
 pub mod Turns
 pub mod Unhindered
+pub mod Wanting

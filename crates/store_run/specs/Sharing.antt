@@ -1,7 +1,7 @@
 -- What the workers of a run share, and what becomes of it (this product's own).
 use Rattle.std.specs.Prelude.{◌≡◌, ◌⊎◌, ℕ, Option, Some, None, List, Result, Ok, Err}
 use Rattle.valid_table.specs.PathInfos.{PathInfo}
-use Rattle.sched_core.specs.Books.{CanBegin, IsBeginning, IsBooksLease, IsFailing, IsFinishing, IsNotAllowed, IsRunSettled, IsSameRun, Leased, Ledger}
+use Rattle.sched_core.specs.Books.{CanBegin, IsBeginning, IsBooksLease, IsFailing, IsFinishFault, IsFinishing, IsNotAllowed, IsRunSettled, IsSameRun, Leased, Ledger}
 use Rattle.sched_core.specs.declared.fault.BookFault.{BookFault}
 use Rattle.sched_core.specs.declared.fault.BookFault.TheVariants.{NoMemory, NoView, ForeignLease, NotLawful}
 use Rattle.sched_core.specs.declared.job.Job.{Job}
@@ -123,6 +123,10 @@ pub record IsFailed (before after : Share) (job : Job) (number : ℕ) (reason : 
   pub fails : IsFailing before.book after.book job number reason
   pub stop : after.stop ≡ before.stop
 
+-- the book may want memory to register these records: what it promises of them where it does
+abbrev pub IsWanting : Share → Job → (number : ℕ) → List PathInfo → Type 0
+IsWanting before job number infos = IsFinishFault before.book job number infos NoMemory
+
 -- how a lease ends for a reason: its derivation failed, or it isn't the book's
 abbrev pub IsNoting : (before after : Share) → Job → (number : ℕ) → Reason → LeaseEnd → Type 0
 IsNoting before after job number reason Registered = ⊥
@@ -131,13 +135,14 @@ IsNoting before after job number reason (Failed why) =
 IsNoting before after job number reason (Stopped ForeignLease) = IsForeign before after job number
 IsNoting before after job number reason (Stopped other) = ⊥
 
--- how a lease ends with these records: its outputs were registered; memory was refused for that; or
--- the lease isn't the book's, or may not be registered so
+-- how a lease ends with these records: its outputs were registered; memory was refused for that,
+-- where the book may want it; or the lease isn't the book's, or may not be registered so
 abbrev pub IsRegistering : (before after : Share) → Job → (number : ℕ) → List PathInfo → LeaseEnd
     → Type 0
 IsRegistering before after job number infos Registered = IsBuilt before after job number infos
 IsRegistering before after job number infos (Failed why) =
-    (why ≡ OutOfMemory) × IsFailed before after job number OutOfMemory
+    (why ≡ OutOfMemory) × IsWanting before job number infos
+    × IsFailed before after job number OutOfMemory
 IsRegistering before after job number infos (Stopped ForeignLease) =
     IsForeign before after job number
 IsRegistering before after job number infos (Stopped NotLawful) =

@@ -1,8 +1,10 @@
 use Rattle.std.proofs.Common.{Ok, subst, sym}
-use Rattle.sched_core.specs.Books.{IsBooksLease}
+use Rattle.sched_core.specs.Books.{IsBooksLease, Leased, Ledger}
+use Rattle.sched_core.specs.declared.reason.Reason.TheVariants.{OutOfMemory}
 use Rattle.store_run.specs.Builders.{MayComeTo}
-use Rattle.store_run.specs.Sharing.{Share}
+use Rattle.store_run.specs.Sharing.{IsNoting, IsRegistering, IsWanting, Share}
 use Rattle.store_run.proofs.Answered.{after_finishing, came_may_refer}
+use Rattle.store_run.proofs.Wanting.{wanting_registers}
 use Rattle.store_run.proofs.shared.Shared.register.Goals as goal
 
 pub finish-requires-after_bounds : goal.finish-requires-after_bounds
@@ -22,3 +24,21 @@ invariant_of-self g c =
     (sym c.self.view_is) c.requires in
     after_finishing g.B.Build.may c.self.inside.book c.finish.new.self c.args.lease.job
     c.args.lease.number c.args.checked c.self.invariant came c.in-Ok.ensures.ok
+
+pub returns-in-Err-NoMemory-default-default : goal.returns-in-Err-NoMemory-default-default
+returns-in-Err-NoMemory-default-default g c =
+    let e = c.in-Err-NoMemory-default-default in
+    let job = c.args.lease.job in
+    let number = c.args.lease.number in
+    let before : Share = record { book = c.self.inside.book; stop = c.self.inside.stop } in
+    let wanting : IsWanting before job number c.args.checked =
+    rw e.field-0-0-is at e.ensures.fault in
+    let noted : IsNoting before c.fail.new.self job number OutOfMemory c.fail.result =
+    subst (λ (b : Ledger). IsNoting (record { book = b; stop = c.self.inside.stop })
+    c.fail.new.self job number OutOfMemory c.fail.result) e.ensures.same
+    (subst (λ (l : Leased _). IsNoting
+    (record { book = c.finish.new.self; stop = c.self.inside.stop }) c.fail.new.self l.job l.number
+    OutOfMemory c.fail.result) e.ensures.back.0 c.fail.ensures) in
+    subst (λ (s : Share). IsRegistering s c.fail.new.self job number c.args.checked c.fail.result)
+    c.self.view_is
+    (wanting_registers before c.fail.new.self job number c.args.checked c.fail.result wanting noted)

@@ -1,0 +1,22 @@
+-- How a lease ends where the book wanted memory to register records.
+use Rattle.std.proofs.Common.{ℕ, List}
+use Rattle.valid_table.specs.PathInfos.{PathInfo}
+use Rattle.sched_core.specs.declared.fault.BookFault.TheVariants.{NoMemory, NoView, ForeignLease, NotLawful}
+use Rattle.sched_core.specs.declared.job.Job.{Job}
+use Rattle.sched_core.specs.declared.reason.Reason.TheVariants.{OutOfMemory}
+use Rattle.store_run.specs.Sharing.{IsNoting, IsRegistering, IsWanting, Share}
+use Rattle.store_run.specs.declared.found.LeaseEnd.{LeaseEnd}
+use Rattle.store_run.specs.declared.found.LeaseEnd.TheVariants.{Registered, Failed, Stopped}
+
+-- a failure for want of memory is then how a lease ends with those records
+pub wanting_registers : (before after : Share) (job : Job) (number : ℕ) (infos : List PathInfo)
+    (end : LeaseEnd) → IsWanting before job number infos
+    → IsNoting before after job number OutOfMemory end
+    → IsRegistering before after job number infos end
+wanting_registers before after job number infos Registered wanting noting = absurd noting
+wanting_registers before after job number infos (Failed why) wanting noting =
+    (noting.0, wanting, noting.1)
+wanting_registers before after job number infos (Stopped ForeignLease) wanting noting = noting
+wanting_registers before after job number infos (Stopped NoMemory) wanting noting = absurd noting
+wanting_registers before after job number infos (Stopped NoView) wanting noting = absurd noting
+wanting_registers before after job number infos (Stopped NotLawful) wanting noting = absurd noting
