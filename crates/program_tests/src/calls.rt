@@ -207,9 +207,12 @@ fn stray_kind<R: Env + Host + Processes>(
     row: &Row,
     number: usize,
 ) -> Result<Option<usize>, Fail> {
-    for (kind, letter) in row.refusals[number].iter().enumerate() {
-        if !refuses(rt, process, row, (number, KINDS[kind]), *letter)? {
-            return Ok(Some(kind));
+    let Some(letters) = row.refusals.get(number) else {
+        return Ok(None);
+    };
+    for (place, (kind, letter)) in KINDS.iter().zip(letters.iter()).enumerate() {
+        if !refuses(rt, process, row, (number, *kind), *letter)? {
+            return Ok(Some(place));
         }
     }
     Ok(None)

@@ -1,5 +1,5 @@
 //! A runtime over another that keeps a log of each call of the system and can refuse one of them.
-use crate::running::Host;
+use crate::running::Plain;
 use std::alloc::{Allocator, Global};
 use std::fs::{Metadata, OpenFile, OpenOptions, Permissions};
 use std::io;
@@ -24,7 +24,7 @@ pub struct Shared<R> {
     log: Arc<Mutex<Log>>,
 }
 
-impl<R: Host> Shared<R> {
+impl<R: Plain> Shared<R> {
     // Notes a call, and answers an error where it is the refused one.
     fn note(&self, call: &str, path: &str) -> io::Result<()> {
         let line = format!(in self.rt.alloc(); "{call} {path}\n")?;
@@ -51,7 +51,7 @@ pub struct Double<R> {
     shared: Shared<R>,
 }
 
-impl<R: Host> Double<R> {
+impl<R: Plain> Double<R> {
     /// Over this runtime. The call with this number, counted from 1, is refused with an error of
     /// this kind.
     pub fn new(rt: R, refused: usize, kind: ErrorKind) -> io::Result<Double<R>> {
@@ -75,7 +75,7 @@ impl<R: Host> Double<R> {
     }
 }
 
-impl<R: Host> Alloc for Double<R> {
+impl<R: Plain> Alloc for Double<R> {
     type A = Global;
 
     fn alloc(&self) -> Global {
@@ -83,11 +83,11 @@ impl<R: Host> Alloc for Double<R> {
     }
 }
 
-impl<R: Host> Wait for Double<R> {}
+impl<R: Plain> Wait for Double<R> {}
 
-impl<R: Host> Threads for Double<R> {}
+impl<R: Plain + Threads> Threads for Double<R> {}
 
-impl<R: Host> Files for Double<R> {
+impl<R: Plain> Files for Double<R> {
     type File = Noted<R, R::File>;
 
     type Dir = R::Dir;
@@ -163,14 +163,14 @@ pub struct Noted<R, F> {
     file: F,
 }
 
-impl<R: Host, F: Read> Read for Noted<R, F> {
+impl<R: Plain, F: Read> Read for Noted<R, F> {
     fn read(&mut self, buf: &mut [u8]) -> io::Result<usize> {
         self.shared.note("read", "")?;
         self.file.read(buf)
     }
 }
 
-impl<R: Host, F: Write> Write for Noted<R, F> {
+impl<R: Plain, F: Write> Write for Noted<R, F> {
     fn write(&mut self, buf: &[u8]) -> io::Result<usize> {
         self.shared.note("write", "")?;
         self.file.write(buf)
@@ -181,13 +181,13 @@ impl<R: Host, F: Write> Write for Noted<R, F> {
     }
 }
 
-impl<R: Host, F: Seek> Seek for Noted<R, F> {
+impl<R: Plain, F: Seek> Seek for Noted<R, F> {
     fn seek(&mut self, to: SeekFrom) -> io::Result<u64> {
         self.file.seek(to)
     }
 }
 
-impl<R: Host, F: OpenFile> OpenFile for Noted<R, F> {
+impl<R: Plain, F: OpenFile> OpenFile for Noted<R, F> {
     fn metadata(&self) -> io::Result<Metadata> {
         self.file.metadata()
     }
@@ -213,7 +213,7 @@ impl<R: Host, F: OpenFile> OpenFile for Noted<R, F> {
     }
 }
 
-impl<R: Host + Processes> Processes for Double<R> {
+impl<R: Plain + Processes> Processes for Double<R> {
     type Started = Watched<R, R::Started>;
 
     fn spawn<B: Allocator + Clone>(
@@ -243,7 +243,7 @@ pub struct Watched<R, P: OpenProcess> {
     child: Child<P>,
 }
 
-impl<R: Host, P: OpenProcess + Drop> OpenProcess for Watched<R, P> {
+impl<R: Plain, P: OpenProcess + Drop> OpenProcess for Watched<R, P> {
     type Stdin = P::Stdin;
 
     type Stdout = P::Stdout;

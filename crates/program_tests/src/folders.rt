@@ -11,6 +11,15 @@ const OUT: &str = "<dir>/cccccccccccccccccccccccccccccccc-out";
 
 const BUILD: &str = "<dir>/.build-0";
 
+// Gives the permissions back to what was moved aside since its user can't remove it, so that the
+// store folder can be removed at the end of the row. (The superuser finds nothing there.)
+const UNLOCK: Step = Step::Script(
+    "for left in $NIX_STORE/.nix_realise-left-*; do test -e $left || continue; chmod -R u+rwx $left; \
+        done; : > $out",
+    &["out"],
+    Made::Answered,
+);
+
 static IN_PLACE: [Row; 3] = [
     // Links in the place of an output and of the build folder are removed, and not what they lead
     // to.
@@ -46,7 +55,7 @@ static IN_PLACE: [Row; 3] = [
         ],
     },
     // What an earlier run left at an output's path is gone, be it a folder that must not be written
-    // or read. (The superuser may remove it; tests/left-folders is of a user who may not.)
+    // or read.
     Row {
         name: "locked",
         steps: &[
@@ -58,6 +67,7 @@ static IN_PLACE: [Row; 3] = [
             ),
             Step::Script("echo made > $out", &["out"], Made::File("made\n")),
             Step::Script("echo again > $out", &["out"], Made::File("again\n")),
+            UNLOCK,
         ],
     },
 ];
@@ -97,6 +107,7 @@ static BUILD_FOLDERS: [Row; 3] = [
             Step::Stands(BUILD, false),
             Step::Script("rm -r $PWD; : > $PWD", &["out"], Made::Trees(1, 1)),
             Step::Stands(BUILD, false),
+            UNLOCK,
         ],
     },
     // What an earlier run left in the place of the build folder is removed: a file, and a folder in
@@ -120,6 +131,7 @@ static BUILD_FOLDERS: [Row; 3] = [
                 Made::File("made\n"),
             ),
             Step::Stands(BUILD, false),
+            UNLOCK,
         ],
     },
     // Where no build folder can be made, since the store folder is gone, nothing is started.

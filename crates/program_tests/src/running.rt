@@ -25,6 +25,12 @@ pub struct Outcome {
     pub err: Vec<u8>,
 }
 
+/// What a call of the system needs of its host. No bound here is one of threads: where a function
+/// asks for one, what it calls may be handed to a thread.
+pub trait Plain: Files + AllocGlobal + Wait + Clone + Drop {}
+
+impl<R: Files + AllocGlobal + Wait + Clone + Drop> Plain for R {}
+
 /// What a run needs of its host.
 pub trait Host: Files + AllocGlobal + Threads + Wait + Sync + Clone + Drop {}
 
