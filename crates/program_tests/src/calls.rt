@@ -1,9 +1,10 @@
 //! The calls of the system that each subcommand makes, and what comes of one that is refused.
 use crate::double::Double;
-use crate::running::{Host, Outcome};
+use crate::running::{Host, Outcome, run_by};
 use crate::scene::Scene;
 use crate::steps::Step;
 use process_build::ByProcesses;
+use std::alloc::{AllocError, Global};
 use std::io::ErrorKind;
 use std::process;
 use std::process::Processes;
@@ -11,7 +12,6 @@ use std::rt::{Env, Files};
 use std::sync::Wait;
 use std::test::Fail;
 use std::thread::Threads;
-use subcommands::run;
 
 // The kinds with which each call is refused.
 const KINDS: [ErrorKind; 5] = [
@@ -152,111 +152,111 @@ fn run_rows() -> &'static [Row] {
     &RUN
 }
 
-// What a run on a double wrote and its status.
+// One refused call of a row: its number, which is 0 for the good run, the kind of its error, and the
+// letter of what comes of it.
+struct Case<'a> {
+    row: &'a Row,
+    number: usize,
+    kind: ErrorKind,
+    letter: u8,
+}
+
+// The refused calls of some rows.
+fn cases(alloc: Global, rows: &[Row]) -> Result<Vec<Case<'_>>, AllocError> {
+    let mut cases = Vec::new(alloc);
+    for row in rows {
+        add_cases(&mut cases, row)?;
+    }
+    Ok(cases)
+}
+
+// Adds those of a row.
+fn add_cases<'a>(cases: &mut Vec<Case<'a>>, row: &'a Row) -> Result<(), AllocError> {
+    for (number, letters) in row.refusals.iter().enumerate() {
+        for (kind, letter) in KINDS.iter().zip(letters.iter()) {
+            let (kind, letter) = (*kind, *letter);
+            cases.push(Case {
+                row,
+                number,
+                kind,
+                letter,
+            })?;
+        }
+    }
+    Ok(())
+}
+
+// What a run on a double, and by builders on it, wrote and its status.
 fn ran<D>(double: &D, line: &str) -> Result<Outcome, Fail>
 where
     D: Files + AllocGlobal + Threads + Wait + Sync + Processes,
 {
-    let alloc = double.alloc();
-    let words: Vec<&str> = line.split(' ').collect(alloc)?;
-    let make = ByProcesses::new(double, double);
-    let (mut out, mut err) = (Vec::new(alloc), Vec::new(alloc));
-    let status = run(double, &make, &words, &mut out, &mut err);
-    Ok(Outcome { status, out, err })
+    let words: Vec<&str> = line.split(' ').collect(double.alloc())?;
+    Ok(run_by(double, &ByProcesses::new(double, double), &words))
 }
 
-// Whether this came of a run.
-fn came<R: Host>(rt: &R, scene: &Scene, outcome: &Outcome, letter: u8) -> Result<bool, Fail> {
-    let (out, err, status) = told(letter);
+// The store folder of a case, as it is before the run.
+fn before<R: Env + Host + Processes>(rt: &R, process: u32, case: &Case<'_>) -> Result<Scene, Fail> {
+    let mut scene = Scene::new(rt, process, case.row.name)?;
+    scene.take(rt, &ByProcesses::new(rt, rt), case.row.before)?;
+    Ok(scene)
+}
+
+// Whether what was to come of a case came: what the run wrote and its status, these calls where
+// none was refused, and the status 0 of the same run once more.
+fn came<R: Host>(
+    rt: &R,
+    scene: &Scene,
+    case: &Case<'_>,
+    (first, calls, second): (&Outcome, &str, &Outcome),
+) -> Result<bool, Fail> {
+    let (out, err, status) = told(case.letter);
     let out = scene.said(rt.alloc(), out)?;
     let err = scene.said(rt.alloc(), err)?;
-    Ok(
-        outcome.out.as_slice() == out.as_bytes()
-            && outcome.err.as_slice() == err.as_bytes()
-            && outcome.status == status,
-    )
-}
-
-// Runs a row's command line in a folder of its own, where this call is refused with an error of
-// this kind, and then once more where none is. Whether this came of the first, by these calls where
-// none was refused, and the status of the second is 0.
-fn refuses<R: Env + Host + Processes>(
-    rt: &R,
-    process: u32,
-    row: &Row,
-    (number, kind): (usize, ErrorKind),
-    letter: u8,
-) -> Result<bool, Fail> {
-    let mut scene = Scene::new(rt, process, row.name)?;
-    scene.take(rt, &ByProcesses::new(rt, rt), row.before)?;
-    let line = scene.said(rt.alloc(), row.line)?;
-    let double = Double::new(rt.clone()?, number, kind)?;
-    let first = ran(&double, line.as_str())?;
-    let is_told = came(rt, &scene, &first, letter)?;
-    let is_called = number > 0
-        || double.calls()?.as_str() == scene.said(rt.alloc(), row.calls)?.as_str();
-    let second = ran(&Double::new(rt.clone()?, 0, kind)?, line.as_str())?;
-    scene.close(rt)?;
+    let wanted = scene.said(rt.alloc(), case.row.calls)?;
+    let is_told = first.out.as_slice() == out.as_bytes()
+        && first.err.as_slice() == err.as_bytes()
+        && first.status == status;
+    let is_called = case.number > 0 || calls == wanted.as_str();
     Ok(is_told && is_called && second.status == 0)
-}
-
-// The first kind of which something else comes, where the call with this number is refused.
-fn stray_kind<R: Env + Host + Processes>(
-    rt: &R,
-    process: u32,
-    row: &Row,
-    number: usize,
-) -> Result<Option<usize>, Fail> {
-    let Some(letters) = row.refusals.get(number) else {
-        return Ok(None);
-    };
-    for (place, (kind, letter)) in KINDS.iter().zip(letters.iter()).enumerate() {
-        if !refuses(rt, process, row, (number, *kind), *letter)? {
-            return Ok(Some(place));
-        }
-    }
-    Ok(None)
-}
-
-// The first refusal of which something else comes: the number of the call, which is 0 for the good
-// run, and that of the kind.
-fn stray_call<R: Env + Host + Processes>(
-    rt: &R,
-    process: u32,
-    row: &Row,
-) -> Result<Option<(usize, usize)>, Fail> {
-    for number in 0..row.refusals.len() {
-        if let Some(kind) = stray_kind(rt, process, row, number)? {
-            return Ok(Some((number, kind)));
-        }
-    }
-    Ok(None)
-}
-
-// The same of the first row that has one.
-fn first_stray<'a, R: Env + Host + Processes>(
-    rt: &R,
-    process: u32,
-    rows: &'a [Row],
-) -> Result<Option<(&'a str, usize, usize)>, Fail> {
-    for row in rows {
-        if let Some((number, kind)) = stray_call(rt, process, row)? {
-            return Ok(Some((row.name, number, kind)));
-        }
-    }
-    Ok(None)
 }
 
 #[test]
 fn refused_calls_of_adding(rt: HostRuntime) -> Result<(), Fail> {
-    let stray = first_stray(&rt, process::id(rt.process()), adding())?;
+    let process = process::id(rt.process());
+    let mut stray = None;
+    for case in cases(rt.alloc(), adding())?.iter() {
+        let scene = before(&rt, process, case)?;
+        let line = scene.said(rt.alloc(), case.row.line)?;
+        let double = Double::new(rt.clone()?, case.number, case.kind)?;
+        let first = ran(&double, line.as_str())?;
+        let second = ran(&Double::new(rt.clone()?, 0, case.kind)?, line.as_str())?;
+        let calls = double.calls()?;
+        if !came(&rt, &scene, case, (&first, calls.as_str(), &second))? {
+            stray = Some((case.row.name, case.number, case.kind));
+        }
+        scene.close(&rt)?;
+    }
     assert_eq!(rt; stray, None);
     Ok(())
 }
 
 #[test]
 fn refused_calls_of_a_run(rt: HostRuntime) -> Result<(), Fail> {
-    let stray = first_stray(&rt, process::id(rt.process()), run_rows())?;
+    let process = process::id(rt.process());
+    let mut stray = None;
+    for case in cases(rt.alloc(), run_rows())?.iter() {
+        let scene = before(&rt, process, case)?;
+        let line = scene.said(rt.alloc(), case.row.line)?;
+        let double = Double::new(rt.clone()?, case.number, case.kind)?;
+        let first = ran(&double, line.as_str())?;
+        let second = ran(&Double::new(rt.clone()?, 0, case.kind)?, line.as_str())?;
+        let calls = double.calls()?;
+        if !came(&rt, &scene, case, (&first, calls.as_str(), &second))? {
+            stray = Some((case.row.name, case.number, case.kind));
+        }
+        scene.close(&rt)?;
+    }
     assert_eq!(rt; stray, None);
     Ok(())
 }

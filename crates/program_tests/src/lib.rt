@@ -4,6 +4,7 @@
 //! | Module | What is tried |
 //! |---|---|
 //! | `runs` | command lines, and what is printed of a usage mistake |
+//! | `usage` | the texts of the helps and of the version |
 //! | `lines` | the lines of `check` |
 //! | `checks` | derivations that are read from files |
 //! | `added_texts`, `journals` | `add-text`, and the journal file that it writes |
@@ -64,3 +65,5 @@ mod starts;
 mod steps;
 #[cfg(test)]
 mod texts;
+#[cfg(test)]
+mod usage;

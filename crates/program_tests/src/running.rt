@@ -63,7 +63,11 @@ impl Builders for Idle {
 }
 
 /// Runs the program on a command line, with the builders that are made so.
-pub fn run_by<'a, R: Host, M: Builders>(rt: &R, make: &M, words: &'a [&'a str]) -> Outcome {
+pub fn run_by<'a, R, M>(rt: &R, make: &M, words: &'a [&'a str]) -> Outcome
+where
+    R: Files + AllocGlobal + Threads + Wait + Sync,
+    M: Builders,
+{
     let mut out = Vec::new(rt.alloc());
     let mut err = Vec::new(rt.alloc());
     let status = run(rt, make, words, &mut out, &mut err);

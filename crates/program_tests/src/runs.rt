@@ -1,4 +1,4 @@
-//! Runs that need no files: usage, help, a bad folder, refused writes.
+//! Runs that need no files: usage mistakes, a bad folder, refused writes.
 use crate::running::{Idle, Narrow};
 use crate::scene::first_fault;
 use crate::steps::{Row, Step};
@@ -9,7 +9,7 @@ use subcommands::{refuse_words, run};
 
 const UNWRITABLE: &str = "nix_realise: run: Unwritable\n";
 
-static LINES: [Row; 5] = [
+static LINES: [Row; 4] = [
     Row {
         name: "check-outside-store",
         steps: &[Step::Run(
@@ -18,19 +18,6 @@ static LINES: [Row; 5] = [
             "",
             2,
         )],
-    },
-    Row {
-        name: "help-and-version",
-        steps: &[
-            Step::Run(
-                "nix_realise --help",
-                "Checks and realises store derivations, and adds texts and derivations to a \
-                    store\n\nUsage: nix_realise <COMMAND>\n…",
-                "",
-                0,
-            ),
-            Step::Run("nix_realise --version", "nix_realise 0.1.0\n", "", 0),
-        ],
     },
     Row {
         name: "no-store-folder",
