@@ -54,43 +54,78 @@ static USAGE_FAULTS: [Row; 2] = [
             Step::Run(
                 "nix_realise",
                 "",
-                "error: 'nix_realise' requires a subcommand but one was not provided\n…",
+                "error: 'nix_realise' requires a subcommand but one was not provided\n\
+                    \x20 [subcommands: check, add-text, add-drv, realise, help]\n\
+                    \n\
+                    Usage: nix_realise <COMMAND>\n\
+                    \n\
+                    For more information, try '--help'.\n",
                 2,
             ),
             Step::Run(
                 "nix_realise frob",
                 "",
-                "error: unrecognized subcommand 'frob'\n…",
+                "error: unrecognized subcommand 'frob'\n\
+                    \n\
+                    Usage: nix_realise <COMMAND>\n\
+                    \n\
+                    For more information, try '--help'.\n",
                 2,
             ),
             Step::Run(
                 "nix_realise check",
                 "",
-                "error: the following required arguments were not provided:\n  <DRV>...\n…",
+                "error: the following required arguments were not provided:\n\
+                    \x20 <DRV>...\n\
+                    \n\
+                    Usage: nix_realise check <DRV>...\n\
+                    \n\
+                    For more information, try '--help'.\n",
                 2,
             ),
             Step::Run(
                 "nix_realise add-text x",
                 "",
-                "error: the following required arguments were not provided:\n  <FILE>\n…",
+                "error: the following required arguments were not provided:\n\
+                    \x20 <FILE>\n\
+                    \n\
+                    Usage: nix_realise add-text <NAME> <FILE>\n\
+                    \n\
+                    For more information, try '--help'.\n",
                 2,
             ),
             Step::Run(
                 "nix_realise check -x",
                 "",
-                "error: unexpected argument '-x' found\n…",
+                "error: unexpected argument '-x' found\n\
+                    \n\
+                    \x20 tip: to pass '-x' as a value, use '-- -x'\n\
+                    \n\
+                    Usage: nix_realise check [OPTIONS] <DRV>...\n\
+                    \n\
+                    For more information, try '--help'.\n",
                 2,
             ),
             Step::Run(
                 "nix_realise check --jobs 2 /a",
                 "",
-                "error: unexpected argument '--jobs' found\n…",
+                "error: unexpected argument '--jobs' found\n\
+                    \n\
+                    \x20 tip: to pass '--jobs' as a value, use '-- --jobs'\n\
+                    \n\
+                    Usage: nix_realise check [OPTIONS] <DRV>...\n\
+                    \n\
+                    For more information, try '--help'.\n",
                 2,
             ),
             Step::Run(
                 "nix_realise check --store-dir /a --store-dir /a /b",
                 "",
-                "error: the argument '--store-dir <D>' cannot be used multiple times\n…",
+                "error: the argument '--store-dir <D>' cannot be used multiple times\n\
+                    \n\
+                    Usage: nix_realise check [OPTIONS] <DRV>...\n\
+                    \n\
+                    For more information, try '--help'.\n",
                 2,
             ),
         ],
@@ -101,19 +136,30 @@ static USAGE_FAULTS: [Row; 2] = [
             Step::Run(
                 "nix_realise realise",
                 "",
-                "error: the following required arguments were not provided:\n  <DRV>...\n…",
+                "error: the following required arguments were not provided:\n\
+                    \x20 <DRV>...\n\
+                    \n\
+                    Usage: nix_realise realise <DRV>...\n\
+                    \n\
+                    For more information, try '--help'.\n",
                 2,
             ),
             Step::Run(
                 "nix_realise realise --system",
                 "",
-                "error: a value is required for '--system <S>' but none was supplied\n…",
+                "error: a value is required for '--system <S>' but none was supplied\n\
+                    \n\
+                    For more information, try '--help'.\n",
                 2,
             ),
             Step::Run(
                 "nix_realise realise --jobs 1 --jobs 2 x",
                 "",
-                "error: the argument '--jobs <N>' cannot be used multiple times\n…",
+                "error: the argument '--jobs <N>' cannot be used multiple times\n\
+                    \n\
+                    Usage: nix_realise realise [OPTIONS] <DRV>...\n\
+                    \n\
+                    For more information, try '--help'.\n",
                 2,
             ),
         ],
@@ -128,19 +174,25 @@ static JOBS: [Row; 2] = [
             Step::Run(
                 "nix_realise realise --store-dir x --jobs 0 x",
                 "",
-                "error: invalid value '0' for '--jobs <N>': 0 is not in 1..=64\n…",
+                "error: invalid value '0' for '--jobs <N>': 0 is not in 1..=64\n\
+                    \n\
+                    For more information, try '--help'.\n",
                 2,
             ),
             Step::Run(
                 "nix_realise realise --store-dir x --jobs 65 x",
                 "",
-                "error: invalid value '65' for '--jobs <N>': 65 is not in 1..=64\n…",
+                "error: invalid value '65' for '--jobs <N>': 65 is not in 1..=64\n\
+                    \n\
+                    For more information, try '--help'.\n",
                 2,
             ),
             Step::Run(
                 "nix_realise realise --store-dir x --jobs x x",
                 "",
-                "error: invalid value 'x' for '--jobs <N>': invalid digit found in string\n…",
+                "error: invalid value 'x' for '--jobs <N>': invalid digit found in string\n\
+                    \n\
+                    For more information, try '--help'.\n",
                 2,
             ),
             Step::Run(
@@ -148,7 +200,7 @@ static JOBS: [Row; 2] = [
                 "nix_realise realise --store-dir x --jobs  x",
                 "",
                 "error: invalid value '' for '--jobs <N>': cannot parse integer from empty string\n\
-                    …",
+                    \nFor more information, try '--help'.\n",
                 2,
             ),
         ],

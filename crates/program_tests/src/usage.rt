@@ -6,7 +6,8 @@ use std::process;
 use std::test::Fail;
 
 // The help of the program.
-const PROGRAM: &str = "Checks and realises store derivations, and adds texts and derivations to a store\n\
+const PROGRAM: &str =
+    "Checks and realises store derivations, and adds texts and derivations to a store\n\
     \n\
     Usage: nix_realise <COMMAND>\n\
     \n\
@@ -36,7 +37,8 @@ const CHECK: &str = "Checks that each text is a store derivation and stands unde
     ";
 
 // The help of `add-text`.
-const ADD_TEXT: &str = "Prints the store path of a text, writes it there and registers it in the journal\n\
+const ADD_TEXT: &str =
+    "Prints the store path of a text, writes it there and registers it in the journal\n\
     \n\
     Usage: nix_realise add-text [OPTIONS] <NAME> <FILE>\n\
     \n\
