@@ -186,7 +186,7 @@ static ORDERS: [Row; 3] = [
     },
 ];
 
-static CONTENTS: [Row; 3] = [
+static CONTENTS: [Row; 4] = [
     // A file comes in pieces of at most 65,536 bytes, the empty one in none.
     Row {
         name: "pieces",
@@ -217,6 +217,20 @@ static CONTENTS: [Row; 3] = [
             "mkdir $out; cd $out; : > b; mkdir a; : > B; : > ab; : > ...; : > a/c",
             &["out"],
             Made::Folder(".../B/a/ab/b/"),
+        )],
+    },
+    // A member's name has up to 255 bytes, the most that a file system takes.
+    Row {
+        name: "longest-name-of-a-member",
+        steps: &[Step::Script(
+            "mkdir $out; : > $out/$(printf %0255d 0 | tr 0 a)",
+            &["out"],
+            Made::Folder(
+                "aaaaaaaaaaaaaaaaaaaaaaaaaaaaaaaaaaaaaaaaaaaaaaaaaaaaaaaaaaaaaaaa\
+                aaaaaaaaaaaaaaaaaaaaaaaaaaaaaaaaaaaaaaaaaaaaaaaaaaaaaaaaaaaaaaaa\
+                aaaaaaaaaaaaaaaaaaaaaaaaaaaaaaaaaaaaaaaaaaaaaaaaaaaaaaaaaaaaaaaa\
+                aaaaaaaaaaaaaaaaaaaaaaaaaaaaaaaaaaaaaaaaaaaaaaaaaaaaaaaaaaaaaaa/",
+            ),
         )],
     },
 ];

@@ -13,7 +13,7 @@ const JOURNAL: &str = "<dir>/realiser-journal";
 const GREETED: &str = "realiser-journal 1\nD <greet>\nO <greet.out> \
     5891b5b522d5df086d0ff0b110fbd9d21bb4fc7163af34d08286a2e846f6be03\n";
 
-static BUILT: [Row; 5] = [
+static BUILT: [Row; 6] = [
     // A first run builds a derivation and registers its output. A second one, for another system,
     // finds the output valid, and leaves all as it is.
     Row {
@@ -40,6 +40,32 @@ static BUILT: [Row; 5] = [
             ),
             Step::Holds("<greet.out>", "hello\n"),
             Step::Holds(JOURNAL, GREETED),
+            Step::Left(4),
+        ],
+    },
+    // The journal that is given is read and written, and no other.
+    Row {
+        name: "journal-of-a-run",
+        steps: &[
+            Step::Put(
+                "greet",
+                "Derive([(\"out\",\"\",\"\",\"\")],[],[],\"x86_64-linux\",\"/bin/sh\",[\"-c\",\
+                    \"echo hello > $out\"],[(\"out\",\"\")])",
+            ),
+            Step::Run(
+                "nix_realise realise --store-dir <dir> --journal <dir>/given <greet>",
+                "built <greet>\noutput <greet.out>\n",
+                "",
+                0,
+            ),
+            Step::Holds("<dir>/given", GREETED),
+            Step::Stands(JOURNAL, false),
+            Step::Run(
+                "nix_realise realise --store-dir <dir> --journal <dir>/given <greet>",
+                "reused <greet>\noutput <greet.out>\n",
+                "",
+                0,
+            ),
             Step::Left(4),
         ],
     },
