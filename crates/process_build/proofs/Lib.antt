@@ -1,3 +1,4 @@
 pub mod AsciiPaths
 pub mod BuilderCalls
 pub mod Callable
+pub mod Tallies

@@ -13,6 +13,8 @@
 //! | `failures`, `reasons` | what an error of the system means at a path, and for a build |
 //! | `files` | paths of files |
 //! | `progress` | the line of progress |
+//! | `tally` | the numbers of that line, and its text |
+//! | `laws` | what holds of these numbers, over the definitions |
 #![tactic(auto)]
 
 mod builders;
@@ -21,12 +23,14 @@ mod environment;
 mod failures;
 mod files;
 mod folders;
+pub mod laws;
 mod processes;
 mod progress;
 mod reading;
 mod reasons;
 mod removal;
 mod start;
+mod tally;
 
 pub use builders::Builders;
 pub use failures::Failure;

@@ -1,98 +1,47 @@
 //! The line of progress, which tells how far a run is.
+ghost use Rattle.std.specs.Prelude.{◌≡◌, List, OnOk, ℕ};
+ghost use Rattle.std.specs.Io.KnownBytes.{Appends};
+ghost use Rattle.process_build.specs.Progress.{Heard, IsHeard, IsShown, IsTally, shown_text};
 
 use crate::builders::Builders;
+use crate::tally::{NO_LINE, Tally};
 use sched_core::{Answer, Job, Reason};
 use std::alloc::{AllocError, Global};
+use std::io;
 use std::io::Write;
 use std::sync::{Mutex, Wait};
 use store_run::{Build, Watch};
-
-// What takes a terminal's line away: to its first column, and nothing from there on (ECMA-48, EL).
-const NO_LINE: &str = "\r\x1b[K";
-
-// What has a terminal cut what follows at its last column, and begin a new line there again (DECAWM).
-const CUT: &str = "\x1b[?7l";
-
-const WRAP: &str = "\x1b[?7h";
-
-// How many jobs run, and how those that ended did; how many derivations were to be built, and how
-// many of them have still something before them.
-#[derive(Clone, Copy)]
-struct Tally {
-    running: usize,
-    built: u64,
-    failed: u64,
-    all: usize,
-    unsettled: usize,
-}
-
-impl Tally {
-    // Before anything is known.
-    fn new() -> Tally {
-        Tally {
-            running: 0,
-            built: 0,
-            failed: 0,
-            all: 0,
-            unsettled: usize::MAX,
-        }
-    }
-
-    // One more job runs, while so many derivations are unsettled.
-    fn begin(&mut self, unsettled: usize) {
-        self.running = self.running.saturating_add(1);
-        self.learn(unsettled);
-    }
-
-    // A job ended, well or not, and so many derivations are unsettled.
-    fn end(&mut self, is_good: bool, unsettled: usize) {
-        self.running = self.running.saturating_sub(1);
-        if is_good {
-            self.built = self.built.saturating_add(1);
-        } else {
-            self.failed = self.failed.saturating_add(1);
-        }
-        self.learn(unsettled);
-    }
-
-    // Learns how many derivations are unsettled. That number only falls, so of two that come in the
-    // wrong order the less is the newer.
-    fn learn(&mut self, unsettled: usize) {
-        self.all = self.all.max(unsettled);
-        self.unsettled = self.unsettled.min(unsettled);
-    }
-
-    // The line, in the place of the one before. A narrow terminal shows its beginning.
-    fn line(&self, alloc: Global) -> Result<String, AllocError> {
-        let Tally {
-            running,
-            built,
-            failed,
-            all,
-            unsettled,
-        } = self;
-        let waiting = unsettled.saturating_sub(*running);
-        format!(in alloc;
-            "{NO_LINE}{CUT}nix_realise: {running} running, {built} built, {failed} failed, {waiting} waiting, of {all}{WRAP}"
-        )
-    }
-}
 
 // A tally, and where it is told.
 #[derive(Drop)]
 struct Shown<W> {
     tally: Tally,
     to: W,
+    ghost heard: { ∥ IsHeard tally ∥₁ },
 }
 
 impl<W: Write> Shown<W> {
     // Tells the tally while a job runs, and else takes the line away.
-    fn tell(&mut self, alloc: Global) {
-        // A refused write changes nothing.
-        let _ = match self.tally.line(alloc) {
-            Ok(line) if self.tally.running > 0 => self.to.write_all(line.as_bytes()),
-            _ => self.to.write_all(NO_LINE.as_bytes()),
-        };
+    fn tell(&mut self, alloc: Global) -> io::Result<()>
+        ensures tally { self.new.tally ≡ self.old.tally }
+        ensures told { (calls : List Heard) → IsTally calls self.old.tally → OnOk result
+            ((text : List ℕ) × IsShown calls text
+            × Appends (W.contents self.old.to) (W.contents self.new.to) text) }
+    {
+        let numbers = self.tally.numbers();
+        let line = numbers.line(alloc);
+        self.to
+            .write_all(text_of(numbers.running, &line).as_bytes())
+    }
+}
+
+// The line while a job runs, and else, or where there was no memory for it, what takes it away.
+fn text_of(running: usize, line: &Result<String, AllocError>) -> &str
+    ensures { result.now ≡ shown_text running line.now }
+{
+    match line {
+        Ok(line) if running > 0 => line.as_str(),
+        Ok(_) | Err(_) => NO_LINE,
     }
 }
 
@@ -118,14 +67,16 @@ impl<W: Write> Progress<W> {
     fn begin<R: Wait + AllocGlobal>(&self, rt: &R, unsettled: usize) {
         let mut shown = self.shown.lock(rt);
         shown.tally.begin(unsettled);
-        shown.tell(rt.alloc());
+        // A refused write changes nothing.
+        let _ = shown.tell(rt.alloc());
     }
 
     // A job ended, well or not, and so many derivations are unsettled.
     fn end<R: Wait + AllocGlobal>(&self, rt: &R, is_good: bool, unsettled: usize) {
         let mut shown = self.shown.lock(rt);
         shown.tally.end(is_good, unsettled);
-        shown.tell(rt.alloc());
+        // A refused write changes nothing.
+        let _ = shown.tell(rt.alloc());
     }
 }
 

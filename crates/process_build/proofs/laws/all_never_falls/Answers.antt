@@ -1,0 +1,5 @@
+use Rattle.process_build.proofs.Tallies.{all_never_falls}
+use Rattle.process_build.proofs.laws.all_never_falls.Goals as goal
+
+pub returns : goal.returns
+returns c = all_never_falls

@@ -1,0 +1,5 @@
+use Rattle.process_build.proofs.Tallies.{numbers_add_up}
+use Rattle.process_build.proofs.laws.numbers_add_up.Goals as goal
+
+pub returns : goal.returns
+returns c = numbers_add_up

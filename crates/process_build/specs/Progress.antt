@@ -1,0 +1,127 @@
+-- What the line of progress tells of the calls that it heard (this product's own, `FORMATS.md`).
+use Rattle.std.specs.Prelude.{◌≡◌, ℕ, ◌+◌, ◌-◌, ◌^◌, ◌≤◌, Bool, true, false, not, min, List, ◌∷◌, ◌++◌, All, Contains, IfOk, Result, Ok, Err, codes, count_by, decimal, map, string_bytes, suc, zero}
+use Rattle.std.specs.declared.alloc.AllocError.{AllocError}
+use Rattle.std.specs.declared.alloc.Global.{Global}
+use Rattle.std.specs.declared.string.String.{String}
+use Rattle.std.specs.List.Sorted.{IsPermutation}
+use Rattle.process_build.specs.declared.tally.Numbers.{Numbers}
+use Rattle.process_build.specs.declared.tally.Tally.{Tally}
+
+-- a call that the line hears: a job begins, or a job ended, well or not; and how many derivations
+-- were unsettled then
+pub data Heard : Type 0 where
+  Began : (unsettled : ℕ) → Heard
+  Ended : (is_good : Bool) → (unsettled : ℕ) → Heard
+
+abbrev pub begins : Heard → Bool
+begins (Began unsettled) = true
+begins (Ended is_good unsettled) = false
+
+abbrev pub ends : Heard → Bool
+ends (Began unsettled) = false
+ends (Ended is_good unsettled) = true
+
+abbrev pub ends_well : Heard → Bool
+ends_well (Began unsettled) = false
+ends_well (Ended is_good unsettled) = is_good
+
+abbrev pub ends_badly : Heard → Bool
+ends_badly (Began unsettled) = false
+ends_badly (Ended is_good unsettled) = not is_good
+
+abbrev pub unsettled_at : Heard → ℕ
+unsettled_at (Began unsettled) = unsettled
+unsettled_at (Ended is_good unsettled) = unsettled
+
+-- the greatest number of a count's type, at which the count stops
+abbrev pub most : ℕ
+most = 2 ^ 64 - 1
+
+-- how many of the calls are such
+abbrev pub count_of : (Heard → Bool) → List Heard → ℕ
+count_of is_such calls = min (count_by is_such calls) most
+
+-- the number is the greatest of these, or the least
+abbrev pub IsGreatest : List ℕ → ℕ → Type 0
+IsGreatest numbers n = Contains numbers n × All (λ m. m ≤ n) numbers
+
+abbrev pub IsLeast : List ℕ → ℕ → Type 0
+IsLeast numbers n = Contains numbers n × All (λ m. n ≤ m) numbers
+
+-- the number is the greatest number of unsettled derivations that a call told, or 0 without a call
+abbrev pub IsAllOf : List Heard → ℕ → Type 0
+IsAllOf calls n = IsGreatest (0 ∷ map unsettled_at calls) n
+
+-- the number is the least that a call told, or `most` without a call
+abbrev pub IsUnsettledOf : List Heard → ℕ → Type 0
+IsUnsettledOf calls n = IsLeast (most ∷ map unsettled_at calls) n
+
+-- The tally is that of these calls.
+pub record IsTally (calls : List Heard) (tally : Tally) : Type 0 where
+  pub begun : tally.begun ≡ count_of begins calls
+  pub built : tally.built ≡ count_of ends_well calls
+  pub failed : tally.failed ≡ count_of ends_badly calls
+  pub all : IsAllOf calls tally.all
+  pub unsettled : IsUnsettledOf calls tally.unsettled
+
+-- there are calls of which the tally is
+abbrev pub IsHeard : Tally → Type 0
+IsHeard tally = (calls : List Heard) × IsTally calls tally
+
+-- The numbers tell of these calls: as many run as began, less those that ended; as many wait as are
+-- unsettled, less those that run. A difference is never below 0.
+pub record AreNumbersOf (calls : List Heard) (numbers : Numbers) : Type 0 where
+  pub running : numbers.running ≡ count_of begins calls - count_by ends calls
+  pub built : numbers.built ≡ count_of ends_well calls
+  pub failed : numbers.failed ≡ count_of ends_badly calls
+  pub waiting : (unsettled : ℕ) × IsUnsettledOf calls unsettled
+      × (numbers.waiting ≡ unsettled - numbers.running)
+  pub all : IsAllOf calls numbers.all
+
+-- what takes a line away
+abbrev pub no_line : List ℕ
+no_line = 13 ∷ 27 ∷ codes "[K"
+
+-- the line that tells these numbers: it takes away the line before, and a terminal cuts it at its
+-- last column
+abbrev pub line_of : Numbers → List ℕ
+line_of numbers =
+    no_line ++ (27 ∷ codes "[?7l") ++ codes "nix_realise: "
+    ++ decimal numbers.running ++ codes " running, " ++ decimal numbers.built ++ codes " built, "
+    ++ decimal numbers.failed ++ codes " failed, " ++ decimal numbers.waiting
+    ++ codes " waiting, of " ++ decimal numbers.all ++ (27 ∷ codes "[?7h")
+
+-- what is written: the line while so many jobs run, and what takes it away where none does or there
+-- was no memory for a line
+abbrev pub shown_text : (running : ℕ) → Result (String Global) AllocError → List ℕ
+shown_text zero line = no_line
+shown_text (suc running) (Ok line) = string_bytes line
+shown_text (suc running) (Err error) = no_line
+
+-- the text is what is written for these calls
+abbrev pub IsShown : List Heard → (text : List ℕ) → Type 0
+IsShown calls text =
+    (numbers : Numbers) × AreNumbersOf calls numbers × (line : Result (String Global) AllocError)
+    × IfOk line (λ l. string_bytes l ≡ line_of numbers)
+    × (text ≡ shown_text numbers.running line)
+
+abbrev pub NumbersAddUp : Type 0
+NumbersAddUp =
+    (calls : List Heard) (numbers : Numbers) → AreNumbersOf calls numbers
+    → count_by begins calls ≤ most → count_by ends calls ≤ count_by begins calls
+    → numbers.running + numbers.built + numbers.failed ≡ count_by begins calls
+
+abbrev pub AllNeverFalls : Type 0
+AllNeverFalls =
+    (calls more : List Heard) (before after : Tally) → IsTally calls before
+    → IsTally (calls ++ more) after → before.all ≤ after.all
+
+abbrev pub UnsettledNeverRises : Type 0
+UnsettledNeverRises =
+    (calls more : List Heard) (before after : Tally) → IsTally calls before
+    → IsTally (calls ++ more) after → after.unsettled ≤ before.unsettled
+
+abbrev pub OrderIsNoMatter : Type 0
+OrderIsNoMatter =
+    (calls others : List Heard) (left right : Tally) → IsPermutation calls others
+    → IsTally calls left → IsTally others right → left ≡ right

@@ -1,0 +1,123 @@
+//! What the line of progress tells of the calls that it heard.
+ghost use Rattle.std.specs.Prelude.{◌≡◌, ◌∷◌, [], ◌++◌, IfOk, List, max, min, string_bytes};
+ghost use Rattle.process_build.specs.Progress.{AreNumbersOf, Began, Ended, Heard, IsTally, line_of};
+
+use std::alloc::{AllocError, Global};
+
+/// What takes a terminal's line away: to its first column, and nothing from there on (ECMA-48, EL).
+pub const NO_LINE: &str = "\r\x1b[K";
+
+// What has a terminal cut what follows at its last column, and begin a new line there again (DECAWM).
+const CUT: &str = "\x1b[?7l";
+
+const WRAP: &str = "\x1b[?7h";
+
+/// Of the calls that were heard: how many jobs began, and how many ended well and otherwise; the
+/// greatest number of unsettled derivations that a call told, and the least.
+#[derive(Clone, Copy)]
+pub struct Tally {
+    begun: usize,
+    built: usize,
+    failed: usize,
+    all: usize,
+    unsettled: usize,
+}
+
+impl Tally {
+    /// Before any call.
+    pub fn new() -> Tally
+        ensures { IsTally [] result }
+    {
+        Tally {
+            begun: 0,
+            built: 0,
+            failed: 0,
+            all: 0,
+            unsettled: usize::MAX,
+        }
+    }
+
+    /// A job begins, while so many derivations are unsettled.
+    pub fn begin(&mut self, unsettled: usize)
+        ensures { (calls : List Heard) → IsTally calls self.old
+            → IsTally (calls ++ Began unsettled ∷ []) self.new }
+    {
+        self.begun = self.begun.saturating_add(1);
+        self.learn(unsettled);
+    }
+
+    /// A job ended, well or not, and so many derivations are unsettled.
+    pub fn end(&mut self, is_good: bool, unsettled: usize)
+        ensures { (calls : List Heard) → IsTally calls self.old
+            → IsTally (calls ++ Ended is_good unsettled ∷ []) self.new }
+    {
+        if is_good {
+            self.built = self.built.saturating_add(1);
+        } else {
+            self.failed = self.failed.saturating_add(1);
+        }
+        self.learn(unsettled);
+    }
+
+    // Learns how many derivations are unsettled. That number only falls, so of two that come in the
+    // wrong order the less is the newer.
+    fn learn(&mut self, unsettled: usize)
+        ensures { self.new ≡ record self.old {
+          all = max self.old.all unsettled;
+          unsettled = min self.old.unsettled unsettled;
+        } }
+    {
+        self.all = self.all.max(unsettled);
+        self.unsettled = self.unsettled.min(unsettled);
+    }
+
+    /// The numbers that the line tells. A job runs that began and hasn't ended.
+    pub fn numbers(&self) -> Numbers
+        ensures { (calls : List Heard) → IsTally calls self.now → AreNumbersOf calls result }
+    {
+        let running = self
+            .begun
+            .saturating_sub(self.built)
+            .saturating_sub(self.failed);
+        Numbers {
+            running,
+            built: self.built,
+            failed: self.failed,
+            waiting: self.unsettled.saturating_sub(running),
+            all: self.all,
+        }
+    }
+}
+
+/// The numbers of the line of progress.
+#[derive(Clone, Copy)]
+pub struct Numbers {
+    /// How many jobs run.
+    pub running: usize,
+    /// How many ended well.
+    pub built: usize,
+    /// How many ended otherwise.
+    pub failed: usize,
+    /// How many derivations have something before them, and don't run.
+    pub waiting: usize,
+    /// How many had something before them at first.
+    pub all: usize,
+}
+
+impl Numbers {
+    /// The line, in the place of the one before. A narrow terminal shows its beginning.
+    pub fn line(&self, alloc: Global) -> Result<String, AllocError>
+        ensures { IfOk result (λ line. string_bytes line ≡ line_of self.now) }
+    {
+        let Numbers {
+            running,
+            built,
+            failed,
+            waiting,
+            all,
+        } = self;
+        format!(in alloc;
+            "{NO_LINE}{CUT}nix_realise: {running} running, {built} built, {failed} failed, {waiting} waiting, of {all}{WRAP}"
+        )
+    }
+}
