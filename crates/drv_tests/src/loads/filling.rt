@@ -2,8 +2,8 @@
 use super::files::UNICODE;
 use super::outputs::sound_rows;
 use super::{all_but, plan_of};
-use drv_graph::{GraphFault, Plan, fill_outputs};
-use nix_drv::{Derivation, Parts};
+use drv_graph::{GraphFault, NodeFault, Plan, fill_outputs};
+use nix_drv::{Derivation, DrvFault, Input, Parts};
 use nix_names::{StoreDir, StorePath};
 use std::alloc::Global;
 use std::test::*;
@@ -94,5 +94,40 @@ fn longest_name_of_a_draft(rt: HostRuntime) -> Result<(), Fail> {
             "{length} bytes"
         );
     }
+    Ok(())
+}
+
+const STRAY: &[u8] = b"/other/store/source";
+
+// Whether filling these parts tells of the stray path.
+fn tells_of_stray(alloc: Global, parts: Parts) -> Result<bool, Fail> {
+    let draft = Derivation::new(parts)?;
+    match filled(alloc, b"draft", &draft)? {
+        Err(GraphFault::Draft(NodeFault::Text(DrvFault::BadReference(found)))) => {
+            Ok(found.as_slice() == STRAY)
+        }
+        _ => Ok(false),
+    }
+}
+
+#[test]
+fn stray_source_before_a_text_that_is_too_long(rt: HostRuntime) -> Result<(), Fail> {
+    let alloc = rt.alloc();
+    let mut parts = plain_draft(alloc)?.into_parts();
+    parts.sources.push(Vec::from_slice(alloc, STRAY)?)?;
+    parts.builder = vec![in alloc; b'b'; 4_194_305]?;
+    assert!(rt; tells_of_stray(alloc, parts)?);
+    Ok(())
+}
+
+#[test]
+fn stray_input_before_wrong_outputs(rt: HostRuntime) -> Result<(), Fail> {
+    let alloc = rt.alloc();
+    let mut parts = plain_draft(alloc)?.into_parts();
+    let path = Vec::from_slice(alloc, STRAY)?;
+    let names = Vec::new(alloc);
+    parts.inputs.push(Input { path, names })?;
+    parts.outputs.clear();
+    assert!(rt; tells_of_stray(alloc, parts)?);
     Ok(())
 }
