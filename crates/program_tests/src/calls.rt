@@ -152,8 +152,9 @@ fn run_rows() -> &'static [Row] {
     &RUN
 }
 
-// One refused call of a row: its number, which is 0 for the good run, the kind of its error, and the
-// letter of what comes of it.
+// One refused call of a row: its number, which is 0 for the good run, the kind of its error, and
+// the letter of what comes of it.
+#[derive(Drop)]
 struct Case<'a> {
     row: &'a Row,
     number: usize,
