@@ -3,7 +3,7 @@ use crate::double::Double;
 use crate::running::{Host, Outcome, run_by};
 use crate::scene::Scene;
 use crate::steps::Step;
-use process_build::ByProcesses;
+use process_build::{Builders, ByProcesses};
 use std::alloc::{AllocError, Global};
 use std::io::ErrorKind;
 use std::process;
@@ -187,19 +187,25 @@ fn add_cases<'a>(cases: &mut Vec<Case<'a>>, row: &'a Row) -> Result<(), AllocErr
     Ok(())
 }
 
-// What a run on a double, and by builders on it, wrote and its status.
-fn ran<D>(double: &D, line: &str) -> Result<Outcome, Fail>
+// What a run on a double, by builders on it too, wrote and its status.
+fn ran<D, M>(double: &D, make: &M, line: &str) -> Result<Outcome, Fail>
 where
-    D: Files + AllocGlobal + Threads + Wait + Sync + Processes,
+    D: Files + AllocGlobal + Threads + Wait + Sync,
+    M: Builders,
 {
     let words: Vec<&str> = line.split(' ').collect(double.alloc())?;
-    Ok(run_by(double, &ByProcesses::new(double, double), &words))
+    Ok(run_by(double, make, &words))
 }
 
 // The store folder of a case, as it is before the run.
-fn before<R: Env + Host + Processes>(rt: &R, process: u32, case: &Case<'_>) -> Result<Scene, Fail> {
+fn before<R: Env + Host + Processes, M: Builders>(
+    rt: &R,
+    make: &M,
+    process: u32,
+    case: &Case<'_>,
+) -> Result<Scene, Fail> {
     let mut scene = Scene::new(rt, process, case.row.name)?;
-    scene.take(rt, &ByProcesses::new(rt, rt), case.row.before)?;
+    scene.take(rt, make, case.row.before)?;
     Ok(scene)
 }
 
@@ -225,13 +231,15 @@ fn came<R: Host>(
 #[test]
 fn refused_calls_of_adding(rt: HostRuntime) -> Result<(), Fail> {
     let process = process::id(rt.process());
+    let make = ByProcesses::new(&rt, &rt);
     let mut stray = None;
     for case in cases(rt.alloc(), adding())?.iter() {
-        let scene = before(&rt, process, case)?;
+        let scene = before(&rt, &make, process, case)?;
         let line = scene.said(rt.alloc(), case.row.line)?;
         let double = Double::new(rt.clone()?, case.number, case.kind)?;
-        let first = ran(&double, line.as_str())?;
-        let second = ran(&Double::new(rt.clone()?, 0, case.kind)?, line.as_str())?;
+        let first = ran(&double, &ByProcesses::new(&double, &double), line.as_str())?;
+        let again = Double::new(rt.clone()?, 0, case.kind)?;
+        let second = ran(&again, &ByProcesses::new(&again, &again), line.as_str())?;
         let calls = double.calls()?;
         if !came(&rt, &scene, case, (&first, calls.as_str(), &second))? {
             stray = Some((case.row.name, case.number, case.kind));
@@ -245,13 +253,15 @@ fn refused_calls_of_adding(rt: HostRuntime) -> Result<(), Fail> {
 #[test]
 fn refused_calls_of_a_run(rt: HostRuntime) -> Result<(), Fail> {
     let process = process::id(rt.process());
+    let make = ByProcesses::new(&rt, &rt);
     let mut stray = None;
     for case in cases(rt.alloc(), run_rows())?.iter() {
-        let scene = before(&rt, process, case)?;
+        let scene = before(&rt, &make, process, case)?;
         let line = scene.said(rt.alloc(), case.row.line)?;
         let double = Double::new(rt.clone()?, case.number, case.kind)?;
-        let first = ran(&double, line.as_str())?;
-        let second = ran(&Double::new(rt.clone()?, 0, case.kind)?, line.as_str())?;
+        let first = ran(&double, &ByProcesses::new(&double, &double), line.as_str())?;
+        let again = Double::new(rt.clone()?, 0, case.kind)?;
+        let second = ran(&again, &ByProcesses::new(&again, &again), line.as_str())?;
         let calls = double.calls()?;
         if !came(&rt, &scene, case, (&first, calls.as_str(), &second))? {
             stray = Some((case.row.name, case.number, case.kind));
