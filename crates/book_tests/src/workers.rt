@@ -23,6 +23,8 @@ mod gates;
 mod heard;
 mod many;
 mod meanwhile;
+mod refusing;
+mod stops;
 mod traces;
 mod waking;
 

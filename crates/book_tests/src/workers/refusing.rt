@@ -1,0 +1,131 @@
+//! What a run is made of that stops: an outlet that refuses to show more than it showed at first,
+//! and a builder that gives the other workers time to wait.
+ghost use Rattle.std.specs.Prelude.{◌≡◌, ⊤};
+
+use crate::builders::{left, left_nothing};
+use crate::files::APART_OUT;
+use sched_core::{Answer, Job, Reason};
+use std::alloc::Global;
+use std::sync::Wait;
+use std::sync::atomic::{AtomicU64, Ordering};
+use std::thread;
+use std::time::{Clock, Duration};
+use store_run::{Build, Watch};
+use valid_table::{Entry, Outlet, OutletFault};
+use valid_view::{Front, Naming, Tells, ViewWriter};
+
+/// An outlet that shows what its view showed at first, and refuses by a fault to show more. Its
+/// view is there until it is closed, or gone before, where it has no writer.
+pub(super) struct Refusing<J: Naming, R> {
+    pub writer: Option<ViewWriter<J, R>>,
+    pub front: Front<J>,
+    pub waits: Vec<Entry>,
+    pub fault: OutletFault,
+}
+
+impl<J: Naming + Send, R: Wait + Drop> Outlet for Refusing<J, R> {
+    type Told = Front<J>;
+
+    ghost shown = { λ outlet. outlet.front };
+
+    ghost pending = { λ outlet. outlet.waits.items };
+
+    ghost names = { λ told entries. told ≡ entries };
+
+    fn append(&mut self, entry: Entry) -> Result<(), OutletFault> {
+        self.waits.push(entry)?;
+        Ok(())
+    }
+
+    fn publish(&mut self) -> Result<(), OutletFault> {
+        if self.waits.is_empty() {
+            Ok(())
+        } else {
+            Err(self.fault)
+        }
+    }
+
+    fn tell(&self) -> Front<J> {
+        self.front.again()
+    }
+
+    fn close(self) {
+        let Refusing {
+            writer,
+            front: _,
+            waits: _,
+            fault: _,
+        } = self;
+        if let Some(writer) = writer {
+            writer.close();
+        }
+    }
+}
+
+impl<J: Naming + Send, R: Wait + Drop> Tells<J> for Refusing<J, R> {
+    fn front(told: Front<J>) -> Front<J> {
+        told
+    }
+}
+
+// How many milliseconds a builder takes, so that each other worker waits when it ends, or builds.
+const HEAD_START: u64 = 100;
+
+// How often the builder of `APART` looks, once a millisecond, whether another lease has ended.
+const LOOKS: u64 = 10_000;
+
+/// A builder that leaves empty files: for `APART` once it was heard that another lease has ended,
+/// and else after a while. Where that isn't heard for ten seconds it ends with the status 99.
+#[derive(Drop)]
+pub(super) struct Lasting<'a, R> {
+    pub rt: &'a R,
+    pub alloc: Global,
+    pub ended: &'a AtomicU64,
+    pub left: &'a AtomicU64,
+}
+
+/// What is told that its worker has ended.
+pub(super) trait Leaves {
+    /// The worker has ended.
+    fn leaves(&self);
+}
+
+impl<'a, R> Leaves for Lasting<'a, R> {
+    fn leaves(&self) {
+        self.left.fetch_add(1, Ordering::SeqCst);
+    }
+}
+
+impl<'a, R: Clock> Build for Lasting<'a, R> {
+    ghost may = { λ job outcome. ⊤ };
+
+    fn run(&self, _number: u64, job: &Job) -> Result<Answer, Reason> {
+        if !is_apart(job) {
+            thread::sleep(self.rt, Duration::from_millis(HEAD_START));
+            return Ok(left(self.alloc, job, b"")?);
+        }
+        for _ in 0..LOOKS {
+            if self.ended.load(Ordering::SeqCst) > 0 {
+                return Ok(left(self.alloc, job, b"")?);
+            }
+            thread::sleep(self.rt, Duration::from_millis(1));
+        }
+        Ok(left_nothing(self.alloc, 99))
+    }
+}
+
+impl<'a, R> Watch for Lasting<'a, R> {
+    fn begun(&self, _unsettled: usize) {}
+
+    fn ended(&self, _is_good: bool, _unsettled: usize) {
+        self.ended.fetch_add(1, Ordering::SeqCst);
+    }
+}
+
+// Whether a job is that of `APART`.
+fn is_apart(job: &Job) -> bool {
+    match job.outputs.first() {
+        Some(output) => output.path.text() == APART_OUT,
+        None => false,
+    }
+}
