@@ -2,7 +2,6 @@
 #![tactic(auto)]
 
 ghost use Rattle.std.specs.Prelude.{◌≡◌, IfOk, map, string_bytes};
-ghost use Rattle.subcommands.specs.Stops.{IsStatus};
 
 use process_build::{Builders, ByProcesses, Progress, Watching};
 use std::alloc::{AllocError, Global};
@@ -12,7 +11,7 @@ use std::rt::{Env, Files};
 use std::sync::Wait;
 use std::thread::Threads;
 use std::{env, io};
-use subcommands::{print_no_memory, refuse_words, run};
+use subcommands::{Status, print_no_memory, refuse_words, run};
 
 fn main(rt: HostRuntime) -> ExitCode {
     let make = ByProcesses::new(&rt, &rt);
@@ -23,7 +22,7 @@ fn main(rt: HostRuntime) -> ExitCode {
     } else {
         run_streams(&rt, &make, &mut err)
     };
-    ExitCode::from(status)
+    ExitCode::from(status.code())
 }
 
 // Whether the terminal is said to understand no escapes.
@@ -35,12 +34,11 @@ fn is_dumb<R: Env + AllocGlobal>(rt: &R) -> bool {
 }
 
 // Runs the program on the arguments and the standard output of the process.
-fn run_streams<R, M, E>(rt: &R, make: &M, err: &mut E) -> u8
+fn run_streams<R, M, E>(rt: &R, make: &M, err: &mut E) -> Status
 where
     R: Env + Files + Print + Threads + Wait + Sync + AllocGlobal,
     M: Builders,
     E: Write,
-    ensures { IsStatus result }
 {
     match BufWriter::new(rt.alloc(), io::writer(rt)) {
         Ok(mut out) => run_arguments(rt, make, &mut out, err),
@@ -49,13 +47,12 @@ where
 }
 
 // Runs the program on the arguments of the process.
-fn run_arguments<R, M, O, E>(rt: &R, make: &M, out: &mut O, err: &mut E) -> u8
+fn run_arguments<R, M, O, E>(rt: &R, make: &M, out: &mut O, err: &mut E) -> Status
 where
     R: Env + Files + Threads + Wait + Sync + AllocGlobal,
     M: Builders,
     O: Write,
     E: Write,
-    ensures { IsStatus result }
 {
     match arguments(rt) {
         Ok(arguments) => run_texts(rt, make, &arguments, out, err),
@@ -65,13 +62,18 @@ where
 }
 
 // Runs the program on these arguments.
-fn run_texts<R, M, O, E>(rt: &R, make: &M, arguments: &[String], out: &mut O, err: &mut E) -> u8
+fn run_texts<R, M, O, E>(
+    rt: &R,
+    make: &M,
+    arguments: &[String],
+    out: &mut O,
+    err: &mut E,
+) -> Status
 where
     R: Files + Threads + Wait + Sync + AllocGlobal,
     M: Builders,
     O: Write,
     E: Write,
-    ensures { IsStatus result }
 {
     match texts(rt.alloc(), arguments) {
         Ok(words) => run(rt, make, &words, out, err),

@@ -72,7 +72,7 @@ impl Scene {
         let words: Vec<&str> = line.split(' ').collect(rt.alloc())?;
         let mut written = Vec::new(rt.alloc());
         let ended = run(rt, make, &words, &mut Narrow { room }, &mut written);
-        Ok(written.as_slice() == err.as_bytes() && ended == status)
+        Ok(written.as_slice() == err.as_bytes() && ended.code() == status)
     }
 
     // Whether a run does so in each room that is less than a text.

@@ -173,7 +173,7 @@ fn holds(alloc: Global, row: &Row) -> Result<bool, Fail> {
     let mut source = source_of(alloc, row)?;
     let dir = StoreDir::new(alloc, b"/nix/store")?;
     let (lines, status) = check_lines(alloc, &mut source, &dir, row.words)?;
-    let told = lines.as_slice() == row.lines.as_bytes() && status == row.status;
+    let told = lines.as_slice() == row.lines.as_bytes() && status.code() == row.status;
     Ok(told && source.failures() == row.failing.len() as u64)
 }
 

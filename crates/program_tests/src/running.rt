@@ -14,10 +14,10 @@ use subcommands::run;
 /// The derivation of which nothing is set.
 pub const NOTHING: &[u8; 28] = b"Derive([],[],[],\"\",\"\",[],[])";
 
-/// A run's status, and what it wrote.
+/// A run's exit status, and what it wrote.
 #[derive(Drop)]
 pub struct Outcome {
-    /// The status.
+    /// The exit status.
     pub status: u8,
     /// What it wrote to standard output.
     pub out: Vec<u8>,
@@ -70,7 +70,7 @@ where
 {
     let mut out = Vec::new(rt.alloc());
     let mut err = Vec::new(rt.alloc());
-    let status = run(rt, make, words, &mut out, &mut err);
+    let status = run(rt, make, words, &mut out, &mut err).code();
     Outcome { status, out, err }
 }
 

@@ -5,7 +5,7 @@ use crate::steps::{Row, Step};
 use process_build::ByProcesses;
 use std::process;
 use std::test::Fail;
-use subcommands::{refuse_words, run};
+use subcommands::{Status, refuse_words, run};
 
 const UNWRITABLE: &str = "nix_realise: run: Unwritable\n";
 
@@ -271,7 +271,7 @@ fn numbers_of_builders(rt: HostRuntime) -> Result<(), Fail> {
 fn words_that_are_not_text(rt: HostRuntime) {
     let mut out = Vec::new(rt.alloc());
     let mut err = Vec::new(rt.alloc());
-    assert!(rt; refuse_words(rt.alloc(), &mut out, &mut err) == 2);
+    assert!(rt; refuse_words(rt.alloc(), &mut out, &mut err) == Status::Refused);
     assert!(rt; err.starts_with(b"error: invalid UTF-8 was detected in one or more arguments\n"));
     assert!(rt; out.is_empty());
 }
@@ -283,6 +283,6 @@ fn refused_mistakes(rt: HostRuntime) {
         let words = ["nix_realise", "check", word];
         let mut out = Vec::new(rt.alloc());
         let status = run(&rt, &Idle, &words, &mut out, &mut Narrow { room: 5 });
-        assert!(rt; status == 3 && out.is_empty(), "at {word}");
+        assert!(rt; status == Status::CutShort && out.is_empty(), "at {word}");
     }
 }

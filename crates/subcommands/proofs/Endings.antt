@@ -6,6 +6,7 @@ use Rattle.subcommands.specs.Endings.{EndsBy, IsPut, IsWriteFault, path_line}
 use Rattle.subcommands.specs.StoreDirs.{IsStoreDirOf}
 use Rattle.subcommands.specs.declared.added_text.AddedText.{AddedText}
 use Rattle.subcommands.specs.declared.options.AddTextRequest.{AddTextRequest}
+use Rattle.subcommands.specs.declared.status.Status.{Status}
 use Rattle.subcommands.specs.declared.stop.Stop.{Stop}
 use Rattle.subcommands.specs.declared.stop.Stop.TheVariants.{NotWritten, JournalNotWritten}
 use Rattle.subcommands.specs.declared.stop.Stop.TheVariants.{BadStoreDir, NoMemory, Unwritable}
@@ -41,7 +42,7 @@ file_not_written added before after stop printed h = absurd h
 
 -- how the printing and the writing end is how the run does
 pub put_ends : (request : AddTextRequest) (gave journal : FileBytes)
-    (before after : Option (List ℕ)) (added : AddedText) (result : Result ℕ Stop)
+    (before after : Option (List ℕ)) (added : AddedText) (result : Result Status Stop)
     → IsAddingText request gave journal (Ok added) → IsPut added before after result
     → EndsBy request gave journal before after result
 put_ends request gave journal before after added (Ok status) is h = (h.0, (added, (is, h.1)))

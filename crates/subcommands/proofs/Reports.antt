@@ -10,6 +10,8 @@ use Rattle.std.specs.List.{list_all}
 use Rattle.nix_drv.specs.Sources.{Answer, GivesSame}
 use Rattle.nix_drv.specs.declared.source.SourceFault.TheVariants.{Missing, Device}
 use Rattle.subcommands.specs.CheckLines.{IsReport, IsVerdict, is_good, line_of}
+use Rattle.subcommands.specs.declared.status.Status.{Status}
+use Rattle.subcommands.specs.declared.status.Status.TheVariants as ended
 use Rattle.subcommands.specs.declared.verdict.Verdict.{Verdict}
 use Rattle.subcommands.specs.declared.verdict.Verdict.TheVariants.{Good, NoPath, Unreadable}
 use Rattle.subcommands.specs.declared.verdict.Verdict.TheVariants.{Refused}
@@ -31,7 +33,8 @@ verdict_same f g dir word Good same h =
     let given = h.1 in (h.0, (given.0, given.1, (same word (Ok given.0)).1 given.2, given.3))
 
 -- the empty report
-pub report_nil : (gives : List ℕ → Answer → Type 0) (dir : List ℕ) → IsReport gives dir [] [] 0
+pub report_nil : (gives : List ℕ → Answer → Type 0) (dir : List ℕ)
+    → IsReport gives dir [] [] ended.Done
 report_nil gives dir = record {
   rows = [];
   words_are = refl;
@@ -41,14 +44,15 @@ report_nil gives dir = record {
 }
 
 -- the status of some verdicts and one more
-status_for : Bool → ℕ
-status_for good = if good then 0 else 2
+status_for : Bool → Status
+status_for good = if good then ended.Done else ended.Refused
 
 and_true : (b : Bool) → (b && true) ≡ b
 and_true true = refl
 and_true false = refl
 
-status_push : (good more : Bool) → status_for (good && more) ≡ (if more then status_for good else 2)
+status_push : (good more : Bool)
+    → status_for (good && more) ≡ (if more then status_for good else ended.Refused)
 unfolding status_for
 status_push true true = refl
 status_push true false = refl
@@ -65,12 +69,14 @@ all_good_push rows word verdict =
 
 -- a report and the line of one more word
 pub report_push : (gives : List ℕ → Answer → Type 0) (dir : List ℕ) (words : List (List ℕ))
-    (text : List ℕ) (status : ℕ) (word : List ℕ) (verdict : Verdict) (all : List ℕ) (after : ℕ)
-    → IsReport gives dir words text status → IsVerdict gives dir word verdict
-    → all ≡ text ++ line_of word verdict → after ≡ (if is_good verdict then status else 2)
+    (text : List ℕ) (before : Status) (word : List ℕ) (verdict : Verdict) (all : List ℕ)
+    (after : Status)
+    → IsReport gives dir words text before → IsVerdict gives dir word verdict
+    → all ≡ text ++ line_of word verdict
+    → after ≡ (if is_good verdict then before else ended.Refused)
     → IsReport gives dir (words ++ word ∷ []) all after
 unfolding status_for
-report_push gives dir words text status word verdict all after report said grown ends = record {
+report_push gives dir words text before word verdict all after report said grown ends = record {
   rows = report.rows ++ (word, verdict) ∷ [];
   words_are =
       map-append (λ row. row.0) report.rows ((word, verdict) ∷ [])
@@ -84,7 +90,7 @@ report_push gives dir words text status word verdict all after report said grown
   is_status =
       let good : Bool = list_all (λ row. is_good row.1) report.rows in
       let both = all_good_push report.rows word verdict in
-      ends ∙ ap (λ s. if is_good verdict then s else 2) report.is_status
+      ends ∙ ap (λ s. if is_good verdict then s else ended.Refused) report.is_status
       ∙ sym (ap status_for both ∙ status_push good (is_good verdict));
 }
 

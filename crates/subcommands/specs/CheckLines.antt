@@ -10,6 +10,8 @@ use Rattle.nix_drv.specs.Sources.{Answer}
 use Rattle.nix_drv.specs.declared.fault.DrvFault.TheVariants.{NoMemory}
 use Rattle.nix_drv.specs.declared.source.SourceFault.TheVariants.{Missing, Device}
 use Rattle.subcommands.specs.FaultWords.{name_fault_words, drv_fault_words}
+use Rattle.subcommands.specs.declared.status.Status.{Status}
+use Rattle.subcommands.specs.declared.status.Status.TheVariants as ended
 use Rattle.subcommands.specs.declared.verdict.Verdict.{Verdict}
 use Rattle.subcommands.specs.declared.verdict.Verdict.TheVariants.{Good, NoPath, Unreadable}
 use Rattle.subcommands.specs.declared.verdict.Verdict.TheVariants.{Refused}
@@ -48,12 +50,13 @@ abbrev pub line_of : List ℕ → Verdict → List ℕ
 line_of word Good = codes "ok " ++ word ++ 10 ∷ []
 line_of word verdict = bad_line word (verdict_words verdict)
 
--- The lines of the words in their order, each by a verdict that may be said of it; the status is 0
--- where no verdict is bad.
+-- The lines of the words in their order, each by a verdict that may be said of it; the status says
+-- whether a verdict is bad.
 pub record IsReport (gives : List ℕ → Answer → Type 0) (dir : List ℕ) (words : List (List ℕ))
-    (text : List ℕ) (status : ℕ) : Type 0 where
+    (text : List ℕ) (status : Status) : Type 0 where
   pub rows : List (List ℕ × Verdict)
   pub words_are : map (λ row. row.0) rows ≡ words
   pub each : All (λ row. IsVerdict gives dir row.0 row.1) rows
   pub lines : text ≡ flat_map (λ row. line_of row.0 row.1) rows
-  pub is_status : status ≡ (if list_all (λ row. is_good row.1) rows then 0 else 2)
+  pub is_status : status
+      ≡ (if list_all (λ row. is_good row.1) rows then ended.Done else ended.Refused)

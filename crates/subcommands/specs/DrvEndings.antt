@@ -7,6 +7,8 @@ use Rattle.subcommands.specs.Endings.{path_line}
 use Rattle.subcommands.specs.Folders.{may_give}
 use Rattle.subcommands.specs.declared.added_drv.AddedDrv.{AddedDrv}
 use Rattle.subcommands.specs.declared.options.AddDrvRequest.{AddDrvRequest}
+use Rattle.subcommands.specs.declared.status.Status.{Status}
+use Rattle.subcommands.specs.declared.status.Status.TheVariants.{Done}
 use Rattle.subcommands.specs.declared.stop.Stop.{Stop}
 use Rattle.subcommands.specs.declared.stop.Stop.TheVariants.{NoMemory, NotWritten, Unwritable}
 
@@ -19,9 +21,9 @@ IsNotPut path before after stop =
 -- How a run ends, by what FILE gave; of the files of the folder nothing is known. Nothing is
 -- printed where the draft is refused.
 abbrev pub DrvEndsBy : AddDrvRequest → FileBytes → (before after : Option (List ℕ))
-    → Result ℕ Stop → Type 0
+    → Result Status Stop → Type 0
 DrvEndsBy request gave before after (Ok status) =
-    (status ≡ 0)
+    (status ≡ Done)
     × ((added : AddedDrv) × IsAddingDrv (λ _ answer. may_give answer) request gave (Ok added)
     × Appends before after (path_line added.path))
 DrvEndsBy request gave before after (Err stop) =
@@ -30,6 +32,6 @@ DrvEndsBy request gave before after (Err stop) =
     × IsNotPut added.path before after stop)
 
 -- how a run ends: nothing is known of what FILE gave
-abbrev pub DrvEnds : AddDrvRequest → (before after : Option (List ℕ)) → Result ℕ Stop → Type 0
+abbrev pub DrvEnds : AddDrvRequest → (before after : Option (List ℕ)) → Result Status Stop → Type 0
 DrvEnds request before after result =
     (gave : FileBytes) × DrvEndsBy request gave before after result

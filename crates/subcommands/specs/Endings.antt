@@ -5,6 +5,8 @@ use Rattle.nix_names.specs.Names.{IsStoreDir}
 use Rattle.subcommands.specs.AddedText.{FileBytes, IsAddingText}
 use Rattle.subcommands.specs.declared.added_text.AddedText.{AddedText}
 use Rattle.subcommands.specs.declared.options.AddTextRequest.{AddTextRequest}
+use Rattle.subcommands.specs.declared.status.Status.{Status}
+use Rattle.subcommands.specs.declared.status.Status.TheVariants.{Done}
 use Rattle.subcommands.specs.declared.stop.Stop.{Stop}
 use Rattle.subcommands.specs.declared.stop.Stop.TheVariants.{NotWritten, JournalNotWritten}
 use Rattle.subcommands.specs.declared.stop.Stop.TheVariants.{NoMemory, Unwritable}
@@ -23,9 +25,9 @@ IsWriteFault added stop = ⊥
 
 -- How the printing of an accepted text's path and the writing of its files end. Of a refused line
 -- nothing more is said.
-abbrev pub IsPut : AddedText → (before after : Option (List ℕ)) → Result ℕ Stop → Type 0
+abbrev pub IsPut : AddedText → (before after : Option (List ℕ)) → Result Status Stop → Type 0
 IsPut added before after (Ok status) =
-    (status ≡ 0) × Appends before after (path_line added.path)
+    (status ≡ Done) × Appends before after (path_line added.path)
 IsPut added before after (Err Unwritable) = Unit {0}
 IsPut added before after (Err stop) =
     IsWriteFault added stop × Appends before after (path_line added.path)
@@ -40,9 +42,9 @@ IsPrinted request gave journal before after added =
 -- the path is, and then a file may not be written. Of a refused line it is said that the text is
 -- not refused, of want of memory that the folder is not.
 abbrev pub EndsBy : AddTextRequest → (gave journal : FileBytes)
-    → (before after : Option (List ℕ)) → Result ℕ Stop → Type 0
+    → (before after : Option (List ℕ)) → Result Status Stop → Type 0
 EndsBy request gave journal before after (Ok status) =
-    (status ≡ 0) × ((added : AddedText) × IsPrinted request gave journal before after added)
+    (status ≡ Done) × ((added : AddedText) × IsPrinted request gave journal before after added)
 EndsBy request gave journal before after (Err (NotWritten path)) =
     (added : AddedText) × IsPrinted request gave journal before after added
     × IsWriteFault added (NotWritten path)
@@ -57,6 +59,6 @@ EndsBy request gave journal before after (Err stop) =
     (after ≡ before) × IsAddingText request gave journal (Err stop)
 
 -- how a run ends: nothing is known of what the files gave
-abbrev pub Ends : AddTextRequest → (before after : Option (List ℕ)) → Result ℕ Stop → Type 0
+abbrev pub Ends : AddTextRequest → (before after : Option (List ℕ)) → Result Status Stop → Type 0
 Ends request before after result =
     (gave : FileBytes) × (journal : FileBytes) × EndsBy request gave journal before after result

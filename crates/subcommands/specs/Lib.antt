@@ -12,6 +12,7 @@ pub mod JournalFiles
 pub mod Realising
 pub mod Registering
 pub mod Requests
+pub mod Statuses
 pub mod Stops
 pub mod StoreDirs
 pub mod Tasks

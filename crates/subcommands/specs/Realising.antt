@@ -15,15 +15,18 @@ use Rattle.subcommands.specs.AddedText.{FileBytes}
 use Rattle.subcommands.specs.Folders.{may_give}
 use Rattle.subcommands.specs.Tasks.{IsTaking}
 use Rattle.subcommands.specs.declared.options.RealiseRequest.{RealiseRequest}
+use Rattle.subcommands.specs.declared.status.Status.{Status}
+use Rattle.subcommands.specs.declared.status.Status.TheVariants.{Done, Unrealised}
 use Rattle.subcommands.specs.declared.stop.Stop.{Stop}
 use Rattle.subcommands.specs.declared.stop.Stop.TheVariants.{JournalNotWritten, NoMemory, Run}
 use Rattle.subcommands.specs.declared.stop.Stop.TheVariants.{Unwritable}
 use Rattle.subcommands.specs.declared.task.Task.{Task}
 
--- the status: 0 where each root was built or reused, else 1
-abbrev pub roots_status : RunOver → History → ℕ
+-- the status: all is done where each root was built or reused
+abbrev pub roots_status : RunOver → History → Status
 roots_status run history =
-    if list_all (λ d. is_good (state_in run history d)) run.graph.roots then 0 else 1
+    if list_all (λ d. is_good (state_in run history d)) run.graph.roots
+    then Done else Unrealised
 
 -- what a builder may give for a job
 abbrev pub May : Type 1
@@ -41,7 +44,7 @@ IsFallingShort may request task fault = (book : Option Ledger)
 
 -- How a run ends with a settled book: standard output gets its report, and nothing where the
 -- journal cannot be written.
-abbrev pub BookEnds : Ledger → (before after : Option (List ℕ)) → Result ℕ Stop → Type 0
+abbrev pub BookEnds : Ledger → (before after : Option (List ℕ)) → Result Status Stop → Type 0
 BookEnds book before after (Ok status) =
     ((text : List ℕ) × IsReportIn book.run book.history text × Appends before after text)
     × (status ≡ roots_status book.run book.history)
@@ -53,7 +56,7 @@ BookEnds book before after (Err stop) = ⊥
 -- How a run ends over a plan and a journal: with a settled book, or with the workers' fault and
 -- nothing printed.
 abbrev pub RunEnds : May → RealiseRequest → Task → (before after : Option (List ℕ))
-    → Result ℕ Stop → Type 0
+    → Result Status Stop → Type 0
 RunEnds may request task before after result =
     ((book : Ledger) × IsSettledBook may request task book × BookEnds book before after result)
     ⊎ ((fault : RunFault) × (result ≡ Err (Run fault)) × (after ≡ before)
@@ -63,7 +66,7 @@ RunEnds may request task before after result =
 -- where it is found out that the journal can't be written, or where there is no memory for that or
 -- for the builders.
 abbrev pub RealiseEndsBy : May → RealiseRequest → (gave : FileBytes)
-    → (before after : Option (List ℕ)) → Result ℕ Stop → Type 0
+    → (before after : Option (List ℕ)) → Result Status Stop → Type 0
 RealiseEndsBy may request gave before after result =
     ((stop : Stop) × (result ≡ Err stop) × (after ≡ before)
     × IsTaking (λ _ answer. may_give answer) request gave (Err stop))
@@ -72,7 +75,7 @@ RealiseEndsBy may request gave before after result =
     ⊎ (((result ≡ Err JournalNotWritten) ⊎ (result ≡ Err NoMemory)) × (after ≡ before))))
 
 -- how a run ends: nothing is known of what the journal file gave
-abbrev pub RealiseEnds : May → RealiseRequest → (before after : Option (List ℕ)) → Result ℕ Stop
-    → Type 0
+abbrev pub RealiseEnds : May → RealiseRequest → (before after : Option (List ℕ))
+    → Result Status Stop → Type 0
 RealiseEnds may request before after result =
     (gave : FileBytes) × RealiseEndsBy may request gave before after result

@@ -13,6 +13,8 @@ use Rattle.valid_table.specs.declared.fault.TableFault.{TableFault}
 use Rattle.valid_table.specs.declared.fault.TableFault.TheVariants as table
 use Rattle.subcommands.specs.FaultWords.{name_fault_words, run_fault_words, table_fault_words}
 use Rattle.subcommands.specs.GraphWords.{node_fault_words}
+use Rattle.subcommands.specs.declared.status.Status.{Status}
+use Rattle.subcommands.specs.declared.status.Status.TheVariants.{Done, Refused, CutShort}
 use Rattle.subcommands.specs.declared.stop.Stop.{Stop}
 use Rattle.subcommands.specs.declared.stop.Stop.TheVariants.{BadStoreDir, Unreadable, TooLong}
 use Rattle.subcommands.specs.declared.stop.Stop.TheVariants.{BadDraft, BadDrv}
@@ -82,42 +84,38 @@ abbrev pub stop_line : Stop → List ℕ
 stop_line stop =
     codes "nix_realise: " ++ blamed_of stop ++ codes ": " ++ stop_fault_words stop ++ 10 ∷ []
 
--- the status: 2 where what was given is refused, 3 for a journal that can't be read, workers that
--- end too early, want of memory and a refused write
-abbrev pub status_of : Stop → ℕ
-status_of (BadStoreDir dir) = 2
-status_of (Unreadable file) = 2
-status_of (TooLong file) = 2
-status_of (BadDraft file fault) = 2
-status_of (BadName name) = 2
-status_of (NoPath word fault) = 2
-status_of (BadDrv path fault) = 2
-status_of (BadJournal fault) = 2
-status_of JournalUnreadable = 3
-status_of (Run fault) = 3
-status_of (NotWritten path) = 3
-status_of JournalNotWritten = 3
-status_of NoMemory = 3
-status_of Unwritable = 3
+-- the status: one for what was given and is refused, and one for a journal that can't be read,
+-- workers that end too early, want of memory and a refused write
+abbrev pub status_of : Stop → Status
+status_of (BadStoreDir dir) = Refused
+status_of (Unreadable file) = Refused
+status_of (TooLong file) = Refused
+status_of (BadDraft file fault) = Refused
+status_of (BadName name) = Refused
+status_of (NoPath word fault) = Refused
+status_of (BadDrv path fault) = Refused
+status_of (BadJournal fault) = Refused
+status_of JournalUnreadable = CutShort
+status_of (Run fault) = CutShort
+status_of (NotWritten path) = CutShort
+status_of JournalNotWritten = CutShort
+status_of NoMemory = CutShort
+status_of Unwritable = CutShort
 
--- A run ends with the line and the status of what ends it, or with status 3 where the line could
--- not be made or written.
-abbrev pub IsTold : (before after : Option (List ℕ)) → Stop → (status : ℕ) → Type 0
+-- A run ends with the line and the status of what ends it, or is cut short where the line could not
+-- be made or written.
+abbrev pub IsTold : (before after : Option (List ℕ)) → Stop → Status → Type 0
 IsTold before after stop status =
-    ((status ≡ status_of stop) × Appends before after (stop_line stop)) ⊎ (status ≡ 3)
+    ((status ≡ status_of stop) × Appends before after (stop_line stop)) ⊎ (status ≡ CutShort)
 
--- the status of a run: all well, a root that was not realised, something refused, or nothing to be
--- said
-abbrev pub IsStatus : ℕ → Type 0
-IsStatus status = (status ≡ 0) ⊎ (status ≡ 1) ⊎ (status ≡ 2) ⊎ (status ≡ 3)
-
--- the status of a run that ends with `clap`'s text: 0 for help and the version, 2 for a mistake in
--- the words; 3 for want of memory, or where the text is refused
-abbrev pub IsUsageStatus : ErrorKind → ℕ → Type 0
-IsUsageStatus DisplayHelp status = (status ≡ 0) ⊎ (status ≡ 3)
-IsUsageStatus DisplayVersion status = (status ≡ 0) ⊎ (status ≡ 3)
-IsUsageStatus OutOfMemory status = status ≡ 3
-IsUsageStatus kind status = (status ≡ 2) ⊎ (status ≡ 3)
+-- the status of a run that ends with `clap`'s text: help and the version are what was asked for, a
+-- mistake in the words is refused; the run is cut short for want of memory, or where the text is
+-- refused
+abbrev pub IsUsageStatus : ErrorKind → Status → Type 0
+IsUsageStatus DisplayHelp status = (status ≡ Done) ⊎ (status ≡ CutShort)
+IsUsageStatus DisplayVersion status = (status ≡ Done) ⊎ (status ≡ CutShort)
+IsUsageStatus OutOfMemory status = status ≡ CutShort
+IsUsageStatus kind status = (status ≡ Refused) ⊎ (status ≡ CutShort)
 
 -- what `check` ends with in place of its report: a folder that is none, want of memory, or a folder
 -- and a refused write

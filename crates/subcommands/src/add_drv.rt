@@ -9,6 +9,7 @@ use crate::added_drv::{AddedDrv, added_drv};
 use crate::files::read_text;
 use crate::folder::FolderSource;
 use crate::options::AddDrvRequest;
+use crate::status::Status;
 use crate::stop::Stop;
 use crate::store_dir::store_dir;
 use std::io::Write;
@@ -22,7 +23,7 @@ pub fn add_drv<'a, R: Files + AllocGlobal, O: Write>(
     rt: &R,
     request: &AddDrvRequest<'a>,
     out: &mut O,
-) -> Result<u8, Stop<'a>>
+) -> Result<Status, Stop<'a>>
     ensures { DrvEnds request.now (O.contents out.old) (O.contents out.new) result }
 {
     store_dir(rt.alloc(), request.store_dir)?;
@@ -30,7 +31,7 @@ pub fn add_drv<'a, R: Files + AllocGlobal, O: Write>(
     let mut source = FolderSource::new(rt);
     let added = added_drv(rt.alloc(), &mut source, request, draft)?;
     put(rt, added, out)?;
-    Ok(0)
+    Ok(Status::Done)
 }
 
 // Writes a derivation at its path, and prints the path.

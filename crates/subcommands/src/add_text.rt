@@ -8,6 +8,7 @@ use crate::files::read_text;
 use crate::journal_file::JournalFile;
 use crate::options::AddTextRequest;
 use crate::printing::print_bytes;
+use crate::status::Status;
 use crate::stop::Stop;
 use crate::store_dir::store_dir;
 use crate::whole_file::write_whole;
@@ -26,7 +27,7 @@ pub fn add_text<'a, R: Files + AllocGlobal, O: Write>(
     rt: &R,
     request: &AddTextRequest<'a>,
     out: &mut O,
-) -> Result<u8, Stop<'a>>
+) -> Result<Status, Stop<'a>>
     ensures { Ends request.now (O.contents out.old) (O.contents out.new) result }
 {
     store_dir(rt.alloc(), request.store_dir)?;
@@ -43,14 +44,14 @@ fn put<'a, R: Files + AllocGlobal, O: Write>(
     file: &JournalFile,
     added: AddedText,
     out: &mut O,
-) -> Result<u8, Stop<'a>>
+) -> Result<Status, Stop<'a>>
     ensures { IsPut added (O.contents out.old) (O.contents out.new) result }
 {
     let Ok(()) = print_path(&added.path, out) else {
         return Err(Stop::Unwritable);
     };
     write_files(rt, file, added)?;
-    Ok(0)
+    Ok(Status::Done)
 }
 
 /// Prints the line of a path.

@@ -11,6 +11,7 @@
 //! | `whole_file` | a file that is written whole or not at all |
 //! | `journal_file` | the journal file: its path, read and written |
 //! | `stop` | why a run ends without its report |
+//! | `status` | the status of a run |
 //! | `fault_words`, `graph_words` | the words of faults |
 //! | `verdict`, `check` | what `check` says of one word; its lines |
 //! | `added_text`, `add_text` | what `add-text` makes of a text; the subcommand |
@@ -39,6 +40,7 @@ mod printing;
 mod program;
 mod realise;
 mod settled;
+mod status;
 mod stop;
 mod store_dir;
 mod task;
@@ -49,3 +51,4 @@ mod words;
 pub use check::check_lines;
 pub use folder::FolderSource;
 pub use program::{print_no_memory, refuse_words, run};
+pub use status::Status;

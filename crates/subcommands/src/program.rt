@@ -5,7 +5,7 @@ ghost use Rattle.clap.specs.Words.{kind_of};
 ghost use Rattle.nix_names.specs.Names.{IsStoreDir};
 ghost use Rattle.subcommands.specs.CheckLines.{IsReport};
 ghost use Rattle.subcommands.specs.Folders.{may_give};
-ghost use Rattle.subcommands.specs.Stops.{IsStatus, IsStopOf, IsTold, IsUsageStatus};
+ghost use Rattle.subcommands.specs.Stops.{IsStopOf, IsTold, IsUsageStatus};
 
 use crate::add_drv::add_drv;
 use crate::add_text::add_text;
@@ -15,6 +15,7 @@ use crate::folder::FolderSource;
 use crate::options::{CheckRequest, Request};
 use crate::printing::{print_bytes, print_text};
 use crate::realise::realise;
+use crate::status::Status;
 use crate::stop::Stop;
 use crate::store_dir::store_dir;
 use crate::words::{not_text, request};
@@ -31,16 +32,19 @@ use std::thread::Threads;
 const NO_MEMORY_LINE: &[u8; 27] = b"nix_realise: run: NoMemory\n";
 
 /// Runs the program on a command line, whose first word is the program's own name, and gives the
-/// status: 0; 1 where a root of `realise` was not realised; 2 where the input was refused or a word
-/// of `check` is bad; 3 for want of memory, workers that end too early or a refused write, be it to
-/// standard output or to a file.
-pub fn run<'a, R, M, O, E>(rt: &R, make: &M, words: &'a [&'a str], out: &mut O, err: &mut E) -> u8
+/// status.
+pub fn run<'a, R, M, O, E>(
+    rt: &R,
+    make: &M,
+    words: &'a [&'a str],
+    out: &mut O,
+    err: &mut E,
+) -> Status
 where
     R: Files + Threads + Wait + Sync + AllocGlobal,
     M: Builders,
     O: Write,
     E: Write,
-    ensures { IsStatus result }
 {
     match request(rt.alloc(), words) {
         Ok(request) => run_request(rt, make, &request, out, err),
@@ -49,13 +53,18 @@ where
 }
 
 // Runs a subcommand, and ends with its status or with the line that tells why it stopped.
-fn run_request<R, M, O, E>(rt: &R, make: &M, request: &Request<'_>, out: &mut O, err: &mut E) -> u8
+fn run_request<R, M, O, E>(
+    rt: &R,
+    make: &M,
+    request: &Request<'_>,
+    out: &mut O,
+    err: &mut E,
+) -> Status
 where
     R: Files + Threads + Wait + Sync + AllocGlobal,
     M: Builders,
     O: Write,
     E: Write,
-    ensures { IsStatus result }
 {
     let outcome = match request {
         Request::Check(request) => check(rt, request, out),
@@ -67,7 +76,7 @@ where
 }
 
 // Ends a run with its status, or with the line and the status of what stopped it.
-fn end<E: Write>(alloc: Global, outcome: Result<u8, Stop<'_>>, err: &mut E) -> u8
+fn end<E: Write>(alloc: Global, outcome: Result<Status, Stop<'_>>, err: &mut E) -> Status
     ensures done { IfOk outcome.entry (λ status. (result ≡ status)
         × (E.contents err.new ≡ E.contents err.old)) }
     ensures stopped { IfErr outcome.entry (λ stop.
@@ -80,8 +89,8 @@ fn end<E: Write>(alloc: Global, outcome: Result<u8, Stop<'_>>, err: &mut E) -> u
 }
 
 /// Ends a run on a command line that has a word which is not UTF-8.
-pub fn refuse_words<O: Write, E: Write>(alloc: Global, out: &mut O, err: &mut E) -> u8
-    ensures { (result ≡ 2) ⊎ (result ≡ 3) }
+pub fn refuse_words<O: Write, E: Write>(alloc: Global, out: &mut O, err: &mut E) -> Status
+    ensures { (result ≡ Status.Refused) ⊎ (result ≡ Status.CutShort) }
 {
     match not_text(alloc) {
         Ok(fault) => print_usage(alloc, &fault, out, err),
@@ -90,8 +99,8 @@ pub fn refuse_words<O: Write, E: Write>(alloc: Global, out: &mut O, err: &mut E)
 }
 
 /// Ends a run with a line that names the fault, and gives its status. Where there is no memory for
-/// the line, or it is refused, the status is 3.
-pub fn print_stop<E: Write>(alloc: Global, stop: &Stop<'_>, err: &mut E) -> u8
+/// the line, or it is refused, the run is cut short.
+pub fn print_stop<E: Write>(alloc: Global, stop: &Stop<'_>, err: &mut E) -> Status
     ensures { IsTold (E.contents err.old) (E.contents err.new) stop.now result }
 {
     let Ok(line) = stop_line(alloc, stop) else {
@@ -99,17 +108,17 @@ pub fn print_stop<E: Write>(alloc: Global, stop: &Stop<'_>, err: &mut E) -> u8
     };
     match print_bytes(&line, err) {
         Ok(()) => stop.status(),
-        Err(_) => 3,
+        Err(_) => Status::CutShort,
     }
 }
 
-/// Ends a run for want of memory: status 3, and takes none.
-pub fn print_no_memory<E: Write>(err: &mut E) -> u8
-    ensures { result ≡ 3 }
+/// Ends a run for want of memory, and takes none.
+pub fn print_no_memory<E: Write>(err: &mut E) -> Status
+    ensures { result ≡ Status.CutShort }
 {
     // The status is the same where the line is refused.
     let _ = print_bytes(NO_MEMORY_LINE, err);
-    3
+    Status::CutShort
 }
 
 // Ends a run with the text of `clap`: a mistake in the words, or the help or version that was asked
@@ -119,7 +128,7 @@ fn print_usage<O: Write, E: Write>(
     fault: &clap::Error,
     out: &mut O,
     err: &mut E,
-) -> u8
+) -> Status
     ensures { IsUsageStatus (kind_of fault.now) result }
 {
     if fault.kind() == ErrorKind::OutOfMemory {
@@ -127,12 +136,12 @@ fn print_usage<O: Write, E: Write>(
     }
     if fault.use_stderr() {
         return match print_text(fault, err) {
-            Ok(()) => 2,
-            Err(_) => 3,
+            Ok(()) => Status::Refused,
+            Err(_) => Status::CutShort,
         };
     }
     match print_text(fault, out) {
-        Ok(()) => 0,
+        Ok(()) => Status::Done,
         Err(_) => print_stop(alloc, &Stop::Unwritable, err),
     }
 }
@@ -142,7 +151,7 @@ fn check<'a, R: Files + AllocGlobal, O: Write>(
     rt: &R,
     request: &CheckRequest<'a>,
     out: &mut O,
-) -> Result<u8, Stop<'a>>
+) -> Result<Status, Stop<'a>>
     ensures report { IfOk result (λ status. (text : List ℕ)
         × IsReport (λ _ answer. may_give answer) request.now.store_dir.now
         (map (λ w. w.now) request.now.drvs.items) text status
@@ -160,7 +169,7 @@ fn check<'a, R: Files + AllocGlobal, O: Write>(
 fn report<'a, R: Files + AllocGlobal>(
     rt: &R,
     request: &CheckRequest<'a>,
-) -> Result<(Vec<u8>, u8), Stop<'a>>
+) -> Result<(Vec<u8>, Status), Stop<'a>>
     ensures report { IfOk result (λ r.
         IsReport (λ _ answer. may_give answer) request.now.store_dir.now
         (map (λ w. w.now) request.now.drvs.items) r.0.items r.1) }

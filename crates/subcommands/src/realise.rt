@@ -13,6 +13,7 @@ use crate::journal_file::JournalFile;
 use crate::options::RealiseRequest;
 use crate::printing::print_bytes;
 use crate::settled::{journal_bytes, report_of, roots_status};
+use crate::status::Status;
 use crate::stop::Stop;
 use crate::task::{Task, planned};
 use process_build::Builders;
@@ -36,7 +37,7 @@ pub fn realise<'a, R, M, O>(
     make: &M,
     request: &RealiseRequest<'a>,
     out: &mut O,
-) -> Result<u8, Stop<'a>>
+) -> Result<Status, Stop<'a>>
 where
     R: Files + AllocGlobal + Threads + Wait + Sync,
     M: Builders,
@@ -76,7 +77,7 @@ pub fn run_task<'a, R, B, O>(
     task: &Task,
     builders: Vec<B>,
     out: &mut O,
-) -> Result<u8, Stop<'a>>
+) -> Result<Status, Stop<'a>>
 where
     R: Files + AllocGlobal + Threads + Wait + Sync,
     B: Build + Watch + Send + Drop,
@@ -96,7 +97,7 @@ fn run_named<'a, J, R, B, O>(
     task: &Task,
     builders: Vec<B>,
     out: &mut O,
-) -> Result<u8, Stop<'a>>
+) -> Result<Status, Stop<'a>>
 where
     J: Naming + Send + Sync,
     R: Files + AllocGlobal + Threads + Wait + Sync,
@@ -120,7 +121,7 @@ fn end<'a, R: Files + AllocGlobal, V: Outlet, O: Write>(
     file: &JournalFile,
     book: Book<V>,
     out: &mut O,
-) -> Result<u8, Stop<'a>>
+) -> Result<Status, Stop<'a>>
     requires { IsRunSettled book.run book.history }
     ensures { BookEnds book (O.contents out.old) (O.contents out.new) result }
 {
@@ -152,7 +153,7 @@ fn tell<'a, R: Files + AllocGlobal, V: Outlet, O: Write>(
     file: &JournalFile,
     book: &Book<V>,
     out: &mut O,
-) -> Result<u8, Stop<'a>>
+) -> Result<Status, Stop<'a>>
     requires { IsRunSettled book.now.run book.now.history }
     ensures { BookEnds book.now (O.contents out.old) (O.contents out.new) result }
 {

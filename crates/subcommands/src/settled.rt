@@ -6,14 +6,16 @@ ghost use Rattle.sched_core.specs.Reports.{IsReportIn};
 ghost use Rattle.sched_core.specs.States.{is_good};
 ghost use Rattle.subcommands.specs.Realising.{roots_status};
 
+use crate::status::Status;
 use crate::stop::Stop;
 use crate::whole_file::Written;
 use sched_core::{Book, BookFault, State};
 use std::alloc::Global;
 use valid_table::Outlet;
 
-/// The status of a run with this book: 0 where each root was built or reused, else 1.
-pub fn roots_status<O: Outlet>(book: &Book<O>) -> u8
+/// The status of a run with this book: `Done` where each root was built or reused, else
+/// `Unrealised`.
+pub fn roots_status<O: Outlet>(book: &Book<O>) -> Status
     ensures { result ≡ roots_status book.now.run book.now.history }
 {
     let plan = book.plan();
@@ -21,10 +23,10 @@ pub fn roots_status<O: Outlet>(book: &Book<O>) -> u8
     'roots: for root in plan.roots() {
         prove!(*root < count);
         if !is_realised(book.state(*root)) {
-            return 1;
+            return Status::Unrealised;
         }
     }
-    0
+    Status::Done
 }
 
 // Whether a derivation in this state was built or reused.

@@ -2,6 +2,7 @@
 ghost use Rattle.std.specs.Prelude.{◌≡◌};
 ghost use Rattle.subcommands.specs.Stops.{blamed_of, number_of, status_of};
 
+use crate::status::Status;
 use drv_graph::NodeFault;
 use nix_names::{NameFault, StorePath};
 use std::alloc::{AllocError, AllocFailed};
@@ -60,8 +61,8 @@ impl Stop<'_> {
         }
     }
 
-    /// The status of the run: 2 where the input is refused, else 3.
-    pub fn status(&self) -> u8
+    /// The status of the run: `Refused` where the input is, else `CutShort`.
+    pub fn status(&self) -> Status
         ensures { result ≡ status_of self.now }
     {
         match self {
@@ -72,13 +73,13 @@ impl Stop<'_> {
             | Stop::BadName(_)
             | Stop::NoPath(..)
             | Stop::BadDrv(..)
-            | Stop::BadJournal(_) => 2,
+            | Stop::BadJournal(_) => Status::Refused,
             Stop::JournalUnreadable
             | Stop::Run(_)
             | Stop::NotWritten(_)
             | Stop::JournalNotWritten
             | Stop::NoMemory
-            | Stop::Unwritable => 3,
+            | Stop::Unwritable => Status::CutShort,
         }
     }
 

@@ -1,13 +1,14 @@
 use Rattle.std.proofs.Common.{◌≡◌, ◌∙◌, refl, Bool, if◌then◌else◌}
 use Rattle.subcommands.proofs.Reports.{report_push, verdict_same, words_more}
 use Rattle.subcommands.specs.CheckLines.{is_good}
+use Rattle.subcommands.specs.declared.status.Status.TheVariants.{Refused}
 use Rattle.subcommands.proofs.check.check_lines.Goals as goal
 use Rattle.subcommands.proofs.check.check_lines.Goals.{then-not-is_good, else-not-is_good}
 
 pub loop-word-preserved : goal.loop-word-preserved
 loop-word-preserved g c =
     let good : Bool = is_good c.in_ok-verdict.verdict in
-    let ends : c.if-not-is_good.status ≡ (if good then c.loop-word.status else 2) =
+    let ends : c.if-not-is_good.status ≡ (if good then c.loop-word.status else Refused) =
     elim c.if-not-is_good.branch [
       | then-not-is_good w ↦ w.status-is ∙ rw (← w.if-not-is_good.ensures) refl
       | else-not-is_good w ↦ w.status-is ∙ rw (← w.if-not-is_good.ensures) refl

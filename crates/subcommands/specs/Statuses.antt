@@ -1,0 +1,12 @@
+-- The exit statuses of the process.
+use Rattle.std.specs.Prelude.{ℕ}
+use Rattle.subcommands.specs.declared.status.Status.{Status}
+use Rattle.subcommands.specs.declared.status.Status.TheVariants.{Done, Unrealised, Refused}
+use Rattle.subcommands.specs.declared.status.Status.TheVariants.{CutShort}
+
+-- the number by which the process tells how its run ended
+abbrev pub code_of : Status → ℕ
+code_of Done = 0
+code_of Unrealised = 1
+code_of Refused = 2
+code_of CutShort = 3
