@@ -1,7 +1,8 @@
 //! The program `nix_realise`: the arguments, the standard streams and the builders of a run.
 #![tactic(auto)]
 
-ghost use Rattle.std.specs.Prelude.{◌≡◌, IfOk, map, string_bytes};
+ghost use Rattle.std.specs.Prelude.{◌≡◌, ◌⊎◌, IfOk, map, string_bytes};
+ghost use Rattle.subcommands.specs.ProgramEndings.{ProgramEnds};
 
 use process_build::{Builders, ByProcesses, Progress, Watching};
 use std::alloc::{AllocError, Global};
@@ -62,18 +63,15 @@ where
 }
 
 // Runs the program on these arguments.
-fn run_texts<R, M, O, E>(
-    rt: &R,
-    make: &M,
-    arguments: &[String],
-    out: &mut O,
-    err: &mut E,
-) -> Status
+fn run_texts<R, M, O, E>(rt: &R, make: &M, arguments: &[String], out: &mut O, err: &mut E) -> Status
 where
     R: Files + Threads + Wait + Sync + AllocGlobal,
     M: Builders,
     O: Write,
     E: Write,
+    ensures { ProgramEnds M.Builder.may (map string_bytes arguments.now)
+        (O.contents out.old, O.contents out.new) (E.contents err.old, E.contents err.new) result
+        ⊎ ((O.contents out.new ≡ O.contents out.old) × (result ≡ Status.CutShort)) }
 {
     match texts(rt.alloc(), arguments) {
         Ok(words) => run(rt, make, &words, out, err),

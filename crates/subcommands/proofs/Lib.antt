@@ -6,3 +6,4 @@ pub mod Reports
 pub mod Rows
 pub mod Tasks
 pub mod Unwritten
+pub mod Usage

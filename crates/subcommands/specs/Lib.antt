@@ -9,6 +9,7 @@ pub mod Files
 pub mod Folders
 pub mod GraphWords
 pub mod JournalFiles
+pub mod ProgramEndings
 pub mod Realising
 pub mod Registering
 pub mod Requests

@@ -1,9 +1,6 @@
 -- What ends a run: its line, the number of the fault, and the status of the run.
 use Rattle.std.specs.Prelude.{◌≡◌, ◌⊎◌, ℕ, List, [], ◌∷◌, ◌++◌, Option, codes}
 use Rattle.std.specs.Io.KnownBytes.{Appends}
-use Rattle.clap.specs.declared.error.kind.ErrorKind.{ErrorKind}
-use Rattle.clap.specs.declared.error.kind.ErrorKind.TheVariants.{DisplayHelp, DisplayVersion}
-use Rattle.clap.specs.declared.error.kind.ErrorKind.TheVariants.{OutOfMemory}
 use Rattle.drv_graph.specs.Faults.{node_number_of}
 use Rattle.nix_names.specs.Faults.{number_of as name_number_of}
 use Rattle.nix_names.specs.Names.{IsStoreDir}
@@ -14,7 +11,7 @@ use Rattle.valid_table.specs.declared.fault.TableFault.TheVariants as table
 use Rattle.subcommands.specs.FaultWords.{name_fault_words, run_fault_words, table_fault_words}
 use Rattle.subcommands.specs.GraphWords.{node_fault_words}
 use Rattle.subcommands.specs.declared.status.Status.{Status}
-use Rattle.subcommands.specs.declared.status.Status.TheVariants.{Done, Refused, CutShort}
+use Rattle.subcommands.specs.declared.status.Status.TheVariants.{Refused, CutShort}
 use Rattle.subcommands.specs.declared.stop.Stop.{Stop}
 use Rattle.subcommands.specs.declared.stop.Stop.TheVariants.{BadStoreDir, Unreadable, TooLong}
 use Rattle.subcommands.specs.declared.stop.Stop.TheVariants.{BadDraft, BadDrv}
@@ -107,15 +104,6 @@ status_of Unwritable = CutShort
 abbrev pub IsTold : (before after : Option (List ℕ)) → Stop → Status → Type 0
 IsTold before after stop status =
     ((status ≡ status_of stop) × Appends before after (stop_line stop)) ⊎ (status ≡ CutShort)
-
--- the status of a run that ends with `clap`'s text: help and the version are what was asked for, a
--- mistake in the words is refused; the run is cut short for want of memory, or where the text is
--- refused
-abbrev pub IsUsageStatus : ErrorKind → Status → Type 0
-IsUsageStatus DisplayHelp status = (status ≡ Done) ⊎ (status ≡ CutShort)
-IsUsageStatus DisplayVersion status = (status ≡ Done) ⊎ (status ≡ CutShort)
-IsUsageStatus OutOfMemory status = status ≡ CutShort
-IsUsageStatus kind status = (status ≡ Refused) ⊎ (status ≡ CutShort)
 
 -- what `check` ends with in place of its report: a folder that is none, want of memory, or a folder
 -- and a refused write

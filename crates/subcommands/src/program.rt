@@ -1,11 +1,12 @@
 //! One run of the program.
-ghost use Rattle.std.specs.Prelude.{◌≡◌, ◌⊎◌, IfErr, IfOk, List, ℕ, map};
-ghost use Rattle.std.specs.Io.KnownBytes.{Appends};
+ghost use Rattle.std.specs.Prelude.{◌≡◌, IfErr, IfOk, map};
 ghost use Rattle.clap.specs.Words.{kind_of};
 ghost use Rattle.nix_names.specs.Names.{IsStoreDir};
 ghost use Rattle.subcommands.specs.CheckLines.{IsReport};
 ghost use Rattle.subcommands.specs.Folders.{may_give};
-ghost use Rattle.subcommands.specs.Stops.{IsStopOf, IsTold, IsUsageStatus};
+ghost use Rattle.subcommands.specs.ProgramEndings.{CheckEnds, IsToldEnd, ProgramEnds};
+ghost use Rattle.subcommands.specs.ProgramEndings.{RequestEnds, SubcommandEnds, UsageEnds};
+ghost use Rattle.subcommands.specs.Stops.{IsStopOf, IsTold};
 
 use crate::add_drv::add_drv;
 use crate::add_text::add_text;
@@ -45,6 +46,8 @@ where
     M: Builders,
     O: Write,
     E: Write,
+    ensures { ProgramEnds M.Builder.may (map (λ w. w.now) words.entry.now)
+        (O.contents out.old, O.contents out.new) (E.contents err.old, E.contents err.new) result }
 {
     match request(rt.alloc(), words) {
         Ok(request) => run_request(rt, make, &request, out, err),
@@ -65,22 +68,38 @@ where
     M: Builders,
     O: Write,
     E: Write,
+    ensures { RequestEnds M.Builder.may request.now
+        (O.contents out.old, O.contents out.new) (E.contents err.old, E.contents err.new) result }
 {
-    let outcome = match request {
+    let outcome = run_subcommand(rt, make, request, out);
+    end(rt.alloc(), outcome, err)
+}
+
+// Runs a subcommand.
+fn run_subcommand<'a, R, M, O>(
+    rt: &R,
+    make: &M,
+    request: &Request<'a>,
+    out: &mut O,
+) -> Result<Status, Stop<'a>>
+where
+    R: Files + Threads + Wait + Sync + AllocGlobal,
+    M: Builders,
+    O: Write,
+    ensures { SubcommandEnds M.Builder.may request.now (O.contents out.old, O.contents out.new)
+        result }
+{
+    match request {
         Request::Check(request) => check(rt, request, out),
         Request::AddText(request) => add_text(rt, request, out),
         Request::AddDrv(request) => add_drv(rt, request, out),
         Request::Realise(request) => realise(rt, make, request, out),
-    };
-    end(rt.alloc(), outcome, err)
+    }
 }
 
 // Ends a run with its status, or with the line and the status of what stopped it.
 fn end<E: Write>(alloc: Global, outcome: Result<Status, Stop<'_>>, err: &mut E) -> Status
-    ensures done { IfOk outcome.entry (λ status. (result ≡ status)
-        × (E.contents err.new ≡ E.contents err.old)) }
-    ensures stopped { IfErr outcome.entry (λ stop.
-        IsTold (E.contents err.old) (E.contents err.new) stop result) }
+    ensures { IsToldEnd outcome.entry (E.contents err.old, E.contents err.new) result }
 {
     match outcome {
         Ok(status) => status,
@@ -90,7 +109,8 @@ fn end<E: Write>(alloc: Global, outcome: Result<Status, Stop<'_>>, err: &mut E) 
 
 /// Ends a run on a command line that has a word which is not UTF-8.
 pub fn refuse_words<O: Write, E: Write>(alloc: Global, out: &mut O, err: &mut E) -> Status
-    ensures { (result ≡ Status.Refused) ⊎ (result ≡ Status.CutShort) }
+    ensures { UsageEnds ErrorKind.ValueValidation
+        (O.contents out.old, O.contents out.new) (E.contents err.old, E.contents err.new) result }
 {
     match not_text(alloc) {
         Ok(fault) => print_usage(alloc, &fault, out, err),
@@ -129,7 +149,8 @@ fn print_usage<O: Write, E: Write>(
     out: &mut O,
     err: &mut E,
 ) -> Status
-    ensures { IsUsageStatus (kind_of fault.now) result }
+    ensures { UsageEnds (kind_of fault.now)
+        (O.contents out.old, O.contents out.new) (E.contents err.old, E.contents err.new) result }
 {
     if fault.kind() == ErrorKind::OutOfMemory {
         return print_no_memory(err);
@@ -152,11 +173,7 @@ fn check<'a, R: Files + AllocGlobal, O: Write>(
     request: &CheckRequest<'a>,
     out: &mut O,
 ) -> Result<Status, Stop<'a>>
-    ensures report { IfOk result (λ status. (text : List ℕ)
-        × IsReport (λ _ answer. may_give answer) request.now.store_dir.now
-        (map (λ w. w.now) request.now.drvs.items) text status
-        × Appends (O.contents out.old) (O.contents out.new) text) }
-    ensures stop { IfErr result (IsStopOf request.now.store_dir.now) }
+    ensures { CheckEnds request.now (O.contents out.old, O.contents out.new) result }
 {
     let (lines, status) = report(rt, request)?;
     match print_bytes(&lines, out) {

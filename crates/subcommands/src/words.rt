@@ -1,8 +1,9 @@
 //! The words of a command line, read by `clap`.
-ghost use Rattle.std.specs.Prelude.{◌≡◌, IfOk, IfSome, codes, map, option_map};
+ghost use Rattle.std.specs.Prelude.{◌≡◌, IfErr, IfOk, IfSome, codes, map, option_map};
 ghost use Rattle.clap.specs.Words.{first_of, found_of, kind_of, one_of, rows_of};
+ghost use Rattle.subcommands.specs.ProgramEndings.{IsAsked, IsOwnFault, IsUsageFault};
 ghost use Rattle.subcommands.specs.Requests.{IsAddDrv, IsAddText, IsAskedBy, IsCheck, IsNumber};
-ghost use Rattle.subcommands.specs.Requests.{IsRealise, IsRequest, drvs_in, store_dir_in};
+ghost use Rattle.subcommands.specs.Requests.{IsRealise, drvs_in, store_dir_in};
 ghost use Rattle.subcommands.specs.Requests.{system_in, word_in};
 
 use crate::command::{
@@ -18,7 +19,9 @@ use std::alloc::{AllocError, Global};
 /// Reads a command line, whose first word is the program's own name. An error is a mistake in the
 /// words, a request for help or the version, or want of memory; its text is `clap`'s.
 pub fn request<'a>(alloc: Global, words: &'a [&'a str]) -> Result<Request<'a>, Error>
-    ensures { IfOk result (IsRequest (map (λ w. w.now) words.entry.now)) }
+    ensures ok { IfOk result (IsAsked (map (λ w. w.now) words.entry.now)) }
+    ensures err { IfErr result
+        (λ e. IsUsageFault (map (λ w. w.now) words.entry.now) (kind_of e)) }
 {
     let matches = command(alloc)?.try_get_matches_from(words)?;
     match matches.subcommand() {
@@ -33,7 +36,8 @@ fn subcommand_request<'a>(
     name: &str,
     found: &ArgMatches<'a>,
 ) -> Result<Request<'a>, Error>
-    ensures { IfOk result (IsAskedBy name.now (rows_of (found_of found.now))) }
+    ensures ok { IfOk result (IsAskedBy name.now (rows_of (found_of found.now))) }
+    ensures err { IfErr result (λ e. IsOwnFault (kind_of e)) }
 {
     match name {
         CHECK => Ok(Request::Check(check_request(alloc, found)?)),
@@ -106,7 +110,8 @@ fn add_drv_request<'a>(found: &ArgMatches<'a>) -> AddDrvRequest<'a>
 
 // What the matches of `realise` say.
 fn realise_request<'a>(alloc: Global, found: &ArgMatches<'a>) -> Result<RealiseRequest<'a>, Error>
-    ensures { IfOk result (IsRealise (rows_of (found_of found.now))) }
+    ensures ok { IfOk result (IsRealise (rows_of (found_of found.now))) }
+    ensures err { IfErr result (λ e. IsOwnFault (kind_of e)) }
 {
     let Some(jobs) = jobs_of(found) else {
         return Err(no_jobs(alloc)?);

@@ -1,0 +1,98 @@
+-- How a run of the program ends, by its words: what the two streams got, and the status.
+use Rattle.std.specs.Prelude.{◌≡◌, ◌⊎◌, ℕ, List, [], Option, Result, Ok, Err, map}
+use Rattle.std.specs.Io.KnownBytes.{Appends}
+use Rattle.clap.specs.Faults.{fault_of}
+use Rattle.clap.specs.Kinds.{IsAmong, Kinds}
+use Rattle.clap.specs.declared.error.kind.ErrorKind.{ErrorKind}
+use Rattle.clap.specs.declared.error.kind.ErrorKind.TheVariants.{DisplayHelp, DisplayVersion}
+use Rattle.clap.specs.declared.error.kind.ErrorKind.TheVariants.{MissingSubcommand, OutOfMemory}
+use Rattle.clap.specs.declared.error.kind.ErrorKind.TheVariants.{ValueValidation}
+use Rattle.subcommands.specs.CheckLines.{IsReport}
+use Rattle.subcommands.specs.CommandLine.{command_line}
+use Rattle.subcommands.specs.DrvEndings.{DrvEnds}
+use Rattle.subcommands.specs.Endings.{Ends}
+use Rattle.subcommands.specs.Folders.{may_give}
+use Rattle.subcommands.specs.Realising.{May, RealiseEnds}
+use Rattle.subcommands.specs.Requests.{IsRequest}
+use Rattle.subcommands.specs.Stops.{IsStopOf, IsTold}
+use Rattle.subcommands.specs.declared.options.CheckRequest.{CheckRequest}
+use Rattle.subcommands.specs.declared.options.Request.{Request}
+use Rattle.subcommands.specs.declared.options.Request.TheVariants.{Check, AddText, AddDrv, Realise}
+use Rattle.subcommands.specs.declared.status.Status.{Status}
+use Rattle.subcommands.specs.declared.status.Status.TheVariants.{Done, Refused, CutShort}
+use Rattle.subcommands.specs.declared.stop.Stop.{Stop}
+use Rattle.subcommands.specs.declared.stop.Stop.TheVariants.{Unwritable}
+
+-- what standard output, or standard error, held before, and holds then
+abbrev pub Stream : Type 0
+Stream = Option (List ℕ) × Option (List ℕ)
+
+-- nothing was written
+abbrev pub IsUntouched : Stream → Type 0
+IsUntouched stream = stream.1 ≡ stream.0
+
+-- How `check` ends: with its lines, or with what stops it and nothing printed, but where standard
+-- output refuses them.
+abbrev pub CheckEnds : CheckRequest → Stream → Result Status Stop → Type 0
+CheckEnds request out (Ok status) =
+    (text : List ℕ)
+    × IsReport (λ _ answer. may_give answer) request.store_dir.now
+    (map (λ w. w.now) request.drvs.items) text status
+    × Appends out.0 out.1 text
+CheckEnds request out (Err stop) =
+    IsStopOf request.store_dir.now stop × (IsUntouched out ⊎ (stop ≡ Unwritable))
+
+-- How the subcommand of a request ends.
+abbrev pub SubcommandEnds : May → Request → Stream → Result Status Stop → Type 0
+SubcommandEnds may (Check request) out outcome = CheckEnds request out outcome
+SubcommandEnds may (AddText request) out outcome = Ends request out.0 out.1 outcome
+SubcommandEnds may (AddDrv request) out outcome = DrvEnds request out.0 out.1 outcome
+SubcommandEnds may (Realise request) out outcome = RealiseEnds may request out.0 out.1 outcome
+
+-- What is told of such an end: its own status and nothing else, or why it stopped.
+abbrev pub IsToldEnd : Result Status Stop → Stream → Status → Type 0
+IsToldEnd (Ok done) err status = (status ≡ done) × IsUntouched err
+IsToldEnd (Err stop) err status = IsTold err.0 err.1 stop status
+
+-- How a run ends on a request.
+abbrev pub RequestEnds : May → Request → (out err : Stream) → Status → Type 0
+RequestEnds may request out err status =
+    (outcome : Result Status Stop) × SubcommandEnds may request out outcome
+    × IsToldEnd outcome err status
+
+-- the faults that `clap` finds in the words, help and the version among them
+unfoldable pub faults_in : (words : List (List ℕ)) → Kinds
+faults_in words = fault_of command_line words
+
+-- The words ask for this, and have no fault.
+abbrev pub IsAsked : (words : List (List ℕ)) → Request → Type 0
+IsAsked words request = IsRequest words request × (faults_in words ≡ [])
+
+-- A fault of the program's own: it has no memory, or misses a subcommand or a number of builders.
+abbrev pub IsOwnFault : ErrorKind → Type 0
+IsOwnFault kind = (kind ≡ OutOfMemory) ⊎ ((kind ≡ MissingSubcommand) ⊎ (kind ≡ ValueValidation))
+
+-- Why the words are not taken.
+abbrev pub IsUsageFault : (words : List (List ℕ)) → ErrorKind → Type 0
+IsUsageFault words kind = IsOwnFault kind ⊎ IsAmong kind (faults_in words)
+
+-- How a run ends that shows the help or the version: they are printed, or standard output refuses
+-- them.
+abbrev pub ShownEnds : (err : Stream) → Status → Type 0
+ShownEnds err status =
+    ((status ≡ Done) × IsUntouched err) ⊎ IsTold err.0 err.1 Unwritable status
+
+-- How a run ends whose words are not taken. A mistake in them goes to standard error alone; the run
+-- is cut short for want of memory, or where that is refused.
+abbrev pub UsageEnds : ErrorKind → (out err : Stream) → Status → Type 0
+UsageEnds DisplayHelp out err status = ShownEnds err status
+UsageEnds DisplayVersion out err status = ShownEnds err status
+UsageEnds OutOfMemory out err status = IsUntouched out × (status ≡ CutShort)
+UsageEnds kind out err status =
+    IsUntouched out × ((status ≡ Refused) ⊎ (status ≡ CutShort))
+
+-- How a run ends: by what the words ask for, or by what is wrong with them.
+abbrev pub ProgramEnds : May → (words : List (List ℕ)) → (out err : Stream) → Status → Type 0
+ProgramEnds may words out err status =
+    ((request : Request) × IsAsked words request × RequestEnds may request out err status)
+    ⊎ ((kind : ErrorKind) × IsUsageFault words kind × UsageEnds kind out err status)
