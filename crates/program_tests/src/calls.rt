@@ -1,5 +1,5 @@
 //! The calls of the system that each subcommand makes, and what comes of one that is refused.
-use crate::double::Double;
+use crate::double::{Double, Event};
 use crate::running::{Host, Outcome, run_by};
 use crate::scene::Scene;
 use crate::steps::Step;
@@ -33,7 +33,9 @@ struct Row {
     refusals: &'static [&'static [u8; 5]],
 }
 
-const DRAFT: &str = "Derive([(\"out\",\"\",\"\",\"\")],[],[],\"x86_64-linux\",\"/bin/sh\",[\"-c\",\
+/// A draft without inputs, whose builder writes a line.
+pub const DRAFT: &str =
+    "Derive([(\"out\",\"\",\"\",\"\")],[],[],\"x86_64-linux\",\"/bin/sh\",[\"-c\",\
     \"echo made > $out\"],[(\"k\",\"v\"),(\"out\",\"\")])";
 
 const PUT: Step = Step::Put("any", DRAFT);
@@ -187,8 +189,8 @@ fn add_cases<'a>(cases: &mut Vec<Case<'a>>, row: &'a Row) -> Result<(), AllocErr
     Ok(())
 }
 
-// What a run on a double, by builders on it too, wrote and its status.
-fn ran<D, M>(double: &D, make: &M, line: &str) -> Result<Outcome, Fail>
+/// What a run on a double, by builders on it too, wrote and its status.
+pub fn ran<D, M>(double: &D, make: &M, line: &str) -> Result<Outcome, Fail>
 where
     D: Files + AllocGlobal + Threads + Wait + Sync,
     M: Builders,
@@ -236,9 +238,9 @@ fn refused_calls_of_adding(rt: HostRuntime) -> Result<(), Fail> {
     for case in cases(rt.alloc(), adding())?.iter() {
         let scene = before(&rt, &make, process, case)?;
         let line = scene.said(rt.alloc(), case.row.line)?;
-        let double = Double::new(rt.clone()?, case.number, case.kind)?;
+        let double = Double::new(rt.clone()?, Event::Refused(case.number, case.kind))?;
         let first = ran(&double, &ByProcesses::new(&double, &double), line.as_str())?;
-        let again = Double::new(rt.clone()?, 0, case.kind)?;
+        let again = Double::new(rt.clone()?, Event::Nothing)?;
         let second = ran(&again, &ByProcesses::new(&again, &again), line.as_str())?;
         let calls = double.calls()?;
         if !came(&rt, &scene, case, (&first, calls.as_str(), &second))? {
@@ -258,9 +260,9 @@ fn refused_calls_of_a_run(rt: HostRuntime) -> Result<(), Fail> {
     for case in cases(rt.alloc(), run_rows())?.iter() {
         let scene = before(&rt, &make, process, case)?;
         let line = scene.said(rt.alloc(), case.row.line)?;
-        let double = Double::new(rt.clone()?, case.number, case.kind)?;
+        let double = Double::new(rt.clone()?, Event::Refused(case.number, case.kind))?;
         let first = ran(&double, &ByProcesses::new(&double, &double), line.as_str())?;
-        let again = Double::new(rt.clone()?, 0, case.kind)?;
+        let again = Double::new(rt.clone()?, Event::Nothing)?;
         let second = ran(&again, &ByProcesses::new(&again, &again), line.as_str())?;
         let calls = double.calls()?;
         if !came(&rt, &scene, case, (&first, calls.as_str(), &second))? {

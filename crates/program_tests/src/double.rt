@@ -1,20 +1,53 @@
-//! A runtime over another that keeps a log of each call of the system and can refuse one of them.
+//! A runtime over another that keeps a log of each call of the system, and can let something happen
+//! beside it.
 use crate::running::Plain;
 use std::alloc::{Allocator, Global};
 use std::fs::{Metadata, OpenFile, OpenOptions, Permissions};
-use std::io;
 use std::io::{ErrorKind, Read, Seek, SeekFrom, Write};
 use std::process::{Child, Command, ExitStatus, OpenProcess, Processes, Stdio};
 use std::rt::Files;
 use std::sync::{Arc, Mutex, Wait};
 use std::thread::Threads;
+use std::{fs, io};
 
-/// The calls so far, and which of them is refused, counted from 1, and with which kind of error.
+/// What happens beside that calls are made, which are counted from 1.
+#[derive(Drop)]
+pub enum Event {
+    /// Nothing.
+    Nothing,
+    /// The call with this number is refused with an error of this kind.
+    Refused(usize, ErrorKind),
+    /// Each read and each write takes one byte at most.
+    Short,
+    /// Right before the call with this number another process writes this text to the file at this
+    /// path.
+    Written(usize, String, String),
+    /// Right before the call with this number another process removes the file at this path.
+    Removed(usize, String),
+    /// Right before the call with this number another process makes a folder at this path.
+    Made(usize, String),
+}
+
+impl Event {
+    // Lets happen what happens at the call with this number.
+    fn happen<R: Plain>(&self, rt: &R, count: usize) -> io::Result<()> {
+        match self {
+            Event::Refused(number, kind) if *number == count => Err(io::Error::from(*kind)),
+            Event::Written(number, path, text) if *number == count => {
+                fs::write(rt, path.as_str(), text.as_bytes())
+            }
+            Event::Removed(number, path) if *number == count => fs::remove_file(rt, path.as_str()),
+            Event::Made(number, path) if *number == count => fs::create_dir(rt, path.as_str()),
+            _ => Ok(()),
+        }
+    }
+}
+
+/// The calls so far, and what happens beside them.
 #[derive(Drop)]
 pub struct Log {
     calls: Vec<String>,
-    refused: usize,
-    kind: ErrorKind,
+    event: Event,
 }
 
 /// A log that a runtime and its open files share.
@@ -25,15 +58,20 @@ pub struct Shared<R> {
 }
 
 impl<R: Plain> Shared<R> {
-    // Notes a call, and answers an error where it is the refused one.
+    // Notes a call, and lets happen what happens at it: an error where it is refused.
     fn note(&self, call: &str, path: &str) -> io::Result<()> {
         let line = format!(in self.rt.alloc(); "{call} {path}\n")?;
         let mut log = self.log.lock(&self.rt);
         log.calls.push(line)?;
-        if log.calls.len() == log.refused {
-            return Err(io::Error::from(log.kind));
+        log.event.happen(&self.rt, log.calls.len())
+    }
+
+    // How many bytes a read or a write takes at most.
+    fn most(&self) -> usize {
+        match self.log.lock(&self.rt).event {
+            Event::Short => 1,
+            _ => usize::MAX,
         }
-        Ok(())
     }
 
     // The same log once more.
@@ -52,15 +90,10 @@ pub struct Double<R> {
 }
 
 impl<R: Plain> Double<R> {
-    /// Over this runtime. The call with this number, counted from 1, is refused with an error of
-    /// this kind.
-    pub fn new(rt: R, refused: usize, kind: ErrorKind) -> io::Result<Double<R>> {
+    /// Over this runtime, where this happens beside the calls.
+    pub fn new(rt: R, event: Event) -> io::Result<Double<R>> {
         let calls = Vec::new(rt.alloc());
-        let log = Mutex::new(Log {
-            calls,
-            refused,
-            kind,
-        });
+        let log = Mutex::new(Log { calls, event });
         let log = Arc::new(rt.alloc(), log)?;
         Ok(Double {
             shared: Shared { rt, log },
@@ -166,14 +199,16 @@ pub struct Noted<R, F> {
 impl<R: Plain, F: Read> Read for Noted<R, F> {
     fn read(&mut self, buf: &mut [u8]) -> io::Result<usize> {
         self.shared.note("read", "")?;
-        self.file.read(buf)
+        let taken = buf.len().min(self.shared.most());
+        self.file.read(&mut buf[..taken])
     }
 }
 
 impl<R: Plain, F: Write> Write for Noted<R, F> {
     fn write(&mut self, buf: &[u8]) -> io::Result<usize> {
         self.shared.note("write", "")?;
-        self.file.write(buf)
+        let taken = buf.len().min(self.shared.most());
+        self.file.write(&buf[..taken])
     }
 
     fn flush(&mut self) -> io::Result<()> {

@@ -13,7 +13,9 @@
 //! | `progress` | the line of progress |
 //! | `starts`, `folders`, `outputs` | a builder's start, its folder, what is read of its outputs |
 //! | `places` | what is no regular file, and the permissions of a new file |
-//! | `calls`, `double` | the calls of the system, each refused; a runtime that notes them |
+//! | `calls`, `leases` | the calls of the system, each refused; those of each lease |
+//! | `hindered` | short reads and writes, and other processes that get in the way |
+//! | `double` | a runtime that notes calls, and lets something happen beside them |
 //! | `steps`, `scene` | the steps of which most rows are made, and how they are taken |
 //! | `texts`, `files`, `commands`, `sites` | paths, files, command lines and builders of a step |
 //! | `running` | runs of the program |
@@ -36,7 +38,11 @@ mod files;
 #[cfg(test)]
 mod folders;
 #[cfg(test)]
+mod hindered;
+#[cfg(test)]
 mod journals;
+#[cfg(test)]
+mod leases;
 #[cfg(test)]
 mod lines;
 #[cfg(test)]

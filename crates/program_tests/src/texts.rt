@@ -38,8 +38,8 @@ impl Names {
     }
 }
 
-// A text with another in the place of each word.
-fn replaced(alloc: Global, text: &str, word: &str, meant: &str) -> Result<String, AllocError> {
+/// A text with another in the place of each word.
+pub fn replaced(alloc: Global, text: &str, word: &str, meant: &str) -> Result<String, AllocError> {
     let parts: Vec<&str> = text.split(word).collect(alloc)?;
     parts.join(alloc, meant)
 }

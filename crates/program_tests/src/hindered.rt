@@ -1,0 +1,303 @@
+//! Runs whose reads and writes are short, and runs in whose way another process gets.
+use crate::calls::{DRAFT, ran};
+use crate::double::{Double, Event};
+use crate::running::Outcome;
+use crate::scene::Scene;
+use crate::steps::Step;
+use process_build::ByProcesses;
+use std::alloc::Global;
+use std::process;
+use std::test::Fail;
+
+// What gets in the way of a run, whose calls are counted from 1.
+enum Way {
+    // Each read and each write takes one byte at most.
+    Short,
+    // Right before a call another process writes a file with a text.
+    Writes(usize, &'static str, &'static str),
+    // It removes a file.
+    Removes(usize, &'static str),
+    // It makes a folder.
+    MakesFolder(usize, &'static str),
+}
+
+// What stands before a run, its command line, what gets in its way, what it writes to standard
+// output and standard error and its status, and the steps that are taken then.
+struct Row {
+    name: &'static str,
+    before: &'static [Step],
+    line: &'static str,
+    way: Way,
+    told: (&'static str, &'static str, u8),
+    after: &'static [Step],
+}
+
+const PUT: Step = Step::Put("any", DRAFT);
+
+const FILE: Step = Step::Write("<dir>/file", "hello\n");
+
+const TEXT: Step = Step::TextPath("text", "greeting", "hello\n");
+
+const JOURNAL: &str = "<dir>/realiser-journal";
+
+const TEMPORARY: &str = "<dir>/.nix_realise-0";
+
+const CHECK: &str = "nix_realise check --store-dir <dir> <any>";
+
+const ADD: &str = "nix_realise add-text --store-dir <dir> greeting <dir>/file";
+
+const REALISE: &str = "nix_realise realise --store-dir <dir> <any>";
+
+// The digests of this file are SHA-256 of `hello` with a newline, and of `made` with one.
+const WITH_TEXT: &str = "realiser-journal 1\nA <text> \
+    5891b5b522d5df086d0ff0b110fbd9d21bb4fc7163af34d08286a2e846f6be03\n";
+
+const ANOTHER: &str = "realiser-journal 1\nA <dir>/aaaaaaaaaaaaaaaaaaaaaaaaaaaaaaaa-x -\n";
+
+const WITH_BOTH: &str = "realiser-journal 1\nA <dir>/aaaaaaaaaaaaaaaaaaaaaaaaaaaaaaaa-x -\nA \
+    <text> 5891b5b522d5df086d0ff0b110fbd9d21bb4fc7163af34d08286a2e846f6be03\n";
+
+const WITH_OUTPUT: &str = "realiser-journal 1\nD <any>\nO <any.out> \
+    9ccbd3f1b19a1cdfd8d7c6ae48e9e822e2345f5be1a6187b19e41486c6941004\n";
+
+const GREETED: (&str, &str, u8) = ("<text>\n", "", 0);
+
+const BUILT: (&str, &str, u8) = ("built <any>\noutput <any.out>\n", "", 0);
+
+// Each file is read and written byte by byte, and nothing else comes of a run.
+static SHORT: [Row; 4] = [
+    Row {
+        name: "short-check",
+        before: &[PUT],
+        line: CHECK,
+        way: Way::Short,
+        told: ("ok <any>\n", "", 0),
+        after: &[],
+    },
+    Row {
+        name: "short-add-text",
+        before: &[FILE, TEXT, Step::Write(JOURNAL, ANOTHER)],
+        line: ADD,
+        way: Way::Short,
+        told: GREETED,
+        after: &[
+            Step::Holds("<text>", "hello\n"),
+            Step::Holds(JOURNAL, WITH_BOTH),
+            Step::Left(3),
+        ],
+    },
+    Row {
+        name: "short-add-drv",
+        before: &[PUT, Step::Remove("<any>")],
+        line: "nix_realise add-drv --store-dir <dir> any <dir>/file",
+        way: Way::Short,
+        told: ("<any>\n", "", 0),
+        after: &[Step::Run(CHECK, "ok <any>\n", "", 0), Step::Left(2)],
+    },
+    Row {
+        name: "short-realise",
+        before: &[PUT],
+        line: REALISE,
+        way: Way::Short,
+        told: BUILT,
+        after: &[Step::Holds(JOURNAL, WITH_OUTPUT), Step::Left(4)],
+    },
+];
+
+// The numbers are those of the calls in `calls`.
+static READ: [Row; 5] = [
+    // A derivation's file is removed behind the look at it, or written anew: what is read counts.
+    Row {
+        name: "derivation-removed",
+        before: &[PUT],
+        line: CHECK,
+        way: Way::Removes(2, "<any>"),
+        told: ("bad <any>: Unreadable\n", "", 2),
+        after: &[],
+    },
+    Row {
+        name: "derivation-written",
+        before: &[PUT],
+        line: CHECK,
+        way: Way::Writes(3, "<any>", "Derive("),
+        told: ("bad <any>: Syntax(7)\n", "", 2),
+        after: &[],
+    },
+    // A journal that is removed before it is opened is an empty one.
+    Row {
+        name: "journal-removed-unread",
+        before: &[FILE, TEXT, Step::Write(JOURNAL, ANOTHER)],
+        line: ADD,
+        way: Way::Removes(5, JOURNAL),
+        told: GREETED,
+        after: &[Step::Holds(JOURNAL, WITH_TEXT)],
+    },
+    // An output that is removed behind its builder's end is missing; one that is removed behind the
+    // look at it cannot be read.
+    Row {
+        name: "output-removed",
+        before: &[PUT],
+        line: REALISE,
+        way: Way::Removes(14, "<any.out>"),
+        told: ("failed <any>: MissingOutput(\"out\")\n", "", 1),
+        after: &[Step::Holds(JOURNAL, "realiser-journal 1\n")],
+    },
+    Row {
+        name: "output-removed-unread",
+        before: &[PUT],
+        line: REALISE,
+        way: Way::Removes(15, "<any.out>"),
+        told: ("failed <any>: ReadFault\n", "", 1),
+        after: &[Step::Holds(JOURNAL, "realiser-journal 1\n")],
+    },
+];
+
+static WRITTEN: [Row; 5] = [
+    // A journal that is removed, or made, behind its reading: the whole new one takes its place.
+    Row {
+        name: "journal-removed",
+        before: &[FILE, TEXT, Step::Write(JOURNAL, ANOTHER)],
+        line: ADD,
+        way: Way::Removes(13, JOURNAL),
+        told: GREETED,
+        after: &[Step::Holds(JOURNAL, WITH_BOTH), Step::Left(3)],
+    },
+    Row {
+        name: "journal-made",
+        before: &[FILE, TEXT],
+        line: ADD,
+        way: Way::Writes(10, JOURNAL, ANOTHER),
+        told: GREETED,
+        after: &[Step::Holds(JOURNAL, WITH_TEXT), Step::Left(3)],
+    },
+    // A folder takes the journal's place, or the text's: it stays, and no temporary file does.
+    Row {
+        name: "folder-for-the-journal",
+        before: &[FILE, TEXT],
+        line: ADD,
+        way: Way::MakesFolder(10, JOURNAL),
+        told: ("<text>\n", "nix_realise: journal: Unwritable\n", 3),
+        after: &[Step::Holds("<text>", "hello\n"), Step::Left(3)],
+    },
+    Row {
+        name: "folder-for-the-text",
+        before: &[FILE, TEXT],
+        line: ADD,
+        way: Way::MakesFolder(9, "<text>"),
+        told: ("<text>\n", "nix_realise: <text>: Unwritable\n", 3),
+        after: &[Step::Stands(JOURNAL, false), Step::Left(2)],
+    },
+    // The first temporary name is taken: the next one is, and that file stays as it is.
+    Row {
+        name: "temporary-name-taken",
+        before: &[FILE, TEXT],
+        line: ADD,
+        way: Way::Writes(6, TEMPORARY, "other"),
+        told: GREETED,
+        after: &[
+            Step::Holds("<text>", "hello\n"),
+            Step::Holds(JOURNAL, WITH_TEXT),
+            Step::Holds(TEMPORARY, "other"),
+            Step::Left(4),
+        ],
+    },
+];
+
+static RUN: [Row; 4] = [
+    // The build folder is made by another, or the output is: the first is no room for a builder,
+    // over the second it writes.
+    Row {
+        name: "build-folder-made",
+        before: &[PUT],
+        line: REALISE,
+        way: Way::MakesFolder(11, "<dir>/.build-0"),
+        told: ("failed <any>: NoStart\n", "", 1),
+        after: &[Step::Run(REALISE, "built <any>\noutput <any.out>\n", "", 0)],
+    },
+    Row {
+        name: "output-made",
+        before: &[PUT],
+        line: REALISE,
+        way: Way::Writes(12, "<any.out>", "other\n"),
+        told: BUILT,
+        after: &[
+            Step::Holds("<any.out>", "made\n"),
+            Step::Holds(JOURNAL, WITH_OUTPUT),
+        ],
+    },
+    // A folder takes the journal's place while a builder runs: what was built is not registered, and
+    // the same run builds it anew once the folder is moved.
+    Row {
+        name: "folder-for-the-journal-of-a-run",
+        before: &[PUT],
+        line: REALISE,
+        way: Way::MakesFolder(13, JOURNAL),
+        told: ("", "nix_realise: journal: Unwritable\n", 3),
+        after: &[
+            Step::Holds("<any.out>", "made\n"),
+            Step::Left(4),
+            Step::Move(JOURNAL, "<dir>/moved"),
+            Step::Run(REALISE, "built <any>\noutput <any.out>\n", "", 0),
+        ],
+    },
+    // The journal is made by another while a builder runs: the run's own takes its place.
+    Row {
+        name: "journal-of-a-run-made",
+        before: &[PUT],
+        line: REALISE,
+        way: Way::Writes(13, JOURNAL, ANOTHER),
+        told: BUILT,
+        after: &[Step::Holds(JOURNAL, WITH_OUTPUT), Step::Left(4)],
+    },
+];
+
+fn tables() -> [&'static [Row]; 4] {
+    [&SHORT, &READ, &WRITTEN, &RUN]
+}
+
+// What gets in the way, in a scene.
+fn event_of(alloc: Global, scene: &Scene, way: &Way) -> Result<Event, Fail> {
+    match way {
+        Way::Short => Ok(Event::Short),
+        Way::Writes(number, file, text) => {
+            let file = scene.said(alloc, file)?;
+            Ok(Event::Written(*number, file, scene.said(alloc, text)?))
+        }
+        Way::Removes(number, file) => Ok(Event::Removed(*number, scene.said(alloc, file)?)),
+        Way::MakesFolder(number, path) => Ok(Event::Made(*number, scene.said(alloc, path)?)),
+    }
+}
+
+// Whether a run wrote what its row says, and has its status.
+fn is_told(alloc: Global, scene: &Scene, row: &Row, ran: &Outcome) -> Result<bool, Fail> {
+    let (out, err, status) = row.told;
+    let (out, err) = (scene.said(alloc, out)?, scene.said(alloc, err)?);
+    Ok(
+        ran.out.as_slice() == out.as_bytes()
+            && ran.err.as_slice() == err.as_bytes()
+            && ran.status == status,
+    )
+}
+
+#[test]
+fn hindered_runs(rt: HostRuntime) -> Result<(), Fail> {
+    let process = process::id(rt.process());
+    let make = ByProcesses::new(&rt, &rt);
+    let mut stray = None;
+    for row in tables().iter().flat_map(|rows| rows.iter()) {
+        let mut scene = Scene::new(&rt, process, row.name)?;
+        scene.take(&rt, &make, row.before)?;
+        let event = event_of(rt.alloc(), &scene, &row.way)?;
+        let line = scene.said(rt.alloc(), row.line)?;
+        let double = Double::new(rt.clone()?, event)?;
+        let ran = ran(&double, &ByProcesses::new(&double, &double), line.as_str())?;
+        let told = is_told(rt.alloc(), &scene, row, &ran)?;
+        if !told || scene.take(&rt, &make, row.after)? < row.after.len() {
+            stray = Some(row.name);
+            break;
+        }
+        scene.close(&rt)?;
+    }
+    assert_eq!(rt; stray, None);
+    Ok(())
+}
