@@ -1,5 +1,5 @@
 -- What is answered of a file by what the system answers.
-use Rattle.std.specs.Prelude.{◌≡◌, ◌≢◌, ℕ, List, [], Option, Some, None, Result, Ok, Err, IsOkAnd}
+use Rattle.std.specs.Prelude.{◌≡◌, ℕ, [], Option, Some, None, Result, Ok, Err, IsOkAnd}
 use Rattle.std.specs.Fs.{IsFile, IsSymlink, file_type, metadata_mode, permissions_mode}
 use Rattle.std.specs.Global.{Vec}
 use Rattle.std.specs.declared.fs.FileType.{FileType}

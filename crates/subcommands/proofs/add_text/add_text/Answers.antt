@@ -1,4 +1,4 @@
-use Rattle.std.proofs.Common.{ℕ, List, Option, refl, Err}
+use Rattle.std.proofs.Common.{ℕ, List, Option, Err}
 use Rattle.std.proofs.lemmas.Result.{err_from_is_err_and}
 use Rattle.subcommands.proofs.Endings.{folder_refused, put_ends, text_refused}
 use Rattle.subcommands.specs.AddedText.{FileBytes, file_bytes}
