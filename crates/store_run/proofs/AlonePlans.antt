@@ -1,5 +1,5 @@
 -- The plan of two derivations without inputs is sound.
-use Rattle.std.proofs.Common.{◌≡◌, ◌<◌, ◌∙◌, ℕ, zero, suc, true, List, [], ◌∷◌, ◌++◌, length, Ok, refl, sym, ap, subst, ⊎_elim, arith}
+use Rattle.std.proofs.Common.{◌≡◌, ◌<◌, ◌∙◌, ℕ, zero, suc, true, List, [], ◌∷◌, ◌++◌, length, Ok, refl, sym, ap, subst, inl, ⊎_elim, arith}
 use Rattle.std.specs.Prelude.{All, Contains, codes, ◌-◌, take}
 use Rattle.std.specs.List.{IsDistinct}
 use Rattle.std.proofs.lemmas.List.{length-append}
@@ -163,7 +163,7 @@ module _ (recipe : Recipe) where
             (sym (ap (λ (n : List ℕ). take (length n - 4) n) node_name ∙ cut))
             (check_alone named);
       };
-      alone = alone;
+      apart = λ earlier has. inl (alone earlier has);
     }
 
 -- ---- the two
@@ -195,7 +195,7 @@ shared_name one other named named' (x, y, of_x, of_y, same) =
     ∙ ap name_of outs
     ∙ named_path (codes "output:out") (sha256 (text_of (drv_alone other []))) other.name named'
 
-outputs_differ : ShareOutput left.drv right.drv → ⊥
+pub outputs_differ : ShareOutput left.drv right.drv → ⊥
 outputs_differ share =
     let names : codes "left" ≡ codes "right" =
     shared_name failing making left_named right_named share in
@@ -239,6 +239,7 @@ unfolding IsDistinct
 both_sound = record {
   dir = store;
   lawful = lawful_both;
+  few = omega arith;
   distinct = ((other_path left.path right.path files_differ, tt), (tt, tt));
   roots_within = all_two (λ root. root < 2) 0 1 (omega arith) (omega arith);
   roots_once = ((refl, tt), (tt, tt));

@@ -1,10 +1,12 @@
 -- Two builds that overlap, of which one fails, are a whole run.
-use Rattle.std.proofs.Common.{◌≡◌, ◌∙◌, ◌<◌, inl, inr, ℕ, zero, suc, List, [], ◌∷◌, Some, Ok, Err, refl, sym, ap, subst, ⊎_elim, arith}
+use Rattle.std.proofs.Common.{◌≡◌, ◌∙◌, ◌<◌, inl, inr, ℕ, zero, suc, true, List, [], ◌∷◌, Some, None, Ok, Err, refl, sym, ap, subst, ⊎_elim, arith}
 use Rattle.std.specs.Prelude.{Contains, pos, slice_get}
 use Rattle.std.specs.List.{IsDistinct}
 use Rattle.std.proofs.lemmas.List.Elements.{All-nil}
-use Rattle.nix_names.proofs.Lists.{Contains-cons_cases, Contains-first, Contains-later, Contains-nothing}
+use Rattle.nix_names.proofs.Lists.{Contains-cons_cases, Contains-first, Contains-from_map, Contains-later, Contains-nothing}
+use Rattle.nix_drv.specs.Derivation.{Output}
 use Rattle.drv_graph.specs.Nodes.{Node}
+use Rattle.drv_graph.specs.Twins.{are_twins_at}
 use Rattle.drv_graph.specs.PlanNodes.{output_paths_of}
 use Rattle.drv_graph.specs.declared.kinds.Kind.TheVariants.{Addressed, Fixed}
 use Rattle.drv_graph.proofs.KindAnswers.{one_kind}
@@ -17,8 +19,8 @@ use Rattle.sched_core.specs.Books.{ArePermittedPaths, IsRunSettled, opened}
 use Rattle.sched_core.specs.Courses.{IsOpen}
 use Rattle.sched_core.specs.Jobs.{IsJob, seeds_of}
 use Rattle.sched_core.specs.Legal.{ArePermitted, IsAllowed, IsEntryOf, IsLegal, begun, ended, failed, legal_begin, legal_done, legal_fail, legal_opening}
-use Rattle.sched_core.specs.Runs.{IsWanted, state_in, wanted_root}
-use Rattle.sched_core.specs.States.{state, states, table}
+use Rattle.sched_core.specs.Runs.{History, IsWanted, earlier_twins, state_in, wanted_root}
+use Rattle.sched_core.specs.States.{Broken, Ended}
 use Rattle.sched_core.specs.Verdicts.{outputs_of}
 use Rattle.sched_core.specs.declared.job.Job.{Job}
 use Rattle.sched_core.specs.declared.reason.Event.TheVariants.{Begin, Done as Finish, Fail}
@@ -26,13 +28,16 @@ use Rattle.sched_core.specs.declared.reason.Reason.{Reason}
 use Rattle.sched_core.specs.declared.reason.Reason.TheVariants.{ExitStatus, OutOfMemory}
 use Rattle.sched_core.specs.declared.reason.State.{State}
 use Rattle.sched_core.specs.declared.reason.State.TheVariants.{Done, Failed, Ready}
+use Rattle.sched_core.specs.declared.standing.Standing.TheVariants.{Free}
+use Rattle.sched_core.proofs.TwinLaws.{is_earlier_twin, is_there, turned, twins_path}
 use Rattle.store_run.specs.Builders.{IsAnswered, IsVerdictBehind, answered_begin, answered_done, answered_fail, answered_opening}
 use Rattle.store_run.specs.OneThread.{IsOneThread, turn_done, turn_failed, turn_opening}
 use Rattle.store_run.specs.Scheduling.{HasMemory, IsWholeRun}
-use Rattle.store_run.specs.ScheduleExample.{Overlap, both, in_turn, left, made, making, may_leave, out_alone, right, side_by_side}
-use Rattle.store_run.proofs.AlonePlans.{both_sound, kind_alone}
+use Rattle.store_run.specs.ScheduleExample.{Overlap, both, failing, in_turn, left, made, making, may_leave, out_alone, right, side_by_side}
+use Rattle.store_run.proofs.AlonePlans.{both_sound, kind_alone, outputs_differ}
 use Rattle.store_run.proofs.OneOutcome.{job_outputs, job_seeds}
 use Rattle.store_run.proofs.ExampleJobs.{both_outcome, left_answer, left_is_job, left_job, left_leaves, left_may, left_verdict, no_cycle, nothing_in, right_answer, right_is_job, right_job, right_leaves, right_may, right_verdict}
+use Rattle.store_run.proofs.Unhindered.{IsUnhindered, inputs_in, standing_in, state_by, unhindered_ready}
 
 -- ---- verdicts behind some entries
 
@@ -161,21 +166,51 @@ right_entry = record {
 
 -- ---- side by side
 
+-- the two make different outputs, so neither has a twin
+no_twin : (opening : List Entry) (d t : ℕ) → Contains (earlier_twins both opening d) t → ⊥
+no_twin opening d t has =
+    let is = is_earlier_twin both opening d t has in by d t is.earlier is.twins
+  where
+    by : (d t : ℕ) → t < d
+        → are_twins_at (slice_get both.graph.nodes t) (slice_get both.graph.nodes d) ≡ true → ⊥
+    by zero t low twins = absurd (omega arith)
+    by (suc zero) (suc t) low twins = absurd (omega arith)
+    by (suc zero) zero low twins =
+        let path_in : Output → List ℕ = λ o. o.path in
+        let own : Contains (output_paths_of left.drv) (out_alone failing) =
+        Contains-first (out_alone failing) [] in
+        let one = Contains-from_map path_in left.drv.outputs (out_alone failing) own in
+        let other = Contains-from_map path_in right.drv.outputs (out_alone failing)
+        (twins_path left.drv right.drv (out_alone failing) twins own) in
+        outputs_differ (one.0, other.0, one.1, other.1, one.2 ∙ sym other.2)
+    by (suc (suc d)) t low twins =
+        let there = is_there None (slice_get both.graph.nodes t)
+        (turned (slice_get both.graph.nodes t) None twins) in
+        let clash : None ≡ Some there.0 = there.1 in
+        cc
+
+-- so each of them is ready until it begins
+unhindered : (history : History) (d : ℕ) → standing_in both history d ≡ Free
+    → inputs_in both d ≡ [] → IsUnhindered both history d
+unhindered history d free none = record {
+  free = free;
+  spent = λ t has. absurd (no_twin history.opening d t has);
+  good = λ i has. absurd (Contains-nothing i (subst (λ l. Contains l i) none has));
+}
+
 first_ready : state_in both (opened []) 0 ≡ Ready
-unfolding state states table
-first_ready = refl
+first_ready =
+    unhindered_ready both (opened []) both_sound 0 (unhindered (opened []) 0 refl refl) refl
 
 second_ready : state_in both (begun (opened []) 0) 1 ≡ Ready
-unfolding state states table
-second_ready = refl
+second_ready = unhindered_ready both (begun (opened []) 0) both_sound 1
+    (unhindered (begun (opened []) 0) 1 refl refl) refl
 
 pub left_failed : state_in both side_by_side 0 ≡ Failed (ExitStatus (pos 1))
-unfolding state states table
-left_failed = refl
+left_failed = state_by both side_by_side both_sound 0 (Broken (ExitStatus (pos 1))) refl
 
 pub right_built : state_in both side_by_side 1 ≡ Done
-unfolding state states table
-right_built = refl
+right_built = state_by both side_by_side both_sound 1 Ended refl
 
 legal_both : IsLegal both (begun (begun (opened []) 0) 1)
 legal_both =
@@ -245,8 +280,9 @@ overlap = record {
 -- ---- in turn
 
 right_ready : state_in both (failed (begun (opened []) 0) 0 0 (ExitStatus (pos 1))) 1 ≡ Ready
-unfolding state states table
-right_ready = refl
+right_ready =
+    unhindered_ready both (failed (begun (opened []) 0) 0 0 (ExitStatus (pos 1))) both_sound 1
+    (unhindered (failed (begun (opened []) 0) 0 0 (ExitStatus (pos 1))) 1 refl refl) refl
 
 pub thread : IsOneThread may_leave both [] in_turn
 thread =
