@@ -109,6 +109,23 @@ pub unhindered_ready : (run : Run) (history : History) → IsSound run.graph →
 unhindered_ready run history sound d un idle =
     state_by run history sound d Idle idle ∙ aside_ready run history d un
 
+-- one that has no event is blocked where an earlier twin still has something before it, and none was
+-- built
+pub blocked_by_twin : (run : Run) (history : History) → IsSound run.graph → (d t : ℕ)
+    → phase_of history.events d ≡ Idle → standing_in run history d ≡ Free
+    → Contains (twins_in run history d) t → is_open (state_in run history t) ≡ true
+    → ((u : ℕ) → Contains (twins_in run history d) u → is_done (state_in run history u) ≡ false)
+    → state_in run history d ≡ Blocked
+blocked_by_twin run history sound d t idle free has still none =
+    let f = state_in run history in
+    let twins = twins_in run history d in
+    state_by run history sound d Idle idle
+    ∙ rw (
+      free,
+      none_passes (λ u. is_done (f u)) twins none,
+      any_passes (λ u. is_open (f u)) twins t has still,
+    ) refl
+
 -- and back
 pub ready_unhindered : (run : Run) (history : History) → IsSound run.graph → (d : ℕ)
     → state_in run history d ≡ Ready → IsUnhindered run history d
