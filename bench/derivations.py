@@ -19,10 +19,13 @@ def entries(name, output):
     return environment | {f"key{number:02}": f"the value of key {number}, which says little" for number in range(8)}
 
 
-def derivation(name, output, inputs, script=SCRIPT, sources=()):
-    """The text of a derivation with one output, these inputs and sources, which runs a script; nothing in it takes an escape."""
+def derivation(name, output, inputs, script=SCRIPT, sources=(), content=("", "")):
+    """The text of a derivation with one output, these inputs and sources, which runs a script; nothing in it takes an escape.
+
+    A fixed output has a method and a hash as its content.
+    """
     return (
-        f'Derive([("out","{output}","","")],['
+        f'Derive([("out","{output}","{content[0]}","{content[1]}")],['
         + ",".join(f'("{name}",["out"])' for name in inputs)
         + "],["
         + ",".join(f'"{path}"' for path in sources)
@@ -60,6 +63,18 @@ def write(folder, number, inputs, script=SCRIPT, sources=()):
     with open(path, "w", encoding="ascii") as file:
         file.write(text)
     return path, digest(derivation(name, output, hashes, script, sources))
+
+
+def write_fixed(folder, name, script, inputs, content):
+    """Writes a derivation that has to make one file of this content, whose inputs are paths with their modulo hashes, and gives its own."""
+    made = f"fixed:out:sha256:{hashlib.sha256(content).hexdigest()}:"
+    output = make_path("output:out", digest(made), folder, name)
+    paths = sorted(path for path, _ in inputs)
+    text = derivation(name, output, paths, script, content=("sha256", hashlib.sha256(content).hexdigest()))
+    path = text_path(folder, name + ".drv", text.encode(), paths)
+    with open(path, "w", encoding="ascii") as file:
+        file.write(text)
+    return path, digest(made + output)
 
 
 def chain(folder, count):

@@ -4,6 +4,7 @@ ghost use Rattle.sched_core.specs.Books.{opened};
 
 use crate::files::{FILES, File};
 use crate::hindered::HINDERED;
+use crate::twin_files::TWIN_FILES;
 use drv_graph::Plan;
 use nix_drv::{ListSource, ListedFile};
 use nix_names::{StoreDir, StorePath, parse_path};
@@ -46,7 +47,7 @@ fn listed(alloc: Global, file: &File) -> Result<ListedFile, AllocError> {
 fn all_files(alloc: Global) -> Result<Vec<ListedFile>, AllocError> {
     let mut files = Vec::new(alloc);
     let hindered = HINDERED.iter().map(|hindered| &hindered.file);
-    for file in FILES.iter().chain(hindered) {
+    for file in FILES.iter().chain(&TWIN_FILES).chain(hindered) {
         files.push(listed(alloc, file)?)?;
     }
     Ok(files)

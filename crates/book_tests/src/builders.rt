@@ -9,7 +9,8 @@ use std::test::Fail;
 use valid_table::{ListOutlet, Outlet};
 
 /// What the builder of the derivation with this first output does: with which status it ends, and
-/// which files it leaves at the outputs. Any other ends well, and leaves empty files.
+/// which files it leaves at the outputs. Any other ends with 1 where its last argument begins with
+/// `exit 1`, else well, and leaves empty files.
 pub(crate) struct Script {
     pub output: &'static [u8],
     pub status: Option<i32>,
@@ -67,10 +68,27 @@ fn is_for(script: &Script, job: &Job) -> bool {
     }
 }
 
+// Whether the last argument of a job tells its builder to fail.
+fn is_to_fail(job: &Job) -> bool {
+    match job.args.last() {
+        Some(arg) => arg.starts_with(b"exit 1"),
+        None => false,
+    }
+}
+
+// The answer of a builder without a script.
+fn answer_of_args(alloc: Global, job: &Job) -> Result<Answer, AllocError> {
+    if is_to_fail(job) {
+        Ok(left_nothing(alloc, 1))
+    } else {
+        empty_files(alloc, job)
+    }
+}
+
 /// The answer of a builder that does as these scripts say.
 pub(crate) fn answer(alloc: Global, job: &Job, scripts: &[Script]) -> Result<Answer, AllocError> {
     let Some(script) = scripts.iter().find(|script| is_for(script, job)) else {
-        return empty_files(alloc, job);
+        return answer_of_args(alloc, job);
     };
     Ok(Answer {
         status: script.status,

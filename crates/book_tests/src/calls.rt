@@ -2,6 +2,7 @@
 use crate::books::{has_report, open, state_of};
 use crate::builders::{build, fail, fails, lease};
 use crate::files::*;
+use crate::twin_files::*;
 use sched_core::{Book, Event, Lease, Reason, Refusal, State};
 use std::alloc::Global;
 use std::test::*;
@@ -212,5 +213,34 @@ fn first_failed_input(rt: HostRuntime) -> Result<(), Fail> {
         Some(State::Refused(Refusal::InputNotRealised(2)))
     );
     assert_eq!(rt; by_both, Some(State::Refused(Refusal::InputNotRealised(1))));
+    Ok(())
+}
+
+// The states of the second derivation before the first one begins, while it is built, and once it has
+// ended.
+fn states_of_second(
+    alloc: Global,
+    book: &mut Book<ListOutlet>,
+) -> Result<[Option<State>; 3], Fail> {
+    let before = state_of(book, 1);
+    let first = lease(book)?;
+    let meanwhile = state_of(book, 1);
+    build(alloc, book, first, &[])?;
+    Ok([before, meanwhile, state_of(book, 1)])
+}
+
+// A derivation for another system waits for its twin before it is refused for that.
+#[test]
+fn twin_with_a_cause_waits(rt: HostRuntime) -> Result<(), Fail> {
+    const WAITS: Option<State> = Some(State::Blocked);
+    for (first, last) in [
+        (MADE, State::Reused),
+        (BROKEN, State::Refused(Refusal::WrongSystem)),
+    ] {
+        let mut book = open(rt.alloc(), &[first, STRANGE], &[])?;
+        let states = states_of_second(rt.alloc(), &mut book);
+        book.close();
+        assert_eq!(rt; states?, [WAITS, WAITS, Some(last)]);
+    }
     Ok(())
 }

@@ -14,6 +14,9 @@ use valid_table::{Journal, ListOutlet};
 // How many users the failed derivation has.
 const USERS: usize = 65_535;
 
+// How many twins share one output.
+const TWINS: usize = 65_536;
+
 // The plan of a derivation, which has the number 0, and so many users of it alone; all are roots.
 fn star(alloc: Global, users: usize) -> Result<Plan, Fail> {
     let mut made = nothing(alloc);
@@ -28,6 +31,28 @@ fn chain(alloc: Global, count: usize) -> Result<Plan, Fail> {
     let mut made = nothing(alloc);
     for number in 0..count {
         made.push_user(alloc, number.wrapping_sub(1))?;
+    }
+    plan_of(alloc, &made, &made.paths)
+}
+
+// The plan of so many twins; all are roots.
+fn twins(alloc: Global, count: usize) -> Result<Plan, Fail> {
+    let mut made = nothing(alloc);
+    for _ in 0..count {
+        made.push_twin(alloc, 1, usize::MAX)?;
+    }
+    plan_of(alloc, &made, &made.paths)
+}
+
+// The plan of a chain of so many links, each of three twins that use the first one of the link before;
+// all are roots.
+fn chain_of_twins(alloc: Global, count: usize) -> Result<Plan, Fail> {
+    let mut made = nothing(alloc);
+    for link in 0..count {
+        let before = link.wrapping_sub(1).wrapping_mul(3);
+        for _ in 0..3 {
+            made.push_twin(alloc, link, before)?;
+        }
     }
     plan_of(alloc, &made, &made.paths)
 }
@@ -48,9 +73,9 @@ fn ends_badly(
     Ok(fails(book, lease?, Reason::ExitStatus(1)))
 }
 
-// Builds a chain, of which each can be built behind the one before it.
-fn build_chain(alloc: Global, book: &mut Book<ListOutlet>) -> Result<(), Fail> {
-    for _ in 0..book.plan().len() {
+// Builds so many derivations, of which each can be built behind the one before it.
+fn build_chain(alloc: Global, book: &mut Book<ListOutlet>, count: usize) -> Result<(), Fail> {
+    for _ in 0..count {
         let lease = lease(book)?;
         build(alloc, book, lease, &[])?;
     }
@@ -80,13 +105,56 @@ fn steps_of_a_chain(rt: HostRuntime) -> Result<(), Fail> {
     let plan = chain(rt.alloc(), 1_000)?;
     let mut book = book_of(rt.alloc(), plan, Journal::new(rt.alloc()))?;
     let at_opening = book.steps();
-    let built = build_chain(rt.alloc(), &mut book);
+    let built = build_chain(rt.alloc(), &mut book, 1_000);
     let (events, steps) = (book.events().len(), book.steps());
     book.close();
     built?;
     assert_eq!(rt; at_opening, 0);
     assert_eq!(rt; events, 2_000);
     assert_eq!(rt; steps, 3_998);
+    Ok(())
+}
+
+// Of each link one twin is built, and the other two are reused: a step for each event, and two for
+// each of 897 pairs of a derivation and an input, and of 600 of one and its nearest earlier twin.
+#[test]
+fn steps_of_a_chain_of_twins(rt: HostRuntime) -> Result<(), Fail> {
+    let plan = chain_of_twins(rt.alloc(), 300)?;
+    let mut book = book_of(rt.alloc(), plan, Journal::new(rt.alloc()))?;
+    let built = build_chain(rt.alloc(), &mut book, 300);
+    let (settled, steps) = (book.settled(), book.steps());
+    book.close();
+    built?;
+    assert!(rt; settled);
+    assert_eq!(rt; steps, 600 + 2 * (897 + 600));
+    Ok(())
+}
+
+// The first one is built, and all others are reused.
+#[test]
+fn steps_of_many_twins(rt: HostRuntime) -> Result<(), Fail> {
+    let plan = twins(rt.alloc(), TWINS)?;
+    let mut book = book_of(rt.alloc(), plan, Journal::new(rt.alloc()))?;
+    let built = build_chain(rt.alloc(), &mut book, 1);
+    let (settled, steps) = (book.settled(), book.steps());
+    book.close();
+    built?;
+    assert!(rt; settled);
+    assert_eq!(rt; steps, 2 + 2 * (TWINS as u64 - 1));
+    Ok(())
+}
+
+// Each fails in turn.
+#[test]
+fn steps_of_failing_twins(rt: HostRuntime) -> Result<(), Fail> {
+    let plan = twins(rt.alloc(), 500)?;
+    let mut book = book_of(rt.alloc(), plan, Journal::new(rt.alloc()))?;
+    let failed = fail_first(&mut book, 500);
+    let (settled, steps) = (book.settled(), book.steps());
+    book.close();
+    failed?;
+    assert!(rt; settled);
+    assert_eq!(rt; steps, 2 * 500 + 2 * 499);
     Ok(())
 }
 

@@ -3,7 +3,7 @@
 //!
 //! | Module | What is tried |
 //! |---|---|
-//! | `rows` | runs, with their reports, journals and counts of events |
+//! | `rows`, `twin_rows` | runs, with their reports, journals and counts of events |
 //! | `runs` | these runs on one thread |
 //! | `workers` | these runs and others by workers, over a view |
 //! | `causes` | derivations that ask for what is left out |
@@ -17,10 +17,10 @@
 //! | `held_lock` | a reader that is asked while its thread holds the lock of the book |
 //! | `costs` | what events cost |
 //! | `random_runs` | random plans and answers, beside states that the test works out |
-//! | `random_plans`, `made` | derivations that are made up |
+//! | `random_plans`, `made`, `random` | derivations that are made up, and numbers |
 //! | `builders` | what builders answer, and how leases end with it |
 //! | `books` | plans, journals and books that the tests are made of |
-//! | `files`, `hindered` | files of derivations |
+//! | `files`, `hindered`, `twin_files` | files of derivations |
 //! | `words` | the words and numbers of faults, reasons and refusals |
 #![tactic(auto)]
 
@@ -51,6 +51,8 @@ mod many;
 #[cfg(test)]
 mod permitted;
 #[cfg(test)]
+mod random;
+#[cfg(test)]
 mod random_plans;
 #[cfg(test)]
 mod random_runs;
@@ -60,6 +62,10 @@ mod refusals;
 mod rows;
 #[cfg(test)]
 mod runs;
+#[cfg(test)]
+mod twin_files;
+#[cfg(test)]
+mod twin_rows;
 #[cfg(test)]
 mod verdicts;
 #[cfg(test)]

@@ -4,10 +4,10 @@ ghost use Rattle.std.specs.Prelude.{◌≡◌, length};
 
 use crate::books::{joined, store_dir};
 use drv_graph::modulo_text;
-use nix_drv::{Derivation, Parts, references, text_path, write};
+use nix_drv::{Derivation, Output, Parts, references, text_path, write};
 use nix_names::{StorePath, make_path};
 use sha2::{Digest, Sha256};
-use std::alloc::Global;
+use std::alloc::{AllocError, Global};
 use std::test::Fail;
 
 /// A derivation, its text, its path and its modulo hash.
@@ -39,17 +39,30 @@ pub(crate) fn make(
     })
 }
 
-// SHA-256 of a modulo text.
+// SHA-256 of a modulo text, or of what stands for one with a fixed output.
 fn modulo_hash(
     alloc: Global,
     drv: &Derivation,
     hashes: &[[u8; 32]],
     mask: bool,
 ) -> Result<[u8; 32], Fail> {
+    if let Some(output) = drv.outputs().iter().find(|output| !output.algo.is_empty()) {
+        return Ok(Sha256::digest(&fixed_text(alloc, output)?));
+    }
     if hashes.len() != drv.inputs().len() {
         return Err("an input is not known".into());
     }
     Ok(Sha256::digest(&modulo_text(alloc, drv, hashes, mask)?))
+}
+
+// What stands for a derivation with this fixed output; its path is left out in a draft.
+fn fixed_text(alloc: Global, output: &Output) -> Result<Vec<u8>, AllocError> {
+    let algo = output.algo.as_slice();
+    let hash = output.hash.as_slice();
+    joined(
+        alloc,
+        &[b"fixed:out:", algo, b":", hash, b":", &output.path],
+    )
 }
 
 // A draft's outputs get their paths, by the hash of its masked text.

@@ -1,9 +1,8 @@
 //! Random plans, of derivations that are made up. The first letter of a derivation's name says how
-//! it stands by itself.
-ghost use Rattle.std.specs.Prelude.{◌<◌};
-
+//! it stands by itself, but for twins with a fixed output: that of their argument does.
 use crate::books::store_dir;
 use crate::made::{Made, derivation, make};
+use crate::random::Random;
 use drv_graph::Plan;
 use nix_drv::{Derivation, EnvEntry, Input, ListSource, ListedFile, Output, Parts};
 use nix_names::{StorePath, parse_path};
@@ -26,32 +25,20 @@ pub(crate) const SOURCED: u8 = b'm';
 /// With two outputs, of which the first is valid.
 pub(crate) const PARTLY: u8 = b'p';
 
-// One that can be built, but for its inputs.
-const BUILDABLE: u8 = b'f';
+/// One of the twins that have to make one empty file.
+pub(crate) const TWIN: u8 = b't';
+
+/// One that can be built, but for its inputs.
+pub(crate) const BUILDABLE: u8 = b'f';
 
 // As often as they come.
 const LETTERS: [u8; 64] = *b"ffffffffffffffffffffffffffffffffffffffffffffffffffffrrrrrrrrskmp";
 
-/// A generator of numbers, by shifts (Marsaglia, "Xorshift RNGs", 2003).
-#[derive(Drop)]
-pub(crate) struct Random {
-    pub state: u64,
-}
+// The same of twins.
+const TWIN_LETTERS: [u8; 16] = *b"fffffffffffssskm";
 
-impl Random {
-    /// The next number, below a bound.
-    pub(crate) fn below(&mut self, bound: usize) -> usize
-        requires { 0 < bound }
-        ensures { result < bound }
-    {
-        let mut x = self.state;
-        x ^= x << 13;
-        x ^= x >> 7;
-        x ^= x << 17;
-        self.state = x;
-        (x >> 20) as usize % bound
-    }
-}
+// SHA-256 of no bytes (FIPS 180-4), in hex digits.
+const EMPTY_DIGITS: &[u8] = b"e3b0c44298fc1c149afbf4c8996fb92427ae41e4649b934ca495991b7852b855";
 
 /// Derivations that were made up, each behind those that it uses: their files, and their paths and
 /// modulo hashes at the same places; and which outputs are valid at the opening.
@@ -182,6 +169,22 @@ fn draft(alloc: Global, letter: u8, inputs: Vec<Input>) -> Result<Derivation, Fa
     derivation(parts)
 }
 
+// The same with one fixed output, an empty file; this is its argument.
+fn twin_draft(
+    alloc: Global,
+    letter: u8,
+    own: &[u8],
+    inputs: Vec<Input>,
+) -> Result<Derivation, Fail> {
+    let mut parts = draft(alloc, letter, inputs)?.into_parts();
+    for output in &mut parts.outputs {
+        output.algo = Vec::from_slice(alloc, b"sha256")?;
+        output.hash = Vec::from_slice(alloc, EMPTY_DIGITS)?;
+    }
+    parts.args = texts(alloc, &[own])?;
+    derivation(parts)
+}
+
 // Registers the first output of a derivation that is reused, or partly valid.
 fn register(
     alloc: Global,
@@ -194,7 +197,9 @@ fn register(
     }
     if let Some(output) = drv.outputs().first() {
         let path = parse_path(alloc, &store_dir(alloc)?, &output.path)?;
-        journal.add(path, Record::new(Vec::new(alloc), None)?)?;
+        if !journal.registers(&path) {
+            journal.add(path, Record::new(Vec::new(alloc), None)?)?;
+        }
     }
     Ok(())
 }
@@ -219,14 +224,57 @@ impl MadeUp {
         Ok(hashes)
     }
 
-    // Adds a derivation.
+    // Another one of the last derivations with the modulo hash of the one at this path: its twin. The
+    // same path where there is none.
+    fn twin_of<'a>(&'a self, path: &'a [u8]) -> &'a [u8] {
+        let Some(hash) = self.hash_of(path) else {
+            return path;
+        };
+        let from = self.paths.len().saturating_sub(WINDOW);
+        let recent = self.paths.iter().zip(&self.hashes).skip(from);
+        let mut twins = recent.filter(|(known, own)| **own == hash && known.text() != path);
+        match twins.next() {
+            Some((twin, _)) => twin.text(),
+            None => path,
+        }
+    }
+
+    // Twins of these inputs, where there are any, and else these.
+    fn twins_of(&self, alloc: Global, inputs: &[Input]) -> Result<Vec<Vec<u8>>, AllocError> {
+        let mut twins = Vec::new(alloc);
+        for input in inputs {
+            twins.push(Vec::from_slice(alloc, self.twin_of(&input.path))?)?;
+        }
+        twins.sort_unstable();
+        Ok(twins)
+    }
+
+    // Adds a derivation, but for the last one again.
     fn add(&mut self, alloc: Global, made: Made) -> Result<(), Fail> {
+        if self.paths.last() == Some(&made.path) {
+            return Ok(());
+        }
         let path = Vec::from_slice(alloc, made.path.text())?;
         let bytes = made.text;
         self.files.push(ListedFile { path, bytes })?;
         self.hashes.push(made.hash)?;
         self.paths.push(made.path)?;
         Ok(())
+    }
+
+    // Makes up one more derivation, of a draft with this name, whose inputs have these hashes. The
+    // first letter of its name says whether an output of it is valid.
+    fn push_draft(
+        &mut self,
+        alloc: Global,
+        name: &[u8; 6],
+        draft: Derivation,
+        hashes: &[[u8; 32]],
+    ) -> Result<(), Fail> {
+        let [letter, ..] = *name;
+        let made = make(alloc, name, draft, hashes)?;
+        register(alloc, &mut self.journal, letter, &made.drv)?;
+        self.add(alloc, made)
     }
 
     // Makes up one more derivation, with this letter, whose inputs have these hashes.
@@ -237,13 +285,12 @@ impl MadeUp {
         inputs: Vec<Input>,
         hashes: &[[u8; 32]],
     ) -> Result<(), Fail> {
-        let draft = draft(alloc, letter, inputs)?;
-        let made = make(alloc, &name_of(letter, self.paths.len()), draft, hashes)?;
-        register(alloc, &mut self.journal, letter, &made.drv)?;
-        self.add(alloc, made)
+        let name = name_of(letter, self.paths.len());
+        self.push_draft(alloc, &name, draft(alloc, letter, inputs)?, hashes)
     }
 
-    // Makes up one more derivation, with this letter and up to so many of those before it as inputs.
+    // Makes up one more derivation, with this letter and up to so many of those before it as inputs;
+    // and its twin behind twins of these, where there are any.
     fn push_over(
         &mut self,
         alloc: Global,
@@ -251,9 +298,47 @@ impl MadeUp {
         letter: u8,
         most: u8,
     ) -> Result<(), Fail> {
+        let first = inputs(alloc, used(alloc, &self.paths, random, most)?)?;
+        let hashes = self.hashes_of(alloc, &first)?;
+        let second = inputs(alloc, self.twins_of(alloc, &first)?)?;
+        let other_hashes = self.hashes_of(alloc, &second)?;
+        let name = name_of(letter, self.paths.len());
+        self.push_draft(alloc, &name, draft(alloc, letter, first)?, &hashes)?;
+        self.push_draft(alloc, &name, draft(alloc, letter, second)?, &other_hashes)
+    }
+
+    // Makes up one of the twins of a group, with up to so many of those before it as inputs. The
+    // output of each eighth group is valid.
+    fn push_twin_over(
+        &mut self,
+        alloc: Global,
+        random: &mut Random,
+        group: usize,
+        most: u8,
+    ) -> Result<(), Fail> {
+        let letter = TWIN_LETTERS[random.below(16)];
+        let of = if group.is_multiple_of(8) {
+            REUSED
+        } else {
+            TWIN
+        };
+        let own = name_of(letter, self.paths.len());
         let inputs = inputs(alloc, used(alloc, &self.paths, random, most)?)?;
-        let hashes = self.hashes_of(alloc, &inputs)?;
-        self.push(alloc, letter, inputs, &hashes)
+        let draft = twin_draft(alloc, letter, &own, inputs)?;
+        self.push_draft(alloc, &name_of(of, group), draft, &[])
+    }
+
+    /// Makes up one more derivation that can be built, one of the twins of a group, with the one that
+    /// was made up as this one, counted from 0, as its only input: without inputs where there is none
+    /// yet.
+    pub(crate) fn push_twin(&mut self, alloc: Global, group: usize, of: usize) -> Result<(), Fail> {
+        let inputs = match self.paths.get(of) {
+            Some(path) => one_input(alloc, path)?,
+            None => Vec::new(alloc),
+        };
+        let own = name_of(BUILDABLE, self.paths.len());
+        let draft = twin_draft(alloc, BUILDABLE, &own, inputs)?;
+        self.push_draft(alloc, &name_of(TWIN, group), draft, &[])
     }
 
     /// Makes up one more derivation that can be built, with the one that was made up as this one,
@@ -310,12 +395,17 @@ pub(crate) fn nothing(alloc: Global) -> MadeUp {
     }
 }
 
-/// So many derivations.
+/// So many derivations, and twins of some: one of four is one of a group of about four twins.
 pub(crate) fn made_up(alloc: Global, random: &mut Random, count: usize) -> Result<MadeUp, Fail> {
     let mut made_up = nothing(alloc);
     for _ in 0..count {
-        let letter = LETTERS[random.below(64)];
-        made_up.push_over(alloc, random, letter, 3)?;
+        if random.below(4) == 0 {
+            let group = random.below(count / 16 + 1);
+            made_up.push_twin_over(alloc, random, group, 3)?;
+        } else {
+            let letter = LETTERS[random.below(64)];
+            made_up.push_over(alloc, random, letter, 3)?;
+        }
     }
     Ok(made_up)
 }

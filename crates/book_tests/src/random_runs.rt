@@ -4,9 +4,10 @@ ghost use Rattle.std.specs.Prelude.{◌<◌, length};
 
 use crate::books::book_of;
 use crate::builders::{build, fail};
+use crate::random::Random;
 use crate::random_plans::*;
 use drv_graph::Plan;
-use sched_core::{Book, Lease, Reason, Refusal, State};
+use sched_core::{Book, Event, Lease, Reason, Refusal, State};
 use std::alloc::{AllocError, AllocFailed, Global};
 use std::test::*;
 use valid_table::ListOutlet;
@@ -19,20 +20,33 @@ const MOST_STEPS: usize = 100_000;
 struct Known {
     // Which derivations are wanted.
     wanted: Vec<bool>,
+    // Of each its earlier twins: the wanted ones of smaller numbers with the same outputs.
+    twins: Vec<Vec<usize>>,
     // What became of each derivation that began.
     begun: Vec<Option<State>>,
 }
 
-// The state of a derivation by itself, if it has one: by the first letter of its name.
+// The letter that says how a derivation stands by itself.
+fn letter(plan: &Plan, d: usize) -> Option<u8>
+    requires { d < length plan.now.nodes }
+{
+    let first = plan.path(d).name().first();
+    match (first, plan.drv(d).args().first()) {
+        (Some(&TWIN), Some(own)) => own.first().copied(),
+        _ => first.copied(),
+    }
+}
+
+// The state of a derivation by itself, if it has one.
 fn own_state(plan: &Plan, d: usize) -> Option<State>
     requires { d < length plan.now.nodes }
 {
-    match plan.path(d).name().first() {
-        Some(&REUSED) => Some(State::Reused),
-        Some(&FOREIGN) => Some(State::Refused(Refusal::WrongSystem)),
-        Some(&KEYED) => Some(State::Refused(Refusal::Unsupported)),
-        Some(&SOURCED) => Some(State::Refused(Refusal::MissingSource(0))),
-        Some(&PARTLY) => Some(State::Refused(Refusal::PartlyValid(0))),
+    match letter(plan, d) {
+        Some(REUSED) => Some(State::Reused),
+        Some(FOREIGN) => Some(State::Refused(Refusal::WrongSystem)),
+        Some(KEYED) => Some(State::Refused(Refusal::Unsupported)),
+        Some(SOURCED) => Some(State::Refused(Refusal::MissingSource(0))),
+        Some(PARTLY) => Some(State::Refused(Refusal::PartlyValid(0))),
         _ => None,
     }
 }
@@ -53,6 +67,20 @@ fn state_behind(inputs: &[usize], states: &[State]) -> State {
     state
 }
 
+// The state of a derivation that its earlier twins give it, if they do: one was built, or one still
+// has something before it.
+fn state_by_twins(twins: &[usize], states: &[State]) -> Option<State> {
+    let mut by_twins = None;
+    for &twin in twins {
+        match states.get(twin) {
+            Some(State::Done) => return Some(State::Reused),
+            Some(state) if is_open(*state) => by_twins = Some(State::Blocked),
+            _ => {}
+        }
+    }
+    by_twins
+}
+
 // The state of a derivation, by those of the smaller numbers.
 fn state(plan: &Plan, known: &Known, states: &[State], d: usize) -> State
     requires { d < length plan.now.nodes }
@@ -60,7 +88,15 @@ fn state(plan: &Plan, known: &Known, states: &[State], d: usize) -> State
     if let Some(Some(state)) = known.begun.get(d) {
         return *state;
     }
-    match own_state(plan, d) {
+    let own = own_state(plan, d);
+    if own == Some(State::Reused) {
+        return State::Reused;
+    }
+    let twins = match known.twins.get(d) {
+        Some(twins) => state_by_twins(twins, states),
+        None => None,
+    };
+    match twins.or(own) {
         Some(state) => state,
         None => state_behind(plan.inputs(d), states),
     }
@@ -96,6 +132,42 @@ fn wanted(alloc: Global, plan: &Plan) -> Result<Vec<bool>, AllocError> {
     Ok(wanted)
 }
 
+// The first output of each derivation, by the hash in its path.
+fn first_outputs<'a>(alloc: Global, plan: &'a Plan) -> Result<Vec<Option<&'a [u8]>>, AllocError> {
+    let mut firsts = Vec::new(alloc);
+    for d in 0..plan.len() {
+        let first = plan.output_paths(d).first();
+        firsts.push(first.map(|path| path.hash_part()))?;
+    }
+    Ok(firsts)
+}
+
+// The earlier twins of a derivation. Those that share their first output share all.
+fn earlier_twins(
+    alloc: Global,
+    firsts: &[Option<&[u8]>],
+    wanted: &[bool],
+    d: usize,
+) -> Result<Vec<usize>, AllocError> {
+    let mut twins = Vec::new(alloc);
+    for (t, (first, wanted)) in firsts.iter().zip(wanted).take(d).enumerate() {
+        if *wanted && Some(first) == firsts.get(d) {
+            twins.push(t)?;
+        }
+    }
+    Ok(twins)
+}
+
+// The earlier twins of each derivation.
+fn all_twins(alloc: Global, plan: &Plan, wanted: &[bool]) -> Result<Vec<Vec<usize>>, AllocError> {
+    let firsts = first_outputs(alloc, plan)?;
+    let mut twins = Vec::new(alloc);
+    for d in 0..plan.len() {
+        twins.push(earlier_twins(alloc, &firsts, wanted, d)?)?;
+    }
+    Ok(twins)
+}
+
 // Whether a state has something before it.
 fn is_open(state: State) -> bool {
     matches!(state, State::Blocked | State::Ready | State::Building(_))
@@ -119,9 +191,10 @@ fn is_idle(known: &Known, states: &[State]) -> bool {
 }
 
 // The most steps of a run over a plan: two for each derivation, and two for each pair of one and an
-// input of it.
-fn most_steps(plan: &Plan) -> u64 {
-    let mut count: u64 = 0;
+// input of it or its nearest earlier twin.
+fn most_steps(plan: &Plan, twins: &[Vec<usize>]) -> u64 {
+    let with_twins = twins.iter().filter(|twins| !twins.is_empty()).count();
+    let mut count = with_twins as u64;
     for d in 0..plan.len() {
         count = count
             .wrapping_add(1)
@@ -138,6 +211,75 @@ fn has_states(book: &Book<ListOutlet>, states: &[State]) -> bool {
         }
     }
     true
+}
+
+// Notes what became of a derivation.
+fn note(known: &mut Known, d: usize, state: State) {
+    if let Some(place) = known.begun.get_mut(d) {
+        *place = Some(state);
+    }
+}
+
+// Whether a derivation is wanted and ready.
+fn can_begin(known: &Known, states: &[State], d: usize) -> bool {
+    states.get(d) == Some(&State::Ready) && known.wanted.get(d) == Some(&true)
+}
+
+// Notes an event, and says whether it may come where the derivations have these states.
+fn hear(known: &mut Known, states: &[State], event: Event) -> bool {
+    match event {
+        Event::Begin(d, number) => {
+            note(known, d, State::Building(number));
+            can_begin(known, states, d)
+        }
+        Event::Done(d, number) => {
+            note(known, d, State::Done);
+            states.get(d) == Some(&State::Building(number))
+        }
+        Event::Fail(d, number, reason) => {
+            note(known, d, State::Failed(reason));
+            states.get(d) == Some(&State::Building(number))
+        }
+    }
+}
+
+/// How many wanted derivations end in each way: built, reused, failed and refused.
+pub(crate) type Ends = [usize; 4];
+
+// The place of a state among the ways to end.
+fn place_of(state: State) -> Option<usize> {
+    match state {
+        State::Done => Some(0),
+        State::Reused => Some(1),
+        State::Failed(_) => Some(2),
+        State::Refused(_) => Some(3),
+        State::Blocked | State::Ready | State::Building(_) => None,
+    }
+}
+
+fn ends(known: &Known, states: &[State]) -> Option<Ends> {
+    let mut ends = [0usize; 4];
+    for (state, wanted) in states.iter().zip(&known.wanted) {
+        if *wanted {
+            let place = ends.get_mut(place_of(*state)?)?;
+            *place = place.wrapping_add(1);
+        }
+    }
+    Some(ends)
+}
+
+/// How the wanted derivations of a plan end with these events; none where some event may not come
+/// behind those before it, or something is not ended.
+pub(crate) fn ends_of(alloc: Global, plan: &Plan, events: &[Event]) -> Result<Option<Ends>, Fail> {
+    let mut known = nothing_begun(alloc, plan)?;
+    for event in events {
+        let states = states(alloc, plan, &known)?;
+        if !hear(&mut known, &states, *event) {
+            return Ok(None);
+        }
+    }
+    let states = states(alloc, plan, &known)?;
+    Ok(ends(&known, &states))
 }
 
 // A run, and its leases that have not ended. At one of so many steps, all states are compared.
@@ -158,18 +300,10 @@ impl Running {
         Ok(counts && has_states(&self.book, &states))
     }
 
-    // Notes what became of a derivation.
-    fn note(&mut self, d: usize, state: State) {
-        if let Some(place) = self.known.begun.get_mut(d) {
-            *place = Some(state);
-        }
-    }
-
     // Whether a derivation is wanted and ready, by what is known.
     fn can_begin(&self, alloc: Global, d: usize) -> Result<bool, AllocError> {
         let states = states(alloc, self.book.plan(), &self.known)?;
-        let is_ready = states.get(d) == Some(&State::Ready);
-        Ok(is_ready && self.known.wanted.get(d) == Some(&true))
+        Ok(can_begin(&self.known, &states, d))
     }
 
     // Whether no derivation is wanted and ready, by what is known.
@@ -188,7 +322,7 @@ impl Running {
         let number = lease.number();
         keep(&mut self.leases, lease)?;
         let can_begin = !looked_at || self.can_begin(alloc, d)?;
-        self.note(d, State::Building(number));
+        note(&mut self.known, d, State::Building(number));
         Ok(can_begin)
     }
 
@@ -200,10 +334,10 @@ impl Running {
         let d = lease.job().derivation;
         if self.random.below(12) == 0 {
             let reason = Reason::ExitStatus(self.random.below(99) as i32);
-            self.note(d, State::Failed(reason));
+            note(&mut self.known, d, State::Failed(reason));
             return fail(&mut self.book, lease, reason);
         }
-        self.note(d, State::Done);
+        note(&mut self.known, d, State::Done);
         build(alloc, &mut self.book, lease, &[])
     }
 
@@ -223,7 +357,7 @@ impl Running {
 
     // Whether the book is as it has to be where it is settled.
     fn ends_well(&self, alloc: Global) -> Result<bool, AllocError> {
-        let is_quick = self.book.steps() <= most_steps(self.book.plan());
+        let is_quick = self.book.steps() <= most_steps(self.book.plan(), &self.known.twins);
         Ok(is_quick && self.leases.is_empty() && self.agrees(alloc)?)
     }
 
@@ -297,8 +431,11 @@ fn begin_run(alloc: Global, seed: u64, count: usize, every: usize) -> Result<Run
 }
 
 fn nothing_begun(alloc: Global, plan: &Plan) -> Result<Known, AllocError> {
+    let wanted = wanted(alloc, plan)?;
+    let twins = all_twins(alloc, plan, &wanted)?;
     Ok(Known {
-        wanted: wanted(alloc, plan)?,
+        wanted,
+        twins,
         begun: vec![in alloc; None; plan.len()]?,
     })
 }

@@ -15,10 +15,11 @@ pub(crate) struct Row {
     pub report: Pieces,
 }
 
-const VERSION: &[u8] = b"realiser-journal 1\n";
+pub(crate) const VERSION: &[u8] = b"realiser-journal 1\n";
 
 // SHA-256 of no bytes (FIPS 180-4).
-const EMPTY: &[u8] = b" e3b0c44298fc1c149afbf4c8996fb92427ae41e4649b934ca495991b7852b855\n";
+pub(crate) const EMPTY: &[u8] =
+    b" e3b0c44298fc1c149afbf4c8996fb92427ae41e4649b934ca495991b7852b855\n";
 
 // SHA-256 of the bytes of `TWO_DEV` and of `TWO_OUT`, by Python's hashlib.
 const OF_TWO_DEV: &[u8] = b" bbad65d50d44c432d553ea2a00481dd08784b7e1ebf0e472b5afd96f308669aa\n";
@@ -29,13 +30,13 @@ const OF_TWO_OUT: &[u8] = b" 10a1e6fb1a0dee8a9701698de1ec1e12885c446f6272bef20c9
 const OF_BASE_OUT: &[u8] = b" d6d229db8bbc722522f89dbdf41b1310222a82997c8eb7519d528b3f4fcd3de4\n";
 
 // A folder's digest.
-const NONE: &[u8] = b" -\n";
+pub(crate) const NONE: &[u8] = b" -\n";
 
 pub(crate) const END: &[u8] = b"\n";
 
 pub(crate) const BUILT: &[u8] = b"built ";
 
-const REUSED: &[u8] = b"reused ";
+pub(crate) const REUSED: &[u8] = b"reused ";
 
 pub(crate) const FAILED: &[u8] = b"failed ";
 
@@ -43,11 +44,11 @@ pub(crate) const REFUSED: &[u8] = b"refused ";
 
 pub(crate) const OUTPUT: &[u8] = b"output ";
 
-const STATUS: &[u8] = b": ExitStatus(7)\n";
+pub(crate) const STATUS: &[u8] = b": ExitStatus(7)\n";
 
-const BEHIND: &[u8] = b": InputNotRealised(";
+pub(crate) const BEHIND: &[u8] = b": InputNotRealised(";
 
-const CLOSED: &[u8] = b")\n";
+pub(crate) const CLOSED: &[u8] = b")\n";
 
 static DIAMONDS: [Row; 6] = [
     Row {

@@ -3,6 +3,7 @@ use crate::books::{has_journal, has_report, open};
 use crate::builders::build_all;
 use crate::files::TOP;
 use crate::rows::{Row, diamonds, others};
+use crate::twin_rows::twins;
 use sched_core::{Book, Event};
 use std::alloc::Global;
 use std::test::*;
@@ -35,6 +36,14 @@ fn runs_of_diamonds(rt: HostRuntime) -> Result<(), Fail> {
 #[test]
 fn other_runs(rt: HostRuntime) -> Result<(), Fail> {
     for row in others() {
+        assert!(rt; holds(rt.alloc(), row)?, "{}", row.label);
+    }
+    Ok(())
+}
+
+#[test]
+fn runs_of_twins(rt: HostRuntime) -> Result<(), Fail> {
+    for row in twins() {
         assert!(rt; holds(rt.alloc(), row)?, "{}", row.label);
     }
     Ok(())

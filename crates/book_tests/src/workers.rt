@@ -5,6 +5,7 @@ use crate::books::{book_of, joined, journal, plan};
 use crate::builders::Script;
 use crate::files::*;
 use crate::rows::{END, FAILED, Row, diamonds, others};
+use crate::twin_rows::twins;
 use builders::{Hungry, Scripted};
 use drv_graph::Plan;
 use sched_core::Event;
@@ -72,6 +73,17 @@ fn runs_of_diamonds(rt: HostRuntime) -> Result<(), Fail> {
 #[test]
 fn other_runs(rt: HostRuntime) -> Result<(), Fail> {
     for row in others() {
+        for workers in [1, 2, 4, 64] {
+            let holds = holds(&rt, rt.alloc(), row, workers)?;
+            assert!(rt; holds, "{} by {workers}", row.label);
+        }
+    }
+    Ok(())
+}
+
+#[test]
+fn runs_of_twins(rt: HostRuntime) -> Result<(), Fail> {
+    for row in twins() {
         for workers in [1, 2, 4, 64] {
             let holds = holds(&rt, rt.alloc(), row, workers)?;
             assert!(rt; holds, "{} by {workers}", row.label);

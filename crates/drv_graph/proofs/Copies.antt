@@ -1,7 +1,7 @@
 -- Copies of paths and of what is kept.
 use Rattle.std.proofs.Common.{◌≡◌, ◌∙◌, ℕ, ◌+◌, ◌<◌, List, [], ◌∷◌, ◌++◌, length, take, get_or, refl, sym, ap, subst}
 use Rattle.std.specs.Prelude.{All}
-use Rattle.std.specs.List.{AllZip}
+use Rattle.std.specs.List.{AllZip, position_or_len}
 use Rattle.std.proofs.lemmas.List.{take_more}
 use Rattle.std.proofs.lemmas.List.Elements.{All-cons, All-head, All-tail}
 use Rattle.drv_graph.specs.Kinds.{HasKind}
@@ -9,6 +9,7 @@ use Rattle.drv_graph.specs.Nodes.{Node, inputs_of}
 use Rattle.drv_graph.specs.Plans.{AreNumbers, Graph}
 use Rattle.drv_graph.specs.SoundGraphs.{IsSound}
 use Rattle.drv_graph.specs.PlanNodes.{AreKept, HasHash, IsKept, IsSameNode, node_of, nodes_of, output_paths_of}
+use Rattle.drv_graph.specs.Twins.{are_twins}
 use Rattle.drv_graph.specs.declared.node.PlanNode.{PlanNode}
 
 -- one path more was copied
@@ -40,6 +41,8 @@ same_kept nodes x y same right = record {
       (subst (λ d. HasHash nodes d x.kind x.hash) (sym same.drv) right.has_hash));
   outputs = same.outputs ∙ right.outputs ∙ ap (λ d. output_paths_of d) (sym same.drv);
   sources = same.sources ∙ right.sources ∙ ap (λ d. d.sources) (sym same.drv);
+  first = same.first ∙ right.first
+      ∙ ap (λ d. position_or_len (λ (n : Node). are_twins n.drv d) nodes) (sym same.drv);
 }
 
 all_kept : (nodes : List Node) (xs ys : List PlanNode) → AllZip IsSameNode xs ys

@@ -8,7 +8,7 @@ use Rattle.drv_graph.specs.Nodes.{Node}
 use Rattle.drv_graph.specs.Walks.{IsLeavingFault}
 use Rattle.drv_graph.specs.declared.fault.GraphFault.{GraphFault}
 use Rattle.drv_graph.specs.declared.fault.GraphFault.TheVariants.{NoMemory, At, Draft, Name}
-use Rattle.drv_graph.specs.declared.fault.NodeFault.TheVariants.{Unreadable, TooMany, Text, Cycle, Outputs, SharedOutput}
+use Rattle.drv_graph.specs.declared.fault.NodeFault.TheVariants.{Unreadable, TooMany, Text, Cycle, Outputs, OutputClash}
 use Rattle.drv_graph.specs.declared.found.Visit.{Visit}
 use Rattle.drv_graph.specs.declared.node.PlanNode.{PlanNode}
 
@@ -26,7 +26,7 @@ counted_before G H before from after (At p TooMany) same less at = tt
 counted_before G H before from after (At p (Text fault)) same less at = tt
 counted_before G H before from after (At p Cycle) same less at = tt
 counted_before G H before from after (At p (Outputs fault)) same less at = tt
-counted_before G H before from after (At p (SharedOutput earlier)) same less at = tt
+counted_before G H before from after (At p OutputClash) same less at = tt
 counted_before G H before from after NoMemory same less at = tt
 counted_before G H before from after (Draft fault) same less at = tt
 counted_before G H before from after Name same less at = tt
@@ -40,7 +40,7 @@ leaving_counted gives before after dir kept visit (At p TooMany) at = tt
 leaving_counted gives before after dir kept visit (At p (Text fault)) at = tt
 leaving_counted gives before after dir kept visit (At p Cycle) at = tt
 leaving_counted gives before after dir kept visit (At p (Outputs fault)) at = tt
-leaving_counted gives before after dir kept visit (At p (SharedOutput earlier)) at = tt
+leaving_counted gives before after dir kept visit (At p OutputClash) at = tt
 leaving_counted gives before after dir kept visit NoMemory at = tt
 leaving_counted gives before after dir kept visit (Draft fault) at = tt
 leaving_counted gives before after dir kept visit Name at = tt

@@ -1,6 +1,7 @@
 -- The derivations of a plan, by their numbers.
-use Rattle.std.proofs.Common.{◌≡◌, ◌∙◌, ℕ, ◌<◌, suc, List, [], ◌∷◌, ◌++◌, length, take, drop, get_or, refl, sym, ap, subst, ⊎_elim, arith, Some}
+use Rattle.std.proofs.Common.{◌≡◌, ◌∙◌, ℕ, ◌<◌, ◌≤◌, suc, List, [], ◌∷◌, ◌++◌, length, take, drop, get_or, refl, sym, ap, subst, ⊎_elim, arith, Some}
 use Rattle.std.specs.Prelude.{All, Contains, slice_get}
+use Rattle.std.specs.List.{position_or_len}
 use Rattle.std.proofs.Math.Seq.{split_at}
 use Rattle.std.proofs.lemmas.List.{length-map, length-take-le}
 use Rattle.std.proofs.lemmas.List.Elements.{All-contains}
@@ -12,7 +13,9 @@ use Rattle.drv_graph.specs.Nodes.{Node, inputs_of, paths_of}
 use Rattle.drv_graph.specs.Plans.{AreDrvsOf, AreNumbers, Graph}
 use Rattle.drv_graph.specs.PlanNodes.{AreKept, IsKept, drvs_of, node_of, nodes_of, output_paths_of}
 use Rattle.drv_graph.specs.SoundGraphs.{IsSound}
+use Rattle.drv_graph.specs.Twins.{are_twins_at, first_twin_of}
 use Rattle.drv_graph.specs.declared.node.PlanNode.{PlanNode}
+use Rattle.drv_graph.proofs.FirstTwins.{first_within}
 use Rattle.drv_graph.proofs.Numbers.{number_grows}
 use Rattle.drv_graph.proofs.PathLists.{same_place}
 use Rattle.drv_graph.proofs.Roots.{number_source}
@@ -57,6 +60,23 @@ kept_distinct kept roots n node lt is are sound =
     (All-contains (λ (m : Node). AreDistinct (output_paths_of m.drv)) (nodes_of kept)
     (node_of node) sound.own_outputs
     (Contains-from_get (nodes_of kept) n (node_of node) (kept_node kept n node lt is)))
+
+-- the number of its first twin is kept
+pub kept_first : (kept : List PlanNode) (n : ℕ) (node : PlanNode) → n < length (nodes_of kept)
+    → node ≡ get_or kept n node → AreKept kept → node.first ≡ first_twin_of (nodes_of kept) n
+kept_first kept n node lt is are =
+    let own : IsKept (nodes_of kept) node = All-contains (IsKept (nodes_of kept)) kept node are
+    (Contains-from_get kept n node (kept_at kept n node lt is)) in
+    own.first
+    ∙ ap (λ o. position_or_len (λ (m : Node). are_twins_at (Some m) o) (nodes_of kept))
+    (sym (kept_node kept n node lt is))
+
+-- it is no greater
+pub kept_first_within : (kept : List PlanNode) (n : ℕ) (node : PlanNode)
+    → n < length (nodes_of kept) → node ≡ get_or kept n node → AreKept kept → node.first ≤ n
+kept_first_within kept n node lt is are =
+    let within : first_twin_of (nodes_of kept) n ≤ n = first_within (nodes_of kept) n lt in
+    omega (arith, within, kept_first kept n node lt is are)
 
 -- what is used stands among the nodes
 pub drvs_paths : (nodes : List Node) (paths : List (List ℕ)) (drvs : List Drv)

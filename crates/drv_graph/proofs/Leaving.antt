@@ -1,31 +1,48 @@
 -- How an open derivation whose inputs were all left is left itself.
-use Rattle.std.proofs.Common.{◌≡◌, ◌∙◌, ℕ, ◌≤◌, List, [], ◌∷◌, ◌++◌, length, map, refl, sym, ap, subst, arith, Option, Some, Ok, Err, Result, IfErr, OnOk}
-use Rattle.std.specs.Prelude.{⊤, Contains}
+use Rattle.std.proofs.Common.{◌≡◌, ◌∙◌, ℕ, ◌≤◌, Bool, List, [], ◌∷◌, ◌++◌, length, map, refl, sym, ap, subst, inl, inr, ⊎_elim, arith, Option, Some, Ok, Err, Result, IfErr, OnOk}
+use Rattle.std.specs.Prelude.{◌⊎◌, ⊤, All, Contains, slice_get}
 use Rattle.std.specs.Global.{Vec}
+use Rattle.std.specs.List.{position_or_len}
 use Rattle.std.proofs.lemmas.List.{append_assoc, map_push, same_from_push, take_all}
-use Rattle.std.proofs.lemmas.List.Elements.{All-push, All-weaker}
+use Rattle.std.proofs.lemmas.List.Elements.{All-contains, All-push}
 use Rattle.std.proofs.lemmas.Simd.{map-map}
 use Rattle.nix_drv.specs.Derivation.{Drv, Output, Input}
-use Rattle.nix_drv.specs.Parts.{input_of, output_of, path_of}
+use Rattle.nix_drv.specs.Parts.{bytes_of, drv_of, input_of, output_of, path_of}
+use Rattle.nix_drv.specs.Places.{output_names}
 use Rattle.nix_drv.specs.declared.derivation.Input.{Input as InputStruct}
 use Rattle.nix_drv.specs.declared.derivation.Output.{Output as OutputStruct}
+use Rattle.nix_drv.specs.declared.derivation.Parts.{Parts}
+use Rattle.nix_names.specs.Rising.{IsRising}
 use Rattle.drv_graph.specs.Loading.{AreDistinct}
-use Rattle.drv_graph.specs.Nodes.{Node, inputs_of, paths_of}
-use Rattle.drv_graph.specs.Plans.{AreLawful, AreNumbers, IsLawful, MayAnswer, ShareOutput}
-use Rattle.drv_graph.specs.PlanNodes.{AreKept, HasHash, IsKept, node_of, nodes_of, output_paths_of, text_path_of}
-use Rattle.drv_graph.specs.Walks.{AreAlone, AreOwners, HasAllNumbers, IsFound, IsLeaving, IsLeavingFault, IsOwning, IsShared, IsVisit, SetsEntry, kept_visit, marked, outputs_of, owned, visited}
+use Rattle.drv_graph.specs.Nodes.{Node, inputs_of, output_paths_of, paths_of}
+use Rattle.drv_graph.specs.Owners.{AreOwnedBy, AreOwners, IsClash, IsOwning, outputs_of, owned}
+use Rattle.drv_graph.specs.Plans.{AreLawful, AreNumbers, AreTwins, IsLawful, MayAnswer, ShareOutput}
+use Rattle.drv_graph.specs.PlanNodes.{AreKept, HasHash, IsKept, node_of, nodes_of, text_path_of}
+use Rattle.drv_graph.specs.Walks.{HasAllNumbers, IsFound, IsLeaving, IsLeavingFault, IsVisit, SetsEntry, kept_visit, marked, visited}
 use Rattle.indexmap.specs.IndexMap.{keys}
 use Rattle.drv_graph.specs.declared.fault.GraphFault.{GraphFault}
-use Rattle.drv_graph.specs.declared.fault.GraphFault.TheVariants.{NoMemory, At, Draft, Name}
-use Rattle.drv_graph.specs.declared.fault.NodeFault.TheVariants.{Unreadable, TooMany, Text, Cycle, Outputs, SharedOutput}
+use Rattle.drv_graph.specs.declared.fault.GraphFault.TheVariants.{NoMemory}
 use Rattle.drv_graph.specs.declared.found.Found.{Found}
 use Rattle.drv_graph.specs.declared.found.Visit.{Visit}
 use Rattle.drv_graph.specs.declared.kinds.Kind.{Kind}
 use Rattle.drv_graph.specs.declared.node.PlanNode.{PlanNode}
+use Rattle.drv_graph.specs.Twins.{are_twins}
+use Rattle.drv_graph.proofs.FirstTwins.{owner_first, position_grows, position_push, twins_alone}
 use Rattle.drv_graph.proofs.Numbers.{hashes_grow, numbers_grow}
-use Rattle.drv_graph.proofs.Owners.{owners_left}
+use Rattle.drv_graph.proofs.Owners.{apart_or_same}
+use Rattle.drv_graph.proofs.OwnOutputs.{own_outputs}
 use Rattle.drv_graph.proofs.PathLists.{distinct_push}
-use Rattle.nix_names.proofs.Lists.{Contains-from_get, Contains-from_map, Contains-map, get_from_contains, get_mapped}
+use Rattle.drv_graph.proofs.Twins.{some_output}
+use Rattle.nix_names.proofs.Lists.{All-from_contains, Contains-from_map, Contains-map, get_from_contains, get_grows, get_mapped, get_pushed}
+
+-- the parts that are lent are those of the derivation
+pub parts_outputs : (parts : Parts) (drv : Drv) (lent : List OutputStruct) → drv_of parts ≡ drv
+    → lent ≡ parts.outputs.items → map output_of lent ≡ drv.outputs
+parts_outputs parts drv lent same is = ap (map output_of) is ∙ ap (λ (d : Drv). d.outputs) same
+
+pub parts_sources : (parts : Parts) (drv : Drv) (lent : List (Vec ℕ)) → drv_of parts ≡ drv
+    → lent ≡ parts.sources.items → map bytes_of lent ≡ drv.sources
+parts_sources parts drv lent same is = ap (map bytes_of) is ∙ ap (λ (d : Drv). d.sources) same
 
 -- the paths of inputs and outputs, from what lends them
 pub inputs_are : (lent : List InputStruct) (drv : Drv) (paths : List (List ℕ)) → map input_of lent
@@ -47,45 +64,31 @@ all_numbers nodes visit is all =
     subst (AreNumbers nodes visit.numbers.items)
     (take_all (length visit.numbers.items) (inputs_of visit.drv) long) is.numbers
 
--- the fault of a shared output is true
-pub leaving_shared : (dir : List ℕ) (kept given : List PlanNode) (visit : Visit)
+-- the fault of outputs that clash is true
+pub leaving_clash : (dir : List ℕ) (kept given : List PlanNode) (visit : Visit)
     (outputs : List (List ℕ)) (owners : List ℕ → Option ℕ) (fault : GraphFault) (kind : Kind)
     → MayAnswer dir (nodes_of kept) (visited visit) (Ok kind) → given ≡ kept
     → outputs ≡ output_paths_of visit.drv → IsOwning given visit.path outputs owners (Err fault)
     → IsLeavingFault dir kept visit fault
-leaving_shared dir kept given visit outputs owners NoMemory kind right same are owning = tt
-leaving_shared dir kept given visit outputs owners (At path (SharedOutput earlier)) kind right same
-    are owning =
-    let shared : IsShared kept (output_paths_of visit.drv) earlier =
-    subst (λ l. IsShared kept l earlier) are
-    (subst (λ k. IsShared k outputs earlier) same owning.1) in
-    let mine = Contains-from_map (λ (o : Output). o.path) visit.drv.outputs shared.output
-    shared.is_own in
-    let other = Contains-from_map (λ (o : Output). o.path) shared.node.drv.outputs shared.output
-    shared.is_output in (
-      owning.0,
+leaving_clash dir kept given visit outputs owners fault kind right same are (inl memory) =
+    subst (IsLeavingFault dir kept visit) (sym memory) tt
+leaving_clash dir kept given visit outputs owners fault kind right same are (inr (is, found)) =
+    let clash : IsClash kept (output_paths_of visit.drv) = subst (IsClash kept) are
+    (subst (λ k. IsClash k outputs) same found) in
+    let mine = Contains-from_map (λ (o : Output). o.path) visit.drv.outputs clash.output
+    clash.is_own in
+    let other = Contains-from_map (λ (o : Output). o.path) clash.node.drv.outputs clash.output
+    clash.is_output in
+    subst (IsLeavingFault dir kept visit) (sym is) (
+      refl,
       (kind, right),
       (
-        node_of shared.node,
-        Contains-map node_of kept shared.node
-            (Contains-from_get kept shared.number shared.node shared.is_node),
-        shared.is_path,
+        node_of clash.node,
+        Contains-map node_of kept clash.node clash.is_node,
         (other.0, mine.0, other.1, mine.1, other.2 ∙ sym mine.2),
+        clash.no_twin,
       ),
     )
-leaving_shared dir kept given visit outputs owners (At path Unreadable) kind right same are owning =
-    absurd owning
-leaving_shared dir kept given visit outputs owners (At path TooMany) kind right same are owning =
-    absurd owning
-leaving_shared dir kept given visit outputs owners (At path (Text fault)) kind right same are
-    owning = absurd owning
-leaving_shared dir kept given visit outputs owners (At path Cycle) kind right same are owning =
-    absurd owning
-leaving_shared dir kept given visit outputs owners (At path (Outputs fault)) kind right same are
-    owning = absurd owning
-leaving_shared dir kept given visit outputs owners (Draft fault) kind right same are owning =
-    absurd owning
-leaving_shared dir kept given visit outputs owners Name kind right same are owning = absurd owning
 
 last_cases : {A : Type 0} (x : A) (xs : List A) → (ys : List A) × (y : A) × (x ∷ xs ≡ ys ++ y ∷ [])
 last_cases x [] = ([], x, refl)
@@ -105,15 +108,18 @@ lawful_push dir nodes node all one before (x ∷ xs) other parts =
     ∙ sym (append_assoc before (other ∷ rest.0) (rest.1 ∷ [])) in
     all before rest.0 other (same_from_push nodes (before ++ other ∷ rest.0) node rest.1 whole).0
 
--- what is kept stays right as nodes are added
+-- what is kept stays right as nodes are added behind its first twin
 kept_grows : (nodes more : List Node) (kept : PlanNode) → IsKept nodes kept
+    → position_or_len (λ (n : Node). are_twins n.drv kept.drv) (nodes ++ more)
+    ≡ position_or_len (λ (n : Node). are_twins n.drv kept.drv) nodes
     → IsKept (nodes ++ more) kept
-kept_grows nodes more kept right = record {
+kept_grows nodes more kept right stays = record {
   numbers = numbers_grow nodes more kept.inputs.items (inputs_of kept.drv) right.numbers;
   has_kind = right.has_kind;
   has_hash = hash_grows nodes more kept.drv kept.kind kept.hash right.has_hash;
   outputs = right.outputs;
   sources = right.sources;
+  first = right.first ∙ sym stays;
 }
   where
     hash_grows : (ns ms : List Node) (drv : Drv) (kind : Kind) (hash : List ℕ)
@@ -124,33 +130,46 @@ kept_grows nodes more kept right = record {
       is_hash = has.is_hash;
     }
 
--- the derivation shares no output with an earlier one
-alone_drv : (kept : List PlanNode) (drv : Drv) (outputs : List (List ℕ)) → outputs
-    ≡ output_paths_of drv → AreAlone (outputs_of kept) outputs → (earlier : Node)
-    → Contains (nodes_of kept) earlier → ShareOutput earlier.drv drv → ⊥
-alone_drv kept drv outputs are alone earlier has (x, y, has_x, has_y, same) =
+-- with each earlier derivation this one shares no output path, or is its twin
+apart_drv : (kept : List PlanNode) (drv : Drv) (owners : List ℕ → Option ℕ)
+    → AreOwners owners (outputs_of kept ++ output_paths_of drv ∷ []) → (earlier : Node)
+    → Contains (nodes_of kept) earlier
+    → (ShareOutput earlier.drv drv → ⊥) ⊎ AreTwins earlier.drv drv
+apart_drv kept drv owners right earlier has =
     let source = Contains-from_map node_of kept earlier has in
     let place = get_from_contains kept source.0 source.1 in
-    let its = get_mapped (λ (k : PlanNode). output_paths_of k.drv) kept place.0 source.0 place.1 in
     let drvs : source.0.drv ≡ earlier.drv = ap (λ (n : Node). n.drv) source.2 in
-    let theirs : Contains (output_paths_of source.0.drv) x.path =
-    subst (λ d. Contains (output_paths_of d) x.path) (sym drvs)
-    (Contains-map (λ (o : Output). o.path) earlier.drv.outputs x has_x) in
-    let mine : Contains outputs x.path = subst (λ l. Contains l x.path) (sym are)
-    (subst (Contains (output_paths_of drv)) (sym same)
-    (Contains-map (λ (o : Output). o.path) drv.outputs y has_y)) in
-    alone x.path mine place.0 (output_paths_of source.0.drv) its theirs
+    let left = outputs_of kept in
+    let its : slice_get left place.0 ≡ Some (output_paths_of earlier.drv) =
+    get_mapped (λ (k : PlanNode). output_paths_of k.drv) kept place.0 source.0 place.1
+    ∙ ap (λ (d : Drv). Some (output_paths_of d)) drvs in
+    ⊎_elim
+    (λ none. inl (λ shared. none shared.0.path
+    (Contains-map (λ (o : Output). o.path) earlier.drv.outputs shared.0 shared.2)
+    (subst (Contains (output_paths_of drv)) (sym shared.4)
+    (Contains-map (λ (o : Output). o.path) drv.outputs shared.1 shared.3))))
+    inr
+    (apart_or_same owners (left ++ output_paths_of drv ∷ []) place.0 (length left)
+    (output_paths_of earlier.drv) (output_paths_of drv) right
+    (get_grows left (output_paths_of drv ∷ []) place.0 (output_paths_of earlier.drv) its)
+    (get_pushed left (output_paths_of drv)))
 
 -- what is kept is right with one derivation more
 kept_push : (kept : List PlanNode) (one : PlanNode) → AreKept kept → IsKept (nodes_of kept) one
     → AreKept (kept ++ one ∷ [])
 kept_push kept one right new =
-    let grow : (k : PlanNode) → IsKept (nodes_of kept) k → IsKept (nodes_of (kept ++ one ∷ [])) k =
-    λ k is. subst (λ ns. IsKept ns k) (sym (map_push node_of kept one))
-    (kept_grows (nodes_of kept) (node_of one ∷ []) k is) in
+    let nodes = nodes_of kept in
+    let twins : PlanNode → Node → Bool = λ k n. are_twins n.drv k.drv in
+    let grow : (k : PlanNode) → IsKept nodes k → position_or_len (twins k) (nodes ++ node_of one ∷ [])
+    ≡ position_or_len (twins k) nodes → IsKept (nodes_of (kept ++ one ∷ [])) k =
+    λ k is stays. subst (λ ns. IsKept ns k) (sym (map_push node_of kept one))
+    (kept_grows nodes (node_of one ∷ []) k is stays) in
     All-push (IsKept (nodes_of (kept ++ one ∷ []))) kept one
-    (All-weaker (IsKept (nodes_of kept)) (IsKept (nodes_of (kept ++ one ∷ []))) grow kept right)
-    (grow one new)
+    (All-from_contains (IsKept (nodes_of (kept ++ one ∷ []))) kept
+    (λ k has. grow k (All-contains (IsKept nodes) kept k right has)
+    (position_grows (twins k) nodes (node_of one ∷ []) (node_of k) (Contains-map node_of kept k has)
+    (twins_alone k.drv))))
+    (grow one new (position_push (twins one) nodes (node_of one) (twins_alone one.drv)))
 
 -- what was left is right with one derivation more
 found_right :
@@ -162,14 +181,15 @@ found_right :
     IsKept (nodes_of kept) one →
     (Contains (paths_of (nodes_of kept)) one.path → ⊥) →
     MayAnswer dir (nodes_of kept) (node_of one) (Ok one.kind) →
+    All (λ (n : Node). AreDistinct (output_paths_of n.drv)) (nodes_of kept) →
+    AreDistinct (output_paths_of one.drv) →
     outputs ≡ output_paths_of one.drv →
-    AreOwners owners (outputs_of kept) outputs →
-    AreAlone (outputs_of kept) outputs →
+    AreOwners owners (outputs_of kept ++ outputs ∷ []) →
     after.nodes.items ≡ kept ++ one ∷ [] →
     owned after.owners ≡ owners →
     IsFound dir after
-found_right dir kept after one owners outputs right distinct lawful is_kept new answer are entered
-    alone grown same = record {
+found_right dir kept after one owners outputs right distinct lawful is_kept new answer others once
+    are entered grown same = record {
       kept = subst AreKept (sym grown) (kept_push kept one right is_kept);
       distinct = subst (λ l. AreDistinct (paths_of (nodes_of l))) (sym grown)
           (subst (λ ns. AreDistinct (paths_of ns)) (sym (map_push node_of kept one))
@@ -178,25 +198,49 @@ found_right dir kept after one owners outputs right distinct lawful is_kept new 
       lawful = subst (λ l. AreLawful dir (nodes_of l)) (sym grown)
           (subst (AreLawful dir) (sym (map_push node_of kept one))
           (lawful_push dir (nodes_of kept) (node_of one) lawful is_lawful));
-      owners = subst (λ o. AreOwners o (outputs_of after.nodes.items) []) (sym same)
-          (subst (λ l. AreOwners owners (outputs_of l) []) (sym grown)
-          (subst (λ l. AreOwners owners l [])
-          (sym (map_push (λ (k : PlanNode). output_paths_of k.drv) kept one))
-          (owners_left owners (outputs_of kept) (output_paths_of one.drv)
-          (subst (AreOwners owners (outputs_of kept)) are entered))));
+      own_outputs =
+          subst (λ l. All (λ (n : Node). AreDistinct (output_paths_of n.drv)) (nodes_of l))
+          (sym grown)
+          (subst (All (λ (n : Node). AreDistinct (output_paths_of n.drv)))
+          (sym (map_push node_of kept one))
+          (All-push (λ (n : Node). AreDistinct (output_paths_of n.drv)) (nodes_of kept)
+          (node_of one) others once));
+      owners = subst (λ o. AreOwners o (outputs_of after.nodes.items)) (sym same)
+          (subst (λ l. AreOwners owners (outputs_of l)) (sym grown)
+          (subst (AreOwners owners)
+          (sym (map_push (λ (k : PlanNode). output_paths_of k.drv) kept one)) its_entered));
     }
   where
+    its_entered : AreOwners owners (outputs_of kept ++ output_paths_of one.drv ∷ [])
+    its_entered = subst (λ l. AreOwners owners (outputs_of kept ++ l ∷ [])) are entered
+
     is_lawful : IsLawful dir (nodes_of kept) (node_of one)
     is_lawful = record {
       kind = one.kind;
       right = answer;
-      alone = alone_drv kept one.drv outputs are alone;
+      apart = apart_drv kept one.drv owners its_entered;
     }
+
+-- the owner of its outputs is its first twin
+its_first : (dir : List ℕ) (kept : List PlanNode) (visit : Visit) (kind : Kind)
+    (owners : List ℕ → Option ℕ) (first : ℕ) (entered : List (List ℕ))
+    → MayAnswer dir (nodes_of kept) (visited visit) (Ok kind)
+    → entered ≡ output_paths_of visit.drv
+    → AreOwners owners (outputs_of kept ++ entered ∷ []) × AreOwnedBy owners first entered
+    → first ≡ position_or_len (λ (n : Node). are_twins n.drv visit.drv) (nodes_of kept)
+its_first dir kept visit kind owners first entered right are owned_right =
+    let some = some_output visit.drv kind right.check.0.has_kind in
+    let both : AreOwners owners (outputs_of kept ++ output_paths_of visit.drv ∷ [])
+    × AreOwnedBy owners first (output_paths_of visit.drv) =
+    subst (λ l. AreOwners owners (outputs_of kept ++ l ∷ []) × AreOwnedBy owners first l) are
+    owned_right in
+    owner_first kept visit.drv owners first some.0.path both.0 both.1
+    (Contains-map (λ (o : Output). o.path) visit.drv.outputs some.0 some.1)
 
 -- a derivation is left
 pub leaving_kept :
     (dir : List ℕ) (before after : Found) (visit : Visit) (kind : Kind) (hash : List ℕ)
-    (outputs sources : Vec (List ℕ)) (given : List PlanNode) (entered : List (List ℕ))
+    (outputs sources : Vec (List ℕ)) (first : ℕ) (given : List PlanNode) (entered : List (List ℕ))
     (owners : List ℕ → Option ℕ) (result : Result ⊤ GraphFault) →
     IsFound dir before →
     IsVisit (nodes_of before.nodes.items) visit →
@@ -208,40 +252,44 @@ pub leaving_kept :
     sources.items ≡ visit.drv.sources →
     given ≡ before.nodes.items →
     entered ≡ outputs.items →
-    AreOwners owners (outputs_of given) entered × AreAlone (outputs_of given) entered →
+    IsRising (output_names visit.drv) →
+    AreOwners owners (outputs_of given ++ entered ∷ []) × AreOwnedBy owners first entered →
     OnOk result (after.nodes.items ≡ before.nodes.items
-    ++ kept_visit visit kind hash outputs sources ∷ []) →
+    ++ kept_visit visit kind hash outputs sources first ∷ []) →
     OnOk result (owned after.owners ≡ owners) →
     OnOk result (SetsEntry (marked before.marks) (marked after.marks) visit.path
     (Some (length before.nodes.items))) →
     OnOk result (length (keys after.marks) ≡ length (keys before.marks)) →
     IfErr result (λ fault. fault ≡ NoMemory) →
     IsLeaving dir before after visit result
-leaving_kept dir before after visit kind hash outputs sources given entered owners (Err fault) found
-    is all new right are lent same own owning grown owners_same marks count err =
+leaving_kept dir before after visit kind hash outputs sources first given entered owners (Err fault)
+    found is all new right are lent same own rising owning grown owners_same marks count err =
     subst (λ f. IsLeavingFault dir before.nodes.items visit f) (sym err) tt
-leaving_kept dir before after visit kind hash outputs sources given entered owners (Ok made) found
-    is all new right are lent same own owning grown owners_same marks count err =
+leaving_kept dir before after visit kind hash outputs sources first given entered owners (Ok made)
+    found is all new right are lent same own rising owning grown owners_same marks count err =
     let kept = before.nodes.items in
-    let one : PlanNode = kept_visit visit kind hash outputs sources in
+    let one : PlanNode = kept_visit visit kind hash outputs sources first in
     let numbers = all_numbers (nodes_of kept) visit is all in
-    let is_kept : IsKept (nodes_of kept) (kept_visit visit kind hash outputs sources) =
+    let entered_right : AreOwners owners (outputs_of kept ++ entered ∷ [])
+    × AreOwnedBy owners first entered =
+    subst (λ k. AreOwners owners (outputs_of k ++ entered ∷ []) × AreOwnedBy owners first entered)
+    same owning in
+    let is_kept : IsKept (nodes_of kept) (kept_visit visit kind hash outputs sources first) =
     record {
       numbers = numbers;
       has_kind = right.0.check.0.has_kind;
       has_hash = right.1;
       outputs = are;
       sources = lent;
+      first = its_first dir kept visit kind owners first entered right.0 (own ∙ are) entered_right;
     } in
-    let entered_right =
-    subst (λ k. AreOwners owners (outputs_of k) entered × AreAlone (outputs_of k) entered) same
-    owning in
     record {
       nodes = ap nodes_of grown ∙ map_push node_of kept
-          (kept_visit visit kind hash outputs sources);
-      found = found_right dir kept after (kept_visit visit kind hash outputs sources) owners entered
-          found.kept found.distinct found.lawful is_kept new right.0 (own ∙ are) entered_right.0
-          entered_right.1 grown owners_same;
+          (kept_visit visit kind hash outputs sources first);
+      found = found_right dir kept after (kept_visit visit kind hash outputs sources first) owners
+          entered found.kept found.distinct found.lawful is_kept new right.0 found.own_outputs
+          (own_outputs dir (nodes_of kept) (visited visit) kind right.0 rising) (own ∙ are)
+          entered_right.0 grown owners_same;
       marks = marks;
       count = count;
     }

@@ -15,6 +15,8 @@ pub mod Counting
 pub mod UsedNodes
 pub mod Marks
 pub mod Owners
+pub mod Twins
+pub mod FirstTwins
 pub mod Leaving
 pub mod Reading
 pub mod Walking

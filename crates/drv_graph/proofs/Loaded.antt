@@ -10,17 +10,18 @@ use Rattle.indexmap.specs.IndexMap.{IndexMap, get, keys}
 use Rattle.indexmap.specs.IndexSet.{insert_key}
 use Rattle.nix_names.proofs.Lists.{All-left}
 use Rattle.nix_drv.specs.Sources.{Answer, GivesSame}
-use Rattle.drv_graph.specs.Loading.{max_nodes}
-use Rattle.drv_graph.specs.Nodes.{Node, paths_of}
+use Rattle.drv_graph.specs.Loading.{AreDistinct, max_nodes}
+use Rattle.drv_graph.specs.Nodes.{Node, output_paths_of, paths_of}
+use Rattle.drv_graph.specs.Owners.{AreOwners, outputs_of, owned}
 use Rattle.drv_graph.specs.Plans.{AreLawful, AreLeft, AreNumbers, IsPlan, IsReached, MayStand, MayUse, each_once}
 use Rattle.drv_graph.specs.Plans.AreLeft.{none_left}
 use Rattle.drv_graph.specs.PlanNodes.{AreKept, IsKept, node_of, nodes_of}
 use Rattle.drv_graph.specs.SoundGraphs.{IsSound}
-use Rattle.drv_graph.specs.Walks.{AreMarks, AreOwners, IsEmptyFound, IsReachedAll, IsVisited, IsWalked, marked, outputs_of, owned}
+use Rattle.drv_graph.specs.Walks.{AreMarks, IsEmptyFound, IsReachedAll, IsVisited, IsWalked, marked}
 use Rattle.drv_graph.specs.declared.found.Found.{Found}
 use Rattle.drv_graph.proofs.Marks.{marks_none}
 use Rattle.drv_graph.proofs.Numbers.{numbers_grow, numbers_within}
-use Rattle.drv_graph.proofs.OwnOutputs.{all_named, all_own_outputs}
+use Rattle.drv_graph.proofs.OwnOutputs.{all_named}
 use Rattle.drv_graph.proofs.Owners.{owners_none}
 use Rattle.drv_graph.proofs.PlanOrder.{left_append, plan_reached, plan_whole}
 use Rattle.drv_graph.proofs.Roots.{roots_more}
@@ -72,7 +73,10 @@ loading_begins dir gives roots found numbers empty none once = record {
       distinct = subst (λ l. IsDistinct (pointwise nat_eq) (paths_of (nodes_of l))) (sym empty.0)
           distinct_none;
       lawful = subst (λ l. AreLawful dir (nodes_of l)) (sym empty.0) (no_nodes dir);
-      owners = subst (λ l. AreOwners (owned found.owners) (outputs_of l) []) (sym empty.0)
+      own_outputs =
+          subst (λ l. All (λ (n : Node). AreDistinct (output_paths_of n.drv)) (nodes_of l))
+          (sym empty.0) (All-nil (λ (n : Node). AreDistinct (output_paths_of n.drv)));
+      owners = subst (λ l. AreOwners (owned found.owners) (outputs_of l)) (sym empty.0)
           (owners_none (owned found.owners) (empty_get found.owners empty.2));
     };
     given = subst (λ l. All (λ (n : Node). MayStand dir gives n.path n.drv) (nodes_of l))
@@ -137,6 +141,13 @@ loading_ends dir gives roots place found numbers all some =
       once = whole.once;
     }
 
+-- there are no more than a plan may have
+few_found : (dir : List ℕ) (gives : List ℕ → Answer → Type 0) (roots : List (List ℕ))
+    (found : Found) (numbers : List ℕ) → IsReachedAll dir gives roots found numbers
+    → length (nodes_of found.nodes.items) ≤ max_nodes
+few_found dir gives roots found numbers all =
+    omega (arith, length-map found.nodes.items node_of, all.walked.count, all.walked.few)
+
 -- what was found is the plan
 pub plan_found : (dir : List ℕ) (gives : List ℕ → Answer → Type 0) (roots : List (List ℕ))
     (found : Found) (numbers : List ℕ) → IsReachedAll dir gives roots found numbers
@@ -150,7 +161,7 @@ plan_found dir gives roots found numbers all =
       reached = plan_reached (nodes_of found.nodes.items) roots order;
       whole = plan_whole (nodes_of found.nodes.items) roots all.walked.right.distinct order;
       lawful = all.walked.right.lawful;
-      few = omega (arith, length-map found.nodes.items node_of, all.walked.count, all.walked.few);
+      few = few_found dir gives roots found numbers all;
       is_roots = all.are_numbers;
     }
 
@@ -165,11 +176,11 @@ sound_found dir gives roots found numbers all = (
     dir = dir;
     lawful = all.walked.right.lawful;
     distinct = all.walked.right.distinct;
+    few = few_found dir gives roots found numbers all;
     roots_within = numbers_within (nodes_of found.nodes.items) numbers (each_once roots)
         all.are_numbers;
     roots_once = all.once;
     named = all_named dir gives (nodes_of found.nodes.items) all.walked.given;
-    own_outputs = all_own_outputs dir gives (nodes_of found.nodes.items) all.walked.right.lawful
-        all.walked.given;
+    own_outputs = all.walked.right.own_outputs;
   },
 )

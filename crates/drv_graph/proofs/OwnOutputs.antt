@@ -1,14 +1,12 @@
 -- A plan's derivations stand at the paths of derivations' files, and none has one path for two
 -- outputs: their names differ.
-use Rattle.std.proofs.Common.{◌≡◌, ◌∙◌, ℕ, Bool, true, false, List, [], ◌∷◌, ◌++◌, length, map, take, drop, refl, sym, ap, subst, ⊎_elim, nat_eq, arith, suc}
+use Rattle.std.proofs.Common.{◌≡◌, ◌∙◌, ℕ, Bool, true, false, List, [], ◌∷◌, ◌++◌, length, map, refl, sym, ap, subst, ⊎_elim, nat_eq, arith, Ok}
 use Rattle.std.specs.Prelude.{All, Contains, codes, if◌then◌else◌}
 use Rattle.std.specs.Cmp.Lexicographic.{pointwise}
 use Rattle.std.specs.List.{AllByRecursion, IsDistinct}
-use Rattle.std.proofs.Math.Seq.{split_at}
 use Rattle.std.proofs.lemmas.List.{append_cancel_left, length-append}
 use Rattle.std.proofs.lemmas.List.Elements.{All-contains}
 use Rattle.std.proofs.lemmas.Map.Keys.{IsDistinct-cons}
-use Rattle.std.proofs.lemmas.Option.{get_or_from_slice_get, slice_get_within}
 use Rattle.sha2.specs.Sha256.{sha256}
 use Rattle.nix_names.specs.Names.{is_name}
 use Rattle.nix_names.specs.Rising.{IsRising}
@@ -19,18 +17,16 @@ use Rattle.nix_names.proofs.RisingLists.{equal_from_eq, first_below, not_below_i
 use Rattle.nix_drv.specs.Derivation.{Drv, Output}
 use Rattle.nix_drv.specs.Places.{output_names}
 use Rattle.nix_drv.specs.Sources.{Answer}
-use Rattle.nix_drv.proofs.Places.{outputs_rise}
 use Rattle.drv_graph.specs.Expected.{IsExpected, drv_name_of, path_name}
 use Rattle.drv_graph.specs.Kinds.{HasKind}
 use Rattle.drv_graph.specs.Loading.{AreDistinct}
-use Rattle.drv_graph.specs.Nodes.{Node}
+use Rattle.drv_graph.specs.Nodes.{Node, output_paths_of}
 use Rattle.drv_graph.specs.Outputs.{IsThePath, IsWellNamed, PathsFit}
-use Rattle.drv_graph.specs.PlanNodes.{output_paths_of}
-use Rattle.drv_graph.specs.Plans.{AreLawful, IsLawful, MayStand}
+use Rattle.drv_graph.specs.Plans.{MayAnswer, MayStand}
 use Rattle.drv_graph.specs.declared.kinds.Kind.{Kind}
 use Rattle.drv_graph.specs.declared.kinds.Kind.TheVariants.{Addressed, Fixed}
 use Rattle.drv_graph.proofs.PathLists.{other_path}
-use Rattle.nix_names.proofs.Lists.{All-from_contains, Contains-cons_cases, Contains-first, Contains-later, Contains-map, Contains-nothing, get_from_contains}
+use Rattle.nix_names.proofs.Lists.{All-from_contains, Contains-cons_cases, Contains-first, Contains-later, Contains-map, Contains-nothing}
 
 -- a text isn't itself with more behind it
 no_more : (a b : List ℕ) → a ≡ a ++ codes "-" ++ b → ⊥
@@ -122,40 +118,16 @@ paths_differ (x ∷ xs) rising same =
       others ys (λ p has. none p (Contains-later y ys p has)),
     )
 
--- so those of a lawful derivation have
-own_outputs : (dir : List ℕ) (before : List Node) (node : Node) → IsLawful dir before node
-    → IsRising (output_names node.drv)
+-- so those of a derivation whose outputs are right have
+pub own_outputs : (dir : List ℕ) (before : List Node) (node : Node) (kind : Kind)
+    → MayAnswer dir before node (Ok kind) → IsRising (output_names node.drv)
     → AreDistinct (output_paths_of node.drv)
-own_outputs dir before node lawful rising =
-    let right = lawful.right in
+own_outputs dir before node kind right rising =
     paths_differ node.drv.outputs rising
-    (one_name dir (drv_name_of node.path) lawful.kind node.drv right.hashes right.check.0.has_kind
+    (one_name dir (drv_name_of node.path) kind node.drv right.hashes right.check.0.has_kind
     right.check.0.named right.check.1)
 
--- what stands among lawful nodes is lawful
-lawful_among : (dir : List ℕ) (nodes : List Node) → AreLawful dir nodes → (node : Node)
-    → Contains nodes node
-    → (before : List Node) × IsLawful dir before node
-lawful_among dir nodes lawful node has =
-    let place = get_from_contains nodes node has in
-    let read = get_or_from_slice_get nodes place.0 node node place.1 in
-    let parts : nodes ≡ take place.0 nodes ++ node ∷ drop (suc place.0) nodes =
-    split_at nodes place.0 node (slice_get_within nodes place.0 node place.1)
-    ∙ ap (λ (m : Node). take place.0 nodes ++ m ∷ drop (suc place.0) nodes) read in
-    (take place.0 nodes, lawful (take place.0 nodes) (drop (suc place.0) nodes) node parts)
-
--- a plan's derivations have different paths for their outputs
-pub all_own_outputs : (dir : List ℕ) (gives : List ℕ → Answer → Type 0) (nodes : List Node)
-    → AreLawful dir nodes
-    → All (λ (n : Node). MayStand dir gives n.path n.drv) nodes
-    → All (λ (n : Node). AreDistinct (output_paths_of n.drv)) nodes
-all_own_outputs dir gives nodes lawful given =
-    All-from_contains (λ (n : Node). AreDistinct (output_paths_of n.drv)) nodes (λ n has.
-    let its = lawful_among dir nodes lawful n has in
-    let stands = All-contains (λ (m : Node). MayStand dir gives m.path m.drv) nodes n given has in
-    own_outputs dir its.0 n its.1 (outputs_rise n.drv stands.found.read.is_text.in_order))
-
--- and stand at the paths of derivations' files
+-- a plan's derivations stand at the paths of derivations' files
 pub all_named : (dir : List ℕ) (gives : List ℕ → Answer → Type 0) (nodes : List Node)
     → All (λ (n : Node). MayStand dir gives n.path n.drv) nodes
     → All (λ (n : Node). IsDrvPath n.path) nodes

@@ -1,207 +1,453 @@
--- The owners of outputs, as those of one more derivation are entered.
-use Rattle.std.proofs.Common.{◌≡◌, ◌∙◌, ℕ, ◌<◌, ◌≤◌, List, [], ◌∷◌, ◌++◌, length, take, get_or, refl, sym, ap, subst, inl, inr, ⊎_elim, arith, Option, Some, None, ◌+◌, Err}
-use Rattle.std.specs.Prelude.{◌⊎◌, Contains, slice_get, unwrap_or}
+-- The owners of output paths, as those of one more derivation are entered.
+use Rattle.std.proofs.Common.{◌≡◌, ◌∙◌, ℕ, ◌+◌, ◌<◌, ◌≤◌, Bool, true, false, List, [], ◌∷◌, ◌++◌, length, take, get_or, refl, sym, ap, subst, inl, inr, ⊎_elim, arith, nat_eq, not, eq-eqb, eqb-true, Option, Some, None, Err}
+use Rattle.std.specs.Prelude.{◌⊎◌, All, Contains, IfSome, slice_get, unwrap_or}
+use Rattle.std.specs.Option.{option_eq}
+use Rattle.std.proofs.lemmas.Bool.{false≢true}
 use Rattle.std.proofs.lemmas.List.{length-map, take_all, take_more}
-use Rattle.std.proofs.lemmas.List.Elements.{Contains-append_left, Contains-push}
-use Rattle.std.proofs.lemmas.Option.{same_Some, none-some, slice_get_within}
-use Rattle.drv_graph.specs.PlanNodes.{output_paths_of}
-use Rattle.drv_graph.specs.Walks.{AreAlone, AreOwners, IsOwning, IsShared, IsSharedAt, SetsEntry, outputs_of}
+use Rattle.std.proofs.lemmas.List.Elements.{All-contains, Contains-append_left, Contains-push}
+use Rattle.std.proofs.lemmas.Option.{none-some, same_Some, slice_get_read, slice_get_within}
+use Rattle.drv_graph.specs.Loading.{AreDistinct}
+use Rattle.drv_graph.specs.Nodes.{Node, output_paths_of}
+use Rattle.drv_graph.specs.Owners.{AreEntered, AreOwnedBy, AreOwners, HasAsMany, IsClash, IsEntering, IsOwning, first_owner, outputs_of}
+use Rattle.drv_graph.specs.PlanNodes.{AreKept, IsKept, node_of, nodes_of}
+use Rattle.drv_graph.specs.Plans.{HaveSamePaths}
+use Rattle.drv_graph.specs.Walks.{SetsEntry}
 use Rattle.drv_graph.specs.declared.fault.GraphFault.{GraphFault}
-use Rattle.drv_graph.specs.declared.fault.GraphFault.TheVariants.{NoMemory, At, Draft, Name}
-use Rattle.drv_graph.specs.declared.fault.NodeFault.TheVariants.{Unreadable, TooMany, Text, Cycle, Outputs, SharedOutput}
+use Rattle.drv_graph.specs.declared.fault.GraphFault.TheVariants.{NoMemory, At}
+use Rattle.drv_graph.specs.declared.fault.NodeFault.TheVariants.{OutputClash}
 use Rattle.drv_graph.specs.declared.node.PlanNode.{PlanNode}
-use Rattle.drv_graph.proofs.PathLists.{path_cases}
-use Rattle.nix_names.proofs.Lists.{Contains-nothing, Contains-push_cases, get_grows, get_push_cases, get_pushed, get_source}
+use Rattle.drv_graph.proofs.PathLists.{all_among, as_long, known_cases, not_before, path_cases}
+use Rattle.nix_names.proofs.Lists.{Contains-first, Contains-from_get, Contains-map, Contains-nothing, Contains-push_cases, either_side, get_grows, get_mapped, get_push_cases, get_pushed, get_source, same_element}
 
-abbrev Lists : Type 0
+abbrev pub Lists : Type 0
 Lists = List (List (List ℕ))
+
+-- ---- what owners are
 
 -- nothing is owned
 pub owners_none : (owners : List ℕ → Option ℕ) → ((path : List ℕ) → owners path ≡ None)
-    → AreOwners owners [] []
+    → AreOwners owners []
 owners_none owners none = record {
-  none = λ path e. (Contains-nothing path, λ n outputs is. absurd (none-some outputs is));
-  some = λ path n e. absurd (none-some n (sym (none path) ∙ e));
+  has = λ path n e. absurd (none-some n (sym (none path) ∙ e));
+  of_each = λ n outputs at. absurd (none-some outputs at);
 }
 
--- an output that has no earlier owner is alone
-alone_here : (owners : List ℕ → Option ℕ) (left : Lists) (own : List (List ℕ)) (path : List ℕ)
-    → AreOwners owners left own → AreAlone left own → (o : Option ℕ) → owners path ≡ o → length left
-    ≤ unwrap_or o (length left) → (n : ℕ) (outputs : List (List ℕ)) → slice_get left n
-    ≡ Some outputs → Contains outputs path → ⊥
-alone_here owners left own path right alone None e high n outputs is has =
-    (right.none path e).1 n outputs is has
-alone_here owners left own path right alone (Some m) e high n outputs is has =
-    by (right.some path m e)
-  where
-    by : ((found : List (List ℕ)) × (slice_get left m ≡ Some found) × Contains found path)
-        ⊎ ((m ≡ length left) × Contains own path) → ⊥
-    by (inl found) = let lt = slice_get_within left m found.0 found.1
-        in absurd (omega (arith, lt, high))
-    by (inr mine) = alone path mine.1 n outputs is has
+-- two derivations share no output path, or have the same
+pub apart_or_same : (owners : List ℕ → Option ℕ) (left : Lists) (i j : ℕ) (a b : List (List ℕ))
+    → AreOwners owners left → slice_get left i ≡ Some a → slice_get left j ≡ Some b
+    → ((path : List ℕ) → Contains a path → Contains b path → ⊥) ⊎ HaveSamePaths a b
+apart_or_same owners left i j a b right at at' =
+    let mine = right.of_each i a at in
+    let other = right.of_each j b at' in
+    let one : (path : List ℕ) → Contains a path → Contains b path → mine.0 ≡ other.0 = λ path is is'.
+    same_Some mine.0 other.0 (sym ((mine.2 path).0 is) ∙ (other.2 path).0 is') in
+    ⊎_elim
+    (λ same. inr (λ path. (
+      λ is. (other.2 path).1 ((mine.2 path).0 is ∙ ap Some same),
+      λ is. (mine.2 path).1 ((other.2 path).0 is ∙ ap Some (sym same)),
+    )))
+    (λ differs. inl (λ path is is'. ⊎_elim (λ lt. omega (arith, lt, one path is is'))
+    (λ gt. omega (arith, gt, one path is is')) differs))
+    (either_side mine.0 other.0)
 
--- one more output of the next derivation
-pub owners_more : (owners after : List ℕ → Option ℕ) (left : Lists) (own : List (List ℕ))
-    (path : List ℕ) → AreOwners owners left own → SetsEntry owners after path (length left)
-    → AreOwners after left (own ++ path ∷ [])
-owners_more owners after left own path right sets = record { none = none; some = some }
+-- ---- one more derivation
+
+-- none of its outputs had an owner
+pub owners_new : (owners after : List ℕ → Option ℕ) (left : Lists) (own : List (List ℕ))
+    → AreOwners owners left → ((path : List ℕ) → Contains own path → owners path ≡ None)
+    → AreEntered owners after own (length left)
+    → AreOwners after (left ++ own ∷ []) × AreOwnedBy after (length left) own
+owners_new owners after left own right free entered =
+    (record { has = has; of_each = of_each }, mine_alone)
   where
-    none : (other : List ℕ) → after other ≡ None → (Contains (own ++ path ∷ []) other → ⊥)
-        × ((n : ℕ) (outputs : List (List ℕ)) → slice_get left n ≡ Some outputs
-        → Contains outputs other → ⊥)
-    none other e =
-        let differs : other ≡ path → ⊥ = λ same.
-        none-some (length left) (sym e ∙ ap after same ∙ sets.here) in
-        let old = right.none other (sym (sets.others other differs) ∙ e) in (
-          λ has. ⊎_elim (λ mine. old.0 mine) (λ same. differs (sym same))
-              (Contains-push_cases own path other has),
-          old.1,
+    its_own : (path : List ℕ) (n : ℕ) → Contains own path → after path ≡ Some n → length left ≡ n
+    its_own path n mine e = same_Some (length left) n (sym (entered.here path mine) ∙ e)
+
+    as_before : (path : List ℕ) (n : ℕ) → (Contains own path → ⊥) → after path ≡ Some n
+        → owners path ≡ Some n
+    as_before path n other e = sym (entered.others path other) ∙ e
+
+    has : (path : List ℕ) (n : ℕ) → after path ≡ Some n → (outputs : List (List ℕ))
+        × (slice_get (left ++ own ∷ []) n ≡ Some outputs) × Contains outputs path
+    has path n e =
+        ⊎_elim
+        (λ mine. (
+          own,
+          ap (λ k. slice_get (left ++ own ∷ []) k) (sym (its_own path n mine e))
+              ∙ get_pushed left own,
+          mine,
+        ))
+        (λ other.
+        let old = right.has path n (as_before path n other e)
+        in (old.0, get_grows left (own ∷ []) n old.0 old.1, old.2))
+        (known_cases own path)
+
+    mine_alone : AreOwnedBy after (length left) own
+    mine_alone path = (
+      entered.here path,
+      λ e. ⊎_elim (λ is. is)
+          (λ other.
+          let old = right.has path (length left) (as_before path (length left) other e) in
+          let low = slice_get_within left (length left) old.0 old.1 in absurd (omega (arith, low)))
+          (known_cases own path),
+    )
+
+    before : (n : ℕ) (outputs : List (List ℕ)) → slice_get left n ≡ Some outputs → (number : ℕ)
+        × (number ≤ n) × AreOwnedBy after number outputs
+    before n outputs old =
+        let its = right.of_each n outputs old in
+        let low = slice_get_within left n outputs old in (
+          its.0,
+          its.1,
+          λ path. (
+            λ is.
+                let e = (its.2 path).0 is
+                in entered.others path (λ mine. none-some its.0 (sym (free path mine) ∙ e)) ∙ e,
+            λ e. ⊎_elim
+                (λ mine. absurd (omega (arith, its.1, low, its_own path its.0 mine e)))
+                (λ other. (its.2 path).1 (as_before path its.0 other e)) (known_cases own path),
+          ),
         )
 
-    some : (other : List ℕ) (n : ℕ) → after other ≡ Some n
-        → ((outputs : List (List ℕ)) × (slice_get left n ≡ Some outputs) × Contains outputs other)
-        ⊎ ((n ≡ length left) × Contains (own ++ path ∷ []) other)
-    some other n e =
-        ⊎_elim
-        (λ same. inr (
-          sym (same_Some (length left) n (sym sets.here ∙ ap after (sym same) ∙ e)),
-          subst (Contains (own ++ path ∷ [])) (sym same) (Contains-push own path),
+    of_each : (n : ℕ) (outputs : List (List ℕ)) → slice_get (left ++ own ∷ []) n ≡ Some outputs
+        → (number : ℕ) × (number ≤ n) × AreOwnedBy after number outputs
+    of_each n outputs at =
+        ⊎_elim (λ old. before n outputs old)
+        (λ last. (
+          length left,
+          omega (arith, last.0),
+          subst (AreOwnedBy after (length left)) last.1 mine_alone,
         ))
-        (λ differs. ⊎_elim inl
-        (λ mine. inr (mine.0, Contains-append_left own (path ∷ []) other mine.1))
-        (right.some other n (sym (sets.others other differs) ∙ e)))
-        (path_cases other path)
+        (get_push_cases left own n outputs at)
 
-pub alone_more : (owners : List ℕ → Option ℕ) (left : Lists) (own : List (List ℕ)) (path : List ℕ)
-    → AreOwners owners left own → AreAlone left own → length left
-    ≤ unwrap_or (owners path) (length left) → AreAlone left (own ++ path ∷ [])
-alone_more owners left own path right alone high other has n outputs is among =
-    ⊎_elim (λ mine. alone other mine n outputs is among)
-    (λ same. alone_here owners left own path right alone (owners path) refl high n outputs is
-    (subst (Contains outputs) (sym same) among)) (Contains-push_cases own path other has)
-
--- the derivation was left
-pub owners_left : (owners : List ℕ → Option ℕ) (left : Lists) (own : List (List ℕ))
-    → AreOwners owners left own → AreOwners owners (left ++ own ∷ []) []
-owners_left owners left own right = record {
-  none = λ path e. (
-    Contains-nothing path,
-    λ n outputs is has. ⊎_elim (λ old. (right.none path e).1 n outputs old has)
-        (λ last. (right.none path e).0 (subst (λ l. Contains l path) (sym last.1) has))
-        (get_push_cases left own n outputs is),
-  );
-  some = λ path n e.
-      ⊎_elim
-      (λ old. inl (old.0, get_grows left (own ∷ []) n old.0 old.1, old.2))
-      (λ mine. inl (
-        own,
-        ap (λ m. slice_get (left ++ own ∷ []) m) mine.0 ∙ get_pushed left own,
-        mine.1,
-      ))
-      (right.some path n e);
-}
-
--- an output that has an earlier owner is shared
-pub shared_here : (kept : List PlanNode) (owners : List ℕ → Option ℕ) (outputs own : List (List ℕ))
-    (path : List ℕ) (o : Option ℕ) (earlier : ℕ) (node : PlanNode)
-    → AreOwners owners (outputs_of kept) own → owners path ≡ o → earlier ≡ unwrap_or o (length kept)
-    → earlier < length kept → slice_get kept earlier ≡ Some node → Contains outputs path
-    → IsShared kept outputs node.path
-shared_here kept owners outputs own path None earlier node right e is lt is_node has =
-    absurd (omega (arith, is, lt))
-shared_here kept owners outputs own path (Some m) earlier node right e is lt is_node has =
-    by (right.some path m e)
+-- they have all the owner that an earlier derivation with as many has
+pub owners_twin : (owners after : List ℕ → Option ℕ) (left : Lists) (own theirs : List (List ℕ))
+    (m : ℕ) → AreOwners owners left → slice_get left m ≡ Some theirs → AreDistinct own
+    → length theirs ≡ length own
+    → ((path : List ℕ) → Contains own path → owners path ≡ Some m)
+    → AreEntered owners after own m
+    → AreOwners after (left ++ own ∷ []) × AreOwnedBy after m own
+owners_twin owners after left own theirs m right at once long of_them entered =
+    (record { has = has; of_each = of_each }, as_theirs)
   where
-    long : length (outputs_of kept) ≡ length kept
-    long = length-map kept (λ (k : PlanNode). output_paths_of k.drv)
+    same : (path : List ℕ) → after path ≡ owners path
+    same path = ⊎_elim (λ mine. entered.here path mine ∙ sym (of_them path mine))
+        (λ other. entered.others path other) (known_cases own path)
 
-    by : ((found : List (List ℕ)) × (slice_get (outputs_of kept) m ≡ Some found)
-        × Contains found path) ⊎ ((m ≡ length (outputs_of kept)) × Contains own path)
-        → IsShared kept outputs node.path
-    by (inr mine) = absurd (omega (arith, is, lt, mine.0, long))
-    by (inl found) =
-        let source = get_source (λ (k : PlanNode). output_paths_of k.drv) kept m found.0 found.1 in
-        let same : source.0 ≡ node = same_Some source.0 node
-        (sym source.1 ∙ ap (λ n. slice_get kept n) (sym is) ∙ is_node) in
-        record {
-          number = earlier;
-          node = node;
-          is_node = is_node;
-          is_path = refl;
-          output = path;
-          is_output = subst (λ (k : PlanNode). Contains (output_paths_of k.drv) path) same
-              (subst (λ l. Contains l path) (sym source.2) found.2);
-          is_own = has;
-        }
+    among : (path : List ℕ) → owners path ≡ Some m → Contains theirs path
+    among path e =
+        let old = right.has path m e
+        in subst (λ l. Contains l path) (same_element left m old.0 theirs old.1 at) old.2
+
+    has : (path : List ℕ) (n : ℕ) → after path ≡ Some n → (outputs : List (List ℕ))
+        × (slice_get (left ++ own ∷ []) n ≡ Some outputs) × Contains outputs path
+    has path n e =
+        let old = right.has path n (sym (same path) ∙ e)
+        in (old.0, get_grows left (own ∷ []) n old.0 old.1, old.2)
+
+    as_theirs : AreOwnedBy after m own
+    as_theirs path = (
+      entered.here path,
+      λ e. all_among own theirs once (λ q is. among q (of_them q is)) (omega (arith, long)) path
+          (among path (sym (same path) ∙ e)),
+    )
+
+    of_each : (n : ℕ) (outputs : List (List ℕ)) → slice_get (left ++ own ∷ []) n ≡ Some outputs
+        → (number : ℕ) × (number ≤ n) × AreOwnedBy after number outputs
+    of_each n outputs at' =
+        ⊎_elim
+        (λ old.
+        let its = right.of_each n outputs old in (
+          its.0,
+          its.1,
+          λ path. (
+            λ is. same path ∙ (its.2 path).0 is,
+            λ e. (its.2 path).1 (sym (same path) ∙ e),
+          ),
+        ))
+        (λ last.
+        let low = slice_get_within left m theirs at in (
+          m,
+          omega (arith, last.0, low),
+          subst (AreOwnedBy after m) last.1 as_theirs,
+        ))
+        (get_push_cases left own n outputs at')
+
+-- ---- how paths are entered
 
 -- an item that was read and copied
 pub contains_item : (xs : List (List ℕ)) (i : ℕ) (x y : List ℕ) → i < length xs → x ≡ get_or xs i x
     → y ≡ x → Contains xs y
 contains_item xs i x y lt is same = subst (Contains xs) (sym same) (i, lt, sym is)
 
-item_taken : (xs : List (List ℕ)) (i : ℕ) (x y : List ℕ) → i < length xs → x ≡ get_or xs i x → y ≡ x
-    → take i xs ++ y ∷ [] ≡ take (i + 1) xs
-item_taken xs i x y lt is same = ap (λ z. take i xs ++ z ∷ []) (same ∙ is)
-    ∙ sym (take_more xs i x lt)
+-- what a comparison of two owners said
+pub same_owner : (a b : Option ℕ) (differs : Bool) → differs ≡ not (option_eq nat_eq a b) → differs
+    ≡ false → a ≡ b
+same_owner None None differs is failed = refl
+same_owner None (Some y) differs is failed = absurd (false≢true (sym failed ∙ is))
+same_owner (Some x) None differs is failed = absurd (false≢true (sym failed ∙ is))
+same_owner (Some x) (Some y) differs is failed =
+    ap Some (eqb-true x y (by (nat_eq x y) (sym failed ∙ is)))
+  where
+    by : (t : Bool) → false ≡ not t → t ≡ true
+    by true e = refl
+    by false e = absurd (false≢true e)
 
--- one output more was entered
-pub own_step :
-    (kept : List PlanNode) (outputs : List (List ℕ)) (i : ℕ) (item owner : List ℕ)
-    (owners after : List ℕ → Option ℕ) (old : Option ℕ) (earlier : ℕ) →
-    i < length outputs →
-    item ≡ get_or outputs i item →
-    owner ≡ item →
-    AreOwners owners (outputs_of kept) (take i outputs) →
-    AreAlone (outputs_of kept) (take i outputs) →
-    old ≡ owners owner →
-    earlier ≡ unwrap_or old (length kept) →
-    length kept ≤ earlier →
-    SetsEntry owners after owner (length kept) →
-    AreOwners after (outputs_of kept) (take (i + 1) outputs)
-    × AreAlone (outputs_of kept) (take (i + 1) outputs)
-own_step kept outputs i item owner owners after old earlier lt is same right alone found chosen high
-    sets =
-    let left = outputs_of kept in
-    let long : length left ≡ length kept = length-map kept (λ (k : PlanNode). output_paths_of k.drv)
-    in
-    let taken = item_taken outputs i item owner lt is same in
-    let sets_long : SetsEntry owners after owner (length left) =
-    subst (SetsEntry owners after owner) (sym long) sets in
-    let reached : length left ≤ unwrap_or (owners owner) (length left) =
-    subst (λ n. n ≤ unwrap_or (owners owner) n) (sym long)
-    (subst (λ o. length kept ≤ unwrap_or o (length kept)) found
-    (subst (λ n. length kept ≤ n) chosen high)) in (
-      subst (AreOwners after left) taken
-          (owners_more owners after left (take i outputs) owner right sets_long),
-      subst (AreAlone left) taken
-          (alone_more owners left (take i outputs) owner right alone reached),
+pub other_owner : (a b : Option ℕ) (differs : Bool) → differs ≡ not (option_eq nat_eq a b) → differs
+    ≡ true → a ≡ b → ⊥
+other_owner a b differs is passed same =
+    false≢true (sym (ap (λ o. not (option_eq nat_eq a o)) (sym same) ∙ itself a) ∙ sym is ∙ passed)
+  where
+    itself : (o : Option ℕ) → not (option_eq nat_eq o o) ≡ false
+    itself None = refl
+    itself (Some x) = ap not (eq-eqb x x refl)
+
+-- nothing is entered yet
+pub entered_none : (owners : List ℕ → Option ℕ) (number : ℕ) → AreEntered owners owners [] number
+entered_none owners number = record {
+  here = λ path has. absurd (Contains-nothing path has);
+  others = λ path none. refl;
+}
+
+-- one path more
+entered_more : (before now after : List ℕ → Option ℕ) (paths : List (List ℕ)) (path : List ℕ)
+    (number : ℕ) → AreEntered before now paths number → SetsEntry now after path number
+    → AreEntered before after (paths ++ path ∷ []) number
+entered_more before now after paths path number entered sets = record {
+  here = λ other has. ⊎_elim (λ same. ap after same ∙ sets.here)
+      (λ differs.
+      sets.others other differs
+      ∙ ⊎_elim (λ old. entered.here other old) (λ same. absurd (differs (sym same)))
+      (Contains-push_cases paths path other has))
+      (path_cases other path);
+  others = λ other none.
+      sets.others other
+      (λ same. none (subst (Contains (paths ++ path ∷ [])) (sym same) (Contains-push paths path)))
+      ∙ entered.others other (λ old. none (Contains-append_left paths (path ∷ []) other old));
+}
+
+-- a path that is read was not entered, so it has the owner that it had
+unchanged : (before now : List ℕ → Option ℕ) (paths : List (List ℕ)) (i : ℕ) (path : List ℕ)
+    (number : ℕ) → AreDistinct paths → i < length paths → path ≡ get_or paths i path
+    → AreEntered before now (take i paths) number → now path ≡ before path
+unchanged before now paths i path number once lt is entered =
+    entered.others path
+    (not_before paths i path once (slice_get_read paths (length paths) i path refl lt is))
+
+-- one path more had the owner that it has to have
+pub enter_step :
+    (before now after : List ℕ → Option ℕ) (paths : List (List ℕ)) (i : ℕ) (path key : List ℕ)
+    (owner old : Option ℕ) (number : ℕ) →
+    i < length paths →
+    path ≡ get_or paths i path →
+    key ≡ path →
+    AreDistinct paths →
+    ((other : List ℕ) → Contains (take i paths) other → before other ≡ owner) →
+    AreEntered before now (take i paths) number →
+    old ≡ now key →
+    old ≡ owner →
+    SetsEntry now after key number →
+    ((other : List ℕ) → Contains (take (i + 1) paths) other → before other ≡ owner)
+    × AreEntered before after (take (i + 1) paths) number
+enter_step before now after paths i path key owner old number lt is copied once were entered found
+    same sets =
+    let taken : take i paths ++ path ∷ [] ≡ take (i + 1) paths =
+    ap (λ p. take i paths ++ p ∷ []) is ∙ sym (take_more paths i path lt) in
+    let here : before path ≡ owner = sym (unchanged before now paths i path number once lt is entered)
+    ∙ ap now (sym copied) ∙ sym found ∙ same in (
+      λ other has. ⊎_elim (λ earlier. were other earlier) (λ last. ap before (sym last) ∙ here)
+          (Contains-push_cases (take i paths) path other
+          (subst (λ l. Contains l other) (sym taken) has)),
+      subst (λ l. AreEntered before after l number) taken
+          (entered_more before now after (take i paths) path number entered
+          (subst (λ p. SetsEntry now after p number) copied sets)),
     )
 
--- all outputs were entered
+-- one path had another
+pub enter_stops :
+    (before now after : List ℕ → Option ℕ) (paths : List (List ℕ)) (i : ℕ) (path key : List ℕ)
+    (owner old : Option ℕ) (number : ℕ) →
+    i < length paths →
+    path ≡ get_or paths i path →
+    key ≡ path →
+    AreDistinct paths →
+    AreEntered before now (take i paths) number →
+    old ≡ now key →
+    (old ≡ owner → ⊥) →
+    IsEntering before after owner paths number false
+enter_stops before now after paths i path key owner old number lt is copied once entered found
+    differs = (
+      path,
+      contains_item paths i path path lt is refl,
+      λ same. differs
+          (found ∙ ap now copied ∙ unchanged before now paths i path number once lt is entered
+          ∙ same),
+    )
+
+-- all paths had it
+pub enter_all : (before after : List ℕ → Option ℕ) (paths : List (List ℕ)) (i : ℕ)
+    (owner : Option ℕ) (number : ℕ) → length paths ≤ i
+    → ((other : List ℕ) → Contains (take i paths) other → before other ≡ owner)
+    → AreEntered before after (take i paths) number
+    → IsEntering before after owner paths number true
+enter_all before after paths i owner number past were entered =
+    subst (λ l. IsEntering before after owner l number true) (take_all i paths past) (were, entered)
+
+-- ---- the outputs of the next derivation
+
+-- the owner of its first output was left
+pub owner_within : (kept : List PlanNode) (owners : List ℕ → Option ℕ) (own : List (List ℕ))
+    (owner : Option ℕ) → AreOwners owners (outputs_of kept) → owner ≡ first_owner owners own
+    → IfSome owner (λ n. n < length kept)
+owner_within kept owners own None right is = tt
+owner_within kept owners [] (Some n) right is = absurd (none-some n (sym is))
+owner_within kept owners (path ∷ paths) (Some n) right is =
+    let its = right.has path n (sym is) in
+    let low = slice_get_within (outputs_of kept) n its.0 its.1 in
+    omega (arith, low, length-map kept (λ (k : PlanNode). output_paths_of k.drv))
+
+-- whether a derivation that is read has so many
+pub as_many : (kept : List PlanNode) (number : Option ℕ) (n : ℕ) (node : PlanNode) (count len : ℕ)
+    → IfSome number (λ m. m < length kept) → number ≡ Some n → node ≡ get_or kept n node
+    → len ≡ (get_or kept n node).outputs.len → HasAsMany kept number count (nat_eq len count)
+as_many kept number n node count len within is read told =
+    let low : n < length kept = subst (λ o. IfSome o (λ m. m < length kept)) is within in
+    let same : len ≡ node.outputs.len = told ∙ ap (λ (k : PlanNode). k.outputs.len) (sym read) in
+    let long : len ≡ length node.outputs.items = omega (arith, same, node.outputs.ok.0) in
+    subst (λ o. HasAsMany kept o count (nat_eq len count)) (sym is) (
+      node,
+      slice_get_read kept (length kept) n node refl low read,
+      (
+        λ yes. sym long ∙ eqb-true len count yes,
+        λ same. eq-eqb len count (long ∙ same),
+      ),
+    )
+
+-- a derivation has one of its outputs, and not another, which has another owner
+clash_of : (kept : List PlanNode) (owners : List ℕ → Option ℕ) (own : List (List ℕ)) (n : ℕ)
+    (path other : List ℕ) → AreOwners owners (outputs_of kept) → owners path ≡ Some n
+    → Contains own path → Contains own other → (owners other ≡ owners path → ⊥) → IsClash kept own
+clash_of kept owners own n path other right e is_own is_other differs =
+    let found = right.has path n e in
+    let source = get_source (λ (k : PlanNode). output_paths_of k.drv) kept n found.0 found.1 in
+    let its = right.of_each n found.0 found.1 in
+    record {
+      node = source.0;
+      is_node = Contains-from_get kept n source.0 source.1;
+      output = path;
+      is_output = subst (λ l. Contains l path) (sym source.2) found.2;
+      is_own = is_own;
+      no_twin = λ same.
+          let there : Contains found.0 other = subst (λ l. Contains l other) source.2
+          ((same other).1 is_other) in
+          differs ((its.2 other).0 there ∙ sym ((its.2 path).0 found.2));
+    }
+
+-- so has the owner of the first, or of one where the first has none
+pub clash_found : (kept : List PlanNode) (owners : List ℕ → Option ℕ) (own : List (List ℕ))
+    (path : List ℕ) → AreOwners owners (outputs_of kept) → Contains own path
+    → (owners path ≡ first_owner owners own → ⊥) → IsClash kept own
+clash_found kept owners [] path right has differs = absurd (Contains-nothing path has)
+clash_found kept owners (first ∷ rest) path right has differs =
+    by (owners first) (owners path) refl refl
+  where
+    by : (a b : Option ℕ) → owners first ≡ a → owners path ≡ b → IsClash kept (first ∷ rest)
+    by (Some m) b e e' = clash_of kept owners (first ∷ rest) m first path right e
+        (Contains-first first rest) has differs
+    by None (Some k) e e' = clash_of kept owners (first ∷ rest) k path first right e' has
+        (Contains-first first rest) (λ same. differs (sym same))
+    by None None e e' = absurd (differs (e' ∙ sym e))
+
+-- the owner of the first has more outputs, or fewer
+pub clash_long : (kept : List PlanNode) (owners : List ℕ → Option ℕ) (own : List (List ℕ)) (n : ℕ)
+    (node : PlanNode) → AreKept kept
+    → All (λ (m : Node). AreDistinct (output_paths_of m.drv)) (nodes_of kept)
+    → AreOwners owners (outputs_of kept) → AreDistinct own → first_owner owners own ≡ Some n
+    → slice_get kept n ≡ Some node → (length node.outputs.items ≡ length own → ⊥)
+    → IsClash kept own
+clash_long kept owners [] n node are all right once e at differs = absurd (none-some n e)
+clash_long kept owners (first ∷ rest) n node are all right once e at differs =
+    let its = output_paths_of node.drv in
+    let found = right.has first n e in
+    let same_list : found.0 ≡ its = same_element (outputs_of kept) n found.0 its found.1
+    (get_mapped (λ (k : PlanNode). output_paths_of k.drv) kept n node at) in
+    let among : Contains kept node = Contains-from_get kept n node at in
+    let is_kept : IsKept (nodes_of kept) node = All-contains (IsKept (nodes_of kept)) kept node are
+    among in
+    let distinct : AreDistinct its =
+    All-contains (λ (m : Node). AreDistinct (output_paths_of m.drv)) (nodes_of kept) (node_of node)
+    all (Contains-map node_of kept node among) in
+    record {
+      node = node;
+      is_node = among;
+      output = first;
+      is_output = subst (λ l. Contains l first) same_list found.2;
+      is_own = Contains-first first rest;
+      no_twin = λ same. differs
+          (ap length is_kept.outputs ∙ as_long its (first ∷ rest) distinct once same);
+    }
+
+-- the derivation with the owner's number has more outputs, or fewer
+pub clash_many : (kept : List PlanNode) (owners : List ℕ → Option ℕ) (own : List (List ℕ))
+    (owner : Option ℕ) (answer : Bool) → AreKept kept
+    → All (λ (m : Node). AreDistinct (output_paths_of m.drv)) (nodes_of kept)
+    → AreOwners owners (outputs_of kept) → AreDistinct own → owner ≡ first_owner owners own
+    → HasAsMany kept owner (length own) answer → answer ≡ false → IsClash kept own
+clash_many kept owners own None answer are all right once is many failed =
+    absurd (false≢true (sym failed ∙ many))
+clash_many kept owners own (Some n) answer are all right once is many failed =
+    clash_long kept owners own n many.0 are all right once (sym is) many.1
+    (λ same. false≢true (sym failed ∙ many.2.1 same))
+
+-- one had another owner
+pub clash_entered : (kept : List PlanNode) (owners after : List ℕ → Option ℕ) (own : List (List ℕ))
+    (owner : Option ℕ) (number : ℕ) (answer : Bool) → AreOwners owners (outputs_of kept)
+    → owner ≡ first_owner owners own → IsEntering owners after owner own number answer
+    → answer ≡ false → IsClash kept own
+clash_entered kept owners after own owner number answer right is entering failed =
+    let one : IsEntering owners after owner own number false =
+    subst (IsEntering owners after owner own number) failed entering in
+    clash_found kept owners own one.0 right one.1 (λ same. one.2 (same ∙ sym is))
+
+-- all had the owner of the first, which has as many
 pub owning_all :
-    (kept : List PlanNode) (outputs : List (List ℕ)) (i : ℕ) (owners : List ℕ → Option ℕ) →
-    length outputs ≤ i →
-    AreOwners owners (outputs_of kept) (take i outputs) →
-    AreAlone (outputs_of kept) (take i outputs) →
-    AreOwners owners (outputs_of kept) outputs × AreAlone (outputs_of kept) outputs
-owning_all kept outputs i owners all right alone =
-    let whole = take_all i outputs all in (
-      subst (AreOwners owners (outputs_of kept)) whole right,
-      subst (AreAlone (outputs_of kept)) whole alone,
-    )
+    (kept : List PlanNode) (owners after : List ℕ → Option ℕ) (own : List (List ℕ))
+    (owner : Option ℕ) (first : ℕ) (many entered : Bool) →
+    AreKept kept →
+    AreOwners owners (outputs_of kept) →
+    AreDistinct own →
+    HasAsMany kept owner (length own) many →
+    many ≡ true →
+    first ≡ unwrap_or owner (length kept) →
+    IsEntering owners after owner own first entered →
+    entered ≡ true →
+    AreOwners after (outputs_of kept ++ own ∷ []) × AreOwnedBy after first own
+owning_all kept owners after own None first many entered are right once many_are is next entering
+    all =
+    let both : IsEntering owners after None own first true =
+    subst (IsEntering owners after None own first) all entering in
+    let long : first ≡ length (outputs_of kept) =
+    next ∙ sym (length-map kept (λ (k : PlanNode). output_paths_of k.drv)) in
+    let made = owners_new owners after (outputs_of kept) own right both.0
+    (subst (AreEntered owners after own) long both.1) in
+    (made.0, subst (λ n. AreOwnedBy after n own) (sym long) made.1)
+owning_all kept owners after own (Some m) first many entered are right once many_are is earlier
+    entering all =
+    let both : IsEntering owners after (Some m) own first true =
+    subst (IsEntering owners after (Some m) own first) all entering in
+    let entered_right = subst (AreEntered owners after own) earlier both.1 in
+    let node = many_are.0 in
+    let is_kept : IsKept (nodes_of kept) node = All-contains (IsKept (nodes_of kept)) kept node are
+    (Contains-from_get kept m node many_are.1) in
+    let made = owners_twin owners after (outputs_of kept) own (output_paths_of node.drv) m right
+    (get_mapped (λ (k : PlanNode). output_paths_of k.drv) kept m node many_are.1) once
+    (ap length (sym is_kept.outputs) ∙ many_are.2.0 is) both.0 entered_right in
+    (made.0, subst (λ n. AreOwnedBy after n own) (sym earlier) made.1)
 
--- the fault of a shared output
-pub owning_shared : (kept : List PlanNode) (path : List ℕ) (outputs : List (List ℕ))
-    (owners : List ℕ → Option ℕ) (earlier : List ℕ) (fault : GraphFault)
-    → IsSharedAt path earlier fault → IsShared kept outputs earlier
-    → IsOwning kept path outputs owners (Err fault)
-owning_shared kept path outputs owners earlier NoMemory at shared = absurd at
-owning_shared kept path outputs owners earlier (At p (SharedOutput other)) at shared =
-    (at.0, subst (IsShared kept outputs) (sym at.1) shared)
-owning_shared kept path outputs owners earlier (At p (Outputs fault)) at shared = absurd at
-owning_shared kept path outputs owners earlier (At p Unreadable) at shared = absurd at
-owning_shared kept path outputs owners earlier (At p TooMany) at shared = absurd at
-owning_shared kept path outputs owners earlier (At p (Text fault)) at shared = absurd at
-owning_shared kept path outputs owners earlier (At p Cycle) at shared = absurd at
-owning_shared kept path outputs owners earlier (Draft fault) at shared = absurd at
-owning_shared kept path outputs owners earlier Name at shared = absurd at
+-- the fault of a clash
+pub owning_clash : (kept : List PlanNode) (path : List ℕ) (own : List (List ℕ))
+    (owners : List ℕ → Option ℕ) (fault : GraphFault)
+    → (fault ≡ NoMemory) ⊎ (fault ≡ At path OutputClash) → IsClash kept own
+    → IsOwning kept path own owners (Err fault)
+owning_clash kept path own owners fault (inl memory) clash = inl memory
+owning_clash kept path own owners fault (inr is) clash = inr (is, clash)

@@ -1,15 +1,19 @@
 -- Lists of paths, and of what has paths: what they contain, and at which places.
-use Rattle.std.proofs.Common.{◌≡◌, ◌∙◌, ℕ, ◌<◌, Bool, true, false, List, [], ◌∷◌, ◌++◌, get_or, refl, sym, ap, subst, inl, inr, nat_eq, Some}
+use Rattle.std.proofs.Common.{◌≡◌, ◌∙◌, ℕ, ◌<◌, ◌≤◌, Bool, true, false, List, [], ◌∷◌, ◌++◌, length, take, get_or, refl, sym, ap, subst, inl, inr, ⊎_elim, nat_eq, arith, Some}
 use Rattle.std.specs.Prelude.{◌⊎◌, Contains, slice_get}
 use Rattle.std.specs.Cmp.Lexicographic.{pointwise, nat_list_eq_equiv}
 use Rattle.std.specs.List.{list_any}
 use Rattle.std.proofs.lemmas.Bool.{false≢true, false_from_ne_true}
 use Rattle.std.proofs.lemmas.Map.Keys.{IsDistinct-push, apart_from_distinct}
-use Rattle.std.proofs.lemmas.Map.Views.{Contains-from_any}
+use Rattle.std.proofs.lemmas.List.{length_push}
+use Rattle.std.proofs.lemmas.Map.Made.{length-le_from_is_member}
+use Rattle.std.proofs.lemmas.Map.Views.{Contains-from_any, list_any-from_Contains}
 use Rattle.std.proofs.lemmas.Option.{slice_get_within, get_or_from_slice_get}
 use Rattle.nix_names.proofs.RisingLists.{equal_from_eq}
-use Rattle.nix_names.proofs.Lists.{either_side}
+use Rattle.nix_names.proofs.Lists.{Contains-cons_cases, Contains-first, Contains-later, Contains-nothing, Contains-push_cases, either_side, get_from_contains}
 use Rattle.drv_graph.specs.Loading.{AreDistinct}
+use Rattle.drv_graph.specs.Plans.{HaveSamePaths}
+use Rattle.drv_graph.proofs.Loops.{slice_get-take}
 
 -- those that differ compare as different
 pub other_path : (a b : List ℕ) → (a ≡ b → ⊥) → pointwise nat_eq a b ≡ false
@@ -30,6 +34,18 @@ pub unknown : (paths : List (List ℕ)) (path : List ℕ) → (Contains paths pa
     → list_any (pointwise nat_eq path) paths ≡ false
 unknown paths path new = false_from_ne_true (list_any (pointwise nat_eq path) paths)
     (λ e. new (Contains-from_any equal_from_eq path paths e))
+
+-- whether a path is in a list is decided
+pub known_cases : (paths : List (List ℕ)) (path : List ℕ) → Contains paths path
+    ⊎ (Contains paths path → ⊥)
+known_cases [] path = inr (Contains-nothing path)
+known_cases (p ∷ ps) path =
+    ⊎_elim (λ same. inl (subst (Contains (p ∷ ps)) same (Contains-first p ps)))
+    (λ differs.
+    ⊎_elim (λ later. inl (Contains-later p ps path later))
+    (λ none. inr (λ has. ⊎_elim differs none (Contains-cons_cases p ps path has)))
+    (known_cases ps path))
+    (path_cases p path)
 
 -- one more path, which is new
 pub distinct_push : (paths : List (List ℕ)) (path : List ℕ) → AreDistinct paths
@@ -55,3 +71,41 @@ same_place paths i j path once at_i at_j = by (either_side i j)
     by (inl same) = same
     by (inr (inl lt)) = absurd (apart i j lt at_i at_j)
     by (inr (inr gt)) = absurd (apart j i gt at_j at_i)
+
+-- different paths that are among others are no more
+pub no_more_than : (xs ys : List (List ℕ)) → AreDistinct xs
+    → ((path : List ℕ) → Contains xs path → Contains ys path) → length xs ≤ length ys
+no_more_than xs ys once among =
+    length-le_from_is_member nat_list_eq_equiv xs ys once
+    (λ q is. list_any-from_Contains nat_list_eq_equiv q ys
+    (among q (Contains-from_any equal_from_eq q xs is)))
+
+-- and are all of them, where those are no more
+pub all_among : (xs ys : List (List ℕ)) → AreDistinct xs
+    → ((path : List ℕ) → Contains xs path → Contains ys path) → length ys ≤ length xs
+    → (path : List ℕ) → Contains ys path → Contains xs path
+all_among xs ys once among long path has =
+    ⊎_elim (λ is. is) (λ none. absurd (omega (arith, more none, length_push xs path, long)))
+    (known_cases xs path)
+  where
+    more : (Contains xs path → ⊥) → length (xs ++ path ∷ []) ≤ length ys
+    more none =
+        no_more_than (xs ++ path ∷ []) ys (distinct_push xs path once none)
+        (λ q is. ⊎_elim (λ old. among q old) (λ same. subst (Contains ys) same has)
+        (Contains-push_cases xs path q is))
+
+-- lists of different paths are as long, where they have the same
+pub as_long : (xs ys : List (List ℕ)) → AreDistinct xs → AreDistinct ys → HaveSamePaths xs ys
+    → length xs ≡ length ys
+as_long xs ys once once' same =
+    let up = no_more_than xs ys once (λ q is. (same q).0 is) in
+    let down = no_more_than ys xs once' (λ q is. (same q).1 is) in
+    omega (arith, up, down)
+
+-- a path that stands at a place stands at none before it
+pub not_before : (paths : List (List ℕ)) (i : ℕ) (path : List ℕ) → AreDistinct paths
+    → slice_get paths i ≡ Some path → Contains (take i paths) path → ⊥
+not_before paths i path once at has =
+    let before = get_from_contains (take i paths) path has in
+    let there = slice_get-take paths i before.0 path before.1 in
+    omega (arith, there.0, same_place paths before.0 i path once there.1 at)

@@ -10,7 +10,7 @@ use Rattle.drv_graph.specs.Plans.{IsReached, Leads, MayStand, MayUse}
 use Rattle.drv_graph.specs.Walks.{IsWalked}
 use Rattle.drv_graph.specs.declared.fault.GraphFault.{GraphFault}
 use Rattle.drv_graph.specs.declared.fault.GraphFault.TheVariants.{NoMemory, At, Draft, Name}
-use Rattle.drv_graph.specs.declared.fault.NodeFault.TheVariants.{Unreadable, TooMany, Text, Cycle, Outputs, SharedOutput}
+use Rattle.drv_graph.specs.declared.fault.NodeFault.TheVariants.{Unreadable, TooMany, Text, Cycle, Outputs, OutputClash}
 use Rattle.drv_graph.specs.declared.fault.OutputFault.{OutputFault}
 use Rattle.drv_graph.specs.declared.kinds.Kind.{Kind}
 use Rattle.drv_graph.specs.declared.found.Found.{Found}
@@ -120,16 +120,17 @@ module _ (dir : List ℕ) (G H : List ℕ → Answer → Type 0) (same : GivesSa
     reached_by roots p at.0,
     (at.1.0, checked_by p (Err outputs) at.1.1),
   )
-  fault_by roots (At p (SharedOutput earlier)) at = (
+  fault_by roots (At p OutputClash) at = (
     reached_by roots p at.0,
     record {
       kind = at.1.kind;
       checked = checked_by p (Ok at.1.kind) at.1.checked;
-      other = at.1.other;
+      earlier = at.1.earlier;
       is_earlier = at.1.is_earlier;
-      reached = reached_by roots earlier at.1.reached;
+      reached = reached_by roots at.1.earlier.path at.1.reached;
       differs = at.1.differs;
       shares = at.1.shares;
+      no_twin = at.1.no_twin;
     },
   )
   fault_by roots (Draft found) at = absurd at

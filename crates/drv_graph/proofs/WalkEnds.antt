@@ -17,7 +17,7 @@ use Rattle.drv_graph.specs.PlanNodes.{node_of, nodes_of}
 use Rattle.drv_graph.specs.Walks.{AreMarks, HasAllNumbers, IsFaultAt, IsLeavingFault, IsMeetingFault, IsReadingFault, Leaves, SetsEntry, marked, pending_of, visited}
 use Rattle.drv_graph.specs.declared.fault.GraphFault.{GraphFault}
 use Rattle.drv_graph.specs.declared.fault.GraphFault.TheVariants.{NoMemory, At, Draft, Name}
-use Rattle.drv_graph.specs.declared.fault.NodeFault.TheVariants.{Unreadable, TooMany, Text, Cycle, Outputs, SharedOutput}
+use Rattle.drv_graph.specs.declared.fault.NodeFault.TheVariants.{Unreadable, TooMany, Text, Cycle, Outputs, OutputClash}
 use Rattle.drv_graph.specs.declared.fault.OutputFault.{OutputFault}
 use Rattle.drv_graph.specs.declared.kinds.Kind.{Kind}
 use Rattle.drv_graph.specs.declared.found.Found.{Found}
@@ -275,7 +275,7 @@ meeting_fault dir gives roots root start found visits path fault has_root walk w
         (sym at.0) (reached, (at.1, at.3))
     by (At p Cycle) at = absurd at
     by (At p (Outputs outputs)) at = absurd at
-    by (At p (SharedOutput earlier)) at = absurd at
+    by (At p OutputClash) at = absurd at
     by (Draft found_fault) at = absurd at
     by Name at = absurd at
 
@@ -321,31 +321,28 @@ leaving_fault dir gives roots root start found visit visits (At p (Outputs outpu
         checked_behind dir gives roots root start found visit visits (Err outputs) walk at.2,
       ),
     )
-leaving_fault dir gives roots root start found visit visits (At p (SharedOutput earlier)) walk at =
-    let other = at.2 in
+leaving_fault dir gives roots root start found visit visits (At p OutputClash) walk at =
+    let other = at.2.0 in
     let left = paths_of (nodes_of found.nodes.items) in
-    let there : Contains left other.0.path = Contains-map (λ (n : Node). n.path)
-    (nodes_of found.nodes.items) other.0 other.1 in
-    let reached : IsReached (MayUse dir gives) roots earlier =
-    subst (IsReached (MayUse dir gives) roots) (sym other.2)
-    (All-contains (IsReached (MayUse dir gives) roots) left other.0.path walk.walked.reached
-    there) in
-    let differs : earlier ≡ visit.path → ⊥ =
+    let there : Contains left other.path = Contains-map (λ (n : Node). n.path)
+    (nodes_of found.nodes.items) other at.2.1 in
+    let differs : other.path ≡ visit.path → ⊥ =
     λ same. pending_not_left (marked found.marks) left (pending_of (visit ∷ visits)) visit.path
     walk.walked.marks (Contains-first visit.path (pending_of visits))
-    (subst (Contains left) (sym other.2 ∙ same) there) in
-    subst (λ q. IsLoading dir gives roots (Err (At q (SharedOutput earlier)))) (sym at.0) (
+    (subst (Contains left) same there) in
+    subst (λ q. IsLoading dir gives roots (Err (At q OutputClash))) (sym at.0) (
       walk.pending.0.reached,
       record {
         kind = at.1.0;
         checked = checked_behind dir gives roots root start found visit visits (Ok at.1.0) walk
             at.1.1;
-        other = other.0.drv;
-        is_earlier = subst (λ q. Contains (nodes_of found.nodes.items)
-            (record { path = q; drv = other.0.drv })) (sym other.2) other.1;
-        reached = reached;
+        earlier = other;
+        is_earlier = at.2.1;
+        reached = All-contains (IsReached (MayUse dir gives) roots) left other.path
+            walk.walked.reached there;
         differs = differs;
-        shares = other.3;
+        shares = at.2.2;
+        no_twin = at.2.3;
       },
     )
 leaving_fault dir gives roots root start found visit visits (At p Unreadable) walk at = absurd at

@@ -15,7 +15,7 @@ use Rattle.drv_graph.specs.PlanNodes.{nodes_of}
 use Rattle.drv_graph.specs.Walks.{IsGoingOn, IsMeetingFault, IsReadingFault, IsVisit, IsVisited, LeavesNone, Opens, marked, pending_of}
 use Rattle.drv_graph.specs.declared.fault.GraphFault.{GraphFault}
 use Rattle.drv_graph.specs.declared.fault.GraphFault.TheVariants.{NoMemory, At, Draft, Name}
-use Rattle.drv_graph.specs.declared.fault.NodeFault.TheVariants.{Unreadable, TooMany, Text, Cycle, Outputs, SharedOutput}
+use Rattle.drv_graph.specs.declared.fault.NodeFault.TheVariants.{Unreadable, TooMany, Text, Cycle, Outputs, OutputClash}
 use Rattle.drv_graph.specs.declared.found.Found.{Found}
 use Rattle.drv_graph.specs.declared.found.Visit.{Visit}
 use Rattle.drv_graph.specs.Plans.AreLeft.{none_left, passed_over}
@@ -73,7 +73,7 @@ same_reading dir G H path count (At p (Text text)) same at =
     (at.0, at.1, at.2, (at.3.0, (same path (Ok at.3.0)).1 at.3.1, at.3.2))
 same_reading dir G H path count (At p Cycle) same at = absurd at
 same_reading dir G H path count (At p (Outputs outputs)) same at = absurd at
-same_reading dir G H path count (At p (SharedOutput earlier)) same at = absurd at
+same_reading dir G H path count (At p OutputClash) same at = absurd at
 same_reading dir G H path count (Draft found) same at = absurd at
 same_reading dir G H path count Name same at = absurd at
 

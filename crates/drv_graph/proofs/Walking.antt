@@ -6,11 +6,12 @@ use Rattle.std.proofs.lemmas.List.Elements.{All-head, All-tail, Contains-push}
 use Rattle.indexmap.specs.IndexMap.{keys}
 use Rattle.nix_drv.specs.Sources.{Answer}
 use Rattle.drv_graph.specs.Loading.{AreDistinct}
-use Rattle.drv_graph.specs.Nodes.{Node, inputs_of, paths_of}
+use Rattle.drv_graph.specs.Nodes.{Node, inputs_of, output_paths_of, paths_of}
+use Rattle.drv_graph.specs.Owners.{AreOwners, outputs_of, owned}
 use Rattle.drv_graph.specs.Plans.{AreLawful, AreLeft, AreNumbers, IsReached, MayStand, MayUse}
 use Rattle.drv_graph.specs.Plans.AreLeft.{passed_over, left_behind_inputs}
 use Rattle.drv_graph.specs.PlanNodes.{AreKept, nodes_of}
-use Rattle.drv_graph.specs.Walks.{Advances, AreMarks, AreOwners, IsFound, IsVisit, IsWalked, LeavesNone, Opens, marked, outputs_of, owned, pending_of, visited}
+use Rattle.drv_graph.specs.Walks.{Advances, AreMarks, IsFound, IsVisit, IsWalked, LeavesNone, Opens, marked, pending_of, visited}
 use Rattle.drv_graph.specs.declared.found.Found.{Found}
 use Rattle.drv_graph.specs.declared.found.Visit.{Visit}
 use Rattle.drv_graph.proofs.Marks.{marks_opened, new_not_left, new_not_pending}
@@ -121,8 +122,11 @@ found_same dir found after none right = record {
   kept = subst (λ l. AreKept l.items) (sym none.nodes) right.kept;
   distinct = subst (λ l. AreDistinct (paths_of (nodes_of l.items))) (sym none.nodes) right.distinct;
   lawful = subst (λ l. AreLawful dir (nodes_of l.items)) (sym none.nodes) right.lawful;
-  owners = subst (λ o. AreOwners (owned o) (outputs_of after.nodes.items) []) (sym none.owners)
-      (subst (λ l. AreOwners (owned found.owners) (outputs_of l.items) []) (sym none.nodes)
+  own_outputs = subst
+      (λ l. All (λ (n : Node). AreDistinct (output_paths_of n.drv)) (nodes_of l.items))
+      (sym none.nodes) right.own_outputs;
+  owners = subst (λ o. AreOwners (owned o) (outputs_of after.nodes.items)) (sym none.owners)
+      (subst (λ l. AreOwners (owned found.owners) (outputs_of l.items)) (sym none.nodes)
       right.owners);
 }
 

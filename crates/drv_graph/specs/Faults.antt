@@ -4,7 +4,7 @@ use Rattle.nix_drv.specs.Outcome.{number_of as text_number_of}
 use Rattle.drv_graph.specs.declared.fault.OutputFault.{OutputFault}
 use Rattle.drv_graph.specs.declared.fault.OutputFault.TheVariants.{NoMemory, MixedOutputs, UnknownMethod, BadName, UnknownOutput, OutputMismatch, EnvMismatch}
 use Rattle.drv_graph.specs.declared.fault.NodeFault.{NodeFault}
-use Rattle.drv_graph.specs.declared.fault.NodeFault.TheVariants.{Unreadable, TooMany, Text, Cycle, Outputs, SharedOutput}
+use Rattle.drv_graph.specs.declared.fault.NodeFault.TheVariants.{Unreadable, TooMany, Text, Cycle, Outputs, OutputClash}
 use Rattle.drv_graph.specs.declared.fault.GraphFault.{GraphFault}
 use Rattle.drv_graph.specs.declared.fault.GraphFault.TheVariants.{NoMemory as NoRoom, At, Draft, Name}
 
@@ -24,7 +24,7 @@ node_number_of TooMany = 22
 node_number_of (Text fault) = text_number_of fault
 node_number_of Cycle = 21
 node_number_of (Outputs fault) = output_number_of fault
-node_number_of (SharedOutput earlier) = 26
+node_number_of OutputClash = 29
 
 abbrev pub number_of : GraphFault → ℕ
 number_of NoRoom = 9

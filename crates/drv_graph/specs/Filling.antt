@@ -20,7 +20,7 @@ use Rattle.drv_graph.specs.Plans.{AreDrvsOf, Graph, IsPlan, IsReached, MayUse}
 use Rattle.drv_graph.specs.declared.fault.GraphFault.{GraphFault}
 use Rattle.drv_graph.specs.declared.fault.GraphFault.TheVariants.{NoMemory, At, Draft, Name}
 use Rattle.drv_graph.specs.declared.fault.NodeFault.{NodeFault}
-use Rattle.drv_graph.specs.declared.fault.NodeFault.TheVariants.{Unreadable, TooMany, Text, Cycle, Outputs, SharedOutput}
+use Rattle.drv_graph.specs.declared.fault.NodeFault.TheVariants.{Unreadable, TooMany, Text, Cycle, Outputs, OutputClash}
 use Rattle.drv_graph.specs.declared.fault.OutputFault.TheVariants.{NoMemory as NoRoom}
 
 -- An output with its expected path; only an empty path is changed.
@@ -102,7 +102,7 @@ IsTrueOfDraft dir gives name draft (Outputs fault) =
 IsTrueOfDraft dir gives name draft Unreadable = ⊥
 IsTrueOfDraft dir gives name draft TooMany = ⊥
 IsTrueOfDraft dir gives name draft Cycle = ⊥
-IsTrueOfDraft dir gives name draft (SharedOutput earlier) = ⊥
+IsTrueOfDraft dir gives name draft OutputClash = ⊥
 
 -- What filling a draft under a name answers: the filled derivation with the path of its text, or
 -- the first that is wrong of the name, the draft's references, its inputs, its outputs and its

@@ -10,9 +10,12 @@ pub mod Loading
 pub mod Modulo
 pub mod Nodes
 pub mod Outputs
+pub mod Owners
 pub mod PlanNodes
 pub mod Plans
 pub mod SoundGraphs
+pub mod TwinLaws
+pub mod Twins
 pub mod UsedInputs
 pub mod Uniting
 pub mod ExpectedPaths

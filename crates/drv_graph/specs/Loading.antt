@@ -9,11 +9,11 @@ use Rattle.nix_drv.specs.Sources.{Answer, most_failures}
 use Rattle.nix_drv.specs.declared.fault.DrvFault.TheVariants.{NoMemory as NoSpace}
 use Rattle.nix_drv.specs.declared.source.SourceFault.TheVariants.{Missing, Device}
 use Rattle.drv_graph.specs.Nodes.{Node, paths_of}
-use Rattle.drv_graph.specs.Plans.{AreLawful, Graph, IsPlan, IsReached, Leads, MayAnswer, MayStand, MayUse, ShareOutput}
+use Rattle.drv_graph.specs.Plans.{AreLawful, AreTwins, Graph, IsPlan, IsReached, Leads, MayAnswer, MayStand, MayUse, ShareOutput}
 use Rattle.drv_graph.specs.declared.fault.GraphFault.{GraphFault}
 use Rattle.drv_graph.specs.declared.fault.GraphFault.TheVariants.{NoMemory, At, Draft, Name}
 use Rattle.drv_graph.specs.declared.fault.NodeFault.{NodeFault}
-use Rattle.drv_graph.specs.declared.fault.NodeFault.TheVariants.{Unreadable, TooMany, Text, Cycle, Outputs, SharedOutput}
+use Rattle.drv_graph.specs.declared.fault.NodeFault.TheVariants.{Unreadable, TooMany, Text, Cycle, Outputs, OutputClash}
 use Rattle.drv_graph.specs.declared.fault.OutputFault.{OutputFault}
 use Rattle.drv_graph.specs.declared.kinds.Kind.{Kind}
 use Rattle.drv_graph.specs.declared.fault.OutputFault.TheVariants.{NoMemory as NoRoom}
@@ -53,17 +53,18 @@ pub record MayCheck (dir : List ℕ) (gives : List ℕ → Answer → Type 0) (p
   pub few : length nodes < max_nodes
   pub check : MayAnswer dir nodes (record { path = path; drv = drv }) answer
 
--- The outputs of the derivation at the path are right, and one is also that of the derivation at
--- another path, which is reached too and was checked before.
-pub record SharesWith (dir : List ℕ) (gives : List ℕ → Answer → Type 0) (roots : List (List ℕ))
-    (path earlier : List ℕ) : Type 0 where
+-- The outputs of the derivation at the path are right, and it shares an output path with another
+-- derivation, which is reached too, was checked before, and is no twin of it.
+pub record Clashes (dir : List ℕ) (gives : List ℕ → Answer → Type 0) (roots : List (List ℕ))
+    (path : List ℕ) : Type 0 where
   pub kind : Kind
   pub checked : MayCheck dir gives path (Ok kind)
-  pub other : Drv
-  pub is_earlier : Contains checked.nodes (record { path = earlier; drv = other })
-  pub reached : IsReached (MayUse dir gives) roots earlier
-  pub differs : earlier ≢ path
-  pub shares : ShareOutput other checked.drv
+  pub earlier : Node
+  pub is_earlier : Contains checked.nodes earlier
+  pub reached : IsReached (MayUse dir gives) roots earlier.path
+  pub differs : earlier.path ≢ path
+  pub shares : ShareOutput earlier.drv checked.drv
+  pub no_twin : AreTwins earlier.drv checked.drv → ⊥
 
 -- the fault is true of the path, by answers that the source may give
 abbrev pub IsTrueAt : (dir : List ℕ) → (gives : List ℕ → Answer → Type 0) → (roots : List (List ℕ))
@@ -76,7 +77,7 @@ IsTrueAt dir gives roots path (Text fault) = (fault ≢ NoSpace)
 IsTrueAt dir gives roots path Cycle = IsOnCycle (MayUse dir gives) path
 IsTrueAt dir gives roots path (Outputs fault) = (fault ≢ NoRoom)
     × MayCheck dir gives path (Err fault)
-IsTrueAt dir gives roots path (SharedOutput earlier) = SharesWith dir gives roots path earlier
+IsTrueAt dir gives roots path OutputClash = Clashes dir gives roots path
 
 -- what loading answers for some roots
 abbrev pub IsLoading : (dir : List ℕ) → (gives : List ℕ → Answer → Type 0) → (roots : List (List ℕ))
@@ -101,7 +102,7 @@ IsCountedFault gives before after (At path TooMany) = ⊤
 IsCountedFault gives before after (At path (Text fault)) = ⊤
 IsCountedFault gives before after (At path Cycle) = ⊤
 IsCountedFault gives before after (At path (Outputs fault)) = ⊤
-IsCountedFault gives before after (At path (SharedOutput earlier)) = ⊤
+IsCountedFault gives before after (At path OutputClash) = ⊤
 IsCountedFault gives before after NoMemory = ⊤
 IsCountedFault gives before after (Draft fault) = ⊤
 IsCountedFault gives before after Name = ⊤

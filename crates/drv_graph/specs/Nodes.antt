@@ -21,6 +21,10 @@ paths_of nodes = map (λ (n : Node). n.path) nodes
 abbrev pub inputs_of : Drv → List (List ℕ)
 inputs_of drv = map (λ (i : Input). i.path) drv.inputs
 
+-- the paths of a derivation's outputs, in its text's order
+abbrev pub output_paths_of : Drv → List (List ℕ)
+output_paths_of drv = map (λ (o : Output). o.path) drv.outputs
+
 -- what stands for a fixed output in the place of its derivation's text:
 -- `fixed:out:<algorithm>:<hash>:<path>`
 abbrev pub fixed_text : Output → List ℕ

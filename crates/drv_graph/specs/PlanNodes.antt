@@ -1,10 +1,13 @@
 -- What is kept beside a derivation of a plan.
 use Rattle.std.specs.Prelude.{◌≡◌, ℕ, List, map, All}
-use Rattle.nix_drv.specs.Derivation.{Drv, Output}
+use Rattle.std.specs.List.{position_or_len}
+use Rattle.nix_drv.specs.Derivation.{Drv}
 use Rattle.nix_drv.specs.declared.derivation.Output.{Output as OutputStruct}
 use Rattle.drv_graph.specs.Kinds.{HasKind}
 use Rattle.drv_graph.specs.Nodes.{Node, AreHashes, IsHashBy, inputs_of}
+pub use Rattle.drv_graph.specs.Nodes.{output_paths_of}
 use Rattle.drv_graph.specs.Plans.{AreNumbers}
+use Rattle.drv_graph.specs.Twins.{are_twins}
 use Rattle.drv_graph.specs.declared.kinds.Kind.{Kind}
 use Rattle.drv_graph.specs.declared.node.PlanNode.{PlanNode}
 
@@ -15,23 +18,20 @@ node_of kept = record { path = kept.path; drv = kept.drv }
 abbrev pub nodes_of : List PlanNode → List Node
 nodes_of kept = map node_of kept
 
--- the paths of a derivation's outputs, in its text's order
-abbrev pub output_paths_of : Drv → List (List ℕ)
-output_paths_of drv = map (λ (o : Output). o.path) drv.outputs
-
 -- A hash is the modulo hash of a derivation of this kind, whose inputs are among some nodes.
 pub record HasHash (nodes : List Node) (drv : Drv) (kind : Kind) (hash : List ℕ) : Type 0 where
   pub of_inputs : List (List ℕ)
   pub are_hashes : AreHashes nodes (inputs_of drv) of_inputs
   pub is_hash : IsHashBy kind drv of_inputs hash
 
--- What is kept beside a derivation is right.
+-- What is kept beside a derivation is right; `first` is the number of its first twin.
 pub record IsKept (nodes : List Node) (kept : PlanNode) : Type 0 where
   pub numbers : AreNumbers nodes kept.inputs.items (inputs_of kept.drv)
   pub has_kind : HasKind kept.drv kept.kind
   pub has_hash : HasHash nodes kept.drv kept.kind kept.hash
   pub outputs : kept.outputs.items ≡ output_paths_of kept.drv
   pub sources : kept.sources.items ≡ kept.drv.sources
+  pub first : kept.first ≡ position_or_len (λ (n : Node). are_twins n.drv kept.drv) nodes
 
 -- each derivation of a plan has what is kept beside it right
 abbrev pub AreKept : List PlanNode → Type 0
@@ -54,3 +54,4 @@ pub record IsSameNode (node copy : PlanNode) : Type 0 where
   pub inputs : copy.inputs.items ≡ node.inputs.items
   pub outputs : copy.outputs.items ≡ node.outputs.items
   pub sources : copy.sources.items ≡ node.sources.items
+  pub first : copy.first ≡ node.first

@@ -1,13 +1,13 @@
 -- *Plan*: the derivations that some roots reach, inputs before users (Dolstra's thesis, section
 -- 5.4; Nix manual, "Store Derivation").
-use Rattle.std.specs.Prelude.{◌≡◌, ◌≤◌, ◌++◌, ⊤, ℕ, List, [], ◌∷◌, length, map, not, filter, All, Contains, Result, Ok, slice_get, Some}
+use Rattle.std.specs.Prelude.{◌≡◌, ◌≤◌, ◌++◌, ◌⊎◌, ◌↔◌, ⊤, ℕ, List, [], ◌∷◌, length, map, not, filter, All, Contains, Result, Ok, slice_get, Some}
 use Rattle.nix_names.specs.Names.{same_bytes}
 use Rattle.nix_drv.specs.Checked.{IsFoundAt}
 use Rattle.nix_drv.specs.Derivation.{Drv, Output}
 use Rattle.nix_drv.specs.Sources.{Answer}
 use Rattle.drv_graph.specs.Expected.{drv_name_of}
 use Rattle.drv_graph.specs.declared.kinds.Kind.{Kind}
-use Rattle.drv_graph.specs.Nodes.{Node, AreHashes, inputs_of, paths_of}
+use Rattle.drv_graph.specs.Nodes.{Node, AreHashes, inputs_of, output_paths_of, paths_of}
 use Rattle.drv_graph.specs.Outputs.{IsOutputsCheck, IsThePath}
 use Rattle.drv_graph.specs.declared.fault.OutputFault.{OutputFault}
 
@@ -87,12 +87,21 @@ pub record MayAnswer (dir : List ℕ) (before : List Node) (node : Node)
 abbrev pub ShareOutput : Drv → Drv → Type 0
 ShareOutput a b = (x y : Output) × Contains a.outputs x × Contains b.outputs y × (x.path ≡ y.path)
 
--- *Lawful*: a node's inputs stand before it, its outputs are right, and it shares no output with a
--- node before it.
+-- two lists have the same paths
+abbrev pub HaveSamePaths : (a b : List (List ℕ)) → Type 0
+HaveSamePaths a b = (path : List ℕ) → (Contains a path ↔ Contains b path)
+
+-- *Twins*: two derivations have the same set of output paths
+abbrev pub AreTwins : Drv → Drv → Type 0
+AreTwins a b = HaveSamePaths (output_paths_of a) (output_paths_of b)
+
+-- *Lawful*: a node's inputs stand before it, its outputs are right, and with each node before it it
+-- shares no output path, or is its twin.
 pub record IsLawful (dir : List ℕ) (before : List Node) (node : Node) : Type 0 where
   pub kind : Kind
   pub right : MayAnswer dir before node (Ok kind)
-  pub alone : (earlier : Node) → Contains before earlier → ShareOutput earlier.drv node.drv → ⊥
+  pub apart : (earlier : Node) → Contains before earlier
+      → (ShareOutput earlier.drv node.drv → ⊥) ⊎ AreTwins earlier.drv node.drv
 
 -- each node is lawful behind those before it
 abbrev pub AreLawful : (dir : List ℕ) → List Node → Type 0

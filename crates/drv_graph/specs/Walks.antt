@@ -11,15 +11,16 @@ use Rattle.nix_drv.specs.declared.fault.DrvFault.{DrvFault}
 use Rattle.nix_drv.specs.declared.fault.DrvFault.TheVariants.{NoMemory as NoSpace}
 use Rattle.nix_drv.specs.declared.source.SourceFault.TheVariants.{Missing, Device}
 use Rattle.drv_graph.specs.Loading.{AreDistinct, IsLoading, max_nodes}
-use Rattle.drv_graph.specs.Nodes.{Node, inputs_of, paths_of}
-use Rattle.drv_graph.specs.Plans.{AreLawful, AreLeft, AreNumbers, IsReached, MayAnswer, MayStand, MayUse, ShareOutput, each_once}
-use Rattle.drv_graph.specs.PlanNodes.{AreKept, HasHash, nodes_of, output_paths_of}
+use Rattle.drv_graph.specs.Nodes.{Node, inputs_of, output_paths_of, paths_of}
+use Rattle.drv_graph.specs.Plans.{AreLawful, AreLeft, AreNumbers, AreTwins, IsReached, MayAnswer, MayStand, MayUse, ShareOutput, each_once}
+use Rattle.drv_graph.specs.Owners.{AreOwners, outputs_of, owned}
+use Rattle.drv_graph.specs.PlanNodes.{AreKept, HasHash, nodes_of}
 use Rattle.drv_graph.specs.declared.kinds.Kind.{Kind}
 use Rattle.drv_graph.specs.declared.outputs.UsedInput.{UsedInput}
 use Rattle.drv_graph.specs.declared.fault.GraphFault.{GraphFault}
 use Rattle.drv_graph.specs.declared.fault.GraphFault.TheVariants.{NoMemory, At, Draft, Name}
 use Rattle.drv_graph.specs.declared.fault.NodeFault.{NodeFault}
-use Rattle.drv_graph.specs.declared.fault.NodeFault.TheVariants.{Unreadable, TooMany, Text, Cycle, Outputs, SharedOutput}
+use Rattle.drv_graph.specs.declared.fault.NodeFault.TheVariants.{Unreadable, TooMany, Text, Cycle, Outputs, OutputClash}
 use Rattle.drv_graph.specs.declared.fault.OutputFault.{OutputFault}
 use Rattle.drv_graph.specs.declared.fault.OutputFault.TheVariants.{NoMemory as NoRoom}
 use Rattle.drv_graph.specs.declared.found.Found.{Found}
@@ -34,10 +35,6 @@ use Rattle.drv_graph.specs.declared.node.PlanNode.{PlanNode}
 abbrev pub marked : {S : Type 0} → IndexMap (List ℕ) (Option ℕ) S → List ℕ → Option (Option ℕ)
 marked marks = get (pointwise nat_eq) marks
 
--- which derivation has an output at a path, by its number
-abbrev pub owned : {S : Type 0} → IndexMap (List ℕ) ℕ S → List ℕ → Option ℕ
-owned owners = get (pointwise nat_eq) owners
-
 -- One path has this entry now, and each other the one that it had.
 pub record SetsEntry {X : Type 0} (before after : List ℕ → Option X) (path : List ℕ) (entry : X)
     : Type 0 where
@@ -50,26 +47,6 @@ pub record AreMarks (marks : List ℕ → Option (Option ℕ)) (left pending : L
   pub numbered : (path : List ℕ) (number : ℕ)
       → (marks path ≡ Some (Some number) ↔ slice_get left number ≡ Some path)
   pub is_pending : (path : List ℕ) → (marks path ≡ Some None ↔ Contains pending path)
-
--- The owners of paths are right, where the derivations that were left have these outputs, and the
--- next one has these so far.
-pub record AreOwners (owners : List ℕ → Option ℕ) (left : List (List (List ℕ)))
-    (own : List (List ℕ)) : Type 0 where
-  pub none : (path : List ℕ) → owners path ≡ None → (Contains own path → ⊥)
-      × ((n : ℕ) (outputs : List (List ℕ)) → slice_get left n ≡ Some outputs → Contains outputs path
-      → ⊥)
-  pub some : (path : List ℕ) (n : ℕ) → owners path ≡ Some n
-      → ((outputs : List (List ℕ)) × (slice_get left n ≡ Some outputs) × Contains outputs path)
-      ⊎ ((n ≡ length left) × Contains own path)
-
--- the outputs of derivations
-abbrev pub outputs_of : List PlanNode → List (List (List ℕ))
-outputs_of kept = map (λ (k : PlanNode). output_paths_of k.drv) kept
-
--- no output of earlier derivations is among these
-abbrev pub AreAlone : (left : List (List (List ℕ))) → (own : List (List ℕ)) → Type 0
-AreAlone left own = (path : List ℕ) → Contains own path → (n : ℕ) (outputs : List (List ℕ))
-    → slice_get left n ≡ Some outputs → Contains outputs path → ⊥
 
 -- a derivation that is open, as the plan's definition has it
 abbrev pub visited : Visit → Node
@@ -86,8 +63,9 @@ pub record IsVisit (nodes : List Node) (visit : Visit) : Type 0 where
       (take (length visit.numbers.items) (inputs_of visit.drv))
 
 -- an open derivation as it is kept when it is left
-abbrev pub kept_visit : Visit → Kind → (hash : List ℕ) → (outputs sources : Vec (List ℕ)) → PlanNode
-kept_visit visit kind hash outputs sources =
+abbrev pub kept_visit : Visit → Kind → (hash : List ℕ) → (outputs sources : Vec (List ℕ))
+    → (first : ℕ) → PlanNode
+kept_visit visit kind hash outputs sources first =
     record {
       path = visit.path;
       drv = visit.drv;
@@ -96,6 +74,7 @@ kept_visit visit kind hash outputs sources =
       inputs = visit.numbers;
       outputs = outputs;
       sources = sources;
+      first = first;
     }
 
 -- What was left is right.
@@ -103,7 +82,9 @@ pub record IsFound (dir : List ℕ) (found : Found) : Type 0 where
   pub kept : AreKept found.nodes.items
   pub distinct : AreDistinct (paths_of (nodes_of found.nodes.items))
   pub lawful : AreLawful dir (nodes_of found.nodes.items)
-  pub owners : AreOwners (owned found.owners) (outputs_of found.nodes.items) []
+  pub own_outputs : All (λ (n : Node). AreDistinct (output_paths_of n.drv))
+      (nodes_of found.nodes.items)
+  pub owners : AreOwners (owned found.owners) (outputs_of found.nodes.items)
 
 -- A derivation was left: it is the last node now.
 pub record Leaves (dir : List ℕ) (before after : Found) (visit : Visit) : Type 0 where
@@ -118,11 +99,11 @@ abbrev pub IsLeavingFault : (dir : List ℕ) → (kept : List PlanNode) → Visi
 IsLeavingFault dir kept visit NoMemory = ⊤
 IsLeavingFault dir kept visit (At path (Outputs fault)) = (path ≡ visit.path) × (fault ≢ NoRoom)
     × MayAnswer dir (nodes_of kept) (visited visit) (Err fault)
-IsLeavingFault dir kept visit (At path (SharedOutput earlier)) =
+IsLeavingFault dir kept visit (At path OutputClash) =
     (path ≡ visit.path)
     × ((kind : Kind) × MayAnswer dir (nodes_of kept) (visited visit) (Ok kind))
-    × ((other : Node) × Contains (nodes_of kept) other × (earlier ≡ other.path)
-    × ShareOutput other.drv visit.drv)
+    × ((other : Node) × Contains (nodes_of kept) other × ShareOutput other.drv visit.drv
+    × (AreTwins other.drv visit.drv → ⊥))
 IsLeavingFault dir kept visit (At path Unreadable) = ⊥
 IsLeavingFault dir kept visit (At path TooMany) = ⊥
 IsLeavingFault dir kept visit (At path (Text fault)) = ⊥
@@ -150,45 +131,6 @@ abbrev pub IsChecking : (dir : List ℕ) → (kept : List PlanNode) → Visit
 IsChecking dir kept visit (Ok made) = MayAnswer dir (nodes_of kept) (visited visit) (Ok made.0)
     × HasHash (nodes_of kept) visit.drv made.0 made.1
 IsChecking dir kept visit (Err fault) = IsLeavingFault dir kept visit fault
-
--- One of some outputs is that of a derivation that was left before.
-pub record IsShared (kept : List PlanNode) (outputs : List (List ℕ)) (earlier : List ℕ)
-    : Type 0 where
-  pub number : ℕ
-  pub node : PlanNode
-  pub is_node : slice_get kept number ≡ Some node
-  pub is_path : earlier ≡ node.path
-  pub output : List ℕ
-  pub is_output : Contains (output_paths_of node.drv) output
-  pub is_own : Contains outputs output
-
--- what entering the outputs of the derivation at a path among their owners answers
-abbrev pub IsOwning : (kept : List PlanNode) → (path : List ℕ) → (outputs : List (List ℕ))
-    → (owners : List ℕ → Option ℕ) → Result ⊤ GraphFault → Type 0
-IsOwning kept path outputs owners (Ok _) = AreOwners owners (outputs_of kept) outputs
-    × AreAlone (outputs_of kept) outputs
-IsOwning kept path outputs owners (Err NoMemory) = ⊤
-IsOwning kept path outputs owners (Err (At at (SharedOutput earlier))) = (at ≡ path)
-    × IsShared kept outputs earlier
-IsOwning kept path outputs owners (Err (At at (Outputs fault))) = ⊥
-IsOwning kept path outputs owners (Err (At at Unreadable)) = ⊥
-IsOwning kept path outputs owners (Err (At at TooMany)) = ⊥
-IsOwning kept path outputs owners (Err (At at (Text fault))) = ⊥
-IsOwning kept path outputs owners (Err (At at Cycle)) = ⊥
-IsOwning kept path outputs owners (Err (Draft fault)) = ⊥
-IsOwning kept path outputs owners (Err Name) = ⊥
-
--- the fault at a path that has this earlier one
-abbrev pub IsSharedAt : (path earlier : List ℕ) → GraphFault → Type 0
-IsSharedAt path earlier NoMemory = ⊥
-IsSharedAt path earlier (At at (SharedOutput other)) = (at ≡ path) × (other ≡ earlier)
-IsSharedAt path earlier (At at (Outputs fault)) = ⊥
-IsSharedAt path earlier (At at Unreadable) = ⊥
-IsSharedAt path earlier (At at TooMany) = ⊥
-IsSharedAt path earlier (At at (Text fault)) = ⊥
-IsSharedAt path earlier (At at Cycle) = ⊥
-IsSharedAt path earlier (Draft fault) = ⊥
-IsSharedAt path earlier Name = ⊥
 
 -- a fault at a path, want of memory aside
 abbrev pub IsFaultAt : (path : List ℕ) → NodeFault → GraphFault → Type 0
@@ -223,7 +165,7 @@ IsReadingFault dir gives path count (At at (Text fault)) = (at ≡ path) × (fau
     × (count < max_nodes) × ((bytes : List ℕ) × gives path (Ok bytes) × IsCheck dir path bytes (Err fault))
 IsReadingFault dir gives path count (At at Cycle) = ⊥
 IsReadingFault dir gives path count (At at (Outputs fault)) = ⊥
-IsReadingFault dir gives path count (At at (SharedOutput earlier)) = ⊥
+IsReadingFault dir gives path count (At at OutputClash) = ⊥
 IsReadingFault dir gives path count (Draft fault) = ⊥
 IsReadingFault dir gives path count Name = ⊥
 
@@ -238,7 +180,7 @@ IsFetching gives path (Err (At at TooMany)) = ⊥
 IsFetching gives path (Err (At at (Text fault))) = ⊥
 IsFetching gives path (Err (At at Cycle)) = ⊥
 IsFetching gives path (Err (At at (Outputs fault))) = ⊥
-IsFetching gives path (Err (At at (SharedOutput earlier))) = ⊥
+IsFetching gives path (Err (At at OutputClash)) = ⊥
 IsFetching gives path (Err (Draft fault)) = ⊥
 IsFetching gives path (Err Name) = ⊥
 

@@ -88,9 +88,9 @@ pub enum NodeFault {
     /// Something is wrong with its outputs.
     #[error("{0}")]
     Outputs(OutputFault),
-    /// One of its outputs is also an output of the derivation with this path.
-    #[error("an output is also that of another derivation")]
-    SharedOutput(StorePath),
+    /// One of its outputs is also that of an earlier derivation whose outputs aren't just the same.
+    #[error("an output is also that of a derivation with other outputs")]
+    OutputClash,
 }
 
 impl NodeFault {
@@ -104,7 +104,7 @@ impl NodeFault {
             NodeFault::Text(fault) => fault.number(),
             NodeFault::Cycle => 21,
             NodeFault::Outputs(fault) => fault.number(),
-            NodeFault::SharedOutput(_) => 26,
+            NodeFault::OutputClash => 29,
         }
     }
 }

@@ -7,17 +7,18 @@ ghost use Rattle.drv_graph.specs.Expected.{drv_name_of};
 ghost use Rattle.drv_graph.specs.Nodes.{inputs_of, paths_of};
 ghost use Rattle.drv_graph.specs.Plans.{AreNumbers};
 ghost use Rattle.drv_graph.specs.PlanNodes.{AreKept, nodes_of};
-ghost use Rattle.drv_graph.specs.Walks.{AreOwners, HasAllNumbers, IsChecking, IsFound, IsLeaving, IsOutputFaultAt, IsOwning, IsSharedAt, IsUsed, IsVisit, SetsEntry, kept_visit, marked, outputs_of, owned};
+ghost use Rattle.drv_graph.specs.Walks.{HasAllNumbers, IsChecking, IsFound, IsLeaving, IsOutputFaultAt, IsUsed, IsVisit, SetsEntry, kept_visit, marked};
 
 use crate::fault::{GraphFault, NodeFault, OutputFault};
 use crate::kinds::Kind;
 use crate::node::PlanNode;
 use crate::outputs::{UsedInput, check_outputs, modulo_hash};
+use crate::owning::own;
 use crate::paths::{output_paths, source_paths};
 use indexmap::IndexMap;
 use nix_drv::Derivation;
 use nix_names::{StoreDir, StorePath};
-use std::alloc::{AllocError, Global};
+use std::alloc::Global;
 
 // The length of `.drv`, in which the name of a derivation's file ends.
 const SUFFIX_LEN: usize = 4;
@@ -29,7 +30,7 @@ pub(crate) struct Found {
     pub(crate) nodes: Vec<PlanNode>,
     // Each path that was met: the number of its derivation, or none while that is open.
     pub(crate) marks: IndexMap<StorePath, Option<usize>>,
-    // The number of the derivation that has an output at a path.
+    // The number of the first derivation that has an output at a path.
     pub(crate) owners: IndexMap<StorePath, usize>,
 }
 
@@ -62,16 +63,17 @@ pub(crate) fn leave(
     ensures { IsLeaving dir.now found.old found.new visit result }
 {
     let (kind, hash) = check_visit(alloc, dir, &found.nodes, &visit)?;
-    let outputs = output_paths(alloc, dir, visit.drv.outputs())?;
-    let sources = source_paths(alloc, dir, visit.drv.sources())?;
-    own(
+    let parts = visit.drv.parts();
+    let outputs = output_paths(alloc, dir, &parts.outputs)?;
+    let sources = source_paths(alloc, dir, &parts.sources)?;
+    let first = own(
         alloc,
         &found.nodes,
         &mut found.owners,
         &visit.path,
         &outputs,
     )?;
-    keep(alloc, found, visit, kind, hash, outputs, sources)
+    keep(alloc, found, visit, kind, hash, outputs, sources, first)
 }
 
 // The kind of the outputs and the modulo hash of an open derivation whose inputs were all left.
@@ -137,39 +139,6 @@ fn drv_name(path: &StorePath) -> &[u8]
     &name[..name.len().saturating_sub(SUFFIX_LEN)]
 }
 
-// Enters the outputs of the next derivation, whose text stands at the path, among their owners.
-fn own(
-    alloc: Global,
-    kept: &[PlanNode],
-    owners: &mut IndexMap<StorePath, usize>,
-    path: &StorePath,
-    outputs: &[StorePath],
-) -> Result<(), GraphFault>
-    requires { AreOwners (owned owners.old) (outputs_of kept.now) [] }
-    ensures { IsOwning kept.now path.now outputs.now (owned owners.new) result }
-{
-    for output in outputs {
-        let owner = output.copy(alloc)?;
-        let earlier = owners.insert(owner, kept.len())?.unwrap_or(kept.len());
-        if earlier < kept.len() {
-            return Err(shared_output(alloc, path, &kept[earlier].path)?);
-        }
-    }
-    Ok(())
-}
-
-// The derivation at a path shares an output with the one at the earlier path.
-fn shared_output(
-    alloc: Global,
-    path: &StorePath,
-    earlier: &StorePath,
-) -> Result<GraphFault, AllocError>
-    ensures { IfOk result (IsSharedAt path.now earlier.now) }
-{
-    let earlier = earlier.copy(alloc)?;
-    Ok(GraphFault::At(path.copy(alloc)?, NodeFault::SharedOutput(earlier)))
-}
-
 // Keeps a derivation under the next number.
 fn keep(
     alloc: Global,
@@ -179,10 +148,11 @@ fn keep(
     hash: [u8; 32],
     outputs: Vec<StorePath>,
     sources: Vec<StorePath>,
+    first: usize,
 ) -> Result<(), GraphFault>
     requires { marked found.old.marks visit.path ≡ Some None }
     ensures nodes { OnOk result (found.new.nodes.items ≡ found.old.nodes.items
-        ++ kept_visit visit kind hash outputs sources ∷ []) }
+        ++ kept_visit visit kind hash outputs sources first ∷ []) }
     ensures owners { OnOk result (found.new.owners ≡ found.old.owners) }
     ensures marks { OnOk result
         (SetsEntry (marked found.old.marks) (marked found.new.marks) visit.path
@@ -206,6 +176,7 @@ fn keep(
         inputs: numbers,
         outputs,
         sources,
+        first,
     })?;
     Ok(())
 }

@@ -1,8 +1,9 @@
-//! What holds of modulo texts, modulo hashes and expected paths, proved over the definitions.
+//! What holds of modulo texts, modulo hashes, expected paths and twins, proved over the definitions.
 
 ghost use Rattle.drv_graph.specs.Equality.{EqualPlansAreSame};
 ghost use Rattle.drv_graph.specs.GraphLaws.{HasOneExpectedPath, HaveOneHashEach};
 ghost use Rattle.drv_graph.specs.Modulo.{HasOneModuloText};
+ghost use Rattle.drv_graph.specs.TwinLaws.{FixedTwinsHaveOneHash, SharersAreTwins, TwinsAreTold, TwinsShareOutputs};
 
 use nix_drv::laws::equal_derivations_are_same;
 
@@ -19,6 +20,27 @@ pub fn modulo_hashes_are_one()
 /// An output of a derivation has one expected path.
 pub fn expected_path_is_one()
     ensures { HasOneExpectedPath }
+{}
+
+/// Two derivations of a sound plan that share an output path are twins: they have the same set of
+/// output paths.
+pub fn sharers_are_twins()
+    ensures { SharersAreTwins }
+{}
+
+/// Twins of a sound plan share an output path, and have equally many.
+pub fn twins_share_outputs()
+    ensures { TwinsShareOutputs }
+{}
+
+/// The test of twins tells just the derivations that are: those with the same set of output paths.
+pub fn twins_are_told()
+    ensures { TwinsAreTold }
+{}
+
+/// Twins with one fixed output of one method and digest have one modulo hash.
+pub fn fixed_twins_have_one_hash()
+    ensures { FixedTwinsHaveOneHash }
 {}
 
 /// Two plans are equal by `==` exactly where they are the same: by their derivations with their

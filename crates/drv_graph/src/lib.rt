@@ -7,6 +7,7 @@
 //! | `load` | how all that some roots reach is found |
 //! | `walk` | how derivations are walked, depth first |
 //! | `found` | what a walk found so far, and how it leaves a derivation |
+//! | `owning` | which derivation owns an output path |
 //! | `node` | a derivation of a plan, and what is kept beside it |
 //! | `kinds`, `kind_of` | the kinds of outputs, and a derivation's kind |
 //! | `modulo` | the texts behind modulo hashes |
@@ -31,6 +32,7 @@ mod load;
 mod modulo;
 mod node;
 mod outputs;
+mod owning;
 mod paths;
 mod placing;
 mod plan;

@@ -27,6 +27,8 @@ pub(crate) struct PlanNode {
     pub(crate) outputs: Vec<StorePath>,
     // The paths of its sources, in its text's order.
     pub(crate) sources: Vec<StorePath>,
+    // The number of the first derivation of the plan that has the same output paths.
+    pub(crate) first: usize,
 }
 
 impl PlanNode {
@@ -63,6 +65,7 @@ impl PlanNode {
             inputs,
             outputs,
             sources,
+            first: self.first,
         })
     }
 }

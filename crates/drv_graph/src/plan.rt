@@ -10,6 +10,7 @@ ghost use Rattle.drv_graph.specs.Nodes.{inputs_of, paths_of};
 ghost use Rattle.drv_graph.specs.Plans.{AreNumbers};
 ghost use Rattle.drv_graph.specs.PlanNodes.{AreKept, drvs_of, nodes_of, output_paths_of};
 ghost use Rattle.drv_graph.specs.SoundGraphs.{IsSound};
+ghost use Rattle.drv_graph.specs.Twins.{first_twin_of};
 
 use crate::fault::GraphFault;
 use crate::found::Found;
@@ -47,7 +48,7 @@ impl Plan {
     /// The plan of the roots: what they reach by the source's answers, in the folder. A root that
     /// is repeated counts once. A fault has the path at which it was found. At each derivation that
     /// is met for the first time, in this order: `Unreadable`, `TooMany`, the faults of
-    /// `check_text`, those of its inputs in turn, those of its outputs, `SharedOutput` last. An
+    /// `check_text`, those of its inputs in turn, those of its outputs, `OutputClash` last. An
     /// input whose own inputs are still being met is a `Cycle`: that is told in the input's turn,
     /// at its path, behind the faults of the inputs before it. Where the device failed, the source
     /// counted it. Each path is fetched once, and each derivation read, checked and digested once;
@@ -148,6 +149,16 @@ impl Plan {
         ensures distinct { AreDistinct result.now }
     {
         &self.nodes[number].outputs
+    }
+
+    /// The number of the first derivation that has the same output paths as the one with this
+    /// number: the first of its twins, or itself.
+    pub fn first_twin(&self, number: usize) -> usize
+        requires { number < length self.now.nodes }
+        ensures value { result ≡ first_twin_of self.now.nodes number }
+        ensures within { result ≤ number }
+    {
+        self.nodes[number].first
     }
 
     /// The paths of the sources of the derivation with this number, in its text's order.

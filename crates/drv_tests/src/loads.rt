@@ -7,6 +7,7 @@ use nix_names::{StoreDir, StorePath, make_path, parse_path};
 use output_files::output_files;
 use std::alloc::{AllocError, Global};
 use std::test::*;
+use twin_files::*;
 
 mod files;
 mod filling;
@@ -16,6 +17,7 @@ mod orders;
 mod output_files;
 mod outputs;
 mod plans;
+mod twin_files;
 mod words;
 
 fn push_file(
@@ -35,6 +37,7 @@ fn all_files(alloc: Global) -> Result<Vec<ListedFile>, AllocError> {
         .iter()
         .chain(nix_files())
         .chain(output_files())
+        .chain(twin_files())
     {
         let bytes = Vec::from_slice(alloc, file.text)?;
         push_file(alloc, &mut files, file.path, bytes)?;
@@ -87,7 +90,7 @@ struct PlanRow {
     numbers: &'static [usize],
 }
 
-static PLAN_ROWS: [PlanRow; 9] = [
+static PLAN_ROWS: [PlanRow; 14] = [
     PlanRow {
         label: "no roots",
         roots: &[],
@@ -149,6 +152,48 @@ static PLAN_ROWS: [PlanRow; 9] = [
         ],
         numbers: &[5],
     },
+    PlanRow {
+        label: "twins",
+        roots: &[LEAF, TWIN],
+        nodes: &[(LEAF, &[]), (TWIN, &[])],
+        numbers: &[0, 1],
+    },
+    PlanRow {
+        label: "a twin of an input of a later root",
+        roots: &[TWIN, TOP],
+        nodes: &[
+            (TWIN, &[]),
+            (LEAF, &[]),
+            (RIGHT, &[1]),
+            (LEFT, &[1]),
+            (TOP, &[2, 3]),
+        ],
+        numbers: &[0, 4],
+    },
+    PlanRow {
+        label: "a twin that is a root twice",
+        roots: &[SRC, EARLY, SRC],
+        nodes: &[(SRC, &[]), (EARLY, &[])],
+        numbers: &[0, 1],
+    },
+    PlanRow {
+        label: "a user of twins, whose modulo text has one entry for them",
+        roots: &[TWINS],
+        nodes: &[(EARLY, &[]), (SRC, &[]), (TWINS, &[0, 1])],
+        numbers: &[2],
+    },
+    PlanRow {
+        label: "a user of one output each of twins of two outputs",
+        roots: &[TIP],
+        nodes: &[
+            (EARLY, &[]),
+            (PAIR, &[0]),
+            (SRC, &[]),
+            (PAIRED, &[2]),
+            (TIP, &[1, 3]),
+        ],
+        numbers: &[4],
+    },
 ];
 
 // Whether a plan has just these derivations, with the numbers of the inputs of each.
@@ -182,7 +227,7 @@ fn plans_of_roots(rt: HostRuntime) -> Result<(), Fail> {
 }
 
 // Roots, the path at which loading them finds a fault, the fault's number, and the path that it
-// names: the own one of a text, or that of an earlier derivation with the same output.
+// names: the own one of a text.
 struct FaultRow {
     label: &'static str,
     roots: &'static [&'static [u8]],
@@ -191,7 +236,7 @@ struct FaultRow {
     named: &'static [u8],
 }
 
-static FAULT_ROWS: [FaultRow; 9] = [
+static FAULT_ROWS: [FaultRow; 7] = [
     FaultRow {
         label: "a missing root",
         roots: &[LEAF, GONE],
@@ -235,20 +280,6 @@ static FAULT_ROWS: [FaultRow; 9] = [
         named: b"",
     },
     FaultRow {
-        label: "an output of two derivations",
-        roots: &[LEAF, TWIN],
-        at: TWIN,
-        number: 26,
-        named: LEAF,
-    },
-    FaultRow {
-        label: "an output of two derivations in another order",
-        roots: &[TWIN, TOP],
-        at: LEAF,
-        number: 26,
-        named: TWIN,
-    },
-    FaultRow {
         label: "the first of two faults",
         roots: &[OVER, FAR],
         at: WRONG,
@@ -272,7 +303,6 @@ fn is_blamed(answer: &Result<Plan, GraphFault>, at: &[u8], number: u8) -> bool {
 // Whether what loading found names this path, or none if it is empty. Faults of outputs aside.
 fn has_named(answer: &Result<Plan, GraphFault>, path: &[u8]) -> bool {
     match answer {
-        Err(GraphFault::At(_, NodeFault::SharedOutput(earlier))) => earlier.text() == path,
         Err(GraphFault::At(_, NodeFault::Text(DrvFault::TextPathMismatch(own)))) => {
             own.text() == path
         }

@@ -6,9 +6,10 @@ use Rattle.std.proofs.lemmas.Bool.{false≢true}
 use Rattle.std.proofs.lemmas.List.{append-nil, get_or-map, length-append, length-set, length-take-le, length_push, take_all, take_more}
 use Rattle.std.proofs.lemmas.List.Elements.{All-append, All-drop, All-nil, All-push, All-weaker, Contains-append_left, Contains-push}
 use Rattle.std.proofs.lemmas.Option.{get_or_from_slice_get, slice_get-get_or, slice_get_within}
-use Rattle.sched_core.specs.Agendas.{Agenda, IsAgenda, IsWantedAt, alone_if, ends, frees, is_blocked, is_open, is_ready, is_unsettled, noted, settles, tally_count}
+use Rattle.sched_core.specs.Agendas.{Agenda, IsAgenda, IsWantedAt, alone_if, ends, frees, is_blocked, is_ready, is_unsettled, noted, settles, tally_count}
 use Rattle.sched_core.specs.Coursing.{kept}
-use Rattle.sched_core.specs.Tallies.{Turns, states_in, turns_begun, turns_done, turns_failed, turns_freed, turns_named, turns_refused, turns_stays}
+use Rattle.sched_core.specs.States.{is_open}
+use Rattle.sched_core.specs.Tallies.{Turns, states_in, turns_begun, turns_done, turns_failed, turns_freed, turns_named, turns_refused, turns_reused, turns_stays}
 use Rattle.sched_core.specs.declared.reason.State.{State}
 use Rattle.sched_core.specs.declared.reason.State.TheVariants.{Done, Failed, Building, Reused, Refused, Ready, Blocked}
 use Rattle.sched_core.specs.declared.tally.Tally.{Tally}
@@ -75,6 +76,7 @@ pub turn_open : (s t : State) → Turns s t → is_open t ≡ true → is_open s
 turn_open s t (turns_stays _) is = is
 turn_open s t (turns_named _ _) is = is
 turn_open s t turns_freed is = refl
+turn_open s t turns_reused is = refl
 turn_open s t (turns_refused _) is = refl
 turn_open s t (turns_begun _) is = refl
 turn_open s t (turns_done _) is = refl
@@ -84,6 +86,7 @@ turn_blocked : (s t : State) → Turns s t → is_blocked t ≡ true → is_bloc
 turn_blocked s t (turns_stays _) is = is
 turn_blocked s t (turns_named _ _) is = is
 turn_blocked s t turns_freed is = refl
+turn_blocked s t turns_reused is = refl
 turn_blocked s t (turns_refused _) is = refl
 turn_blocked s t (turns_begun _) is = is
 turn_blocked s t (turns_done _) is = is
@@ -93,6 +96,7 @@ turn_ready : (s t : State) → Turns s t → t ≡ Ready → (s ≡ Ready) ⊎ (
 turn_ready s t (turns_stays _) is = inl is
 turn_ready s t (turns_named _ _) is = absurd cc
 turn_ready s t turns_freed is = inr refl
+turn_ready s t turns_reused is = absurd cc
 turn_ready s t (turns_refused _) is = absurd cc
 turn_ready s t (turns_begun _) is = absurd cc
 turn_ready s t (turns_done _) is = absurd cc

@@ -6,10 +6,11 @@ use Rattle.std.proofs.lemmas.List.{get_or-map, take_all, take_more}
 use Rattle.std.proofs.lemmas.List.Sums.{position_or_len_is}
 use Rattle.sched_core.specs.Coursing.{kept}
 use Rattle.sched_core.specs.States.{is_bad, is_good}
-use Rattle.sched_core.specs.Tallies.{News, Open, Good, Bad, is_bad_news, is_good_news, news_of, states_in, waiting}
+use Rattle.sched_core.specs.Nearest.{News, Open, Good, Bad, news_of}
+use Rattle.sched_core.specs.Tallies.{is_bad_news, is_good_news, news_in, states_in, waiting}
 use Rattle.sched_core.specs.declared.reason.State.TheVariants.{Blocked}
 use Rattle.sched_core.specs.declared.tally.Tally.{Tally}
-use Rattle.sched_core.proofs.KnownNews.{bad_news, good_news, news_in}
+use Rattle.sched_core.proofs.KnownNews.{bad_news, good_news}
 
 -- so many, up to a place, aren't good, if all from there on aren't; and the first bad of them
 pub record AreCounted (heard : List News) (place waits first : ℕ) : Type 0 where

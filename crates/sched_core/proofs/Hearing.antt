@@ -1,16 +1,18 @@
 -- Tallies are right but for the edges along which users are still to be told: what keeps it so.
-use Rattle.std.proofs.Common.{◌≡◌, ◌∙◌, ◌⊎◌, inl, inr, ⊎_elim, ℕ, zero, suc, ◌+◌, ◌<◌, ◌==◌, ◌&&◌, Bool, true, false, List, [], ◌∷◌, ◌++◌, length, Some, get_or, set, if◌then◌else◌, refl, sym, ap, subst, eqb, eqb-true, eq-eqb, ne_eqb, le_of_lt, le_refl, lt_of_lt_of_le, ◌≤◌, arith}
+use Rattle.std.proofs.Common.{◌≡◌, ◌∙◌, ◌⊎◌, inl, inr, ⊎_elim, ℕ, zero, suc, ◌+◌, ◌<◌, ◌==◌, ◌&&◌, Bool, true, false, List, [], ◌∷◌, ◌++◌, drop, length, take, Some, get_or, set, if◌then◌else◌, refl, sym, ap, subst, eqb, eqb-true, eq-eqb, ne_eqb, le_of_lt, le_refl, lt_of_lt_of_le, ◌≤◌, arith}
 use Rattle.std.specs.Prelude.{Contains, slice_get, slice_set}
 use Rattle.std.specs.List.{slice_index_or}
 use Rattle.std.proofs.lemmas.Bool.{cases_Bool, eqb-false}
-use Rattle.std.proofs.lemmas.List.{get_or-set_other, get_or-set_same, get_or_append_left, length-map, map-append, map-set}
+use Rattle.std.proofs.lemmas.List.{ext_get_or, get_or-map, get_or-set_other, get_or-set_same, get_or_append_left, length-map, map-append, map-set}
 use Rattle.std.proofs.lemmas.Option.{get_or_from_slice_get, none-some, same_Some, slice_get-get_or, slice_get_within}
 use Rattle.nix_names.proofs.Lists.{Contains-from_get, element_at, get_mapped, get_push_cases, same_element}
+use Rattle.sched_core.specs.Courses.{Awaited, all_of}
 use Rattle.sched_core.specs.Coursing.{AreStatesOf, kept, phase_in}
-use Rattle.sched_core.specs.States.{Idle, InputsFirst, Rows, by_phase, by_standing, is_good, table}
-use Rattle.sched_core.proofs.KnownNews.{by_news_known}
-use Rattle.sched_core.proofs.StateLaws.{states_are_one}
-use Rattle.sched_core.specs.Tallies.{CanHear, HaveHeard, Hears, IsTally, Knows, News, Open, Good, Bad, Turns, turns_begun, turns_done, turns_failed, turns_freed, turns_named, turns_refused, turns_stays, are_news, by_news, news_by, news_of, states_in, to_tell}
+use Rattle.sched_core.specs.Nearest.{News, Open, Good, Bad, by_twin_news, near_table, news_of}
+use Rattle.sched_core.specs.States.{Idle, IsInOrder, Rows, by_hindrance, by_phase, by_validity, is_good}
+use Rattle.sched_core.proofs.KnownNews.{by_news_in}
+use Rattle.sched_core.proofs.StateLaws.{near_are_one}
+use Rattle.sched_core.specs.Tallies.{CanHear, HaveHeard, Hears, IsTally, Knows, Turns, turns_begun, turns_done, turns_failed, turns_freed, turns_named, turns_refused, turns_reused, turns_stays, are_news, by_heard, by_news, news_by, news_in, of_inputs, of_twins, states_in, to_tell}
 use Rattle.sched_core.specs.Users.{AreUsers, once_at, times, users_of}
 use Rattle.sched_core.specs.declared.reason.State.{State}
 use Rattle.sched_core.specs.declared.reason.State.TheVariants.{Blocked, Building, Done, Failed, Ready, Refused, Reused}
@@ -76,6 +78,7 @@ turns_news before after (turns_stays s) = inl (no_news (news_of s), refl)
     no_news Bad = refl
 turns_news before after (turns_named cause other) = inl (refl, refl)
 turns_news before after turns_freed = inl (refl, refl)
+turns_news before after turns_reused = inr (refl, refl, λ e. cc)
 turns_news before after (turns_refused cause) = inr (refl, refl, λ e. cc)
 turns_news before after (turns_begun lease) = inl (refl, refl)
 turns_news before after (turns_done lease) = inr (refl, refl, λ e. cc)
@@ -121,8 +124,8 @@ knows_more known now left more none knows =
     knows
 
 -- a tally that is right for some states is right for others where so much is left to tell
-hears_others : (inputs : List ℕ) (before after : ℕ → State) (left more : ℕ → ℕ) (tally : Tally)
-    → ((place input : ℕ) (known : News) → slice_get inputs place ≡ Some input
+hears_others : (inputs : Awaited) (before after : ℕ → State) (left more : ℕ → ℕ) (tally : Tally)
+    → ((place input : ℕ) (known : News) → slice_get (all_of inputs) place ≡ Some input
     → Knows known (news_of (before input)) (left place)
     → Knows known (news_of (after input)) (more place))
     → Hears inputs before left tally → Hears inputs after more tally
@@ -135,9 +138,9 @@ hears_others inputs before after left more tally step hears = record {
 
 -- ---- one tally that changes
 
-module _ (inputs : ℕ → List ℕ) (count : ℕ) (users : List (List Edge)) (tallies : List Tally)
+module _ (inputs : ℕ → Awaited) (count : ℕ) (users : List (List Edge)) (tallies : List Tally)
     (d : ℕ) (tally new : Tally) (left : List Edge)
-    (long : length tallies ≡ count) (are : AreUsers inputs count users)
+    (long : length tallies ≡ count) (are : AreUsers (λ e. all_of (inputs e)) count users)
     (at : slice_get tallies d ≡ Some tally) (turns : Turns tally.state new.state) where
   abbrev state_of : Tally → State
   state_of tally = tally.state
@@ -175,7 +178,7 @@ module _ (inputs : ℕ → List ℕ) (count : ℕ) (users : List (List Edge)) (t
       ∙ get_or-set_other (states_in tallies) d i new.state Blocked apart
 
   -- how often the edge from the one that changed is to be told
-  times_more : (u place input : ℕ) → u < count → slice_get (inputs u) place ≡ Some input
+  times_more : (u place input : ℕ) → u < count → slice_get (all_of (inputs u)) place ≡ Some input
       → times u place more
       ≡ times u place left + (if news then (if input == d then 1 else 0) else 0)
   times_more u place input low is =
@@ -187,7 +190,7 @@ module _ (inputs : ℕ → List ℕ) (count : ℕ) (users : List (List Edge)) (t
 
   -- of each input of a user
   pub knows_step : (u place input : ℕ) (known : News) → u < count
-      → slice_get (inputs u) place ≡ Some input
+      → slice_get (all_of (inputs u)) place ≡ Some input
       → Knows known (news_of (before input)) (times u place left)
       → Knows known (news_of (after input)) (times u place more)
   knows_step u place input known low is knows =
@@ -243,9 +246,9 @@ module _ (inputs : ℕ → List ℕ) (count : ℕ) (users : List (List Edge)) (t
 -- ---- an event
 
 -- the state of a derivation becomes Building, Done or Failed
-pub heard_turned : (inputs : ℕ → List ℕ) (count : ℕ) (users : List (List Edge))
+pub heard_turned : (inputs : ℕ → Awaited) (count : ℕ) (users : List (List Edge))
     (tallies : List Tally) (d : ℕ) (tally : Tally) (after : State) (left : List Edge)
-    → length tallies ≡ count → AreUsers inputs count users → slice_get tallies d ≡ Some tally
+    → length tallies ≡ count → AreUsers (λ e. all_of (inputs e)) count users → slice_get tallies d ≡ Some tally
     → Turns tally.state after → (phase_in after ≡ Idle → ⊥)
     → HaveHeard inputs tallies left
     → HaveHeard inputs (slice_set tallies d (record tally { state = after }))
@@ -257,11 +260,14 @@ heard_turned inputs count users tallies d tally after left long are at turns beg
     record {
       heard = hears.heard;
       is = record {
+        one = hears.is.one;
         count = hears.is.count;
-        state = by_event after begun
-            (by_standing tally.standing (by_news (inputs d) hears.heard));
+        state = by_event after begun (by_heard tally.standing (inputs d) hears.heard);
+        inputs = hears.is.inputs;
         waits = hears.is.waits;
         first = hears.is.first;
+        failed = hears.is.failed;
+        held = hears.is.held;
       };
       knows = hears.knows;
     })
@@ -278,9 +284,9 @@ heard_turned inputs count users tallies d tally after left long are at turns beg
 
 -- ---- a user that is told along the first edge that is left
 
-module _ (inputs : ℕ → List ℕ) (tallies : List Tally) (edge : Edge) (w : ℕ) (tally : Tally)
+module _ (inputs : ℕ → Awaited) (tallies : List Tally) (edge : Edge) (w : ℕ) (tally : Tally)
     (left : List Edge) (at : slice_get tallies edge.user ≡ Some tally)
-    (it : slice_get (inputs edge.user) edge.place ≡ Some w)
+    (it : slice_get (all_of (inputs edge.user)) edge.place ≡ Some w)
     (have : HaveHeard inputs tallies (edge ∷ left)) where
   abbrev state : ℕ → State
   state = kept (states_in tallies)
@@ -292,7 +298,7 @@ module _ (inputs : ℕ → List ℕ) (tallies : List Tally) (edge : Edge) (w : �
   told_news = set hears.heard edge.place (news_of (state w))
 
   low : edge.place < length hears.heard
-  low = omega (arith, hears.is.count, slice_get_within (inputs edge.user) edge.place w it)
+  low = omega (arith, hears.is.count, slice_get_within (all_of (inputs edge.user)) edge.place w it)
 
   unheard : (slice_index_or hears.heard edge.place Open ≡ Open)
       × (times edge.user edge.place left ≡ 0)
@@ -311,21 +317,21 @@ module _ (inputs : ℕ → List ℕ) (tallies : List Tally) (edge : Edge) (w : �
   hearing = record {
     is = hears.is;
     unknown = slice_get-get_or hears.heard edge.place Open low ∙ ap Some unheard.0;
-    input_is = it;
+    is_awaited = it;
   }
 
   -- what `told` requires
   pub can_hear : (heard : List News) × CanHear (inputs edge.user) heard tally edge.place w
   can_hear = (hears.heard, hearing)
 
-  knows_told : (place input : ℕ) → slice_get (inputs edge.user) place ≡ Some input
+  knows_told : (place input : ℕ) → slice_get (all_of (inputs edge.user)) place ≡ Some input
       → Knows (slice_index_or told_news place Open) (news_of (state input))
       (times edge.user place left)
   knows_told place input is = ⊎_elim
       (λ here.
       let same : place ≡ edge.place = eqb-true place edge.place here in
-      let one : w ≡ input = same_element (inputs edge.user) edge.place w input it
-      (subst (λ n. slice_get (inputs edge.user) n ≡ Some input) same is) in
+      let one : w ≡ input = same_element (all_of (inputs edge.user)) edge.place w input it
+      (subst (λ n. slice_get (all_of (inputs edge.user)) n ≡ Some input) same is) in
       inl (
         ap (λ n. get_or told_news n Open) same
             ∙ get_or-set_same hears.heard edge.place (news_of (state w)) Open low
@@ -350,11 +356,11 @@ module _ (inputs : ℕ → List ℕ) (tallies : List Tally) (edge : Edge) (w : �
     knows = knows_told;
   }
 
-pub heard_told : (inputs : ℕ → List ℕ) (count : ℕ) (users : List (List Edge))
+pub heard_told : (inputs : ℕ → Awaited) (count : ℕ) (users : List (List Edge))
     (tallies : List Tally) (edge : Edge) (w : ℕ) (tally new : Tally) (left : List Edge)
-    → length tallies ≡ count → AreUsers inputs count users
+    → length tallies ≡ count → AreUsers (λ e. all_of (inputs e)) count users
     → slice_get tallies edge.user ≡ Some tally
-    → slice_get (inputs edge.user) edge.place ≡ Some w → HaveHeard inputs tallies (edge ∷ left)
+    → slice_get (all_of (inputs edge.user)) edge.place ≡ Some w → HaveHeard inputs tallies (edge ∷ left)
     → ((heard : List News) → CanHear (inputs edge.user) heard tally edge.place w
     → IsTally (inputs edge.user)
     (slice_set heard edge.place (news_of (kept (states_in tallies) w))) new)
@@ -368,8 +374,8 @@ heard_told inputs count users tallies edge w tally new left long are at it have 
 
 -- ---- one more tally, in plan order
 
-pub heard_more : (inputs : ℕ → List ℕ) (tallies : List Tally) (tally : Tally)
-    → ((d i : ℕ) → Contains (inputs d) i → i < d) → HaveHeard inputs tallies []
+pub heard_more : (inputs : ℕ → Awaited) (tallies : List Tally) (tally : Tally)
+    → ((d i : ℕ) → Contains (all_of (inputs d)) i → i < d) → HaveHeard inputs tallies []
     → Hears (inputs (length tallies)) (kept (states_in tallies)) (λ place. 0) tally
     → HaveHeard inputs (tallies ++ tally ∷ []) []
 heard_more inputs tallies tally first have hears = record {
@@ -400,33 +406,73 @@ heard_more inputs tallies tally first have hears = record {
         hears_others (inputs d) (kept (states_in tallies)) after (λ place. 0) (λ place. 0) t
         (λ place input known it knows. subst (λ s. Knows known (news_of s) 0)
         (sym (stays input
-        (lt_of_lt_of_le (first d input (Contains-from_get (inputs d) place input it)) low))) knows)
+        (lt_of_lt_of_le (first d input (Contains-from_get (all_of (inputs d)) place input it)) low))) knows)
 
--- ---- once nothing is left to tell, the states are the table's
+-- ---- once nothing is left to tell, the states are those by the nearest twins
 
-pub heard_states : (rows : Rows) (tallies : List Tally) → InputsFirst rows
+-- what is known of each place is what is so
+all_known : (awaited : Awaited) (heard : List News) (state : ℕ → State)
+    → length heard ≡ length (all_of awaited)
+    → ((place one : ℕ) → slice_get (all_of awaited) place ≡ Some one
+    → slice_index_or heard place Open ≡ news_of (state one))
+    → heard ≡ news_in state (all_of awaited)
+all_known awaited heard state same known =
+    ext_get_or Open heard (news_in state (all_of awaited))
+    (same ∙ sym (length-map (all_of awaited) (λ i. news_of (state i))))
+    (λ i low.
+    let inside : i < length (all_of awaited) = omega (arith, low, same) in
+    known i (get_or (all_of awaited) i 0) (slice_get-get_or (all_of awaited) i 0 inside)
+    ∙ sym (get_or-map (λ n. news_of (state n)) (all_of awaited) i 0 Open inside))
+
+news_of_parts : (state : ℕ → State) (xs ys : List ℕ)
+    → (take (length xs) (news_in state (xs ++ ys)) ≡ news_in state xs)
+    × (drop (length xs) (news_in state (xs ++ ys)) ≡ news_in state ys)
+news_of_parts state [] ys = (refl, refl)
+news_of_parts state (x ∷ xs) ys =
+    let rest = news_of_parts state xs ys in
+    (ap (λ l. news_of (state x) ∷ l) rest.0, rest.1)
+
+pub heard_states : (rows : Rows) (tallies : List Tally) → IsInOrder rows
     → ((d : ℕ) (tally : Tally) → slice_get tallies d ≡ Some tally
     → (tally.standing ≡ rows.standing d) × (phase_in tally.state ≡ rows.phase d))
-    → HaveHeard rows.inputs tallies []
+    → HaveHeard (λ d. record { inputs = rows.inputs d; twins = rows.twins d }) tallies []
     → AreStatesOf rows (length tallies) (states_in tallies)
-unfolding table
-heard_states rows tallies first stand have = states_are_one rows state (length tallies) first
+unfolding near_table
+heard_states rows tallies first stand have = near_are_one rows state (length tallies) first
     (λ d low. let (tally, at) = element_at tallies d low in
     by_table d tally at (have.each d tally at))
   where
     state : ℕ → State
     state = kept (states_in tallies)
 
+    awaited : ℕ → Awaited
+    awaited d = record { inputs = rows.inputs d; twins = rows.twins d }
+
     by_table : (d : ℕ) (tally : Tally) → slice_get tallies d ≡ Some tally
-        → Hears (rows.inputs d) state (λ place. 0) tally → state d ≡ table rows state d
+        → Hears (awaited d) state (λ place. 0) tally → state d ≡ near_table rows state d
     by_table d tally at hears =
         let is : state d ≡ tally.state =
         get_or_from_slice_get (states_in tallies) d tally.state Blocked
         (get_mapped (λ (t : Tally). t.state) tallies d tally at) in
-        let known : (place input : ℕ) → slice_get (rows.inputs d) place ≡ Some input
-        → slice_index_or hears.heard place Open ≡ news_of (state input) =
-        λ place input it. ⊎_elim (λ heard. heard.0) (λ unheard. absurd (omega (arith, unheard.2)))
-        (hears.knows place input it) in
-        let by_inputs_is = by_news_known (rows.inputs d) hears.heard state hears.is.count known in
+        let known : (place one : ℕ) → slice_get (all_of (awaited d)) place ≡ Some one
+        → slice_index_or hears.heard place Open ≡ news_of (state one) =
+        λ place one it. ⊎_elim (λ heard. heard.0) (λ unheard. absurd (omega (arith, unheard.2)))
+        (hears.knows place one it) in
+        let whole = all_known (awaited d) hears.heard state hears.is.count known in
+        let parts = news_of_parts state (rows.inputs d) (rows.twins d) in
+        let ins : of_inputs (awaited d) hears.heard ≡ news_in state (rows.inputs d) =
+        ap (take (length (rows.inputs d))) whole ∙ parts.0 in
+        let tws : of_twins (awaited d) hears.heard ≡ news_in state (rows.twins d) =
+        ap (drop (length (rows.inputs d))) whole ∙ parts.1 in
         let (standing, phase) = stand d tally at in
-        is ∙ hears.is.state ∙ rw (standing, phase, by_inputs_is) refl
+        is ∙ hears.is.state
+        ∙ ap (λ l. by_phase (phase_in tally.state) (by_validity tally.standing (by_twin_news
+        (of_twins (awaited d) hears.heard) (by_hindrance tally.standing
+        (by_news (rows.inputs d) l))))) ins
+        ∙ ap (λ l. by_phase (phase_in tally.state) (by_validity tally.standing (by_twin_news l
+        (by_hindrance tally.standing
+        (by_news (rows.inputs d) (news_in state (rows.inputs d))))))) tws
+        ∙ ap (λ s. by_phase (phase_in tally.state) (by_validity tally.standing (by_twin_news
+        (news_in state (rows.twins d)) (by_hindrance tally.standing s))))
+        (by_news_in state (rows.inputs d))
+        ∙ rw (standing, phase) refl

@@ -7,9 +7,10 @@ use Rattle.nix_drv.proofs.Fixed.{eqb_same}
 use Rattle.sched_core.specs.declared.reason.Event.{Event}
 use Rattle.sched_core.specs.declared.reason.Event.TheVariants.{Begin, Done as Finish, Fail}
 use Rattle.sched_core.specs.declared.reason.State.{State}
-use Rattle.sched_core.specs.declared.reason.State.TheVariants.{Ready}
+use Rattle.sched_core.specs.declared.reason.State.TheVariants.{Building, Ready}
+use Rattle.sched_core.specs.Books.{opened}
 use Rattle.sched_core.specs.Headline.{BeginsOnce, LeasesApart, LeasesBelow}
-use Rattle.sched_core.specs.Legal.{legal_opening, legal_begin, legal_done, legal_fail, begins, is_begin}
+use Rattle.sched_core.specs.Legal.{IsLegal, legal_opening, legal_begin, legal_done, legal_fail, begins, is_begin}
 use Rattle.sched_core.specs.Runs.{History, Run, state_in}
 use Rattle.sched_core.specs.States.{Phase, Idle, Begun, Ended, Broken, phase_by, phase_of, later, state, table, by_phase}
 
@@ -63,6 +64,24 @@ pub ready_is_idle : (run : Run) (history : History) (d : ℕ) → state_in run h
     → phase_of history.events d ≡ Idle
 unfolding state table
 ready_is_idle run history d is = ready_by_phase (phase_of history.events d) _ is
+
+-- a derivation that has begun is building
+pub building_from_begun : (run : Run) (history : History) (d lease : ℕ)
+    → phase_of history.events d ≡ Begun lease → state_in run history d ≡ Building lease
+unfolding state table
+building_from_begun run history d lease is = rw is refl
+
+-- what a legal history opens with is one
+pub opening_legal : (run : Run) (history : History) → IsLegal run history
+    → IsLegal run (opened history.opening)
+opening_legal run _ (legal_opening entries journal) = legal_opening entries journal
+opening_legal run _ (legal_begin history e legal within wanted ready) =
+    opening_legal run history legal
+opening_legal run _
+    (legal_done history e lease node infos entry legal phase is_node allowed is_entry) =
+    opening_legal run history legal
+opening_legal run _ (legal_fail history e lease reason legal phase) =
+    opening_legal run history legal
 
 begins_push : (es : List Event) (e : Event) → begins es ≤ begins (es ++ e ∷ [])
 begins_push es e = omega (arith, sum_by_push (λ x. if is_begin x then 1 else 0) es e)

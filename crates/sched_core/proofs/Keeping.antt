@@ -1,6 +1,6 @@
 -- What is kept of a run, and that it is kept behind each event.
-use Rattle.std.proofs.Common.{◌≡◌, ◌≢◌, ℕ, ◌+◌, ◌-◌, ◌*◌, ◌<◌, ◌≤◌, Bool, true, false, List, [], ◌∷◌, ◌++◌, length, Option, Some, None, refl, sym, ap, ◌∙◌, subst, ⊎_elim, arith, take}
-use Rattle.std.specs.Prelude.{IsTrue, MatchOption, ◌==◌, ◌↔◌, if◌then◌else◌, slice_set}
+use Rattle.std.proofs.Common.{◌≡◌, ◌≢◌, ℕ, ◌+◌, ◌*◌, ◌<◌, ◌≤◌, Bool, true, false, List, [], ◌∷◌, ◌++◌, length, Option, refl, sym, ap, ◌∙◌, subst, ⊎_elim, arith, take}
+use Rattle.std.specs.Prelude.{◌==◌, if◌then◌else◌, slice_set}
 use Rattle.std.specs.List.{slice_index_or, sum_by}
 use Rattle.std.proofs.Math.Dec.{T, eqb}
 use Rattle.std.proofs.Math.Facts.{eqb_yes}
@@ -9,112 +9,25 @@ use Rattle.std.proofs.lemmas.Grind.{get_or-set_at}
 use Rattle.std.proofs.lemmas.List.{get_or-set_other, get_or_past, length-set, length_push, take-append-le}
 use Rattle.std.proofs.Math.Seq.{take-length}
 use Rattle.std.proofs.lemmas.List.Sums.{sum_by-cons, sum_by-set, sum_by_push}
-use Rattle.std.proofs.lemmas.Option.{slice_get_past}
 use Rattle.nix_drv.proofs.Fixed.{eqb_same}
 use Rattle.drv_graph.specs.Plans.{Graph}
 use Rattle.valid_table.specs.PathInfos.{PathInfo}
 use Rattle.valid_table.specs.Valid.{IsJournal}
 use Rattle.valid_table.specs.declared.entry.Entry.{Entry}
 use Rattle.sched_core.specs.Booking.{IsKept, events_left, history_of, run_over}
-use Rattle.sched_core.specs.Books.{CanBegin, IsDone, IsRunSettled, IsUnsettled, opened}
-use Rattle.sched_core.specs.Counts.{AreSoMany}
-use Rattle.sched_core.specs.Courses.{AreStandings, AreWanted, Course, HasBegun, IsNext, IsOpen, IsSettled, IsUnsettledIn, course_rows, course_state}
+use Rattle.sched_core.specs.Books.{CanBegin, IsDone}
+use Rattle.sched_core.specs.Courses.{AreNearest, AreStandings, AreWanted, Course, HasBegun}
 use Rattle.sched_core.specs.Legal.{IsLegal, legal_begin, legal_opening, legal_done, legal_fail, begins, is_begin}
-use Rattle.sched_core.specs.Reports.{IsReportIn, IsReportOf}
-use Rattle.sched_core.specs.Runs.{History, Run, rows_of, standing_at, state_in}
-use Rattle.sched_core.specs.States.{Phase, Idle, Begun, Ended, Broken, by_first, by_phase, by_standing, later, phase_by, phase_of, state, table}
-use Rattle.sched_core.specs.Steps.{edges_ahead_in, told_in}
-use Rattle.sched_core.specs.ToldEdges.{course_ahead, course_told, rested}
+use Rattle.sched_core.specs.Runs.{History, Run}
+use Rattle.sched_core.specs.States.{Phase, Idle, Begun, Ended, Broken, later, phase_by, phase_of}
 use Rattle.sched_core.specs.declared.reason.Event.{Event}
 use Rattle.sched_core.specs.declared.reason.Event.TheVariants.{Begin, Done as Finish, Fail}
 use Rattle.sched_core.specs.declared.reason.Reason.{Reason}
-use Rattle.sched_core.specs.declared.reason.State.TheVariants.{Building}
 use Rattle.sched_core.specs.declared.standing.Standing.{Standing}
-use Rattle.sched_core.specs.declared.standing.Standing.TheVariants.{AllValid, Hindered, Free}
-use Rattle.sched_core.proofs.Counts.{so_many_same}
 use Rattle.sched_core.proofs.Histories.{ready_is_idle}
-use Rattle.sched_core.proofs.RunReports.{report_in}
 use Rattle.sched_core.proofs.Seeds.{phase_push}
-use Rattle.sched_core.proofs.StateLaws.{AreSame, state_same}
-use Rattle.sched_core.proofs.Tallied.{ahead_same}
 
--- ---- states follow from rows that are the same
-
-rows_same : (system : List ℕ) (history : History) (course : Course) (given room : ℕ)
-    → IsKept system history course given room
-    → AreSame (course_rows course) (rows_of (run_over course system) history.opening history.events)
-rows_same system history course given room kept =
-    record {
-      inputs = λ d. refl;
-      standing = λ d. ⊎_elim
-          (λ below. kept.standings.each d below)
-          (λ past.
-          get_or_past course.standings d Free (omega (arith, kept.standings.count))
-          ∙ sym (ap (standing_at system history.opening)
-          (slice_get_past course.graph.nodes d past)))
-          (cases_lt d (length course.graph.nodes));
-      phase = kept.phases;
-    }
-
--- a course tells the states
-pub states_told : (system : List ℕ) (history : History) (course : Course) (given room : ℕ)
-    → IsKept system history course given room
-    → (d : ℕ) → course_state course d ≡ state_in (run_over course system) history d
-states_told system history course given room kept d =
-    state_same (course_rows course)
-    (rows_of (run_over course system) history.opening history.events)
-    (rows_same system history course given room kept) d
-
--- ---- what can be begun, and what has begun
-
-pub can_begin : (system : List ℕ) (history : History) (course : Course) (given room : ℕ)
-    → IsKept system history course given room
-    → (d : ℕ) → IsNext course d → CanBegin (run_over course system) history d
-can_begin system history course given room kept d next =
-    record {
-      within = next.0;
-      wanted = kept.wanted.yes d next.1;
-      ready = sym (states_told system history course given room kept d) ∙ next.2;
-    }
-
-pub is_next : (system : List ℕ) (history : History) (course : Course) (given room : ℕ)
-    → IsKept system history course given room
-    → (d : ℕ) → CanBegin (run_over course system) history d → IsNext course d
-is_next system history course given room kept d can = (
-  can.within,
-  kept.wanted.no d can.wanted,
-  states_told system history course given room kept d
-      ∙ can.ready,
-)
-
-pub unsettled_told : (system : List ℕ) (history : History) (course : Course) (given room : ℕ)
-    → IsKept system history course given room
-    → (count : ℕ) → AreSoMany (IsUnsettledIn course) count
-    → AreSoMany (IsUnsettled (run_over course system) history) count
-unsettled_told system history course given room kept count =
-    so_many_same (IsUnsettledIn course) (IsUnsettled (run_over course system) history) count
-    (λ d still. (
-      still.0,
-      kept.wanted.yes d still.1,
-      subst IsOpen (states_told system history course given room kept d) still.2,
-    ))
-    (λ d still. (
-      still.0,
-      kept.wanted.no d still.1,
-      subst IsOpen (sym (states_told system history course given room kept d)) still.2,
-    ))
-
-pub settled_told : (system : List ℕ) (history : History) (course : Course) (given room : ℕ)
-    → IsKept system history course given room
-    → IsSettled course ↔ IsRunSettled (run_over course system) history
-settled_told system history course given room kept = (
-  λ settled d within wanted still.
-      settled d within (kept.wanted.no d wanted)
-      (subst IsOpen (sym (states_told system history course given room kept d)) still),
-  λ settled d within wanted still.
-      settled d within (kept.wanted.yes d wanted)
-      (subst IsOpen (states_told system history course given room kept d) still),
-)
+-- ---- what has begun
 
 pub has_begun : (system : List ℕ) (history : History) (course : Course) (given room : ℕ)
     → IsKept system history course given room
@@ -126,38 +39,6 @@ has_begun system history course given room kept d lease is =
     let idle = get_or_past course.phases d Idle (omega (arith, kept.count)) in
     let same : Idle ≡ Begun lease = sym idle ∙ kept.phases d ∙ is in absurd cc)
     (cases_lt d (length course.graph.nodes))
-
--- ---- a derivation that is building
-
-not_by_first : (found : Option ℕ) (all : Bool) (lease : ℕ) → by_first found all ≡ Building lease → ⊥
-not_by_first (Some input) all lease is = absurd cc
-not_by_first None true lease is = absurd cc
-not_by_first None false lease is = absurd cc
-
-not_by_standing : (standing : Standing) (found : Option ℕ) (all : Bool) (lease : ℕ)
-    → by_standing standing (by_first found all) ≡ Building lease → ⊥
-not_by_standing AllValid found all lease is = absurd cc
-not_by_standing (Hindered cause) found all lease is = absurd cc
-not_by_standing Free found all lease is = not_by_first found all lease is
-
-begun_by_phase : (p : Phase) (standing : Standing) (found : Option ℕ) (all : Bool) (lease : ℕ)
-    → by_phase p (by_standing standing (by_first found all)) ≡ Building lease → p ≡ Begun lease
-begun_by_phase Idle standing found all lease is =
-    absurd (not_by_standing standing found all lease is)
-begun_by_phase (Begun n) standing found all lease is = cc
-begun_by_phase Ended standing found all lease is = absurd cc
-begun_by_phase (Broken reason) standing found all lease is = absurd cc
-
-pub begun_from_building : (run : Run) (history : History) (d lease : ℕ) → state_in run history d
-    ≡ Building lease → phase_of history.events d ≡ Begun lease
-unfolding state table
-begun_from_building run history d lease is = begun_by_phase (phase_of history.events d) _ _ _ lease
-    is
-
-pub building_from_begun : (run : Run) (history : History) (d lease : ℕ) → phase_of history.events d
-    ≡ Begun lease → state_in run history d ≡ Building lease
-unfolding state table
-building_from_begun run history d lease is = rw is refl
 
 -- ---- one event more
 
@@ -215,6 +96,8 @@ behind_event system before after course given more room d event p kept legal ope
           (sym opening) kept.standings;
       wanted = subst (λ es. AreWanted (run_over course system) es course.wanted) (sym opening)
           kept.wanted;
+      twins = subst (λ es. AreNearest (run_over course system) es course.twins) (sym opening)
+          kept.twins;
       count = length-set course.phases d p ∙ kept.count;
       phases = λ e.
           phases_set course.phases before.events d event p within kept.phases own last e
@@ -346,35 +229,6 @@ room_to_end system history course given room kept d lease is =
     room_for system history course given room kept d
     (has_begun system history course given room kept d lease is).0 (rw is (omega arith))
 
--- what is known of an answer, weakened
-pub match_weaker : {X : Type 0} {P R : Type 0} {Q S : X → Type 0} (o : Option X) → MatchOption o P Q
-    → (P → R) → ((x : X) → Q x → S x) → MatchOption o R S
-match_weaker None is none some = none is
-match_weaker (Some x) is none some = some x is
-
--- ---- whether a lease is out
-
-pub building_told : (system : List ℕ) (history : History) (course : Course) (given room : ℕ)
-    → IsKept system history course given room
-    → (d lease number : ℕ) → course_state course d ≡ Building lease → IsTrue (eqb lease number)
-    ↔ (phase_of history.events d ≡ Begun number)
-building_told system history course given room kept d lease number is =
-    let begun_is : phase_of history.events d ≡ Begun lease =
-    begun_from_building (run_over course system) history d lease
-    (sym (states_told system history course given room kept d) ∙ is) in (
-      λ yes. begun_is ∙ ap Begun (eqb_yes (subst T (sym yes) tt)),
-      λ other. let same : Begun lease ≡ Begun number = sym begun_is ∙ other in let one : lease
-          ≡ number = cc in subst (λ n. IsTrue (eqb lease n)) one (eqb_same lease),
-    )
-
-pub not_building : (system : List ℕ) (history : History) (course : Course) (given room : ℕ)
-    → IsKept system history course given room
-    → (d number : ℕ) → ((lease : ℕ) → course_state course d ≡ Building lease → ⊥)
-    → phase_of history.events d ≡ Begun number → ⊥
-not_building system history course given room kept d number none is =
-    none number (states_told system history course given room kept d
-    ∙ building_from_begun (run_over course system) history d number is)
-
 -- ---- the opening
 
 room_of_idle : (phases : List Phase) → sum_by events_left phases ≤ 2 * length phases
@@ -388,18 +242,29 @@ room_of_idle (p ∷ ps) = let rest = room_of_idle ps in let own = at_most p
     at_most Ended = omega arith
     at_most (Broken reason) = omega arith
 
+-- of each derivation it is said whether it is wanted
+pub wanted_count : (run : Run) (entries : List Entry) (standings : List Standing)
+    (wanted : List Bool) → AreStandings run.system entries run.graph.nodes standings
+    → ((other : Run) (first : List Entry) → other.graph ≡ run.graph
+    → AreStandings other.system first run.graph.nodes standings → AreWanted other first wanted)
+    → length wanted ≡ length run.graph.nodes
+wanted_count run entries standings wanted stand want = (want run entries refl stand).count
+
 pub opening_kept : (system : List ℕ) (opening room : ℕ) (entries : List Entry) (events : List Event)
     (course : Course) (graph : Graph) (standings : List Standing) (wanted : List Bool)
-    → IsJournal entries → opening ≡ length entries → events ≡ []
+    (twins : List (Option ℕ)) → IsJournal entries → opening ≡ length entries → events ≡ []
     → AreStandings system entries graph.nodes standings
     → ((run : Run) (first : List Entry) → run.graph ≡ graph
     → AreStandings run.system first graph.nodes standings → AreWanted run first wanted)
+    → ((run : Run) (first : List Entry) → run.graph ≡ graph → AreWanted run first wanted
+    → AreNearest run first twins)
     → course.graph ≡ graph → course.standings ≡ standings → course.wanted ≡ wanted
+    → course.twins ≡ twins
     → length course.phases ≡ length graph.nodes
     → ((d : ℕ) → slice_index_or course.phases d Idle ≡ Idle) → 2 * length standings ≤ room
     → IsKept system (history_of opening entries events) course 0 room
-opening_kept system opening room entries events course graph standings wanted journal counted none
-    stand want is_graph is_standings is_wanted count idle room_is =
+opening_kept system opening room entries events course graph standings wanted twins journal counted
+    none stand want near is_graph is_standings is_wanted is_twins count idle room_is =
     let all : take opening entries ≡ entries = ap (λ n. take n entries) counted
     ∙ take-length entries in
     let run = run_over course system in
@@ -411,45 +276,9 @@ opening_kept system opening room entries events course graph standings wanted jo
       legal = start;
       standings = rw (all, is_graph, is_standings) stand;
       wanted = rw (all, is_wanted) (want run entries is_graph stand);
+      twins = rw (all, is_twins) (near run entries is_graph (want run entries is_graph stand));
       count = rw is_graph count;
       phases = idle;
       given_is = refl;
       has_room = omega (arith, room_of_idle course.phases, count, stand.count, room_is);
     })
-
-pub report_told : (system : List ℕ) (history : History) (course : Course) (given room : ℕ)
-    → IsKept system history course given room
-    → (text : List ℕ) → IsReportOf course text → IsReportIn (run_over course system) history text
-report_told system history course given room kept text report =
-    report_in (run_over course system) history course text refl kept.wanted
-    (states_told system history course given room kept) report
-
--- ---- along how many edges users were told
-
-pub told_kept : (system : List ℕ) (history : History) (course : Course) (given room : ℕ)
-    → IsKept system history course given room
-    → course_told course ≡ told_in (run_over course system) history
-told_kept system history course given room kept =
-    ap (λ n. n - course_ahead course) then'
-    ∙ ap (λ n. edges_ahead_in (run_over course system) (opened history.opening) - n) now
-  where
-    same : AreSame (course_rows (rested course))
-        (rows_of (run_over course system) history.opening [])
-    same = record {
-      inputs = λ d. refl;
-      standing = (rows_same system history course given room kept).standing;
-      phase = λ d. refl;
-    }
-
-    then' : course_ahead (rested course)
-        ≡ edges_ahead_in (run_over course system) (opened history.opening)
-    then' = ahead_same (course_rows course).inputs (course_state (rested course))
-        (state_in (run_over course system) (opened history.opening))
-        (length course.graph.nodes)
-        (state_same (course_rows (rested course))
-        (rows_of (run_over course system) history.opening []) same)
-
-    now : course_ahead course ≡ edges_ahead_in (run_over course system) history
-    now = ahead_same (course_rows course).inputs (course_state course)
-        (state_in (run_over course system) history) (length course.graph.nodes)
-        (states_told system history course given room kept)

@@ -1,5 +1,5 @@
 -- News of inputs, as they are counted.
-use Rattle.std.proofs.Common.{◌≡◌, ◌∙◌, ⊎_elim, ℕ, ◌+◌, ◌<◌, ◌==◌, List, [], ◌∷◌, length, map, get_or, Some, refl, sym, ap, ltb-false, ne_eqb, nat_lt, arith}
+use Rattle.std.proofs.Common.{◌≡◌, ◌∙◌, ⊎_elim, ℕ, ◌+◌, ◌<◌, ◌==◌, List, [], ◌∷◌, length, get_or, Some, refl, sym, ap, ltb-false, ne_eqb, nat_lt, arith}
 use Rattle.std.specs.Prelude.{find, slice_get}
 use Rattle.std.specs.List.{list_all, position, position_or_len, slice_index_or}
 use Rattle.std.proofs.lemmas.Bool.{cases_Bool}
@@ -7,7 +7,8 @@ use Rattle.std.proofs.lemmas.List.{ext_get_or, get_or-map, length-map}
 use Rattle.std.proofs.lemmas.List.Folds.{find_at}
 use Rattle.std.proofs.lemmas.Option.{slice_get-get_or, slice_get_past}
 use Rattle.sched_core.specs.States.{by_first, by_inputs, is_bad, is_good}
-use Rattle.sched_core.specs.Tallies.{News, Open, Good, Bad, by_news, input_at, is_bad_news, is_good_news, news_of, waiting}
+use Rattle.sched_core.specs.Nearest.{News, Open, Good, Bad, news_of}
+use Rattle.sched_core.specs.Tallies.{by_news, input_at, is_bad_news, is_good_news, news_in, waiting}
 use Rattle.sched_core.specs.declared.reason.State.{State}
 use Rattle.sched_core.specs.declared.reason.State.TheVariants.{Blocked, Building, Done, Failed, Ready, Refused, Reused}
 
@@ -53,10 +54,6 @@ pub by_news_counted : (inputs : List ℕ) (heard : List News) → length heard �
 by_news_counted inputs heard same =
     ap (λ o. by_first o (list_all is_good_news heard)) (first_bad inputs heard same)
     ∙ ap (by_first (slice_get inputs (position_or_len is_bad_news heard))) (all_good heard)
-
--- the news of inputs in some states
-abbrev pub news_in : (ℕ → State) → List ℕ → List News
-news_in state inputs = map (λ i. news_of (state i)) inputs
 
 pub first_in : (state : ℕ → State) (inputs : List ℕ)
     → position_or_len is_bad_news (news_in state inputs)

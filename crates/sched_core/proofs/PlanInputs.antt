@@ -15,7 +15,9 @@ use Rattle.drv_graph.specs.Plans.{AreNumbers, Graph}
 use Rattle.drv_graph.specs.SoundGraphs.{IsSound}
 use Rattle.drv_graph.proofs.Numbers.{first_number, later_numbers, number_grows}
 use Rattle.drv_graph.proofs.PathLists.{other_path, same_place}
+use Rattle.sched_core.specs.PlanLaws.{RowsInOrder}
 use Rattle.sched_core.specs.Runs.{inputs_at}
+use Rattle.sched_core.proofs.EarlierTwins.{twins_first}
 use Rattle.nix_names.proofs.Lists.{Contains-from_map, Contains-nothing, element_at, get_from_contains}
 
 -- a path is found at its place
@@ -90,6 +92,13 @@ inputs_first graph sound d i has = by (slice_get graph.nodes d) refl has
         (λ path. position_or_len (same_bytes path) (paths_of graph.nodes)) (inputs_of node.drv)
         i has in
         subst (λ n. n < d) found.2 (path_before graph d node found.0 sound at found.1)
+
+-- what the state of each derivation follows from has smaller numbers
+pub rows_in_order : RowsInOrder
+rows_in_order run opening events sound = record {
+  inputs = inputs_first run.graph sound;
+  twins = twins_first run opening;
+}
 
 -- the numbers of a derivation's inputs are those of its row
 pub numbers_at : (graph : Graph) (d : ℕ) (ns : List ℕ) → d < length graph.nodes → IsSound graph

@@ -1,12 +1,11 @@
 -- The seeds of a derivation that has begun are valid.
-use Rattle.std.proofs.Common.{◌≡◌, ◌⊎◌, inl, inr, ℕ, suc, ◌+◌, ◌&&◌, Bool, true, false, List, [], ◌∷◌, ◌++◌, length, Option, Some, None, refl, sym, ap, ◌∙◌, subst, ⊎_elim, arith, append_assoc, append-nil}
+use Rattle.std.proofs.Common.{◌≡◌, ◌⊎◌, inl, inr, ℕ, suc, ◌+◌, Bool, true, false, List, [], ◌∷◌, ◌++◌, length, Option, Some, None, refl, sym, ap, ◌∙◌, subst, ⊎_elim, arith, append_assoc, append-nil}
 use Rattle.std.specs.Prelude.{Contains, slice_get, cond, not, nat_lt, if◌then◌else◌, filter, find, flat_map}
 use Rattle.std.specs.List.{list_all, list_any, position, position_or_len, slice_index_or}
 use Rattle.std.proofs.Math.Dec.{T, eqb}
 use Rattle.std.proofs.Math.Facts.{eqb_yes}
 use Rattle.std.proofs.lemmas.Bool.{cases_lt, ltb-false}
 use Rattle.std.proofs.lemmas.Grind.{flat_map-append}
-use Rattle.std.proofs.lemmas.List.{get_or_past}
 use Rattle.std.proofs.lemmas.List.Sums.{fails_before_first}
 use Rattle.std.proofs.lemmas.List.Elements.{Contains-append_cases}
 use Rattle.nix_names.specs.Names.{same_bytes}
@@ -27,15 +26,17 @@ use Rattle.sched_core.specs.Headline.{PermittedStays, SeedsAreValid}
 use Rattle.sched_core.specs.Jobs.{named_outputs, paths_of_found, seeds_of}
 use Rattle.sched_core.specs.Legal.{IsLegal, legal_opening, legal_begin, legal_done, legal_fail, begins}
 use Rattle.sched_core.specs.Runs.{History, Run, by_cause, cause_at, input_numbers, inputs_at, is_unsupported, is_valid, or_else, own_cause, rows_of, standing_at, standing_of, state_in}
-use Rattle.sched_core.specs.States.{Phase, Idle, Begun, Ended, Broken, by_first, by_inputs, by_phase, by_standing, is_bad, is_good, later, phase_by, phase_of, state, states, table}
+use Rattle.sched_core.specs.States.{Phase, Idle, Begun, Ended, Broken, Rows, by_first, by_hindrance, by_inputs, by_phase, by_validity, is_bad, is_done, is_good, is_open, later, phase_by, phase_of, state, states_by, table}
 use Rattle.sched_core.specs.declared.reason.Event.{Event}
 use Rattle.sched_core.specs.declared.reason.Event.TheVariants.{Begin, Done as Finish, Fail}
 use Rattle.sched_core.specs.declared.reason.Refusal.{Refusal}
 use Rattle.sched_core.specs.declared.reason.Refusal.TheVariants.{MissingSource, PartlyValid, Unsupported, WrongSystem}
 use Rattle.sched_core.specs.declared.reason.State.{State}
-use Rattle.sched_core.specs.declared.reason.State.TheVariants.{Ready, Blocked}
+use Rattle.sched_core.specs.declared.reason.State.TheVariants.{Blocked, Ready, Reused}
 use Rattle.sched_core.proofs.Dones.{output_registered, part_with, records_for_paths}
-use Rattle.sched_core.proofs.StateLaws.{length_states, state_at}
+use Rattle.sched_core.proofs.StateLaws.{state_at, state_past}
+use Rattle.sched_core.proofs.Tests.{list_all_has, one_passes}
+use Rattle.sched_core.proofs.TwinLaws.{IsEarlierTwin, is_earlier_twin, is_there, path_of_twin}
 use Rattle.sched_core.specs.declared.standing.Standing.{Standing}
 use Rattle.sched_core.specs.declared.standing.Standing.TheVariants.{AllValid, Hindered, Free}
 use Rattle.nix_names.proofs.Lists.{Contains-cons_cases, Contains-first, Contains-from_map, Contains-later, Contains-map, Contains-nothing}
@@ -147,52 +148,76 @@ opening_stays_valid run history legal path is =
 
 -- ---- what it takes to be ready
 
-pub record IsReadyBy (p : Phase) (s : Standing) (o : State) : Type 0 where
+pub record IsReadyBy (p : Phase) (s : Standing) (built still : Bool) (o : State) : Type 0 where
   pub idle : p ≡ Idle
   pub free : s ≡ Free
+  pub none_built : built ≡ false
+  pub none_open : still ≡ false
   pub open_is : o ≡ Ready
 
-pub ready_by : (p : Phase) (s : Standing) (o : State) → by_phase p (by_standing s o) ≡ Ready
-    → IsReadyBy p s o
-ready_by Idle AllValid o is = absurd cc
-ready_by Idle (Hindered cause) o is = absurd cc
-ready_by Idle Free o is = record { idle = refl; free = refl; open_is = is }
-ready_by (Begun n) s o is = absurd cc
-ready_by Ended s o is = absurd cc
-ready_by (Broken reason) s o is = absurd cc
+-- by whether an earlier twin was built, and whether one is open
+pub ready_by : (p : Phase) (s : Standing) (built still : Bool) (o : State)
+    → by_phase p (by_validity s (if built then Reused else if still then Blocked
+    else by_hindrance s o)) ≡ Ready
+    → IsReadyBy p s built still o
+ready_by Idle AllValid built still o is = absurd cc
+ready_by Idle (Hindered cause) true still o is = absurd cc
+ready_by Idle (Hindered cause) false true o is = absurd cc
+ready_by Idle (Hindered cause) false false o is = absurd cc
+ready_by Idle Free true still o is = absurd cc
+ready_by Idle Free false true o is = absurd cc
+ready_by Idle Free false false o is =
+    record { idle = refl; free = refl; none_built = refl; none_open = refl; open_is = is }
+ready_by (Begun n) s built still o is = absurd cc
+ready_by Ended s built still o is = absurd cc
+ready_by (Broken reason) s built still o is = absurd cc
 
 pub all_good : (first : Option ℕ) (all : Bool) → by_first first all ≡ Ready → all ≡ true
 all_good (Some i) all is = absurd cc
 all_good None true is = refl
 all_good None false is = absurd cc
 
-both : (a b : Bool) → (a && b) ≡ true → (a ≡ true) × (b ≡ true)
-both true b is = (refl, is)
-both false b is = absurd cc
-
-pub list_all_has : {X : Type 0} (p : X → Bool) (xs : List X) (x : X) → list_all p xs ≡ true
-    → Contains xs x → p x ≡ true
-list_all_has p [] x is has = absurd (Contains-nothing x has)
-list_all_has p (y ∷ ys) x is has =
-    let parts = both (p y) (list_all p ys) is in
-    ⊎_elim (λ same. subst (λ z. p z ≡ true) same parts.0)
-    (λ later. list_all_has p ys x parts.1 later) (Contains-cons_cases y ys x has)
-
 not_good_by_first : (first : Option ℕ) (all : Bool) → is_good (by_first first all) ≡ true → ⊥
 not_good_by_first (Some i) all is = cc
 not_good_by_first None true is = cc
 not_good_by_first None false is = cc
 
--- who is good was built, or its outputs were all valid
-pub good_by : (p : Phase) (s : Standing) (first : Option ℕ) (all : Bool)
-    → is_good (by_phase p (by_standing s (by_first first all))) ≡ true → (p ≡ Ended)
-    ⊎ (s ≡ AllValid)
-good_by Idle AllValid first all is = inr refl
-good_by Idle (Hindered cause) first all is = absurd cc
-good_by Idle Free first all is = absurd (not_good_by_first first all is)
-good_by (Begun n) s first all is = absurd cc
-good_by Ended s first all is = inl refl
-good_by (Broken reason) s first all is = absurd cc
+-- who is good was built, or its outputs were all valid, or an earlier twin was built
+pub good_by : (p : Phase) (s : Standing) (built still : Bool) (first : Option ℕ) (all : Bool)
+    → is_good (by_phase p (by_validity s (if built then Reused else if still then Blocked
+    else by_hindrance s (by_first first all)))) ≡ true
+    → (p ≡ Ended) ⊎ (s ≡ AllValid) ⊎ (built ≡ true)
+good_by Idle AllValid built still first all is = inr (inl refl)
+good_by Idle (Hindered cause) true still first all is = inr (inr refl)
+good_by Idle (Hindered cause) false true first all is = absurd cc
+good_by Idle (Hindered cause) false false first all is = absurd cc
+good_by Idle Free true still first all is = inr (inr refl)
+good_by Idle Free false true first all is = absurd cc
+good_by Idle Free false false first all is = absurd (not_good_by_first first all is)
+good_by (Begun n) s built still first all is = absurd cc
+good_by Ended s built still first all is = inl refl
+good_by (Broken reason) s built still first all is = absurd cc
+
+not_done_by_first : (first : Option ℕ) (all : Bool) → is_done (by_first first all) ≡ true → ⊥
+not_done_by_first (Some i) all is = cc
+not_done_by_first None true is = cc
+not_done_by_first None false is = cc
+
+-- only an event makes a derivation one that was built
+done_by : (p : Phase) (s : Standing) (built still : Bool) (first : Option ℕ) (all : Bool)
+    → is_done (by_phase p (by_validity s (if built then Reused else if still then Blocked
+    else by_hindrance s (by_first first all)))) ≡ true
+    → p ≡ Ended
+done_by Idle AllValid built still first all is = absurd cc
+done_by Idle (Hindered cause) true still first all is = absurd cc
+done_by Idle (Hindered cause) false true first all is = absurd cc
+done_by Idle (Hindered cause) false false first all is = absurd cc
+done_by Idle Free true still first all is = absurd cc
+done_by Idle Free false true first all is = absurd cc
+done_by Idle Free false false first all is = absurd (not_done_by_first first all is)
+done_by (Begun n) s built still first all is = absurd cc
+done_by Ended s built still first all is = refl
+done_by (Broken reason) s built still first all is = absurd cc
 
 -- ---- what standings say
 
@@ -232,6 +257,29 @@ pub not_false : (b : Bool) → not b ≡ false → b ≡ true
 not_false true is = refl
 not_false false is = absurd cc
 
+-- ---- valid outputs
+
+pub done_is_ended : (rows : Rows) (d : ℕ) → is_done (state rows d) ≡ true → rows.phase d ≡ Ended
+unfolding state table
+done_is_ended rows d is =
+    let f : ℕ → State = λ i. slice_index_or (states_by (table rows) d) i Blocked in
+    done_by (rows.phase d) (rows.standing d) (list_any (λ t. is_done (f t)) (rows.twins d))
+    (list_any (λ t. is_open (f t)) (rows.twins d)) (find (λ i. is_bad (f i)) (rows.inputs d))
+    (list_all (λ i. is_good (f i)) (rows.inputs d)) is
+
+-- a derivation of which an earlier twin was built has valid outputs
+twin_is_valid : (run : Run) (history : History) → IsLegal run history → (d t : ℕ)
+    → IsEarlierTwin run history.opening d t → is_done (state_in run history t) ≡ true
+    → (node : Node) → slice_get run.graph.nodes d ≡ Some node → (path : List ℕ)
+    → Contains (output_paths_of node.drv) path → IsValid (registered history.entries) path
+twin_is_valid run history legal d t twin done node is_node path has =
+    let nodes = run.graph.nodes in
+    let there = is_there (slice_get nodes t) (slice_get nodes d) twin.twins in
+    ended_is_valid run history legal t there.0 there.1
+    (done_is_ended (rows_of run history.opening history.events) t done) path
+    (path_of_twin (slice_get nodes t) (slice_get nodes d) there.0 node path there.1 is_node
+    twin.twins has)
+
 -- a derivation that is good has valid outputs
 at_number : (run : Run) (history : History) → IsLegal run history → (i : ℕ)
     → is_good (state_in run history i) ≡ true
@@ -240,9 +288,11 @@ at_number : (run : Run) (history : History) → IsLegal run history → (i : ℕ
 unfolding state table
 at_number run history legal i good node is_node path has =
     let rows = rows_of run history.opening history.events in
-    let f : ℕ → State = λ j. slice_index_or (states rows i) j Blocked in
+    let f : ℕ → State = λ j. slice_index_or (states_by (table rows) i) j Blocked in
+    let built : ℕ → Bool = λ t. is_done (f t) in
     ⊎_elim
     (λ ended. ended_is_valid run history legal i node is_node ended path has)
+    (λ other. ⊎_elim
     (λ all.
     let own : standing_of run.system history.opening node.drv ≡ AllValid =
     sym (ap (standing_at run.system history.opening) is_node) ∙ all in
@@ -250,8 +300,15 @@ at_number run history legal i good node is_node path has =
     (own_cause run.system history.opening node.drv) own in
     opening_stays_valid run history legal path
     (list_all_has (is_valid history.opening) (output_paths_of node.drv) path there has))
-    (good_by (phase_of history.events i) (rows.standing i)
-    (find (λ j. is_bad (f j)) (rows.inputs i)) (list_all (λ j. is_good (f j)) (rows.inputs i)) good)
+    (λ by_twin.
+    let found = one_passes built (rows.twins i) by_twin in
+    let twin = is_earlier_twin run history.opening i found.0 found.1 in
+    let done : is_done (state_in run history found.0) ≡ true =
+    sym (ap is_done (state_at (table rows) i found.0 twin.earlier)) ∙ found.2 in
+    twin_is_valid run history legal i found.0 twin done node is_node path has) other)
+    (good_by (phase_of history.events i) (rows.standing i) (list_any built (rows.twins i))
+    (list_any (λ t. is_open (f t)) (rows.twins i)) (find (λ j. is_bad (f j)) (rows.inputs i))
+    (list_all (λ j. is_good (f j)) (rows.inputs i)) good)
 
 -- ---- the seeds
 
@@ -327,9 +384,10 @@ unfolding state table
 seeds_at run history legal d ready node is_node path has =
     let nodes = run.graph.nodes in
     let rows = rows_of run history.opening history.events in
-    let f : ℕ → State = λ j. slice_index_or (states rows d) j Blocked in
-    let facts = ready_by (phase_of history.events d) (rows.standing d) (by_inputs f (rows.inputs d))
-    ready in
+    let f : ℕ → State = λ j. slice_index_or (states_by (table rows) d) j Blocked in
+    let facts = ready_by (phase_of history.events d) (rows.standing d)
+    (list_any (λ t. is_done (f t)) (rows.twins d)) (list_any (λ t. is_open (f t)) (rows.twins d))
+    (by_inputs f (rows.inputs d)) ready in
     let free : standing_of run.system history.opening node.drv
     ≡ Free = sym (ap (standing_at run.system history.opening) is_node) ∙ facts.free in
     let no_cause = standing_free (list_all (is_valid history.opening) (output_paths_of node.drv))
@@ -362,11 +420,10 @@ seeds_at run history legal d ready node is_node path has =
     subst (λ (o : Option Node). Contains (inputs_at nodes o) i) (sym is_node) listed in
     let well = list_all_has (λ j. is_good (f j)) (rows.inputs d) i good is_input in
     ⊎_elim
-    (λ less. at_number run history legal i (sym (ap is_good (state_at rows d i less)) ∙ well) at.0
-    at.1 path at.2)
+    (λ less. at_number run history legal i
+    (sym (ap is_good (state_at (table rows) d i less)) ∙ well) at.0 at.1 path at.2)
     (λ past. absurd
-    (blocked_is_not_good (f i)
-    (get_or_past (states rows d) i Blocked (omega (arith, length_states rows d))) well))
+    (blocked_is_not_good (f i) (state_past (table rows) d i past) well))
     (cases_lt i d))
     (Contains-append_cases node.drv.sources (flat_map (named_outputs nodes) node.drv.inputs) path
     has)

@@ -1,7 +1,8 @@
 -- Where a derivation stands by its last event, by what the table gives.
-use Rattle.std.proofs.Common.{◌≡◌, ℕ, true, false, Bool, Option, Some, None, refl}
+use Rattle.std.proofs.Common.{◌≡◌, ℕ, true, false, Bool, Option, Some, None, refl, if◌then◌else◌}
 use Rattle.sched_core.specs.Coursing.{phase_in}
-use Rattle.sched_core.specs.States.{Idle, by_first, by_standing}
+use Rattle.sched_core.specs.States.{Idle, by_first, by_hindrance, by_validity}
+use Rattle.sched_core.specs.declared.reason.State.TheVariants.{Blocked}
 use Rattle.sched_core.specs.declared.standing.Standing.{Standing}
 use Rattle.sched_core.specs.declared.standing.Standing.TheVariants.{AllValid, Free, Hindered}
 
@@ -10,8 +11,17 @@ first_is_idle (Some input) all = refl
 first_is_idle None true = refl
 first_is_idle None false = refl
 
-pub standing_is_idle : (standing : Standing) (first : Option ℕ) (all : Bool)
-    → phase_in (by_standing standing (by_first first all)) ≡ Idle
-standing_is_idle AllValid first all = refl
-standing_is_idle (Hindered cause) first all = refl
-standing_is_idle Free first all = first_is_idle first all
+pub own_is_idle : (standing : Standing) (first : Option ℕ) (all : Bool)
+    → phase_in (by_hindrance standing (by_first first all)) ≡ Idle
+own_is_idle AllValid first all = first_is_idle first all
+own_is_idle (Hindered cause) first all = refl
+own_is_idle Free first all = first_is_idle first all
+
+pub opening_is_idle : (standing : Standing) (held : Bool) (first : Option ℕ) (all : Bool)
+    → phase_in (by_validity standing
+    (if held then Blocked else by_hindrance standing (by_first first all))) ≡ Idle
+opening_is_idle AllValid held first all = refl
+opening_is_idle (Hindered cause) true first all = refl
+opening_is_idle (Hindered cause) false first all = refl
+opening_is_idle Free true first all = refl
+opening_is_idle Free false first all = first_is_idle first all

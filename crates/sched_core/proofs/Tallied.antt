@@ -1,19 +1,21 @@
 -- A course by the tallies that are kept.
-use Rattle.std.proofs.Common.{◌≡◌, ◌∙◌, ◌↔◌, inl, inr, ℕ, zero, suc, ◌+◌, ◌<◌, ◌≤◌, ◌^◌, ◌==◌, ◌&&◌, Bool, true, false, List, [], ◌∷◌, ◌++◌, length, map, take, get_or, IsTrue, Option, Some, None, refl, if◌then◌else◌, sym, ap, subst, arith, eqb-true, eq-eqb}
-use Rattle.std.specs.Prelude.{Contains, MatchOption, slice_get}
+use Rattle.std.proofs.Common.{◌≡◌, ◌∙◌, ◌↔◌, inl, inr, ⊎_elim, ℕ, zero, suc, ◌+◌, ◌<◌, ◌≤◌, ◌^◌, ◌==◌, ◌&&◌, Bool, true, false, List, [], ◌∷◌, ◌++◌, length, map, take, get_or, IsTrue, Option, Some, None, refl, if◌then◌else◌, sym, ap, subst, arith, eqb-true, eq-eqb}
+use Rattle.std.specs.Prelude.{All, Contains, MatchOption, slice_get}
 use Rattle.std.specs.List.{slice_index_or}
 use Rattle.std.proofs.lemmas.Bool.{false≢true}
-use Rattle.std.proofs.lemmas.List.{get_or-map, length_push, map_push, take_all, take_more}
+use Rattle.std.proofs.lemmas.List.Elements.{All-contains, Contains-append_cases, Contains-append_left, Contains-append_right}
+use Rattle.std.proofs.lemmas.List.{get_or-map, length-map, length_push, map_push, take_all, take_more}
 use Rattle.std.proofs.lemmas.Option.{get_or_from_slice_get, slice_get-get_or, slice_get_within}
 use Rattle.nix_names.proofs.Lists.{Contains-nothing}
 use Rattle.drv_graph.specs.Plans.{Graph}
 use Rattle.drv_graph.specs.SoundGraphs.{IsSound}
-use Rattle.sched_core.specs.Agendas.{Agenda, AreOpening, IsAgenda, IsCourse, IsFresh, course_by, is_open, is_unsettled, phases_in, standings_in, wanted_in}
+use Rattle.sched_core.specs.Agendas.{Agenda, AreOpening, IsAgenda, IsCourse, IsFresh, IsSteady, course_by, is_unsettled, phases_in, standings_in, twins_in, wanted_in}
 use Rattle.sched_core.specs.Counts.{AreSoMany}
-use Rattle.sched_core.specs.Courses.{Course, IsNext, IsOpen, IsSettled, IsUnsettledIn, course_rows, course_state}
+use Rattle.sched_core.specs.Courses.{Awaited, Course, IsNext, IsOpen, IsSettled, IsUnsettledIn, all_of, awaited_at, course_rows, course_state, listed}
 use Rattle.sched_core.specs.Coursing.{kept, phase_in}
+use Rattle.sched_core.specs.Nearest.{near_state, near_table}
 use Rattle.sched_core.specs.Runs.{inputs_at}
-use Rattle.sched_core.specs.States.{Begun, Idle, state, table}
+use Rattle.sched_core.specs.States.{Begun, Idle, IsInOrder, is_open}
 use Rattle.sched_core.specs.Steps.{edges_ahead, total}
 use Rattle.sched_core.specs.Tallies.{HaveHeard, Hears, states_in}
 use Rattle.sched_core.specs.ToldEdges.{HasTold, course_ahead, course_told, open_edges, rested, sizes}
@@ -29,8 +31,9 @@ use Rattle.sched_core.proofs.Agendas.{count_none, none_counted}
 use Rattle.sched_core.proofs.Counts.{tallies_counted}
 use Rattle.sched_core.proofs.Hearing.{heard_more, heard_states}
 use Rattle.sched_core.proofs.PlanInputs.{inputs_first}
-use Rattle.sched_core.proofs.StateLaws.{state_same}
+use Rattle.sched_core.proofs.StateLaws.{near_same}
 use Rattle.sched_core.proofs.Totals.{total_below}
+use Rattle.sched_core.proofs.Wanting.{any_default}
 
 -- a part of the tallies, read at a tally
 part_at : {X : Type 0} (part : Tally → X) (tallies : List Tally) (d : ℕ) (tally : Tally)
@@ -49,21 +52,42 @@ phase_at (t ∷ tallies) (suc d) tally at = phase_at tallies d tally at
 
 -- what is read past the end of the tallies
 abbrev unknown : Tally
-unknown = record { standing = Free; wanted = false; state = Blocked; waits = 0; first = 0 }
+unknown = record {
+  standing = Free;
+  wanted = false;
+  twin = None;
+  state = Blocked;
+  inputs = 0;
+  waits = 0;
+  first = 0;
+  failed = None;
+  held = false;
+}
 
 module _ (graph : Graph) (tallies : List Tally) (users : List (List Edge)) (agenda : Agenda)
     (is : IsCourse graph tallies users agenda) where
   abbrev course : Course
   course = course_by graph tallies
 
-  heard : HaveHeard (course_rows course).inputs tallies []
-  heard = subst (λ l. HaveHeard (course_rows course).inputs tallies (users_of_all users l))
+  abbrev awaited : ℕ → Awaited
+  awaited = awaited_at graph (twins_in tallies)
+
+  heard : HaveHeard awaited tallies []
+  heard = subst (λ l. HaveHeard awaited tallies (users_of_all users l))
       is.steady.none is.steady.told.heard
+
+  in_order : IsInOrder (course_rows course)
+  in_order = record {
+    inputs = λ d i has. is.steady.told.first d i
+        (Contains-append_left (awaited d).inputs (awaited d).twins i has);
+    twins = λ d t has. is.steady.told.first d t
+        (Contains-append_right (awaited d).inputs (awaited d).twins t has);
+  }
 
   -- the states that are kept are the course's
   pub state_kept : (d : ℕ) → d < length graph.nodes
       → kept (states_in tallies) d ≡ course_state course d
-  state_kept d low = heard_states (course_rows course) tallies is.steady.told.first
+  state_kept d low = heard_states (course_rows course) tallies in_order
       (λ e tally at. (
         sym (part_at (λ (t : Tally). t.standing) tallies e tally Free at),
         sym (phase_at tallies e tally at),
@@ -218,11 +242,11 @@ edges_by size other ahead (tally ∷ tallies) same =
 module _ (graph : Graph) (tallies : List Tally) (users : List (List Edge)) (agenda : Agenda)
     (is : IsCourse graph tallies users agenda)
     (size : (d : ℕ) → d < length graph.nodes → sizes users d
-    ≡ uses (λ e. inputs_at graph.nodes (slice_get graph.nodes e)) (length graph.nodes) d) where
+    ≡ uses (λ e. all_of (awaited_at graph (twins_in tallies) e)) (length graph.nodes) d) where
   pub open_ahead : open_edges (sizes users) tallies ≡ course_ahead (course_by graph tallies)
   open_ahead =
       edges_by (sizes users)
-      (uses (λ e. inputs_at graph.nodes (slice_get graph.nodes e)) (length graph.nodes))
+      (uses (λ e. all_of (awaited_at graph (twins_in tallies) e)) (length graph.nodes))
       (λ d. is_open (course_state (course_by graph tallies) d)) tallies
       (λ d tally at.
       let low : d < length graph.nodes =
@@ -233,7 +257,7 @@ module _ (graph : Graph) (tallies : List Tally) (users : List (List Edge)) (agen
         size d low,
       ))
       ∙ ap (total (λ d. if is_open (course_state (course_by graph tallies) d) then
-      uses (λ e. inputs_at graph.nodes (slice_get graph.nodes e)) (length graph.nodes) d else 0))
+      uses (λ e. all_of (awaited_at graph (twins_in tallies) e)) (length graph.nodes) d else 0))
       is.count
 
   -- at the opening, along none
@@ -244,12 +268,12 @@ module _ (graph : Graph) (tallies : List Tally) (users : List (List Edge)) (agen
     size = size;
     all =
         let all_open = open_ahead
-        ∙ ahead_same (course_rows (course_by graph tallies)).inputs
+        ∙ ahead_same (λ d. all_of (awaited_at graph (twins_in tallies) d))
         (course_state (course_by graph tallies))
         (course_state (rested (course_by graph tallies))) (length graph.nodes)
-        (state_same (course_rows (course_by graph tallies))
+        (near_same (course_rows (course_by graph tallies))
         (course_rows (rested (course_by graph tallies)))
-        (record { inputs = λ d. refl; standing = λ d. refl; phase = idle })) in
+        (record { inputs = λ d. refl; twins = λ d. refl; standing = λ d. refl; phase = idle })) in
         omega (arith, all_open);
   }
 
@@ -263,22 +287,41 @@ edges_told graph tallies users agenda is told has =
 pub told_more : (graph : Graph) (before after : List Tally) (users : List (List Edge))
     (told more now : ℕ) → HasTold graph before users told
     → standings_in after ≡ standings_in before → wanted_in after ≡ wanted_in before
+    → twins_in after ≡ twins_in before
     → more + open_edges (sizes users) after ≡ open_edges (sizes users) before
     → now ≡ told + more → HasTold graph after users now
-told_more graph before after users told more now has stand want fell sum_is = record {
+told_more graph before after users told more now has stand want twin fell sum_is = record {
   few = omega (arith, has.few, fell, sum_is);
-  size = has.size;
+  size = λ d low. has.size d low ∙ ap (λ l. uses (λ e. all_of (awaited_at graph l e))
+      (length graph.nodes) d) (sym twin);
   all =
       let same : course_ahead (rested (course_by graph after))
-      ≡ course_ahead (rested (course_by graph before)) = rw (stand, want) refl in
+      ≡ course_ahead (rested (course_by graph before)) = rw (stand, twin) refl in
       omega (arith, has.all, fell, sum_is, same);
+}
+
+pub same_length : (before after : List Tally) → standings_in after ≡ standings_in before
+    → length before ≡ length after
+same_length before after stand =
+    sym (length-map before (λ (t : Tally). t.standing)) ∙ sym (ap length stand)
+    ∙ length-map after (λ (t : Tally). t.standing)
+
+-- the tallies of a plan behind an event
+pub noted_course : (graph : Graph) (before after : List Tally) (users : List (List Edge))
+    (agenda later : Agenda) → IsCourse graph before users agenda
+    → standings_in after ≡ standings_in before → twins_in after ≡ twins_in before
+    → IsSteady (awaited_at graph (twins_in before)) users after later
+    → IsCourse graph after users later
+noted_course graph before after users agenda later is stand twin steady = record {
+  count = sym (same_length before after stand) ∙ is.count;
+  steady = subst (λ l. IsSteady (awaited_at graph l) users after later) (sym twin) steady;
 }
 
 -- ---- what has begun
 
 pub is_building : (course : Course) (d lease : ℕ)
     → slice_index_or course.phases d Idle ≡ Begun lease → course_state course d ≡ Building lease
-unfolding state table
+unfolding near_state near_table
 is_building course d lease is = rw is refl
 
 -- ---- a plan on which nothing has begun
@@ -293,85 +336,115 @@ idle_push (t ∷ tallies) tally idle new (suc e) =
     idle_push tallies tally (λ f. idle (suc f)) new e
 
 -- The first so many tallies of a plan on which nothing has begun.
-pub record AreOpened (graph : Graph) (standings : List Standing) (wanted : List Bool) (d : ℕ)
-    (tallies : List Tally) : Type 0 where
+pub record AreOpened (graph : Graph) (standings : List Standing) (wanted : List Bool)
+    (twins : List (Option ℕ)) (d : ℕ) (tallies : List Tally) : Type 0 where
   pub count : length tallies ≡ d
   pub stand : standings_in tallies ≡ take d standings
   pub are_wanted : wanted_in tallies ≡ take d wanted
+  pub are_twins : twins_in tallies ≡ take d twins
   pub idle : (e : ℕ) → get_or (phases_in tallies) e Idle ≡ Idle
-  pub heard : HaveHeard (λ e. inputs_at graph.nodes (slice_get graph.nodes e)) tallies []
+  pub heard : HaveHeard (awaited_at graph twins) tallies []
 
 pub opened_none : (graph : Graph) (standings : List Standing) (wanted : List Bool)
-    → AreOpened graph standings wanted 0 []
-opened_none graph standings wanted = record {
+    (twins : List (Option ℕ)) → AreOpened graph standings wanted twins 0 []
+opened_none graph standings wanted twins = record {
   count = refl;
   stand = refl;
   are_wanted = refl;
+  are_twins = refl;
   idle = λ e. refl;
   heard = record { each = λ d tally at. absurd cc };
 }
 
-pub opened_more : (graph : Graph) (standings : List Standing) (wanted : List Bool) (d : ℕ)
-    (tallies now : List Tally) (tally : Tally) (inputs : List ℕ) (no_standing : Standing)
-    (not_wanted : Bool) → IsSound graph
-    → d < length standings → d < length wanted → tally.standing ≡ get_or standings d no_standing
-    → tally.wanted ≡ get_or wanted d not_wanted
-    → inputs ≡ inputs_at graph.nodes (slice_get graph.nodes d)
-    → Hears inputs (kept (states_in tallies)) (λ place. 0) tally → phase_in tally.state ≡ Idle
-    → now ≡ tallies ++ tally ∷ [] → AreOpened graph standings wanted d tallies
-    → AreOpened graph standings wanted (d + 1) now
-opened_more graph standings wanted d tallies now tally inputs no_standing
-    not_wanted sound low within stands wants are hears idle pushed before =
-    subst (AreOpened graph standings wanted (d + 1)) (sym pushed) (record {
-      count = omega (arith, before.count, length_push tallies tally);
-      stand = map_push (λ (t : Tally). t.standing) tallies tally
-          ∙ ap (λ l. l ++ tally.standing ∷ []) before.stand
-          ∙ ap (λ s. take d standings ++ s ∷ []) stands
-          ∙ sym (take_more standings d no_standing low);
-      are_wanted = map_push (λ (t : Tally). t.wanted) tallies tally
-          ∙ ap (λ l. l ++ tally.wanted ∷ []) before.are_wanted
-          ∙ ap (λ w. take d wanted ++ w ∷ []) wants
-          ∙ sym (take_more wanted d not_wanted within);
-      idle = idle_push tallies tally before.idle idle;
-      heard = heard_more (λ e. inputs_at graph.nodes (slice_get graph.nodes e)) tallies tally
-          (inputs_first graph sound) before.heard
-          (subst (λ n. Hears (inputs_at graph.nodes (slice_get graph.nodes n))
-          (kept (states_in tallies)) (λ place. 0) tally) (sym before.count)
-          (subst (λ l. Hears l (kept (states_in tallies)) (λ place. 0) tally) are hears));
-    })
+-- what a derivation of a plan waits for has smaller numbers
+pub awaited_first : (graph : Graph) (twins : List (Option ℕ)) → IsSound graph
+    → ((d : ℕ) → All (λ t. t < d) (listed (slice_index_or twins d None))) → (d i : ℕ)
+    → Contains (all_of (awaited_at graph twins d)) i → i < d
+awaited_first graph twins sound smaller d i has = ⊎_elim
+    (λ input. inputs_first graph sound d i input)
+    (λ twin. All-contains (λ t. t < d) (listed (slice_index_or twins d None)) i (smaller d) twin)
+    (Contains-append_cases (inputs_at graph.nodes (slice_get graph.nodes d))
+    (listed (slice_index_or twins d None)) i has)
 
-pub opened_all : (graph : Graph) (standings : List Standing) (wanted : List Bool) (d : ℕ)
-    (tallies : List Tally) → IsSound graph → d ≡ length graph.nodes
-    → length standings ≡ length graph.nodes → length wanted ≡ length graph.nodes
-    → AreOpened graph standings wanted d tallies → AreOpening graph standings wanted tallies
-opened_all graph standings wanted d tallies sound all long wide before = record {
-  count = before.count ∙ all;
-  stand = before.stand ∙ take_all d standings (omega (arith, all, long));
-  are_wanted = before.are_wanted ∙ take_all d wanted (omega (arith, all, wide));
-  idle = before.idle;
-  first = inputs_first graph sound;
-  heard = before.heard;
-}
+module _ (graph : Graph) (standings : List Standing) (wanted : List Bool)
+    (twins : List (Option ℕ)) (sound : IsSound graph)
+    (smaller : (d : ℕ) → All (λ t. t < d) (listed (slice_index_or twins d None))) where
+  pub opened_more : (d : ℕ) (tallies now : List Tally) (tally : Tally) (inputs : List ℕ)
+      (no_standing : Standing) (not_wanted : Bool) (no_twin : Option ℕ)
+      → d < length standings → d < length wanted → d < length twins
+      → tally.standing ≡ get_or standings d no_standing
+      → tally.wanted ≡ get_or wanted d not_wanted → tally.twin ≡ get_or twins d no_twin
+      → inputs ≡ inputs_at graph.nodes (slice_get graph.nodes d)
+      → Hears (record { inputs = inputs; twins = listed (get_or twins d no_twin) })
+      (kept (states_in tallies)) (λ place. 0) tally → phase_in tally.state ≡ Idle
+      → now ≡ tallies ++ tally ∷ [] → AreOpened graph standings wanted twins d tallies
+      → AreOpened graph standings wanted twins (d + 1) now
+  opened_more d tallies now tally inputs no_standing not_wanted no_twin low within inside stands
+      wants twin_is are hears idle pushed before =
+      subst (AreOpened graph standings wanted twins (d + 1)) (sym pushed) (record {
+        count = omega (arith, before.count, length_push tallies tally);
+        stand = map_push (λ (t : Tally). t.standing) tallies tally
+            ∙ ap (λ l. l ++ tally.standing ∷ []) before.stand
+            ∙ ap (λ s. take d standings ++ s ∷ []) stands
+            ∙ sym (take_more standings d no_standing low);
+        are_wanted = map_push (λ (t : Tally). t.wanted) tallies tally
+            ∙ ap (λ l. l ++ tally.wanted ∷ []) before.are_wanted
+            ∙ ap (λ w. take d wanted ++ w ∷ []) wants
+            ∙ sym (take_more wanted d not_wanted within);
+        are_twins = map_push (λ (t : Tally). t.twin) tallies tally
+            ∙ ap (λ l. l ++ tally.twin ∷ []) before.are_twins
+            ∙ ap (λ w. take d twins ++ w ∷ []) twin_is
+            ∙ sym (take_more twins d no_twin inside);
+        idle = idle_push tallies tally before.idle idle;
+        heard = heard_more (awaited_at graph twins) tallies tally
+            (awaited_first graph twins sound smaller) before.heard
+            (subst (λ n. Hears (awaited_at graph twins n) (kept (states_in tallies)) (λ place. 0)
+            tally) (sym before.count)
+            (subst (λ (a : Awaited). Hears a (kept (states_in tallies)) (λ place. 0) tally) here
+            hears));
+      })
+    where
+      here : ◌≡◌ {A = Awaited}
+          (record { inputs = inputs; twins = listed (get_or twins d no_twin) })
+          (awaited_at graph twins d)
+      here = rw (are, any_default twins d no_twin None inside) refl
+
+  pub opened_all : (d : ℕ) (tallies : List Tally) → d ≡ length graph.nodes
+      → length standings ≡ length graph.nodes → length wanted ≡ length graph.nodes
+      → length twins ≡ length graph.nodes
+      → AreOpened graph standings wanted twins d tallies
+      → AreOpening graph standings wanted twins tallies
+  opened_all d tallies all long wide deep before = record {
+    count = before.count ∙ all;
+    stand = before.stand ∙ take_all d standings (omega (arith, all, long));
+    are_wanted = before.are_wanted ∙ take_all d wanted (omega (arith, all, wide));
+    are_twins = before.are_twins ∙ take_all d twins (omega (arith, all, deep));
+    idle = before.idle;
+    first = awaited_first graph twins sound smaller;
+    heard = before.heard;
+  }
 
 -- the first course of a plan
 pub opening_course : (graph : Graph) (standings : List Standing) (wanted : List Bool)
-    (tallies : List Tally) (users : List (List Edge)) (agenda : Agenda)
-    → AreOpening graph standings wanted tallies
-    → AreUsers (λ d. inputs_at graph.nodes (slice_get graph.nodes d)) (length graph.nodes) users
+    (twins : List (Option ℕ)) (tallies : List Tally) (users : List (List Edge)) (agenda : Agenda)
+    → AreOpening graph standings wanted twins tallies
+    → AreUsers (λ d. all_of (awaited_at graph twins d)) (length graph.nodes) users
     → IsAgenda tallies agenda → IsFresh tallies agenda → agenda.work ≡ []
     → IsCourse graph tallies users agenda
-opening_course graph standings wanted tallies users agenda opening are listed fresh none = record {
-  count = opening.count;
-  steady = record {
-    told = record {
-      first = opening.first;
-      edges = subst (λ n. AreUsers (λ d. inputs_at graph.nodes (slice_get graph.nodes d)) n users)
-          (sym opening.count) are;
-      heard = subst (λ l. HaveHeard (λ d. inputs_at graph.nodes (slice_get graph.nodes d)) tallies
-          (users_of_all users l)) (sym none) opening.heard;
-      listed = listed;
-    };
-    none = none;
-    fresh = fresh;
-  };
-}
+opening_course graph standings wanted twins tallies users agenda opening are listed_is fresh none =
+    record {
+      count = opening.count;
+      steady = subst (λ l. IsSteady (awaited_at graph l) users tallies agenda)
+          (sym opening.are_twins) (record {
+            told = record {
+              first = opening.first;
+              edges = subst (λ n. AreUsers (λ d. all_of (awaited_at graph twins d)) n users)
+                  (sym opening.count) are;
+              heard = subst (λ l. HaveHeard (awaited_at graph twins) tallies (users_of_all users l))
+                  (sym none) opening.heard;
+              listed = listed_is;
+            };
+            none = none;
+            fresh = fresh;
+          });
+    }

@@ -7,10 +7,12 @@ use Rattle.std.proofs.lemmas.List.{append-nil, append_assoc, drop_more, get_or-m
 use Rattle.std.proofs.lemmas.List.Elements.{All-drop}
 use Rattle.std.proofs.lemmas.Option.{get_or_from_slice_get, slice_get-get_or, slice_get_within}
 use Rattle.nix_names.proofs.Lists.{Contains-from_get}
-use Rattle.sched_core.specs.Agendas.{Agenda, AreSameElse, IsAgenda, IsFresh, IsSpreading, IsSteady, alone_if, ends, is_open, noted, phases_in, settles, standings_in, to_end, wanted_in}
+use Rattle.sched_core.specs.Agendas.{Agenda, AreSameElse, IsAgenda, IsFresh, IsSpreading, IsSteady, alone_if, ends, noted, phases_in, settles, standings_in, to_end, twins_in, wanted_in}
+use Rattle.sched_core.specs.Courses.{Awaited, all_of}
 use Rattle.sched_core.specs.Coursing.{kept, phase_in}
-use Rattle.sched_core.specs.States.{Idle, is_good}
-use Rattle.sched_core.specs.Tallies.{CanHear, HaveHeard, IsSameElse, IsTally, News, Open, Turns, are_news, news_by, news_of, states_in, to_tell}
+use Rattle.sched_core.specs.Nearest.{News, Open, news_of}
+use Rattle.sched_core.specs.States.{Idle, is_good, is_open}
+use Rattle.sched_core.specs.Tallies.{CanHear, HaveHeard, IsSameElse, IsTally, Turns, are_news, news_by, states_in, to_tell}
 use Rattle.sched_core.specs.ToldEdges.{open_edges, sizes}
 use Rattle.sched_core.specs.Users.{AreUsers, once_at, times, users_of, users_of_all}
 use Rattle.sched_core.specs.declared.reason.State.{State}
@@ -170,12 +172,13 @@ left_noted users agenda u before after left =
 -- ---- what telling leaves as it was
 
 pub same_refl : (tallies : List Tally) → AreSameElse tallies tallies
-same_refl tallies = record { standings = refl; wanted = refl; phases = refl }
+same_refl tallies = record { standings = refl; wanted = refl; twins = refl; phases = refl }
 
 pub same_then : (a b c : List Tally) → AreSameElse a b → AreSameElse b c → AreSameElse a c
 same_then a b c first second = record {
   standings = second.standings ∙ first.standings;
   wanted = second.wanted ∙ first.wanted;
+  twins = second.twins ∙ first.twins;
   phases = second.phases ∙ first.phases;
 }
 
@@ -205,6 +208,7 @@ pub same_set : (tallies : List Tally) (u : ℕ) (before after : Tally)
 same_set tallies u before after at same = record {
   standings = part_stays (λ (t : Tally). t.standing) tallies u before after at same.standing;
   wanted = part_stays (λ (t : Tally). t.wanted) tallies u before after at same.wanted;
+  twins = part_stays (λ (t : Tally). t.twin) tallies u before after at same.twin;
   phases = phases_are (set tallies u after)
       ∙ part_stays (λ (t : Tally). phase_in t.state) tallies u before after at same.phase
       ∙ sym (phases_are tallies);
@@ -221,7 +225,7 @@ news_good Reused told = refl
 news_good (Failed reason) told = refl
 news_good (Refused cause) told = refl
 
-module _ (inputs : ℕ → List ℕ) (users : List (List Edge)) (tallies : List Tally)
+module _ (inputs : ℕ → Awaited) (users : List (List Edge)) (tallies : List Tally)
     (agenda : Agenda) (w i : ℕ) (no_edge : Edge) (no_tally : Tally) (row : List Edge)
     (low : w < length tallies) (row_is : row ≡ users_of users w) (here : i < length row)
     (is : IsSpreading inputs users tallies agenda (drop i (users_of users w))) where
@@ -231,8 +235,8 @@ module _ (inputs : ℕ → List ℕ) (users : List (List Edge)) (tallies : List 
   abbrev before : Tally
   before = get_or tallies edge.user no_tally
 
-  its : (edge.user < length tallies) × (slice_get (inputs edge.user) edge.place ≡ Some w)
-  its = edge_is inputs users (length tallies) w i edge is.edges low
+  its : (edge.user < length tallies) × (slice_get (all_of (inputs edge.user)) edge.place ≡ Some w)
+  its = edge_is (λ e. all_of (inputs e)) users (length tallies) w i edge is.edges low
       (subst (λ l. slice_get l i ≡ Some edge) row_is (slice_get-get_or row i no_edge here))
 
   pub user_within : edge.user < length tallies
@@ -250,7 +254,7 @@ module _ (inputs : ℕ → List ℕ) (users : List (List Edge)) (tallies : List 
       ∙ ap (λ l. edge ∷ drop (i + 1) l) row_is) is.heard
 
   -- what `told` requires
-  pub can_tell : (ins : List ℕ) × (heard : List News) × CanHear ins heard before edge.place w
+  pub can_tell : (ins : Awaited) × (heard : List News) × CanHear ins heard before edge.place w
   can_tell =
       let can = can_hear inputs tallies edge w before rest at its.1 heard in
       (inputs edge.user, can.0, can.1)
@@ -258,7 +262,7 @@ module _ (inputs : ℕ → List ℕ) (users : List (List Edge)) (tallies : List 
   user_apart : w ≢ edge.user
   user_apart same =
       let less = is.first edge.user w
-      (Contains-from_get (inputs edge.user) edge.place w its.1) in
+      (Contains-from_get (all_of (inputs edge.user)) edge.place w its.1) in
       omega (arith, less, same)
 
   has_news : news_of (kept (states_in tallies) w) ≡ Open → ⊥
@@ -307,13 +311,13 @@ module _ (inputs : ℕ → List ℕ) (users : List (List Edge)) (tallies : List 
     told_edges = noted_edges users tallies agenda edge.user before after at turns
 
     pub told_user : (good : Bool) → good ≡ is_good (kept (states_in tallies) w)
-        → ((ins : List ℕ) (heard : List News) → CanHear ins heard before edge.place w
+        → ((ins : Awaited) (heard : List News) → CanHear ins heard before edge.place w
         → IsTally ins (slice_set heard edge.place (news_by good)) after)
         → IsSpreading inputs users (set tallies edge.user after)
         (noted agenda edge.user before after) (drop (i + 1) (users_of users w))
     told_user good good_is told = record {
       first = is.first;
-      edges = subst (λ n. AreUsers inputs n users)
+      edges = subst (λ n. AreUsers (λ e. all_of (inputs e)) n users)
           (sym (length-set tallies edge.user after)) is.edges;
       heard = subst (HaveHeard inputs (set tallies edge.user after))
           (left_noted users agenda edge.user before after (drop (i + 1) (users_of users w)))
@@ -342,7 +346,7 @@ work_within tallies agenda w at is =
     subst (λ n. n < length tallies) (get_or_from_slice_get agenda.work 0 w 0 at)
     (is.work 0 0 (slice_get_within agenda.work 0 w at))
 
-pub work_taken : (inputs : ℕ → List ℕ) (users : List (List Edge)) (tallies : List Tally)
+pub work_taken : (inputs : ℕ → Awaited) (users : List (List Edge)) (tallies : List Tally)
     (agenda : Agenda) (w : ℕ) → slice_get agenda.work 0 ≡ Some w
     → IsSpreading inputs users tallies agenda []
     → IsSpreading inputs users tallies (record agenda { work = drop 1 agenda.work })
@@ -424,6 +428,9 @@ module _ (tallies : List Tally) (agenda : Agenda) (d : ℕ) (none : Tally) (stat
   pub turned_wanted : wanted_in (set tallies d now) ≡ wanted_in tallies
   turned_wanted = part_stays (λ (t : Tally). t.wanted) tallies d old now old_at refl
 
+  pub turned_twins : twins_in (set tallies d now) ≡ twins_in tallies
+  turned_twins = part_stays (λ (t : Tally). t.twin) tallies d old now old_at refl
+
   pub turned_phases : phases_in (set tallies d now) ≡ set (phases_in tallies) d (phase_in state)
   turned_phases = ap (map phase_in) (map-set (λ (t : Tally). t.state) tallies d now)
       ∙ map-set phase_in (states_in tallies) d state
@@ -433,12 +440,12 @@ module _ (tallies : List Tally) (agenda : Agenda) (d : ℕ) (none : Tally) (stat
       ≡ open_edges (sizes users) tallies + length (users_of_all users agenda.work)
   turned_edges users = noted_edges users tallies agenda d old now old_at turned
 
-  pub turned_spreading : (inputs : ℕ → List ℕ) (users : List (List Edge))
+  pub turned_spreading : (inputs : ℕ → Awaited) (users : List (List Edge))
       → (phase_in state ≡ Idle → ⊥) → IsSpreading inputs users tallies agenda []
       → IsSpreading inputs users (set tallies d now) (noted agenda d old now) []
   turned_spreading inputs users begun is = record {
     first = is.first;
-    edges = subst (λ n. AreUsers inputs n users) (sym (length-set tallies d now)) is.edges;
+    edges = subst (λ n. AreUsers (λ e. all_of (inputs e)) n users) (sym (length-set tallies d now)) is.edges;
     heard = subst (HaveHeard inputs (set tallies d now)) (left_noted users agenda d old now [])
         (heard_turned inputs (length tallies) users tallies d old state
         (users_of_all users agenda.work) refl is.edges old_at turned begun is.heard);
@@ -446,7 +453,7 @@ module _ (tallies : List Tally) (agenda : Agenda) (d : ℕ) (none : Tally) (stat
   }
 
 -- all users were told, and what has begun was taken off the ring's front
-pub steady_after : (inputs : ℕ → List ℕ) (users : List (List Edge)) (tallies : List Tally)
+pub steady_after : (inputs : ℕ → Awaited) (users : List (List Edge)) (tallies : List Tally)
     (agenda later : Agenda) → IsSpreading inputs users tallies agenda [] → agenda.work ≡ []
     → IsAgenda tallies later → IsFresh tallies later → later.work ≡ agenda.work
     → IsSteady inputs users tallies later

@@ -1,14 +1,14 @@
 -- How the reverse edges of a plan are gathered, a user at a time.
-use Rattle.std.proofs.Common.{◌≡◌, ◌∙◌, ◌⊎◌, inl, inr, ⊎_elim, ℕ, zero, suc, ◌+◌, ◌<◌, ◌≤◌, Bool, cond, eqb, ltb, List, [], ◌∷◌, ◌++◌, length, get_or, sym, ap, subst, arith, ◌-◌, add-one, drop, take, ◌&&◌}
+use Rattle.std.proofs.Common.{◌≡◌, ◌∙◌, ◌⊎◌, inl, inr, ⊎_elim, ℕ, zero, suc, ◌+◌, ◌<◌, ◌≤◌, Bool, cond, eqb, ltb, List, [], ◌∷◌, ◌++◌, length, sym, ap, subst, arith, ◌-◌, drop, take, ◌&&◌}
 use Rattle.std.specs.Prelude.{All, slice_get}
 use Rattle.std.proofs.Math.ListN.{set}
 use Rattle.std.proofs.lemmas.Bool.{cases_eq, cases_lt, eq-eqb, ne_eqb}
 use Rattle.std.proofs.lemmas.Bool.Decides.{nat_tests}
 use Rattle.std.proofs.lemmas.List.Elements.{All-push, All-nil}
-use Rattle.std.proofs.lemmas.List.{drop_more, drop-set-add, drop-set-lt, get_or-map, get_or-set_other, get_or-set_same, get_or_append_left, get_or_past, get_or_push, length-drop, length-set, length_push, take-set-le, take_more_set}
-use Rattle.nix_names.proofs.Lists.{taken_more}
+use Rattle.std.proofs.lemmas.List.{drop-set-add, drop-set-lt, get_or-map, get_or-set_other, get_or-set_same, get_or_append_left, get_or_past, get_or_push, length-drop, length-set, length_push, take-set-le, take_more_set}
+use Rattle.sched_core.proofs.UserCounts.{often_both, often_none, often_one, uses_grow, uses_next}
 use Rattle.sched_core.specs.Users.{AreUsers, once_at, times, users_of}
-use Rattle.sched_core.specs.UserSpans.{AddsUser, HaveRoom, often, pairs, part, parts, span_at, uses}
+use Rattle.sched_core.specs.UserSpans.{AddsUser, HaveRoom, often, part, parts, span_at, uses}
 use Rattle.sched_core.specs.declared.users.Edge.{Edge}
 use Rattle.sched_core.specs.declared.users.Span.{Span}
 
@@ -45,12 +45,6 @@ once_push (y ∷ xs) x (suc place) input =
       once_push xs x place input,
       ap (λ t. cond {A = ℕ} (t && eqb x input) 1 0) (next_same (length xs) place),
     )
-
--- a number more in a list
-pub often_push : (n : ℕ) (xs : List ℕ) (x : ℕ) → often n (xs ++ x ∷ [])
-    ≡ often n xs + cond (eqb x n) 1 0
-often_push n [] x = omega arith
-often_push n (y ∷ xs) x = omega (arith, often_push n xs x)
 
 -- ---- the edges of one user
 
@@ -95,25 +89,22 @@ adds_more user k seen i count old mid new size at others prior = record {
         let here : new input ≡ mid input ++ record { user = user; place = k } ∷ [] =
         subst (λ d. new d ≡ mid d ++ record { user = user; place = k } ∷ []) (sym same) at
         in
-        let one : ◌≡◌ {A = ℕ} (cond (eqb i input) 1 0) 1 =
-        ap (λ t. cond {A = ℕ} t 1 0) (eq-eqb i input (sym same)) in
         omega (
           arith,
           ap length here,
           length_push (mid input) (record { user = user; place = k }),
           prior.size input low,
-          often_push input seen i,
-          one,
+          often_both input seen (i ∷ []),
+          ap (λ n. often n (i ∷ [])) same,
+          often_one i,
         )
     grown input low (inr apart) =
-        let none : ◌≡◌ {A = ℕ} (cond (eqb i input) 1 0) 0 =
-        ap (λ t. cond {A = ℕ} t 1 0) (ne_eqb i input (λ e. apart (sym e))) in
         omega (
           arith,
           ap length (others input low apart),
           prior.size input low,
-          often_push input seen i,
-          none,
+          often_both input seen (i ∷ []),
+          often_none input i apart,
         )
 
     within : (input bound : ℕ) → input < count → user < bound
@@ -158,7 +149,7 @@ first_more inputs count d old new low adds before = record {
     arith,
     adds.size input less,
     before.size input less,
-    ap (λ c. uses inputs c input) (add-one d),
+    uses_next inputs d input,
   );
   within = λ input less. adds.within input count less low (before.within input less);
 }
@@ -190,86 +181,6 @@ first_all inputs count done rows size all first = record {
       (All-nil (λ (edge : Edge). edge.user < count)))
       (cases_lt input count);
 }
-
--- ---- how many users there are
-
--- what is left after one more input has one less of it, and as many of each other
-pub often_here : (inputs : List ℕ) (k i : ℕ) → k < length inputs → i ≡ get_or inputs k i
-    → often i (drop k inputs) ≡ often i (drop (k + 1) inputs) + 1
-often_here inputs k i low is =
-    let first = ap (often i) (drop_more inputs k i low) in
-    let one : ◌≡◌ {A = ℕ} (cond (eqb (get_or inputs k i) i) 1 0) 1 =
-    ap (λ t. cond {A = ℕ} t 1 0) (eq-eqb (get_or inputs k i) i (sym is)) in
-    omega (arith, first, one)
-
-pub often_other : (inputs : List ℕ) (k i n : ℕ) → k < length inputs → i ≡ get_or inputs k i
-    → (n ≡ i → ⊥) → often n (drop k inputs) ≡ often n (drop (k + 1) inputs)
-often_other inputs k i n low is differ =
-    let first = ap (often n) (drop_more inputs k i low) in
-    let none : ◌≡◌ {A = ℕ} (cond (eqb (get_or inputs k i) n) 1 0) 0 =
-    ap (λ t. cond {A = ℕ} t 1 0)
-    (ne_eqb (get_or inputs k i) n (λ e. differ (sym e ∙ sym is))) in
-    omega (arith, first, none)
-
--- the counts after one more input
-pub counted : (inputs : List ℕ) (k i : ℕ) (before counts : List ℕ) → k < length inputs
-    → i ≡ get_or inputs k i → i < length counts
-    → ((n : ℕ) → n < length before → get_or counts n 0
-    ≡ get_or before n 0 + often n (take k inputs))
-    → (n : ℕ) → n < length before → get_or (set counts i (get_or counts i 0 + 1)) n 0
-    ≡ get_or before n 0 + often n (take (k + 1) inputs)
-counted inputs k i before counts low is within each n less =
-    let more = ap (often n) (taken_more inputs k i low is) ∙ often_push n (take k inputs) i in
-    let was = each n less in
-    ⊎_elim
-    (λ (same : n ≡ i).
-    let here = ap (λ m. get_or (set counts i (get_or counts i 0 + 1)) m 0) same
-    ∙ get_or-set_same counts i (get_or counts i 0 + 1) 0 within in
-    let one : ◌≡◌ {A = ℕ} (cond (eqb i n) 1 0) 1 =
-    ap (λ t. cond {A = ℕ} t 1 0) (eq-eqb i n (sym same)) in
-    let there = ap (λ m. get_or counts m 0) same in
-    omega (arith, more, was, here, one, there))
-    (λ differ.
-    let here = get_or-set_other counts i n (get_or counts i 0 + 1) 0 differ in
-    let none : ◌≡◌ {A = ℕ} (cond (eqb i n) 1 0) 0 =
-    ap (λ t. cond {A = ℕ} t 1 0) (ne_eqb i n (λ e. differ (sym e))) in
-    omega (arith, more, was, here, none))
-    (cases_eq n i)
-
--- more users, no fewer uses
-pub uses_grow : (inputs : ℕ → List ℕ) (n few count : ℕ) → few ≤ count
-    → uses inputs few n ≤ uses inputs count n
-uses_grow inputs n few zero less =
-    let none : few ≡ 0 = omega (arith, less) in
-    omega (arith, ap (λ c. uses inputs c n) none)
-uses_grow inputs n few (suc count) less = ⊎_elim
-    (λ same. omega (arith, ap (λ c. uses inputs c n) same))
-    (λ differ. omega (
-      arith,
-      uses_grow inputs n few count (⊎_elim (λ below. omega (arith, below))
-          (λ above. absurd (differ (omega (arith, above, less)))) (cases_lt few (suc count))),
-    ))
-    (cases_eq few (suc count))
-
--- more users, no fewer pairs
-pub pairs_grow : (inputs : ℕ → List ℕ) (few count : ℕ) → few ≤ count
-    → pairs inputs few ≤ pairs inputs count
-pairs_grow inputs few zero less =
-    let none : few ≡ 0 = omega (arith, less) in
-    omega (arith, ap (pairs inputs) none)
-pairs_grow inputs few (suc count) less = ⊎_elim
-    (λ same. omega (arith, ap (pairs inputs) same))
-    (λ differ. omega (
-      arith,
-      pairs_grow inputs few count (⊎_elim (λ below. omega (arith, below))
-          (λ above. absurd (differ (omega (arith, above, less)))) (cases_lt few (suc count))),
-    ))
-    (cases_eq few (suc count))
-
--- the pairs with one user more
-pub pairs_next : (inputs : ℕ → List ℕ) (user : ℕ) → pairs inputs (user + 1)
-    ≡ pairs inputs user + length (inputs user)
-pairs_next inputs user = ap (pairs inputs) (add-one user)
 
 -- ---- spans
 
@@ -347,37 +258,24 @@ room_next spans i places more left low here others room = record {
         ))
         (cases_eq n i)
 
--- there is a place for the next edge
-pub next_place : (inputs : List ℕ) (k i : ℕ) (spans : List Span) (places : ℕ) → k < length inputs
-    → i ≡ get_or inputs k i → i < length spans
-    → HaveRoom spans places (λ n. often n (drop k inputs) + 0) → (span_at spans i).end < places
-next_place inputs k i spans places low is within room =
-    omega (arith, room.fit i within, often_here inputs k i low is)
-
-pub room_taken : (inputs : List ℕ) (k i : ℕ) (spans : List Span) (places : ℕ) (left : ℕ → ℕ)
-    → k < length inputs → i ≡ get_or inputs k i → i < length spans
-    → HaveRoom spans places (λ n. often n (drop k inputs) + left n)
-    → HaveRoom (set spans i (longer (span_at spans i))) places
-    (λ n. often n (drop (k + 1) inputs) + left n)
-room_taken inputs k i spans places left low is within room =
-    room_next spans i places (λ n. often n (drop k inputs) + left n)
-    (λ n. often n (drop (k + 1) inputs) + left n) within
-    (omega (arith, often_here inputs k i low is))
-    (λ n differ. omega (arith, often_other inputs k i n low is differ)) room
+-- a span with one more edge, which it had room for
+pub room_taken : (spans : List Span) (i places : ℕ) (left : ℕ → ℕ) → i < length spans
+    → HaveRoom spans places (λ n. often n (i ∷ []) + left n)
+    → HaveRoom (set spans i (longer (span_at spans i))) places left
+room_taken spans i places left within room =
+    room_next spans i places (λ n. often n (i ∷ []) + left n) left within
+    (omega (arith, often_one i)) (λ n differ. omega (arith, often_none n i differ)) room
 
 -- what has room for the edges of the users that are left has it for those of the next
 module _ (inputs : ℕ → List ℕ) (count d : ℕ) (spans : List Span) (places : ℕ) (low : d < count)
     (room : HaveRoom spans places (λ n. uses inputs count n - uses inputs d n)) where
-  next_uses : (n : ℕ) → uses inputs (d + 1) n ≡ uses inputs d n + often n (inputs d)
-  next_uses n = ap (λ c. uses inputs c n) (add-one d)
-
   pub room_own : (numbers : List ℕ) → numbers ≡ inputs d
       → HaveRoom spans places (λ n. often n numbers)
   room_own numbers same = room_less spans places (λ n. uses inputs count n - uses inputs d n)
       (λ n. often n numbers) room
       (λ n within. omega (
         arith,
-        next_uses n,
+        uses_next inputs d n,
         uses_grow inputs n (d + 1) count (omega (arith, low)),
         ap (often n) same,
       ))
@@ -390,7 +288,7 @@ module _ (inputs : ℕ → List ℕ) (count d : ℕ) (spans : List Span) (places
       (λ n. often n numbers + (uses inputs count n - uses inputs (d + 1) n)) room
       (λ n within. omega (
         arith,
-        next_uses n,
+        uses_next inputs d n,
         uses_grow inputs n (d + 1) count (omega (arith, low)),
         ap (often n) same,
       ))

@@ -1,23 +1,117 @@
--- How wanted derivations are marked, from the last of a plan to the first.
-use Rattle.std.proofs.Common.{◌≡◌, ◌∙◌, ◌↔◌, ◌⊎◌, inl, inr, ⊎_elim, ℕ, zero, suc, ◌+◌, ◌<◌, ◌≤◌, Bool, true, false, List, [], ◌∷◌, ◌++◌, length, replicate, take, IfSome, refl, sym, ap, subst, arith}
-use Rattle.std.specs.Prelude.{Contains, slice_get}
-use Rattle.std.specs.List.{slice_index_or}
+-- Which derivations are wanted: the test of it, and how they are marked, from the last of a plan to
+-- the first.
+use Rattle.std.proofs.Common.{◌≡◌, ◌∙◌, ◌↔◌, ◌⊎◌, inl, inr, ⊎_elim, ℕ, zero, suc, ◌+◌, ◌-◌, ◌<◌, ◌≤◌, Bool, true, false, List, [], ◌∷◌, ◌++◌, length, replicate, take, Option, Some, None, IfSome, refl, sym, ap, subst, arith}
+use Rattle.std.specs.Prelude.{◌&&◌, Contains, slice_get}
+use Rattle.std.specs.List.{list_any, range_with_len, slice_index_or}
 use Rattle.std.proofs.Math.ListN.{set, length-set}
 use Rattle.std.proofs.Math.Seq.{take-append_seam}
-use Rattle.std.proofs.lemmas.Bool.{cases_lt, false≢true}
+use Rattle.std.proofs.lemmas.Bool.{and_from, and_parts, cases_lt, false≢true, or_cases, or_left, or_right}
 use Rattle.std.proofs.lemmas.List.{get_or-replicate, get_or-set_other, get_or-set_same, get_or_past, length-replicate}
 use Rattle.std.proofs.lemmas.List.Elements.{Contains-append_left, Contains-push, Contains-push_cases}
-use Rattle.std.proofs.lemmas.Option.{get_or_from_slice_get, slice_get_read}
-use Rattle.drv_graph.specs.Nodes.{inputs_of}
+use Rattle.std.proofs.lemmas.Option.{get_or_from_slice_get, slice_get_read, slice_get_within}
+use Rattle.drv_graph.specs.Nodes.{Node, inputs_of}
 use Rattle.drv_graph.specs.Plans.{AreNumbers, Graph}
 use Rattle.drv_graph.specs.SoundGraphs.{IsSound}
 use Rattle.valid_table.specs.declared.entry.Entry.{Entry}
 use Rattle.sched_core.specs.Courses.{AreStandings, AreWanted}
-use Rattle.sched_core.specs.Runs.{IsWanted, Run, inputs_at, standing_at, wanted_input, wanted_root}
+use Rattle.sched_core.specs.PlanLaws.{WantedIsTold}
+use Rattle.sched_core.specs.Runs.{IsWanted, Run, inputs_at, is_free, is_one_of, is_used_by, is_wanted_over, standing_at, wanted_input, wanted_root}
 use Rattle.sched_core.specs.declared.standing.Standing.{Standing}
-use Rattle.sched_core.specs.declared.standing.Standing.TheVariants.{Free}
+use Rattle.sched_core.specs.declared.standing.Standing.TheVariants.{AllValid, Free, Hindered}
 use Rattle.sched_core.proofs.PlanInputs.{inputs_first, numbers_at}
+use Rattle.sched_core.proofs.Tests.{any_passes, in_range, is_among, is_found, one_passes}
 use Rattle.nix_names.proofs.Lists.{Contains-nothing, either_side}
+
+-- ---- the test of what is wanted
+
+-- what is wanted over so many users is wanted over more
+grows : (n m : ℕ) (run : Run) (opening : List Entry) (d : ℕ) → n ≤ m
+    → is_wanted_over n run opening d ≡ true → is_wanted_over m run opening d ≡ true
+unfolding is_wanted_over
+grows n zero run opening d no_more is =
+    let same : n ≡ 0 = omega arith in
+    subst (λ k. is_wanted_over k run opening d ≡ true) same is
+grows n (suc m) run opening d no_more is =
+    ⊎_elim
+    (λ less.
+    let same : n ≡ suc m = omega arith in
+    subst (λ k. is_wanted_over k run opening d ≡ true) same is)
+    (λ within. or_left (is_wanted_over m run opening d)
+    (list_any (λ user. is_used_by run opening d user && is_wanted_over m run opening user)
+    (range_with_len 0 (length run.graph.nodes)))
+    (grows n m run opening d within is))
+    (cases_lt m n)
+
+free_stands : (s : Standing) → is_free s ≡ true → s ≡ Free
+free_stands Free is = refl
+free_stands AllValid is = absurd (false≢true is)
+free_stands (Hindered cause) is = absurd (false≢true is)
+
+-- what the test tells is wanted
+wanted_if_told : (users : ℕ) (run : Run) (opening : List Entry) (d : ℕ)
+    → is_wanted_over users run opening d ≡ true → IsWanted run opening d
+unfolding is_wanted_over
+wanted_if_told zero run opening d is = wanted_root d (is_among run.graph.roots d is)
+wanted_if_told (suc users) run opening d is =
+    let test : ℕ → Bool = λ user.
+    is_used_by run opening d user && is_wanted_over users run opening user in
+    ⊎_elim (λ before. wanted_if_told users run opening d before)
+    (λ by_one.
+    let found = one_passes test (range_with_len 0 (length run.graph.nodes)) by_one in
+    let user = found.0 in
+    let parts = and_parts (is_used_by run opening d user)
+    (is_wanted_over users run opening user) found.2 in
+    let stands = standing_at run.system opening (slice_get run.graph.nodes user) in
+    let inputs = inputs_at run.graph.nodes (slice_get run.graph.nodes user) in
+    let used = and_parts (is_free stands) (is_one_of inputs d) parts.0 in
+    wanted_input user d (wanted_if_told users run opening user parts.1)
+    (free_stands stands used.0) (is_among inputs d used.1))
+    (or_cases (is_wanted_over users run opening d)
+    (list_any test (range_with_len 0 (length run.graph.nodes))) is)
+
+-- a derivation with an input is one of the plan's
+user_within : (run : Run) (user d : ℕ)
+    → Contains (inputs_at run.graph.nodes (slice_get run.graph.nodes user)) d
+    → user < length run.graph.nodes
+user_within run user d has = by (slice_get run.graph.nodes user) refl has
+  where
+    by : (node : Option Node) → slice_get run.graph.nodes user ≡ node
+        → Contains (inputs_at run.graph.nodes node) d → user < length run.graph.nodes
+    by None at there = absurd (Contains-nothing d there)
+    by (Some node) at there = slice_get_within run.graph.nodes user node at
+
+-- what is wanted is told, over as many users as there are derivations behind it
+told_if_wanted : (run : Run) (opening : List Entry) → IsSound run.graph → (d : ℕ)
+    → IsWanted run opening d → (users : ℕ) → length run.graph.nodes ≤ d + users
+    → is_wanted_over users run opening d ≡ true
+unfolding is_wanted_over
+told_if_wanted run opening sound d (wanted_root _ has) users enough =
+    grows 0 users run opening d (omega arith) (is_found run.graph.roots d has)
+told_if_wanted run opening sound d (wanted_input user _ by_user free has) users enough =
+    let nodes = run.graph.nodes in
+    let low : user < length nodes = user_within run user d has in
+    let after : d < user = inputs_first run.graph sound user d has in
+    let fewer : ℕ = length nodes - user in
+    let told = told_if_wanted run opening sound user by_user fewer (omega (arith, low)) in
+    let stands = standing_at run.system opening (slice_get nodes user) in
+    let inputs = inputs_at nodes (slice_get nodes user) in
+    let used : is_used_by run opening d user ≡ true =
+    and_from (is_free stands) (is_one_of inputs d) (ap is_free free) (is_found inputs d has) in
+    grows (suc fewer) users run opening d (omega (arith, low, after, enough))
+    (or_right (is_wanted_over fewer run opening d)
+    (list_any (λ u. is_used_by run opening d u && is_wanted_over fewer run opening u)
+    (range_with_len 0 (length nodes)))
+    (any_passes (λ u. is_used_by run opening d u && is_wanted_over fewer run opening u)
+    (range_with_len 0 (length nodes)) user (in_range (length nodes) user low)
+    (and_from (is_used_by run opening d user) (is_wanted_over fewer run opening user) used told)))
+
+pub wanted_told : WantedIsTold
+wanted_told run opening d sound = (
+  wanted_if_told (length run.graph.nodes) run opening d,
+  λ wanted. told_if_wanted run opening sound d wanted (length run.graph.nodes) (omega arith),
+)
+
+-- ---- how they are marked
 
 -- a derivation is marked
 abbrev pub IsMarked : List Bool → ℕ → Type 0

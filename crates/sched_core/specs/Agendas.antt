@@ -1,22 +1,21 @@
 -- *Agenda*: what is still to be done of a plan: which derivations can be begun, and of which the
 -- users are still to be told (this product's own).
-use Rattle.std.specs.Prelude.{◌≡◌, ◌<◌, ◌≤◌, ◌+◌, ◌-◌, ◌&&◌, ℕ, not, Bool, true, false, Some, List, [], ◌∷◌, ◌++◌, All, Contains, length, map, slice_get, if◌then◌else◌}
+use Rattle.std.specs.Prelude.{◌≡◌, ◌<◌, ◌≤◌, ◌+◌, ◌-◌, ◌&&◌, ℕ, not, Bool, true, false, Option, Some, List, [], ◌∷◌, ◌++◌, All, Contains, length, map, slice_get, if◌then◌else◌}
 use Rattle.std.specs.List.{slice_index_or}
 use Rattle.drv_graph.specs.Plans.{Graph}
-use Rattle.sched_core.specs.Courses.{Course, course_rows}
+use Rattle.sched_core.specs.Courses.{Awaited, Course, all_of, awaited_at}
 use Rattle.sched_core.specs.Coursing.{course_of, kept, phase_in}
-use Rattle.sched_core.specs.Runs.{inputs_at}
-use Rattle.sched_core.specs.States.{Idle, InputsFirst, Phase}
+use Rattle.sched_core.specs.States.{Idle, Phase, is_open}
 use Rattle.sched_core.specs.Tallies.{HaveHeard, states_in}
 use Rattle.sched_core.specs.Users.{AreUsers, users_of_all}
 use Rattle.sched_core.specs.declared.reason.State.{State}
-use Rattle.sched_core.specs.declared.reason.State.TheVariants.{Building, Ready, Blocked}
+use Rattle.sched_core.specs.declared.reason.State.TheVariants.{Ready, Blocked}
 use Rattle.sched_core.specs.declared.standing.Standing.{Standing}
 use Rattle.sched_core.specs.declared.tally.Tally.{Tally}
 use Rattle.sched_core.specs.declared.users.Edge.{Edge}
 
 -- What is still to be done: the derivations that can be begun, behind others that have begun, and
--- those whose users are to be told, each list with the most that it may hold; and how many wanted
+-- those of whose end is to be told, each list with the most that it may hold; and how many wanted
 -- derivations still have something before them.
 pub record Agenda : Type 0 where
   pub ring : List ℕ
@@ -32,13 +31,6 @@ is_ready state = false
 abbrev pub is_blocked : State → Bool
 is_blocked Blocked = true
 is_blocked state = false
-
--- whether a derivation in this state still has something before it
-abbrev pub is_open : State → Bool
-is_open Blocked = true
-is_open Ready = true
-is_open (Building lease) = true
-is_open state = false
 
 -- whether a derivation is wanted and still has something before it
 abbrev pub is_unsettled : Tally → Bool
@@ -95,22 +87,22 @@ noted agenda d before after = record agenda {
   unsettled = agenda.unsettled - (if settles before after then 1 else 0);
 }
 
--- Users are told along the edges that are left, and then along those of the work.
-pub record IsSpreading (inputs : ℕ → List ℕ) (users : List (List Edge)) (tallies : List Tally)
+-- Ends are told along the edges that are left, and then along those of the work.
+pub record IsSpreading (awaited : ℕ → Awaited) (users : List (List Edge)) (tallies : List Tally)
     (agenda : Agenda) (left : List Edge) : Type 0 where
-  pub first : (d i : ℕ) → Contains (inputs d) i → i < d
-  pub edges : AreUsers inputs (length tallies) users
-  pub heard : HaveHeard inputs tallies (left ++ users_of_all users agenda.work)
+  pub first : (d i : ℕ) → Contains (all_of (awaited d)) i → i < d
+  pub edges : AreUsers (λ d. all_of (awaited d)) (length tallies) users
+  pub heard : HaveHeard awaited tallies (left ++ users_of_all users agenda.work)
   pub listed : IsAgenda tallies agenda
 
--- how many derivations' users are still to be told, now or once there is news of them
+-- of how many derivations' ends is still to be told, now or once they are there
 abbrev pub to_end : List Tally → Agenda → ℕ
 to_end tallies agenda = length agenda.work + tally_count (λ tally. is_open tally.state) tallies
 
--- All users are told.
-pub record IsSteady (inputs : ℕ → List ℕ) (users : List (List Edge)) (tallies : List Tally)
+-- All ends are told.
+pub record IsSteady (awaited : ℕ → Awaited) (users : List (List Edge)) (tallies : List Tally)
     (agenda : Agenda) : Type 0 where
-  pub told : IsSpreading inputs users tallies agenda []
+  pub told : IsSpreading awaited users tallies agenda []
   pub none : agenda.work ≡ []
   pub fresh : IsFresh tallies agenda
 
@@ -120,6 +112,9 @@ standings_in tallies = map (λ (tally : Tally). tally.standing) tallies
 abbrev pub wanted_in : List Tally → List Bool
 wanted_in tallies = map (λ (tally : Tally). tally.wanted) tallies
 
+abbrev pub twins_in : List Tally → List (Option ℕ)
+twins_in tallies = map (λ (tally : Tally). tally.twin) tallies
+
 abbrev pub phases_in : List Tally → List Phase
 phases_in tallies = map phase_in (states_in tallies)
 
@@ -127,25 +122,28 @@ phases_in tallies = map phase_in (states_in tallies)
 pub record AreSameElse (before after : List Tally) : Type 0 where
   pub standings : standings_in after ≡ standings_in before
   pub wanted : wanted_in after ≡ wanted_in before
+  pub twins : twins_in after ≡ twins_in before
   pub phases : phases_in after ≡ phases_in before
 
 -- what is known by the tallies
 abbrev pub course_by : Graph → List Tally → Course
 course_by graph tallies =
-    course_of graph (standings_in tallies) (wanted_in tallies) (states_in tallies)
+    course_of graph (standings_in tallies) (wanted_in tallies) (twins_in tallies)
+    (states_in tallies)
 
 -- These are the tallies of a plan on which nothing has begun.
 pub record AreOpening (graph : Graph) (standings : List Standing) (wanted : List Bool)
-    (tallies : List Tally) : Type 0 where
+    (twins : List (Option ℕ)) (tallies : List Tally) : Type 0 where
   pub count : length tallies ≡ length graph.nodes
   pub stand : standings_in tallies ≡ standings
   pub are_wanted : wanted_in tallies ≡ wanted
+  pub are_twins : twins_in tallies ≡ twins
   pub idle : (d : ℕ) → slice_index_or (phases_in tallies) d Idle ≡ Idle
-  pub first : InputsFirst (course_rows (course_by graph tallies))
-  pub heard : HaveHeard (λ d. inputs_at graph.nodes (slice_get graph.nodes d)) tallies []
+  pub first : (d i : ℕ) → Contains (all_of (awaited_at graph twins d)) i → i < d
+  pub heard : HaveHeard (awaited_at graph twins) tallies []
 
 -- These are the tallies of a plan, with the edges to users, and what is still to be done.
 pub record IsCourse (graph : Graph) (tallies : List Tally) (users : List (List Edge))
     (agenda : Agenda) : Type 0 where
   pub count : length tallies ≡ length graph.nodes
-  pub steady : IsSteady (λ d. inputs_at graph.nodes (slice_get graph.nodes d)) users tallies agenda
+  pub steady : IsSteady (awaited_at graph (twins_in tallies)) users tallies agenda

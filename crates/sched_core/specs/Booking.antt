@@ -2,7 +2,7 @@
 use Rattle.std.specs.Prelude.{◌≡◌, ◌≤◌, ◌+◌, ℕ, List, length, sum_by, take}
 use Rattle.std.specs.List.{slice_index_or}
 use Rattle.valid_table.specs.declared.entry.Entry.{Entry}
-use Rattle.sched_core.specs.Courses.{AreStandings, AreWanted, Course}
+use Rattle.sched_core.specs.Courses.{AreNearest, AreStandings, AreWanted, Course}
 use Rattle.sched_core.specs.Legal.{IsLegal, begins}
 use Rattle.sched_core.specs.Runs.{History, Run}
 use Rattle.sched_core.specs.States.{Phase, Idle, Begun, Ended, Broken, phase_of}
@@ -40,6 +40,7 @@ pub record IsKept (system : List ℕ) (history : History) (course : Course) (giv
   pub legal : IsLegal (run_over course system) history
   pub standings : AreStandings system history.opening course.graph.nodes course.standings
   pub wanted : AreWanted (run_over course system) history.opening course.wanted
+  pub twins : AreNearest (run_over course system) history.opening course.twins
   pub count : length course.phases ≡ length course.graph.nodes
   pub phases : (d : ℕ) → slice_index_or course.phases d Idle ≡ phase_of history.events d
   pub given_is : given ≡ begins history.events

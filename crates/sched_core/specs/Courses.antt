@@ -1,36 +1,61 @@
 -- *Course*: a plan, with what the state of each of its derivations follows from (this product's
 -- own).
-use Rattle.std.specs.Prelude.{◌≡◌, ◌<◌, ◌⊎◌, Bool, true, false, ℕ, List, length, slice_get}
+use Rattle.std.specs.Prelude.{◌≡◌, ◌<◌, ◌⊎◌, Bool, true, false, ℕ, Option, Some, None, List, [], ◌∷◌, ◌++◌, length, slice_get}
 use Rattle.std.specs.List.{slice_index_or}
 use Rattle.drv_graph.specs.Nodes.{Node}
 use Rattle.drv_graph.specs.Plans.{Graph}
 use Rattle.valid_table.specs.declared.entry.Entry.{Entry}
-use Rattle.sched_core.specs.Runs.{IsWanted, Run, inputs_at, standing_at}
-use Rattle.sched_core.specs.States.{Phase, Idle, Begun, Rows, state}
+use Rattle.sched_core.specs.Nearest.{last_alone, near_state}
+use Rattle.sched_core.specs.Runs.{IsWanted, Run, earlier_twins, inputs_at, standing_at}
+use Rattle.sched_core.specs.States.{Phase, Idle, Begun, Rows}
 use Rattle.sched_core.specs.declared.reason.State.{State}
 use Rattle.sched_core.specs.declared.reason.State.TheVariants.{Building, Ready, Blocked}
 use Rattle.sched_core.specs.declared.standing.Standing.{Standing}
 use Rattle.sched_core.specs.declared.standing.Standing.TheVariants.{Free}
 
 -- What is known of a plan's derivations, of each at its number: where it stands by itself, whether
--- it is wanted, and where it stands by its last event.
+-- it is wanted, its nearest earlier twin, and where it stands by its last event.
 pub record Course : Type 0 where
   pub graph : Graph
   pub standings : List Standing
   pub wanted : List Bool
+  pub twins : List (Option ℕ)
   pub phases : List Phase
+
+-- a number alone, if there is one
+abbrev pub listed : Option ℕ → List ℕ
+listed (Some n) = n ∷ []
+listed None = []
+
+-- What a derivation waits for: its inputs, in its text's order, and the nearest of its earlier
+-- twins, if it has one.
+pub record Awaited : Type 0 where
+  pub inputs : List ℕ
+  pub twins : List ℕ
+
+-- all of it, the twin at the end
+abbrev pub all_of : Awaited → List ℕ
+all_of awaited = awaited.inputs ++ awaited.twins
+
+-- of the derivation with this number, in a plan of which each has this nearest earlier twin
+abbrev pub awaited_at : Graph → (twins : List (Option ℕ)) → ℕ → Awaited
+awaited_at graph twins d = record {
+  inputs = inputs_at graph.nodes (slice_get graph.nodes d);
+  twins = listed (slice_index_or twins d None);
+}
 
 -- what the states follow from
 abbrev pub course_rows : Course → Rows
 course_rows course = record {
   inputs = λ d. inputs_at course.graph.nodes (slice_get course.graph.nodes d);
+  twins = λ d. listed (slice_index_or course.twins d None);
   standing = λ d. slice_index_or course.standings d Free;
   phase = λ d. slice_index_or course.phases d Idle;
 }
 
 -- the state of a derivation
 abbrev pub course_state : Course → ℕ → State
-course_state course d = state (course_rows course) d
+course_state course d = near_state (course_rows course) d
 
 -- a derivation is wanted and can be begun
 abbrev pub IsNext : Course → ℕ → Type 0
@@ -68,3 +93,9 @@ pub record AreWanted (run : Run) (opening : List Entry) (wanted : List Bool) : T
   pub count : length wanted ≡ length run.graph.nodes
   pub yes : (d : ℕ) → slice_index_or wanted d false ≡ true → IsWanted run opening d
   pub no : (d : ℕ) → IsWanted run opening d → slice_index_or wanted d false ≡ true
+
+-- of each derivation, the nearest of its earlier twins
+pub record AreNearest (run : Run) (opening : List Entry) (twins : List (Option ℕ)) : Type 0 where
+  pub count : length twins ≡ length run.graph.nodes
+  pub each : (d : ℕ) → d < length run.graph.nodes → listed (slice_index_or twins d None)
+      ≡ last_alone (earlier_twins run opening d)

@@ -1,9 +1,10 @@
 -- How a course is kept: by the state of each derivation.
-use Rattle.std.specs.Prelude.{◌≡◌, ◌<◌, Bool, ℕ, List, map}
+use Rattle.std.specs.Prelude.{◌≡◌, ◌<◌, Bool, ℕ, List, Option, map}
 use Rattle.std.specs.List.{slice_index_or}
 use Rattle.drv_graph.specs.Plans.{Graph}
 use Rattle.sched_core.specs.Courses.{Course}
-use Rattle.sched_core.specs.States.{Phase, Idle, Begun, Ended, Broken, Rows, state}
+use Rattle.sched_core.specs.Nearest.{near_state}
+use Rattle.sched_core.specs.States.{Phase, Idle, Begun, Ended, Broken, Rows}
 use Rattle.sched_core.specs.declared.reason.State.{State}
 use Rattle.sched_core.specs.declared.reason.State.TheVariants.{Building, Done, Failed, Blocked}
 use Rattle.sched_core.specs.declared.standing.Standing.{Standing}
@@ -16,11 +17,13 @@ phase_in (Failed reason) = Broken reason
 phase_in state = Idle
 
 -- what is known by the states
-abbrev pub course_of : Graph → List Standing → (wanted : List Bool) → List State → Course
-course_of graph standings wanted states = record {
+abbrev pub course_of : Graph → List Standing → (wanted : List Bool) → (twins : List (Option ℕ))
+    → List State → Course
+course_of graph standings wanted twins states = record {
   graph = graph;
   standings = standings;
   wanted = wanted;
+  twins = twins;
   phases = map phase_in states;
 }
 
@@ -30,4 +33,4 @@ kept states d = slice_index_or states d Blocked
 
 -- the first so many states follow from the rows
 abbrev pub AreStatesOf : Rows → (count : ℕ) → List State → Type 0
-AreStatesOf rows count states = (d : ℕ) → d < count → kept states d ≡ state rows d
+AreStatesOf rows count states = (d : ℕ) → d < count → kept states d ≡ near_state rows d

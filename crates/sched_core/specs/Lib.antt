@@ -10,6 +10,7 @@ pub mod Headline
 pub mod Jobs
 pub mod Legal
 pub mod Linking
+pub mod Nearest
 pub mod Numbers
 pub mod PlanLaws
 pub mod Reporting

@@ -1,7 +1,7 @@
 -- A run over a plan for one system, its history, and which derivations of it are wanted (this
 -- product's own; Nix manual, "Building").
-use Rattle.std.specs.Prelude.{◌≡◌, ◌||◌, not, Bool, ℕ, Option, Some, None, List, [], ◌∷◌, map, codes, nat_eq, slice_get, Contains, if◌then◌else◌}
-use Rattle.std.specs.List.{list_any, list_all, position, position_or_len, starts_with}
+use Rattle.std.specs.Prelude.{◌≡◌, ◌||◌, ◌&&◌, ◌==◌, not, Bool, true, false, ℕ, zero, suc, Option, Some, None, List, [], ◌∷◌, length, filter, map, codes, nat_eq, slice_get, Contains, if◌then◌else◌}
+use Rattle.std.specs.List.{list_any, list_all, position, position_or_len, range_with_len, starts_with}
 use Rattle.nix_names.specs.Names.{same_bytes}
 use Rattle.nix_drv.specs.Derivation.{Drv, EnvEntry, Output}
 use Rattle.drv_graph.specs.Nodes.{Node, inputs_of, paths_of}
@@ -10,6 +10,7 @@ use Rattle.drv_graph.specs.Plans.{Graph}
 use Rattle.valid_table.specs.Entries.{registered, paths_of as registered_paths}
 use Rattle.valid_table.specs.declared.entry.Entry.{Entry}
 use Rattle.sched_core.specs.States.{Rows, phase_of, state}
+use Rattle.drv_graph.specs.Twins.{are_twins_at}
 use Rattle.sched_core.specs.declared.reason.Event.{Event}
 use Rattle.sched_core.specs.declared.reason.Refusal.{Refusal}
 use Rattle.sched_core.specs.declared.reason.Refusal.TheVariants.{WrongSystem, Unsupported, MissingSource, PartlyValid}
@@ -92,10 +93,54 @@ abbrev pub standing_at : (system : List ℕ) → (opening : List Entry) → Opti
 standing_at system opening (Some node) = standing_of system opening node.drv
 standing_at system opening None = Free
 
+-- A derivation is wanted: it is a root, or an input of a wanted user whose outputs aren't all valid
+-- and that has no own cause.
+pub data IsWanted (run : Run) (opening : List Entry) : ℕ → Type 0 where
+  wanted_root : (d : ℕ) → Contains run.graph.roots d → IsWanted run opening d
+  wanted_input : (user d : ℕ) → IsWanted run opening user
+      → standing_at run.system opening (slice_get run.graph.nodes user) ≡ Free
+      → Contains (inputs_at run.graph.nodes (slice_get run.graph.nodes user)) d
+      → IsWanted run opening d
+
+abbrev pub is_free : Standing → Bool
+is_free Free = true
+is_free AllValid = false
+is_free (Hindered cause) = false
+
+-- whether a number is in a list
+abbrev pub is_one_of : List ℕ → ℕ → Bool
+is_one_of numbers n = list_any (λ m. m == n) numbers
+
+-- whether a user has this input, all of its outputs aren't valid, and it has no own cause
+abbrev pub is_used_by : Run → (opening : List Entry) → (input user : ℕ) → Bool
+is_used_by run opening input user =
+    is_free (standing_at run.system opening (slice_get run.graph.nodes user))
+    && is_one_of (inputs_at run.graph.nodes (slice_get run.graph.nodes user)) input
+
+-- whether a derivation is wanted over at most so many users: it is a root, or an input of a user
+-- that is wanted over at most one fewer
+unfoldable pub is_wanted_over : (users : ℕ) → Run → (opening : List Entry) → ℕ → Bool
+is_wanted_over zero run opening d = is_one_of run.graph.roots d
+is_wanted_over (suc users) run opening d = is_wanted_over users run opening d
+    || list_any (λ user. is_used_by run opening d user && is_wanted_over users run opening user)
+    (range_with_len 0 (length run.graph.nodes))
+
+-- whether a derivation is wanted
+abbrev pub is_wanted : Run → (opening : List Entry) → ℕ → Bool
+is_wanted run opening d = is_wanted_over (length run.graph.nodes) run opening d
+
+-- the earlier twins of a derivation: the wanted twins of smaller numbers
+unfoldable pub earlier_twins : Run → (opening : List Entry) → ℕ → List ℕ
+earlier_twins run opening d = filter
+    (λ t. is_wanted run opening t
+    && are_twins_at (slice_get run.graph.nodes t) (slice_get run.graph.nodes d))
+    (range_with_len 0 d)
+
 -- what the states follow from
 abbrev pub rows_of : Run → (opening : List Entry) → List Event → Rows
 rows_of run opening events = record {
   inputs = λ d. inputs_at run.graph.nodes (slice_get run.graph.nodes d);
+  twins = earlier_twins run opening;
   standing = λ d. standing_at run.system opening (slice_get run.graph.nodes d);
   phase = phase_of events;
 }
@@ -103,12 +148,3 @@ rows_of run opening events = record {
 -- the state of a derivation in a history
 abbrev pub state_in : Run → History → ℕ → State
 state_in run history d = state (rows_of run history.opening history.events) d
-
--- A derivation is wanted: it is a root, or an input of a wanted user whose outputs aren't all valid
--- and that can be begun by itself.
-pub data IsWanted (run : Run) (opening : List Entry) : ℕ → Type 0 where
-  wanted_root : (d : ℕ) → Contains run.graph.roots d → IsWanted run opening d
-  wanted_input : (user d : ℕ) → IsWanted run opening user
-      → standing_at run.system opening (slice_get run.graph.nodes user) ≡ Free
-      → Contains (inputs_at run.graph.nodes (slice_get run.graph.nodes user)) d
-      → IsWanted run opening d

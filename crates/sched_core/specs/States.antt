@@ -1,7 +1,7 @@
 -- *State*: what has become of each derivation of a plan (this product's own; a failure stops only
 -- its users, as with Nix's `--keep-going`).
 use Rattle.std.specs.Prelude.{◌≡◌, ◌<◌, ◌==◌, ℕ, zero, suc, Bool, true, false, Option, Some, None, List, [], ◌∷◌, ◌++◌, find, if◌then◌else◌, Contains}
-use Rattle.std.specs.List.{list_all, slice_index_or}
+use Rattle.std.specs.List.{list_all, list_any, slice_index_or}
 use Rattle.sched_core.specs.declared.reason.Event.{Event}
 use Rattle.sched_core.specs.declared.reason.Event.TheVariants.{Begin, Done as Finish, Fail}
 use Rattle.sched_core.specs.declared.reason.Reason.{Reason}
@@ -36,9 +36,10 @@ phase_of [] d = Idle
 phase_of (event ∷ events) d = later (phase_by event d) (phase_of events d)
 
 -- What the states of derivations follow from: of each, by its number, its inputs' numbers in its
--- text's order, its standing and its phase.
+-- text's order, its earlier twins' numbers, its standing and its phase.
 pub record Rows : Type 0 where
   pub inputs : ℕ → List ℕ
+  pub twins : ℕ → List ℕ
   pub standing : ℕ → Standing
   pub phase : ℕ → Phase
 
@@ -47,6 +48,18 @@ abbrev pub is_good : State → Bool
 is_good Done = true
 is_good Reused = true
 is_good state = false
+
+-- whether a derivation in this state still has something before it
+abbrev pub is_open : State → Bool
+is_open Blocked = true
+is_open Ready = true
+is_open (Building lease) = true
+is_open state = false
+
+-- whether a derivation in this state was built
+abbrev pub is_done : State → Bool
+is_done Done = true
+is_done state = false
 
 -- whether a user of an input in this state is refused
 abbrev pub is_bad : State → Bool
@@ -66,10 +79,25 @@ abbrev pub by_inputs : (state : ℕ → State) → (inputs : List ℕ) → State
 by_inputs state inputs = by_first (find (λ i. is_bad (state i)) inputs)
     (list_all (λ i. is_good (state i)) inputs)
 
-abbrev pub by_standing : Standing → State → State
-by_standing AllValid other = Reused
-by_standing (Hindered cause) other = Refused cause
-by_standing Free other = other
+-- by its own cause, if it has one
+abbrev pub by_hindrance : Standing → State → State
+by_hindrance (Hindered cause) other = Refused cause
+by_hindrance AllValid other = other
+by_hindrance Free other = other
+
+-- by the states of its earlier twins: it is reused where one was built, and waits where one still
+-- has something before it
+abbrev pub by_twins : (state : ℕ → State) → (twins : List ℕ) → State → State
+by_twins state twins other =
+    if list_any (λ t. is_done (state t)) twins then Reused
+    else if list_any (λ t. is_open (state t)) twins then Blocked
+    else other
+
+-- by whether all its outputs were valid
+abbrev pub by_validity : Standing → State → State
+by_validity AllValid other = Reused
+by_validity (Hindered cause) other = other
+by_validity Free other = other
 
 abbrev pub by_phase : Phase → State → State
 by_phase Idle other = other
@@ -77,32 +105,36 @@ by_phase (Begun lease) other = Building lease
 by_phase Ended other = Done
 by_phase (Broken reason) other = Failed reason
 
--- the table of states: the first that applies of the derivation's last event, its own standing, and
--- its inputs
+-- the table of states: the first that applies of the derivation's last event, whether all its outputs
+-- were valid, its earlier twins, its own cause, and its inputs
 unfoldable pub table : Rows → (state : ℕ → State) → ℕ → State
 table rows state d =
-    by_phase (rows.phase d) (by_standing (rows.standing d) (by_inputs state (rows.inputs d)))
+    by_phase (rows.phase d) (by_validity (rows.standing d) (by_twins state (rows.twins d)
+    (by_hindrance (rows.standing d) (by_inputs state (rows.inputs d)))))
 
--- the states of the first derivations, so many
-unfoldable pub states : Rows → (count : ℕ) → List State
-states rows zero = []
-states rows (suc n) = states rows n ++ table rows (λ i. slice_index_or (states rows n) i Blocked) n
-    ∷ []
+-- the states of the first derivations, so many, each by a rule from the states before it
+unfoldable pub states_by : (rule : (ℕ → State) → ℕ → State) → (count : ℕ) → List State
+states_by rule zero = []
+states_by rule (suc n) =
+    states_by rule n ++ rule (λ i. slice_index_or (states_by rule n) i Blocked) n ∷ []
 
--- the state of a derivation, by the table, from those of its inputs, which have smaller numbers
+-- the state of a derivation, by the table, from those of its inputs and its earlier twins, which
+-- have smaller numbers
 unfoldable pub state : Rows → ℕ → State
-state rows d = table rows (λ i. slice_index_or (states rows d) i Blocked) d
+state rows d = table rows (λ i. slice_index_or (states_by (table rows) d) i Blocked) d
 
--- the inputs of each derivation have smaller numbers
-abbrev pub InputsFirst : Rows → Type 0
-InputsFirst rows = (d i : ℕ) → Contains (rows.inputs d) i → i < d
+-- What the state of each derivation follows from has smaller numbers: its inputs, and its earlier
+-- twins.
+pub record IsInOrder (rows : Rows) : Type 0 where
+  pub inputs : (d i : ℕ) → Contains (rows.inputs d) i → i < d
+  pub twins : (d t : ℕ) → Contains (rows.twins d) t → t < d
 
 -- each derivation has the state that the table gives from the states of all
 abbrev pub StatesAgree : Type 0
-StatesAgree = (rows : Rows) (d : ℕ) → InputsFirst rows → state rows d ≡ table rows (state rows) d
+StatesAgree = (rows : Rows) (d : ℕ) → IsInOrder rows → state rows d ≡ table rows (state rows) d
 
 -- no other states do
 abbrev pub StatesAreOne : Type 0
-StatesAreOne = (rows : Rows) (other : ℕ → State) (count : ℕ) → InputsFirst rows
+StatesAreOne = (rows : Rows) (other : ℕ → State) (count : ℕ) → IsInOrder rows
     → ((d : ℕ) → d < count → other d ≡ table rows other d)
     → (d : ℕ) → d < count → other d ≡ state rows d

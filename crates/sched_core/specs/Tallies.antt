@@ -1,31 +1,19 @@
 -- *Tally*: what is kept of a derivation, so that its state needs no look at its inputs (this
 -- product's own).
-use Rattle.std.specs.Prelude.{◌≡◌, ◌⊎◌, ◌+◌, ℕ, Bool, true, false, Option, Some, None, List, [], ◌∷◌, length, map, slice_get, if◌then◌else◌}
+use Rattle.std.specs.Prelude.{◌≡◌, ◌⊎◌, ◌+◌, ◌≤◌, ℕ, Bool, true, false, Option, Some, None, List, [], ◌∷◌, drop, length, map, slice_get, take, if◌then◌else◌}
 use Rattle.std.specs.List.{list_all, position, position_or_len, slice_index_or}
+use Rattle.sched_core.specs.Courses.{Awaited, all_of}
 use Rattle.sched_core.specs.Coursing.{kept, phase_in}
-use Rattle.sched_core.specs.States.{by_first, by_phase, by_standing}
+use Rattle.sched_core.specs.Nearest.{News, Open, Good, Bad, by_twin_news, news_of}
+use Rattle.sched_core.specs.States.{by_first, by_hindrance, by_phase, by_validity}
 use Rattle.sched_core.specs.Users.{times}
 use Rattle.sched_core.specs.declared.reason.Reason.{Reason}
 use Rattle.sched_core.specs.declared.reason.Refusal.{Refusal}
 use Rattle.sched_core.specs.declared.reason.State.{State}
 use Rattle.sched_core.specs.declared.reason.State.TheVariants.{Done, Failed, Building, Reused, Refused, Ready, Blocked}
+use Rattle.sched_core.specs.declared.standing.Standing.{Standing}
 use Rattle.sched_core.specs.declared.tally.Tally.{Tally}
 use Rattle.sched_core.specs.declared.users.Edge.{Edge}
-
--- what a user knows of an input: nothing yet; it was built or was valid; it failed or is refused
-pub data News : Type 0 where
-  Open : News
-  Good : News
-  Bad : News
-
-abbrev pub news_of : State → News
-news_of Done = Good
-news_of Reused = Good
-news_of (Failed reason) = Bad
-news_of (Refused cause) = Bad
-news_of (Building lease) = Open
-news_of Ready = Open
-news_of Blocked = Open
 
 -- good news or bad
 abbrev pub news_by : Bool → News
@@ -40,6 +28,17 @@ abbrev pub is_bad_news : News → Bool
 is_bad_news Bad = true
 is_bad_news Open = false
 is_bad_news Good = false
+
+-- whether a derivation is held by its twin, of which nothing is known yet
+abbrev pub is_held : (twins : List News) → Bool
+is_held [] = false
+is_held (Open ∷ more) = true
+is_held (Good ∷ more) = false
+is_held (Bad ∷ more) = false
+
+-- the news of some derivations in some states
+abbrev pub news_in : (state : ℕ → State) → List ℕ → List News
+news_in state numbers = map (λ i. news_of (state i)) numbers
 
 -- how many of some news aren't good
 abbrev pub waiting : List News → ℕ
@@ -56,41 +55,64 @@ abbrev pub by_news : (inputs : List ℕ) → List News → State
 by_news inputs heard =
     by_first (input_at inputs (position is_bad_news heard)) (list_all is_good_news heard)
 
--- A tally is right for what is known of the inputs: the state is the table's, `waits` counts the
--- inputs that are neither Done nor Reused, and `first` is the place of the first that failed or is
--- refused, or the number of inputs.
-pub record IsTally (inputs : List ℕ) (heard : List News) (tally : Tally) : Type 0 where
-  pub count : length heard ≡ length inputs
-  pub state : tally.state
-      ≡ by_phase (phase_in tally.state) (by_standing tally.standing (by_news inputs heard))
-  pub waits : tally.waits ≡ waiting heard
-  pub first : tally.first ≡ position_or_len is_bad_news heard
+-- what is known of the inputs, and of the twin
+abbrev pub of_inputs : Awaited → List News → List News
+of_inputs awaited heard = take (length awaited.inputs) heard
 
--- what is known of an input is what is so, or the user is still to be told, once
+abbrev pub of_twins : Awaited → List News → List News
+of_twins awaited heard = drop (length awaited.inputs) heard
+
+-- the state of a derivation without an event, by what is known of the twin, and by what the inputs
+-- alone would make it
+abbrev pub by_all : Standing → (twins : List News) → (by_inputs : State) → State
+by_all standing twins by_inputs =
+    by_validity standing (by_twin_news twins (by_hindrance standing by_inputs))
+
+-- the same, by what is known of all that the derivation waits for
+abbrev pub by_heard : Standing → Awaited → List News → State
+by_heard standing awaited heard = by_all standing (of_twins awaited heard)
+    (by_news awaited.inputs (of_inputs awaited heard))
+
+-- A tally is right for what is known of all that the derivation waits for: the state is the table's,
+-- `inputs` is the number of inputs, `waits` counts those that are neither Done nor Reused, `first` is
+-- the place of the first that failed or is refused, or the number of inputs, `failed` is the number
+-- of that input, if there is one, and `held` says whether nothing is known of the twin yet.
+pub record IsTally (awaited : Awaited) (heard : List News) (tally : Tally) : Type 0 where
+  pub one : length awaited.twins ≤ 1
+  pub count : length heard ≡ length (all_of awaited)
+  pub state : tally.state
+      ≡ by_phase (phase_in tally.state) (by_heard tally.standing awaited heard)
+  pub inputs : tally.inputs ≡ length awaited.inputs
+  pub waits : tally.waits ≡ waiting (of_inputs awaited heard)
+  pub first : tally.first ≡ position_or_len is_bad_news (of_inputs awaited heard)
+  pub failed : tally.failed ≡ slice_get awaited.inputs tally.first
+  pub held : tally.held ≡ is_held (of_twins awaited heard)
+
+-- what is known of one that is waited for is what is so, or is still to be told, once
 abbrev pub Knows : (known now : News) → (left : ℕ) → Type 0
 Knows known now left =
     ((known ≡ now) × (left ≡ 0)) ⊎ ((known ≡ Open) × (now ≡ Open → ⊥) × (left ≡ 1))
 
--- A tally is right for something that is known of the inputs, whose states these are; of each place
--- it is left so often to tell.
-pub record Hears (inputs : List ℕ) (state : ℕ → State) (left : (place : ℕ) → ℕ) (tally : Tally)
+-- A tally is right for something that is known of all that the derivation waits for, which have
+-- these states; of each place it is left so often to tell.
+pub record Hears (awaited : Awaited) (state : ℕ → State) (left : (place : ℕ) → ℕ) (tally : Tally)
     : Type 0 where
   pub heard : List News
-  pub is : IsTally inputs heard tally
-  pub knows : (place input : ℕ) → slice_get inputs place ≡ Some input
-      → Knows (slice_index_or heard place Open) (news_of (state input)) (left place)
+  pub is : IsTally awaited heard tally
+  pub knows : (place one : ℕ) → slice_get (all_of awaited) place ≡ Some one
+      → Knows (slice_index_or heard place Open) (news_of (state one)) (left place)
 
 -- the states that tallies hold
 abbrev pub states_in : List Tally → List State
 states_in tallies = map (λ (tally : Tally). tally.state) tallies
 
--- Each tally is right but for the edges along which users are still to be told.
-pub record HaveHeard (inputs : ℕ → List ℕ) (tallies : List Tally) (left : List Edge)
+-- Each tally is right but for the edges along which an end is still to be told.
+pub record HaveHeard (awaited : ℕ → Awaited) (tallies : List Tally) (left : List Edge)
     : Type 0 where
   pub each : (d : ℕ) (tally : Tally) → slice_get tallies d ≡ Some tally
-      → Hears (inputs d) (kept (states_in tallies)) (λ place. times d place left) tally
+      → Hears (awaited d) (kept (states_in tallies)) (λ place. times d place left) tally
 
--- whether it is news that the state changed so: a user is told of it
+-- whether it is news that the state changed so: whoever waits is told of it
 abbrev pub are_news : (before after : News) → Bool
 are_news Open Good = true
 are_news Open Bad = true
@@ -98,22 +120,23 @@ are_news Open Open = false
 are_news Good after = false
 are_news Bad after = false
 
--- the edges along which users are to be told of a change of state
+-- the edges along which a change of state is to be told
 abbrev pub to_tell : (before after : State) → List Edge → List Edge
 to_tell before after edges = if are_news (news_of before) (news_of after) then edges else []
 
--- A user whose tally this is can be told of the input at this place.
-pub record CanHear (inputs : List ℕ) (heard : List News) (tally : Tally) (place input : ℕ)
+-- A derivation whose tally this is can be told of the one at this place that it waits for.
+pub record CanHear (awaited : Awaited) (heard : List News) (tally : Tally) (place one : ℕ)
     : Type 0 where
-  pub is : IsTally inputs heard tally
+  pub is : IsTally awaited heard tally
   pub unknown : slice_get heard place ≡ Some Open
-  pub input_is : slice_get inputs place ≡ Some input
+  pub is_awaited : slice_get (all_of awaited) place ≡ Some one
 
 -- how the state of a derivation may change
 pub data Turns : (before after : State) → Type 0 where
   turns_stays : (state : State) → Turns state state
   turns_named : (cause other : Refusal) → Turns (Refused cause) (Refused other)
   turns_freed : Turns Blocked Ready
+  turns_reused : Turns Blocked Reused
   turns_refused : (cause : Refusal) → Turns Blocked (Refused cause)
   turns_begun : (lease : ℕ) → Turns Ready (Building lease)
   turns_done : (lease : ℕ) → Turns (Building lease) Done
@@ -123,4 +146,5 @@ pub data Turns : (before after : State) → Type 0 where
 pub record IsSameElse (before after : Tally) : Type 0 where
   pub standing : after.standing ≡ before.standing
   pub wanted : after.wanted ≡ before.wanted
+  pub twin : after.twin ≡ before.twin
   pub phase : phase_in after.state ≡ phase_in before.state

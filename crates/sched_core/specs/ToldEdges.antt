@@ -1,9 +1,9 @@
 -- How many edges to users were followed, by the tallies that are kept.
-use Rattle.std.specs.Prelude.{◌≡◌, ◌<◌, ◌+◌, ◌-◌, ◌^◌, ℕ, suc, List, [], ◌∷◌, length, slice_get, if◌then◌else◌}
+use Rattle.std.specs.Prelude.{◌≡◌, ◌<◌, ◌+◌, ◌-◌, ◌^◌, ℕ, suc, List, [], ◌∷◌, length, if◌then◌else◌}
 use Rattle.drv_graph.specs.Plans.{Graph}
-use Rattle.sched_core.specs.Agendas.{course_by, is_open}
-use Rattle.sched_core.specs.Courses.{Course, course_rows, course_state}
-use Rattle.sched_core.specs.Runs.{inputs_at}
+use Rattle.sched_core.specs.Agendas.{course_by, twins_in}
+use Rattle.sched_core.specs.Courses.{Course, all_of, awaited_at, course_state}
+use Rattle.sched_core.specs.States.{is_open}
 use Rattle.sched_core.specs.Steps.{edges_ahead}
 use Rattle.sched_core.specs.UserSpans.{uses}
 use Rattle.sched_core.specs.Users.{users_of}
@@ -26,12 +26,13 @@ rested course = record {
   graph = course.graph;
   standings = course.standings;
   wanted = course.wanted;
+  twins = course.twins;
   phases = [];
 }
 
 abbrev pub course_ahead : Course → ℕ
-course_ahead course = edges_ahead (course_rows course).inputs (course_state course)
-    (length course.graph.nodes)
+course_ahead course = edges_ahead (λ d. all_of (awaited_at course.graph course.twins d))
+    (course_state course) (length course.graph.nodes)
 
 -- along how many edges users were told
 abbrev pub course_told : Course → ℕ
@@ -43,6 +44,6 @@ pub record HasTold (graph : Graph) (tallies : List Tally) (users : List (List Ed
     : Type 0 where
   pub few : told + open_edges (sizes users) tallies < 2 ^ 64
   pub size : (d : ℕ) → d < length graph.nodes → sizes users d
-      ≡ uses (λ e. inputs_at graph.nodes (slice_get graph.nodes e)) (length graph.nodes) d
+      ≡ uses (λ e. all_of (awaited_at graph (twins_in tallies) e)) (length graph.nodes) d
   pub all : told + open_edges (sizes users) tallies
       ≡ course_ahead (rested (course_by graph tallies))

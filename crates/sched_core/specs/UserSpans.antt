@@ -11,14 +11,14 @@ often n [] = 0
 often n (x ∷ xs) = (if x == n then 1 else 0) + often n xs
 
 -- how often it is an input of the first derivations, so many
-abbrev pub uses : (inputs : ℕ → List ℕ) → (count : ℕ) → ℕ → ℕ
-uses inputs zero n = 0
-uses inputs (suc count) n = uses inputs count n + often n (inputs count)
+abbrev pub uses : (awaited : ℕ → List ℕ) → (count : ℕ) → ℕ → ℕ
+uses awaited zero n = 0
+uses awaited (suc count) n = uses awaited count n + often n (awaited count)
 
 -- how many pairs there are of one of the first derivations, so many, and an input of it
-abbrev pub pairs : (inputs : ℕ → List ℕ) → (count : ℕ) → ℕ
-pairs inputs zero = 0
-pairs inputs (suc count) = pairs inputs count + length (inputs count)
+abbrev pub pairs : (awaited : ℕ → List ℕ) → (count : ℕ) → ℕ
+pairs awaited zero = 0
+pairs awaited (suc count) = pairs awaited count + length (awaited count)
 
 -- the edges in a span
 abbrev pub part : List Edge → Span → List Edge

@@ -1,4 +1,4 @@
--- *Reverse edges*: from each derivation of a plan to those that have it as an input (this product's
+-- *Reverse edges*: from each derivation of a plan to those that wait for it (this product's
 -- own).
 use Rattle.std.specs.Prelude.{◌≡◌, ◌<◌, ◌+◌, ◌==◌, ◌&&◌, ℕ, Option, Some, None, List, [], ◌∷◌, ◌++◌, All, length, slice_get, if◌then◌else◌}
 use Rattle.std.specs.List.{slice_index_or}
@@ -24,9 +24,10 @@ abbrev pub users_of_all : List (List Edge) → List ℕ → List Edge
 users_of_all users [] = []
 users_of_all users (input ∷ inputs) = users_of users input ++ users_of_all users inputs
 
--- Of each derivation, the edges to its users: once for each place at which it is an input of one.
-pub record AreUsers (inputs : ℕ → List ℕ) (count : ℕ) (users : List (List Edge)) : Type 0 where
+-- Of each derivation, the edges to those that wait for it: once for each place at which it stands
+-- among what one of them waits for.
+pub record AreUsers (awaited : ℕ → List ℕ) (count : ℕ) (users : List (List Edge)) : Type 0 where
   pub rows : length users ≡ count
   pub each : (input user place : ℕ) → input < count → user < count
-      → times user place (users_of users input) ≡ once_at (slice_get (inputs user) place) input
+      → times user place (users_of users input) ≡ once_at (slice_get (awaited user) place) input
   pub within : (input : ℕ) → All (λ (edge : Edge). edge.user < count) (users_of users input)

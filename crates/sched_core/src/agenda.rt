@@ -1,9 +1,10 @@
 //! What is still to be done of a plan: which derivations can be begun, and of which the users are
 //! still to be told.
 ghost use Rattle.std.specs.Prelude.{◌≡◌, ◌≤◌, ◌==◌, [], IfErr, IfOk, Option, if◌then◌else◌, length, slice_get, drop};
-ghost use Rattle.sched_core.specs.Agendas.{IsAgenda, IsFresh, is_blocked, is_open, is_ready, noted, settles};
+ghost use Rattle.sched_core.specs.Agendas.{IsAgenda, IsFresh, is_blocked, is_ready, noted, settles};
 
 use crate::reason::State;
+use crate::states::is_open;
 use crate::tally::Tally;
 use circular_buffer::HeapCircularBuffer;
 use std::alloc::{AllocError, Global};
@@ -134,11 +135,4 @@ fn is_blocked(state: State) -> bool
     ensures { result ≡ is_blocked state }
 {
     matches!(state, State::Blocked)
-}
-
-// Whether a derivation in this state still has something before it.
-fn is_open(state: State) -> bool
-    ensures { result ≡ is_open state }
-{
-    matches!(state, State::Blocked | State::Ready | State::Building(_))
 }

@@ -1,9 +1,9 @@
 //! Where each derivation of a plan stands.
-ghost use Rattle.std.specs.Prelude.{◌≡◌, ◌<◌, ◌↔◌, false, ℕ, IfErr, IfOk, IsTrue, MatchOption, length, slice_set};
+ghost use Rattle.std.specs.Prelude.{◌≡◌, ◌<◌, ◌↔◌, false, ℕ, All, IfErr, IfOk, IsTrue, MatchOption, None, length, slice_set};
 ghost use Rattle.std.specs.List.{slice_index_or};
 ghost use Rattle.sched_core.specs.Agendas.{AreOpening};
 ghost use Rattle.sched_core.specs.Counts.{AreSoMany};
-ghost use Rattle.sched_core.specs.Courses.{HasBegun, IsNext, IsSettled, IsUnsettledIn, course_state};
+ghost use Rattle.sched_core.specs.Courses.{HasBegun, IsNext, IsSettled, IsUnsettledIn, course_state, listed};
 ghost use Rattle.sched_core.specs.Coursing.{phase_in};
 ghost use Rattle.sched_core.specs.States.{Begun, Broken, Ended, Idle};
 ghost use Rattle.sched_core.specs.Tallies.{Turns};
@@ -22,16 +22,16 @@ use drv_graph::Plan;
 use std::alloc::Global;
 use std::marker::Model;
 
-// A plan, and where each of its derivations stands: of each a tally and the edges to its users, and
-// what is still to be done. An event costs a step for each edge along which a user is told, and
-// each edge is told along at most once.
+// A plan, and where each of its derivations stands: of each a tally and the edges to those that wait
+// for it, and what is still to be done. An event costs a step for each edge along which an end is
+// told, and each edge is told along at most once.
 #[derive(Debug, Drop)]
 pub(crate) struct Course {
     plan: Plan,
     tallies: Vec<Tally>,
     users: Users,
     agenda: Agenda,
-    // Along how many edges users were told.
+    // Along how many edges an end was told.
     told: usize,
 }
 
@@ -55,19 +55,23 @@ impl Course {
         plan: Plan,
         standings: Vec<Standing>,
         wanted: Vec<bool>,
+        twins: Vec<Option<usize>>,
     ) -> Result<Course, BookFault>
         requires standings { length standings.items ≡ length plan.nodes }
         requires wanted { length wanted.items ≡ length plan.nodes }
+        requires twins { length twins.items ≡ length plan.nodes }
+        requires smaller { (d : ℕ) → All (λ t. t < d) (listed (slice_index_or twins.items d None)) }
         ensures graph { IfOk result (λ course. course.graph ≡ plan) }
         ensures standings { IfOk result (λ course. course.standings ≡ standings.items) }
         ensures wanted { IfOk result (λ course. course.wanted ≡ wanted.items) }
+        ensures twins { IfOk result (λ course. course.twins ≡ twins.items) }
         ensures phases { IfOk result (λ course. length course.phases ≡ length plan.nodes) }
         ensures idle { IfOk result (λ course. (d : ℕ) → slice_index_or course.phases d Idle
             ≡ Idle) }
         ensures err { IfErr result (λ fault. fault ≡ NoMemory) }
     {
-        let users = Users::open(alloc, &plan)?;
-        let tallies = tallies_of(alloc, &plan, &standings, &wanted)?;
+        let users = Users::open(alloc, &plan, &twins)?;
+        let tallies = tallies_of(alloc, &plan, &standings, &wanted, &twins)?;
         let agenda = Agenda::open(alloc, &tallies)?;
         Ok(Course {
             plan,
@@ -148,7 +152,7 @@ impl Course {
         self.agenda.unsettled()
     }
 
-    // Along how many edges users were told.
+    // Along how many edges an end was told.
     pub(crate) fn told(&self) -> usize
         ensures { result ≡ course_told self.now }
     {
@@ -169,22 +173,26 @@ impl Course {
 }
 
 // The tallies of a plan on which nothing has begun, by one pass in plan order. Costs a step for
-// each derivation and each pair of one and an input of it.
+// each derivation and each pair of one and what it waits for.
 fn tallies_of(
     alloc: Global,
     plan: &Plan,
     standings: &[Standing],
     wanted: &[bool],
+    twins: &[Option<usize>],
 ) -> Result<Vec<Tally>, BookFault>
     requires standings { length standings.now ≡ length plan.now.nodes }
     requires wanted { length wanted.now ≡ length plan.now.nodes }
+    requires twins { length twins.now ≡ length plan.now.nodes }
+    requires smaller { (d : ℕ) → All (λ t. t < d) (listed (slice_index_or twins.now d None)) }
     ensures ok { IfOk result
-        (λ tallies. AreOpening plan.now standings.now wanted.now tallies.items) }
+        (λ tallies. AreOpening plan.now standings.now wanted.now twins.now tallies.items) }
     ensures err { IfErr result (λ fault. fault ≡ NoMemory) }
 {
     let mut tallies = Vec::with_capacity(alloc, plan.len())?;
     for d in 0..plan.len() {
-        let tally = tally_of(standings[d], wanted[d], inputs_of(plan, d), &tallies);
+        let inputs = inputs_of(plan, d);
+        let tally = tally_of(standings[d], wanted[d], twins[d], inputs, &tallies);
         tallies.push(tally)?;
     }
     Ok(tallies)

@@ -1,23 +1,28 @@
 //! Laws over the definitions that contracts cite, each on the contract of a function that does
 //! nothing.
 ghost use Rattle.sched_core.specs.Headline.{BeginsOnce, DonesAreAllowed, EntriesAreJournal, LeasesApart, LeasesBelow, PermittedStays, SeedsAreValid};
-ghost use Rattle.sched_core.specs.PlanLaws.{SoundInputsFirst};
+ghost use Rattle.sched_core.specs.PlanLaws.{RowsInOrder, WantedIsTold};
 ghost use Rattle.sched_core.specs.Reports.{ReportIsOne};
 ghost use Rattle.sched_core.specs.States.{StatesAgree, StatesAreOne};
 ghost use Rattle.sched_core.specs.VerdictLaws.{VerdictsAreRegistrable, VerdictsMayRefer};
 ghost use Rattle.sched_core.specs.Verdicts.{HasOneVerdict};
 
-/// Where inputs have smaller numbers than their users, each derivation has the state that the table
-/// gives from the states of all, and no other states do.
+/// Where the inputs and the earlier twins of each derivation have smaller numbers, each has the state
+/// that the table gives from the states of all, and no other states do.
 pub fn states_solve_the_table()
     ensures agree { StatesAgree }
     ensures one { StatesAreOne }
 {}
 
-/// The inputs of each derivation of a plan have smaller numbers than their users, whatever happened
-/// in a run over it. So its states solve the table; `Plan::len` says that a plan is sound.
+/// The inputs and the earlier twins of each derivation of a plan have smaller numbers, whatever
+/// happened in a run over it. So its states solve the table; `Plan::len` says that a plan is sound.
 pub fn inputs_come_first()
-    ensures { SoundInputsFirst }
+    ensures { RowsInOrder }
+{}
+
+/// The test by which the earlier twins are chosen holds of the wanted derivations alone.
+pub fn wanted_is_told()
+    ensures { WantedIsTold }
 {}
 
 /// There is one verdict on an answer.

@@ -13,14 +13,14 @@
 //! | `reason` | why a derivation was not built, its state, and events |
 //! | `standing` | where a derivation stands by itself |
 //! | `course` | where each derivation of a plan stands |
-//! | `tally`, `states` | what is kept of a derivation, and what an input's state says to its users|
-//! | `users` | the edges from each derivation to its users |
-//! | `agenda` | what can be begun, and of which the users are still to be told |
-//! | `spreading` | an event, and how users are told of it |
+//! | `tally`, `states` | what is kept of a derivation, and what a state says to those that wait for it |
+//! | `users` | the edges from each derivation to those that wait for it |
+//! | `agenda` | what can be begun, and which ends are still to be told |
+//! | `spreading` | an event, and how those that wait are told of it |
 //! | `job_of`, `seeds_of` | the job of a derivation, and the paths that it is built from |
 //! | `is_job`, `has_seeds` | whether a job is that of a derivation |
 //! | `standings` | where the derivations of a plan stand by themselves |
-//! | `wanted` | which derivations of a plan are wanted |
+//! | `wanted`, `twins` | which derivations of a plan are wanted, and their nearest earlier twins |
 //! | `report`, `words` | the report of a run, and the words for why a derivation was not built |
 //! | `fault` | why a call of a book refuses |
 //! | `laws` | laws over the definitions that contracts cite |
@@ -50,6 +50,7 @@ mod standing;
 mod standings;
 mod states;
 mod tally;
+mod twins;
 mod users;
 mod verdict;
 mod walk;

@@ -25,6 +25,7 @@ use crate::permitted::{closure_of, permitted_beside};
 use crate::reason::{Event, Reason, State};
 use crate::report::report_of;
 use crate::standings::standings_of;
+use crate::twins::nearest_twins;
 use crate::wanted::wanted_of;
 use drv_graph::Plan;
 use nix_names::StorePath;
@@ -87,8 +88,9 @@ impl Progress {
     {
         let standings = standings_of(alloc, &plan, &journal, &system)?;
         let wanted = wanted_of(alloc, &plan, &standings)?;
+        let twins = nearest_twins(alloc, &plan, &wanted)?;
         let events = Vec::with_capacity(alloc, 2 * standings.len())?;
-        let course = Course::open(alloc, plan, standings, wanted)?;
+        let course = Course::open(alloc, plan, standings, wanted, twins)?;
         let opening = journal.entries().len();
         Ok(Progress {
             course,

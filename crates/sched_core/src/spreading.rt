@@ -1,6 +1,7 @@
-//! How the state of a derivation changes, and all users are told that it may concern.
-ghost use Rattle.std.specs.Prelude.{◌≡◌, ◌<◌, ◌+◌, ◌^◌, [], List, ℕ, length, slice_set};
-ghost use Rattle.sched_core.specs.Agendas.{AreSameElse, IsSpreading, IsSteady, phases_in, standings_in, to_end, wanted_in};
+//! How the state of a derivation changes, and all are told that wait for it.
+ghost use Rattle.std.specs.Prelude.{◌≡◌, ◌<◌, ◌+◌, ◌^◌, [], ℕ, length, slice_set};
+ghost use Rattle.sched_core.specs.Agendas.{AreSameElse, IsSpreading, IsSteady, phases_in, standings_in, to_end, twins_in, wanted_in};
+ghost use Rattle.sched_core.specs.Courses.{Awaited};
 ghost use Rattle.sched_core.specs.Coursing.{kept, phase_in};
 ghost use Rattle.sched_core.specs.States.{Idle};
 ghost use Rattle.sched_core.specs.Tallies.{Turns, states_in};
@@ -13,8 +14,8 @@ use crate::states::serves;
 use crate::tally::{Tally, told};
 use crate::users::Users;
 
-// An event after which a derivation has this state. All users are told that it may concern. Takes
-// no memory. Answers along how many edges users were told; costs a step, and two for each of these.
+// An event after which a derivation has this state. All are told that wait for it, or for one that
+// is told. Takes no memory. Answers along how many edges an end was told; costs a step, and two for each of these.
 pub(crate) fn turn(
     users: &Users,
     tallies: &mut [Tally],
@@ -25,13 +26,14 @@ pub(crate) fn turn(
     requires within { d < length tallies.old }
     requires turns { Turns (kept (states_in tallies.old) d) state }
     requires begun { phase_in state ≡ Idle → ⊥ }
-    requires steady { (inputs : ℕ → List ℕ)
-        × IsSteady inputs users.now tallies.old agenda.old }
+    requires steady { (awaited : ℕ → Awaited)
+        × IsSteady awaited users.now tallies.old agenda.old }
     requires few { open_edges (sizes users.now) tallies.old < 2 ^ 64 }
-    ensures steady { (inputs : ℕ → List ℕ) → IsSteady inputs users.now tallies.old agenda.old
-        → IsSteady inputs users.now tallies.new agenda.new }
+    ensures steady { (awaited : ℕ → Awaited) → IsSteady awaited users.now tallies.old agenda.old
+        → IsSteady awaited users.now tallies.new agenda.new }
     ensures standings { standings_in tallies.new ≡ standings_in tallies.old }
     ensures wanted { wanted_in tallies.new ≡ wanted_in tallies.old }
+    ensures twins { twins_in tallies.new ≡ twins_in tallies.old }
     ensures phases { phases_in tallies.new ≡ slice_set (phases_in tallies.old) d (phase_in state) }
     ensures told { result + open_edges (sizes users.now) tallies.new
         ≡ open_edges (sizes users.now) tallies.old }
@@ -45,14 +47,14 @@ pub(crate) fn turn(
     told
 }
 
-// Tells the users of all that are on the agenda's work, and of all that come there meanwhile.
+// Tells the ends of all that are on the agenda's work, and of all that come there meanwhile.
 // Answers how many edges it followed.
 fn spread(users: &Users, tallies: &mut [Tally], agenda: &mut Agenda) -> usize
-    requires told { (inputs : ℕ → List ℕ) × IsSpreading inputs users.now tallies.old agenda.old [] }
+    requires told { (awaited : ℕ → Awaited) × IsSpreading awaited users.now tallies.old agenda.old [] }
     requires few { open_edges (sizes users.now) tallies.old
         + length (users_of_all users.now agenda.old.work) < 2 ^ 64 }
-    ensures told { (inputs : ℕ → List ℕ) → IsSpreading inputs users.now tallies.old agenda.old []
-        → IsSpreading inputs users.now tallies.new agenda.new [] }
+    ensures told { (awaited : ℕ → Awaited) → IsSpreading awaited users.now tallies.old agenda.old []
+        → IsSpreading awaited users.now tallies.new agenda.new [] }
     ensures none { agenda.new.work ≡ [] }
     ensures same { AreSameElse tallies.old tallies.new }
     ensures edges { result + open_edges (sizes users.now) tallies.new
@@ -60,34 +62,34 @@ fn spread(users: &Users, tallies: &mut [Tally], agenda: &mut Agenda) -> usize
         + length (users_of_all users.now agenda.old.work) }
 {
     let mut edges: usize = 0;
-    while let Some(input) = agenda.take() {
-        edges += tell(users, input, tallies, agenda);
+    while let Some(ended) = agenda.take() {
+        edges += tell(users, ended, tallies, agenda);
     }
     edges
 }
 
-// Tells the users of an input that was built or was valid, or failed or is refused. Answers how
-// many edges it followed.
-fn tell(users: &Users, input: usize, tallies: &mut [Tally], agenda: &mut Agenda) -> usize
-    requires within { input < length tallies.old }
-    requires told { (inputs : ℕ → List ℕ)
-        × IsSpreading inputs users.now tallies.old agenda.old (users_of users.now input) }
-    ensures told { (inputs : ℕ → List ℕ)
-        → IsSpreading inputs users.now tallies.old agenda.old (users_of users.now input)
-        → IsSpreading inputs users.now tallies.new agenda.new [] }
+// Tells those that wait for a derivation that it was built or was valid, or failed or is refused.
+// Answers how many edges it followed.
+fn tell(users: &Users, ended: usize, tallies: &mut [Tally], agenda: &mut Agenda) -> usize
+    requires within { ended < length tallies.old }
+    requires told { (awaited : ℕ → Awaited)
+        × IsSpreading awaited users.now tallies.old agenda.old (users_of users.now ended) }
+    ensures told { (awaited : ℕ → Awaited)
+        → IsSpreading awaited users.now tallies.old agenda.old (users_of users.now ended)
+        → IsSpreading awaited users.now tallies.new agenda.new [] }
     ensures same { AreSameElse tallies.old tallies.new }
     ensures measure { to_end tallies.new agenda.new ≡ to_end tallies.old agenda.old }
-    ensures edges { result ≡ sizes users.now input }
+    ensures edges { result ≡ sizes users.now ended }
     ensures ahead { open_edges (sizes users.now) tallies.new
         + length (users_of_all users.now agenda.new.work)
         ≡ open_edges (sizes users.now) tallies.old
         + length (users_of_all users.now agenda.old.work) }
 {
-    let good = serves(tallies[input].state);
-    let edges = users.of(input);
+    let good = serves(tallies[ended].state);
+    let edges = users.of(ended);
     for &edge in edges {
         let before = tallies[edge.user];
-        let after = told(before, edge.place, input, good);
+        let after = told(before, edge.place, ended, good);
         tallies[edge.user] = after;
         agenda.note(edge.user, before, after);
     }

@@ -1,7 +1,7 @@
 //! The inputs of a plan's derivations, and what the state of an input says to its users.
 ghost use Rattle.std.specs.Prelude.{◌≡◌, ◌<◌, All, length, slice_get};
 ghost use Rattle.sched_core.specs.Runs.{inputs_at};
-ghost use Rattle.sched_core.specs.States.{is_bad, is_good};
+ghost use Rattle.sched_core.specs.States.{is_bad, is_good, is_open};
 
 use crate::reason::State;
 use drv_graph::Plan;
@@ -27,4 +27,11 @@ pub(crate) fn fails(state: State) -> bool
     ensures { result ≡ is_bad state }
 {
     matches!(state, State::Failed(_) | State::Refused(_))
+}
+
+// Whether a derivation in this state still has something before it.
+pub(crate) fn is_open(state: State) -> bool
+    ensures { result ≡ is_open state }
+{
+    matches!(state, State::Blocked | State::Ready | State::Building(_))
 }

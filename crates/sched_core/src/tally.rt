@@ -1,36 +1,79 @@
-//! What is kept of a derivation, so that its state needs no look at its inputs.
-ghost use Rattle.std.specs.Prelude.{◌≡◌, ◌<◌, All, List, Option, Some, false, ℕ, length, slice_set};
+//! What is kept of a derivation, so that its state needs no look at what it waits for.
+ghost use Rattle.std.specs.Prelude.{◌≡◌, ◌<◌, ◌++◌, All, List, Option, Some, false, ℕ, if◌then◌else◌, length, map, slice_set};
+ghost use Rattle.sched_core.specs.Courses.{Awaited, listed};
 ghost use Rattle.sched_core.specs.Coursing.{kept, phase_in};
-ghost use Rattle.sched_core.specs.States.{Idle, by_first, by_phase, by_standing};
-ghost use Rattle.sched_core.specs.Tallies.{CanHear, Hears, IsSameElse, IsTally, News, Turns, news_by, states_in};
+ghost use Rattle.sched_core.specs.Nearest.{News, Open};
+ghost use Rattle.sched_core.specs.States.{Idle, by_first, by_hindrance, by_phase, by_validity};
+ghost use Rattle.sched_core.specs.Tallies.{CanHear, Hears, IsSameElse, IsTally, Turns, by_all, is_held, news_by, news_in, states_in};
+ghost use Rattle.sched_core.specs.declared.reason.State.TheVariants.{Blocked};
 
 use crate::reason::{Refusal, State};
 use crate::standing::Standing;
-use crate::states::{fails, serves};
+use crate::states::{fails, is_open, serves};
 
-// What is kept of a derivation: where it stands by itself, whether it is wanted, its state, how
-// many of its inputs are neither Done nor Reused, and the place of the first of its inputs that
-// failed or is refused (where none did, their number).
+// What is kept of a derivation: where it stands by itself, whether it is wanted, its nearest earlier
+// twin, its state, how many inputs it has, how many of these are neither Done nor Reused, the place
+// of the first that failed or is refused (where none did, the number of inputs) with its number, and
+// whether the twin still has something before it.
 #[derive(Clone, Copy, Debug)]
 pub(crate) struct Tally {
     pub(crate) standing: Standing,
     pub(crate) wanted: bool,
+    pub(crate) twin: Option<usize>,
     pub(crate) state: State,
+    pub(crate) inputs: usize,
     pub(crate) waits: usize,
     pub(crate) first: usize,
+    pub(crate) failed: Option<usize>,
+    pub(crate) held: bool,
 }
 
-// The tally of a derivation that hasn't begun, behind its inputs, whose tallies are among these.
+// The tally of a derivation that hasn't begun, behind its inputs and its nearest earlier twin, whose
+// tallies are among these.
 pub(crate) fn tally_of(
     standing: Standing,
     wanted: bool,
+    twin: Option<usize>,
+    inputs: &[usize],
+    tallies: &[Tally],
+) -> Tally
+    requires inputs { All (λ input. input < length tallies.now) inputs.now }
+    requires twin { All (λ t. t < length tallies.now) (listed twin) }
+    ensures hears { Hears (record { inputs = inputs.now; twins = listed twin })
+        (kept (states_in tallies.now)) (λ place. 0) result }
+    ensures standing { result.standing ≡ standing }
+    ensures wanted { result.wanted ≡ wanted }
+    ensures twin { result.twin ≡ twin }
+    ensures idle { phase_in result.state ≡ Idle }
+{
+    let tally = counted(standing, wanted, twin, inputs, tallies);
+    let Some(t) = twin else {
+        return tally;
+    };
+    let ahead = tallies[t].state;
+    if is_open(ahead) {
+        tally
+    } else {
+        released(tally, serves(ahead))
+    }
+}
+
+// The tally of a derivation that hasn't begun, behind its inputs, as though nothing were known of
+// its nearest earlier twin.
+fn counted(
+    standing: Standing,
+    wanted: bool,
+    twin: Option<usize>,
     inputs: &[usize],
     tallies: &[Tally],
 ) -> Tally
     requires { All (λ input. input < length tallies.now) inputs.now }
-    ensures hears { Hears inputs.now (kept (states_in tallies.now)) (λ place. 0) result }
+    ensures is { IsTally (record { inputs = inputs.now; twins = listed twin })
+        (news_in (kept (states_in tallies.now)) inputs.now ++ map (λ t. Open) (listed twin))
+        result }
     ensures standing { result.standing ≡ standing }
     ensures wanted { result.wanted ≡ wanted }
+    ensures twin { result.twin ≡ twin }
     ensures idle { phase_in result.state ≡ Idle }
 {
     let mut waits = inputs.len();
@@ -43,38 +86,47 @@ pub(crate) fn tally_of(
             first = place;
         }
     }
-    let state = opening_state(standing, inputs.get(first).copied(), waits == 0);
+    let failed = inputs.get(first).copied();
+    let held = twin.is_some();
+    let state = opening_state(standing, held, failed, waits == 0);
     Tally {
         standing,
         wanted,
+        twin,
         state,
+        inputs: inputs.len(),
         waits,
         first,
+        failed,
+        held,
     }
 }
 
-// The tally of a user that is told whether this input, at this place in its text, can be built
-// behind, or failed or is refused.
-pub(crate) fn told(tally: Tally, place: usize, input: usize, good: bool) -> Tally
-    requires { (inputs : List ℕ) × (heard : List News) × CanHear inputs heard tally place input }
-    ensures is { (inputs : List ℕ) (heard : List News) → CanHear inputs heard tally place input
-        → IsTally inputs (slice_set heard place (news_by good)) result }
+// The tally of a derivation that is told whether this one, at this place among what it waits for,
+// was built or was valid, or failed or is refused. Behind its inputs stands its nearest earlier twin.
+pub(crate) fn told(tally: Tally, place: usize, one: usize, good: bool) -> Tally
+    requires { (awaited : Awaited) × (heard : List News) × CanHear awaited heard tally place one }
+    ensures is { (awaited : Awaited) (heard : List News) → CanHear awaited heard tally place one
+        → IsTally awaited (slice_set heard place (news_by good)) result }
     ensures same { IsSameElse tally result }
     ensures turns { Turns tally.state result.state }
 {
-    if good {
+    if place == tally.inputs {
+        released(tally, good)
+    } else if good {
         let waits = tally.waits - 1;
-        let state = freed(tally.state, waits == 0);
+        let state = freed(tally.state, tally.held, waits == 0);
         Tally {
             state,
             waits,
             ..tally
         }
     } else if place < tally.first {
-        let state = refused(tally.standing, tally.state, input);
+        let state = refused(tally.standing, tally.state, tally.held, one);
         Tally {
             state,
             first: place,
+            failed: Some(one),
             ..tally
         }
     } else {
@@ -82,42 +134,99 @@ pub(crate) fn told(tally: Tally, place: usize, input: usize, good: bool) -> Tall
     }
 }
 
-// The state of a derivation that hasn't begun, by the first of its inputs that failed or is
-// refused, if there is one, and by whether all can be built behind.
-fn opening_state(standing: Standing, first: Option<usize>, all: bool) -> State
-    ensures { result ≡ by_standing standing (by_first first all) }
+// The tally once its nearest earlier twin has nothing before it any more: it was built or was valid,
+// or it failed or is refused.
+fn released(tally: Tally, good: bool) -> Tally
+    requires { (awaited : Awaited) × (heard : List News) × (twin : ℕ)
+        × CanHear awaited heard tally tally.inputs twin }
+    ensures is { (awaited : Awaited) (heard : List News) (twin : ℕ)
+        → CanHear awaited heard tally tally.inputs twin
+        → IsTally awaited (slice_set heard tally.inputs (news_by good)) result }
+    ensures same { IsSameElse tally result }
+    ensures turns { Turns tally.state result.state }
 {
-    match (standing, first) {
-        (Standing::AllValid, _) => State::Reused,
-        (Standing::Hindered(cause), _) => State::Refused(cause),
-        (Standing::Free, Some(input)) => State::Refused(Refusal::InputNotRealised(input)),
-        (Standing::Free, None) if all => State::Ready,
-        (Standing::Free, None) => State::Blocked,
+    let state = match tally.state {
+        State::Blocked => {
+            if good {
+                State::Reused
+            } else {
+                own_state(tally.standing, tally.failed, tally.waits == 0)
+            }
+        }
+        state => state,
+    };
+    Tally {
+        state,
+        held: false,
+        ..tally
     }
 }
 
-// The state after one more input can be built behind, by whether all can be now.
-fn freed(state: State, all: bool) -> State
-    ensures is { (standing : Standing) (first : Option ℕ) → state
-        ≡ by_phase (phase_in state) (by_standing standing (by_first first false)) → result
-        ≡ by_phase (phase_in result) (by_standing standing (by_first first all)) }
+// The state of a derivation that hasn't begun, by whether its nearest earlier twin holds it, by the
+// first of its inputs that failed or is refused, if there is one, and by whether all can be built
+// behind.
+fn opening_state(standing: Standing, held: bool, first: Option<usize>, all: bool) -> State
+    ensures { result ≡ by_validity standing
+        (if held then Blocked else by_hindrance standing (by_first first all)) }
+{
+    match standing {
+        Standing::AllValid => State::Reused,
+        Standing::Hindered(_) | Standing::Free => {
+            if held {
+                State::Blocked
+            } else {
+                own_state(standing, first, all)
+            }
+        }
+    }
+}
+
+// The state of a derivation that hasn't begun, and that no twin holds or stands for, by its own
+// cause and its inputs.
+fn own_state(standing: Standing, first: Option<usize>, all: bool) -> State
+    ensures { result ≡ by_hindrance standing (by_first first all) }
+{
+    match (standing, first) {
+        (Standing::Hindered(cause), _) => State::Refused(cause),
+        (_, Some(input)) => State::Refused(Refusal::InputNotRealised(input)),
+        (_, None) if all => State::Ready,
+        (_, None) => State::Blocked,
+    }
+}
+
+// The state after one more input can be built behind, by whether the nearest earlier twin holds it
+// and whether all inputs can be built behind now.
+fn freed(state: State, held: bool, all: bool) -> State
+    ensures is { (standing : Standing) (twins : List News) (first : Option ℕ)
+        → held ≡ is_held twins
+        → state ≡ by_phase (phase_in state) (by_all standing twins (by_first first false))
+        → result ≡ by_phase (phase_in result) (by_all standing twins (by_first first all)) }
     ensures phase { phase_in result ≡ phase_in state }
     ensures turns { Turns state result }
 {
     match state {
-        State::Blocked => if all { State::Ready } else { State::Blocked },
+        State::Blocked => {
+            if all && !held {
+                State::Ready
+            } else {
+                State::Blocked
+            }
+        }
         _ => state,
     }
 }
 
 // The state after this input failed or was refused, before all others that did.
-fn refused(standing: Standing, state: State, input: usize) -> State
-    ensures is { (first : Option ℕ) → state
-        ≡ by_phase (phase_in state) (by_standing standing (by_first first false)) → result
-        ≡ by_phase (phase_in result) (by_standing standing (by_first (Some input) false)) }
+fn refused(standing: Standing, state: State, held: bool, input: usize) -> State
+    ensures is { (twins : List News) (first : Option ℕ) → held ≡ is_held twins
+        → state ≡ by_phase (phase_in state) (by_all standing twins (by_first first false))
+        → result ≡ by_phase (phase_in result) (by_all standing twins (by_first (Some input) false)) }
     ensures phase { phase_in result ≡ phase_in state }
     ensures turns { Turns state result }
 {
+    if held {
+        return state;
+    }
     match standing {
         Standing::Free => match state {
             State::Blocked | State::Refused(_) => {

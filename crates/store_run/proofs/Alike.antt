@@ -22,8 +22,8 @@ use Rattle.valid_table.proofs.JournalLists.{registered-append}
 use Rattle.sched_core.specs.Books.{IsRunSettled}
 use Rattle.sched_core.specs.Jobs.{named_outputs, seeds_of}
 use Rattle.sched_core.specs.Legal.{IsEntryOf}
-use Rattle.sched_core.specs.Runs.{History, IsWanted, Run, input_numbers, inputs_at, is_valid, standing_at, state_in}
-use Rattle.sched_core.specs.States.{Phase, Idle, Begun, Ended, Broken, is_good, phase_of}
+use Rattle.sched_core.specs.Runs.{History, IsWanted, Run, earlier_twins, input_numbers, inputs_at, is_valid, standing_at, state_in}
+use Rattle.sched_core.specs.States.{Phase, Idle, Begun, Ended, Broken, is_bad, is_good, phase_of}
 use Rattle.sched_core.specs.declared.job.Answer.{Answer}
 use Rattle.sched_core.specs.declared.job.Job.{Job}
 use Rattle.sched_core.specs.declared.reason.Reason.{Reason}
@@ -32,12 +32,13 @@ use Rattle.sched_core.specs.declared.reason.State.TheVariants.{Failed}
 use Rattle.sched_core.proofs.Dones.{part_with}
 use Rattle.sched_core.proofs.PlanInputs.{inputs_first}
 use Rattle.sched_core.proofs.Seeds.{named_at}
+use Rattle.sched_core.proofs.TwinLaws.{is_earlier_twin, is_there, path_of_twin}
 use Rattle.store_run.specs.Scheduling.{AreAlike, HasOneOutcome}
 use Rattle.store_run.proofs.Carried.{IsCarried, first_carried, outputs_carried, valid_from_registers}
 use Rattle.store_run.proofs.OneOutcome.{came_count, came_refers, one_verdict}
 use Rattle.store_run.proofs.Standings.{output_of_reused, source_of_free}
 use Rattle.store_run.proofs.Telling.{CameTo, IsFrom, WasBegun, WasMade, from_built, from_opening}
-use Rattle.store_run.proofs.Unhindered.{IsGoodBy, IsUnhindered, aside_same, good_ended, good_is, good_reused, inputs_in, is_good_by, state_by, unhindered_ready}
+use Rattle.store_run.proofs.Unhindered.{IsGoodBy, IsUnhindered, aside_same, good_ended, good_is, good_reused, good_twin, inputs_in, is_good_by, state_by, twins_in, unhindered_ready}
 
 -- A history in which each derivation that has an event was begun and, once it ended, came to a
 -- verdict, and in which each record comes from the opening or from what was built.
@@ -104,26 +105,42 @@ module _ (may : Job → Result Answer Reason → Type 0) (run : Run) (sound : Is
       (subst IsOnce whole end.once) path
       (Contains-from_any equal_from_eq path (paths_of first) is)))
 
-  -- the outputs of a derivation that was reused are carried
-  reused_carried : (d : ℕ) → phase_of history.events d ≡ Idle → Carries run history other d
-  reused_carried d idle good node at path has = by (good_is run history sound d good)
-    where
-      by : IsGoodBy run history d
-          → IsCarried (registered history.entries) (registered other.entries) path
-      by (good_ended ends) = let clash : Idle ≡ Ended = sym idle ∙ ends in absurd cc
-      by (good_reused rests stands) =
-          opening_carried path
-          (output_of_reused run.system history.opening node.drv
-          (sym (ap (standing_at run.system history.opening) at) ∙ stands) path has)
-
   module _ (d : ℕ) (below : (i : ℕ) → i < d → IsAlikeAt run history other i) where
     input_alike : (i : ℕ) → Contains (inputs_in run d) i → IsAlikeAt run history other i
     input_alike i has = below i (inputs_first run.graph sound d i has)
+
+    twin_alike : (t : ℕ) → Contains (twins_in run history d) t → IsAlikeAt run history other t
+    twin_alike t has = below t (is_earlier_twin run history.opening d t has).earlier
+
+    -- the outputs of a derivation that was reused are carried: they were valid at the opening, or are
+    -- those of an earlier twin
+    reused_carried : phase_of history.events d ≡ Idle → Carries run history other d
+    reused_carried idle good node at path has = by (good_is run history sound d good)
+      where
+        by : IsGoodBy run history d
+            → IsCarried (registered history.entries) (registered other.entries) path
+        by (good_ended ends) = let clash : Idle ≡ Ended = sym idle ∙ ends in absurd cc
+        by (good_reused rests stands) =
+            opening_carried path
+            (output_of_reused run.system history.opening node.drv
+            (sym (ap (standing_at run.system history.opening) at) ∙ stands) path has)
+        by (good_twin t rests twin ends) =
+            let nodes = run.graph.nodes in
+            let is = is_earlier_twin run history.opening d t twin in
+            let there = is_there (slice_get nodes t) (slice_get nodes d) is.twins in
+            (twin_alike t twin).there (ap is_good (state_by run history sound t Ended ends)) there.0
+            there.1 path
+            (path_of_twin (slice_get nodes t) (slice_get nodes d) there.0 node path there.1 at
+            is.twins has)
 
     pub unhindered_there : IsUnhindered run history d → IsUnhindered run other d
     unhindered_there un = record {
       free = ap (λ (opens : List Entry). standing_at run.system opens
           (slice_get run.graph.nodes d)) opening ∙ un.free;
+      spent = λ t has.
+          let here = subst (λ (opens : List Entry). Contains (earlier_twins run opens d) t) opening
+          has in
+          subst (λ (s : State). is_bad s ≡ true) (twin_alike t here).same (un.spent t here);
       good = λ i has. subst (λ (s : State). is_good s ≡ true) (input_alike i has).same
           (un.good i has);
     }
@@ -253,9 +270,10 @@ module _ (may : Job → Result Answer Reason → Type 0) (run : Run) (sound : Is
     same = state_by run history sound d Idle idle
         ∙ aside_same run history other d (sym opening)
         (λ i has. (below i (inputs_first run.graph sound d i has)).same)
+        (λ t has. (below t (is_earlier_twin run history.opening d t has).earlier).same)
         ∙ sym (state_by run other sound d Idle idle');
-    there = reused_carried may run sound history other end end' opening d idle;
-    back = reused_carried may run sound other history end' end (sym opening) d idle';
+    there = reused_carried may run sound history other end end' opening d below idle;
+    back = reused_carried may run sound other history end' end (sym opening) d above idle';
   }
 
   both_ended : phase_of history.events d ≡ Ended → phase_of other.events d ≡ Ended

@@ -1,5 +1,5 @@
 -- The plan of two derivations without inputs is sound.
-use Rattle.std.proofs.Common.{◌≡◌, ◌<◌, ◌∙◌, ℕ, zero, suc, true, List, [], ◌∷◌, ◌++◌, length, Ok, refl, sym, ap, subst, ⊎_elim, arith}
+use Rattle.std.proofs.Common.{◌≡◌, ◌<◌, ◌∙◌, ℕ, zero, suc, true, List, [], ◌∷◌, ◌++◌, length, Ok, refl, sym, ap, subst, ◌⊎◌, inl, ⊎_elim, arith}
 use Rattle.std.specs.Prelude.{All, Contains, codes, ◌-◌, take}
 use Rattle.std.specs.List.{IsDistinct}
 use Rattle.std.proofs.lemmas.List.{length-append}
@@ -19,8 +19,9 @@ use Rattle.drv_graph.specs.Modulo.{IsModuloText}
 use Rattle.drv_graph.specs.Nodes.{Node, no_hashes}
 use Rattle.drv_graph.specs.Outputs.{AreSound, HasOtherEntry, IsKnownUse, IsOutputsCheck, IsThePath, IsWellNamed, PathsFit}
 use Rattle.drv_graph.specs.PlanNodes.{output_paths_of}
-use Rattle.drv_graph.specs.Plans.{AreLawful, IsLawful, ShareOutput}
+use Rattle.drv_graph.specs.Plans.{AreLawful, AreTwins, IsLawful, ShareOutput}
 use Rattle.drv_graph.specs.SoundGraphs.{IsSound}
+use Rattle.drv_graph.specs.declared.kinds.Kind.{Kind}
 use Rattle.drv_graph.specs.declared.kinds.Kind.TheVariants.{Addressed}
 use Rattle.drv_graph.proofs.OneText.{one_path}
 use Rattle.drv_graph.proofs.PathLists.{other_path}
@@ -40,13 +41,18 @@ pub all_two : {X : Type 0} (P : X → Type 0) (x y : X) → P x → P y → All 
 all_two P x y first second = All-cons P x (y ∷ []) first (all_one P y second)
 
 -- a store path has its name
-named_path : (kind inner name : List ℕ) → is_name name ≡ true
+pub named_path : (kind inner name : List ℕ) → is_name name ≡ true
     → name_of (store_path kind inner store name) ≡ name
 unfolding store_path
 named_path kind inner name named = name_of_path store _ name (hash_part_of_fold _) named
 
+pub text_named : (name bytes : List ℕ) → is_name name ≡ true
+    → name_of (text_path store name bytes []) ≡ name
+unfolding text_path
+text_named name bytes named = named_path (text_kind []) (sha256 bytes) name named
+
 -- an output's path isn't long
-path_short : (hash name : List ℕ) → length hash ≡ 32 → length name < 256
+pub path_short : (hash name : List ℕ) → length hash ≡ 32 → length name < 256
     → length (path_text store hash name) < 1000
 path_short hash name long short =
     omega (arith, length-append store (47 ∷ hash ++ (45 ∷ name)), length-append hash (45 ∷ name))
@@ -55,30 +61,113 @@ pub out_short : (recipe : Recipe) → length recipe.name < 256 → length (out_a
 unfolding store_path
 out_short recipe short = path_short _ recipe.name (hash_part_len _ (hash_part_of_fold _)) short
 
--- ---- one derivation
+-- ---- one derivation with one output
+
+module _ (recipe : Recipe) (out algo hash : List ℕ) where
+  abbrev pub output : Output
+  output = record { name = codes "out"; path = out; algo = algo; hash = hash }
+
+  abbrev pub drv_with : Drv
+  drv_with = record (drv_alone recipe out) { outputs = output ∷ [] }
+
+  abbrev pub node_with : Node
+  node_with = record {
+    path = text_path store (recipe.name ++ codes ".drv") (text_of drv_with) [];
+    drv = drv_with;
+  }
+
+  -- the entry of its environment under the output's name is the output's path
+  env_value : (entry : EnvEntry) → Contains drv_with.env entry → entry.key ≡ codes "out"
+      → entry.value ≡ out
+  env_value entry (zero, low, is) key =
+      let clash : codes "builder" ≡ codes "out" = ap (λ (e : EnvEntry). e.key) is ∙ key in
+      absurd cc
+  env_value entry (suc zero, low, is) key =
+      let clash : codes "name" ≡ codes "out" = ap (λ (e : EnvEntry). e.key) is ∙ key in
+      absurd cc
+  env_value entry (suc (suc zero), low, is) key = sym (ap (λ (e : EnvEntry). e.value) is)
+  env_value entry (suc (suc (suc zero)), low, is) key =
+      let clash : codes "system" ≡ codes "out" = ap (λ (e : EnvEntry). e.key) is ∙ key in
+      absurd cc
+  env_value entry (suc (suc (suc (suc k))), low, is) key = absurd (omega arith)
+
+  out_is_name : is_name (codes "out") ≡ true
+  unfolding is_name is_name_char is_dotted
+  out_is_name = refl
+
+  -- where the output's path is the expected one
+  module _ (kind : Kind) (has_kind : HasKind drv_with kind)
+      (expected : IsExpected store recipe.name kind drv_with [] output out) where
+    abbrev Expected : Output → List ℕ → Type 0
+    Expected = IsExpected store recipe.name kind drv_with []
+
+    expected_at : (o : Output) → Contains drv_with.outputs o → Expected o out
+    expected_at o has = subst (λ (p : Output). Expected p out) (one_of output o has) expected
+
+    none_other : (o : Output) → Contains drv_with.outputs o
+        → HasOtherEntry IsThePath Expected drv_with o → ⊥
+    none_other o has (entry, path, among, key, is, unfit) =
+        let named : o.name ≡ codes "out" = sym (ap (λ (p : Output). p.name) (one_of output o has)) in
+        unfit (env_value entry among (key ∙ named)
+        ∙ one_path store recipe.name kind drv_with [] o out path (expected_at o has) is)
+
+    check_with : is_name recipe.name ≡ true
+        → IsOutputsCheck IsThePath store recipe.name drv_with [] [] (Ok kind)
+    check_with named =
+        let fit : PathsFit IsThePath Expected drv_with =
+        All-from_contains (λ (o : Output). (path : List ℕ) × Expected o path × (o.path ≡ path))
+        drv_with.outputs (λ o has. (
+          out,
+          expected_at o has,
+          sym (ap (λ (p : Output). p.path) (one_of output o has)),
+        )) in
+        let sound : AreSound recipe.name drv_with [] kind = record {
+          has_kind = has_kind;
+          named = all_one (IsWellNamed recipe.name) output (out_is_name, named);
+          known = All-nil IsKnownUse;
+        } in (
+          sound,
+          fit,
+          All-from_contains (λ (o : Output). HasOtherEntry IsThePath Expected drv_with o → ⊥)
+              drv_with.outputs none_other,
+        )
+
+    pub lawful_with : (before : List Node) → is_name (recipe.name ++ codes ".drv") ≡ true
+        → is_name recipe.name ≡ true
+        → take (length (recipe.name ++ codes ".drv") - 4) (recipe.name ++ codes ".drv")
+        ≡ recipe.name
+        → ((earlier : Node) → Contains before earlier
+        → (ShareOutput earlier.drv drv_with → ⊥) ⊎ AreTwins earlier.drv drv_with)
+        → IsLawful store before node_with
+    lawful_with before filed named cut apart = record {
+      kind = kind;
+      right = record {
+        used = [];
+        hashes = [];
+        are_used = tt;
+        are_hashes = no_hashes;
+        check = subst
+            (λ (n : List ℕ). IsOutputsCheck IsThePath store n drv_with [] [] (Ok kind))
+            (sym (ap (λ (n : List ℕ). take (length n - 4) n)
+            (text_named (recipe.name ++ codes ".drv") (text_of drv_with) filed) ∙ cut))
+            (check_with named);
+      };
+      apart = apart;
+    }
+
+-- ---- one that says nothing of its output
 
 module _ (recipe : Recipe) where
   abbrev drv : Drv
   drv = drv_alone recipe (out_alone recipe)
 
-  abbrev output : Output
-  output = record {
-    name = codes "out";
-    path = out_alone recipe;
-    algo = [];
-    hash = [];
-  }
-
   pub kind_alone : HasKind drv Addressed
   kind_alone = ((λ none. cc), all_one IsAddressed _ (refl, refl))
 
   -- its output's path is the expected one
-  expected_alone : (o : Output) → Contains drv.outputs o
-      → IsExpected store recipe.name Addressed drv [] o (out_alone recipe)
-  expected_alone o has =
-      subst (λ (p : Output). IsExpected store recipe.name Addressed drv [] p
-      (out_alone recipe)) (one_of output o has)
-      (text_of (drv_alone recipe []), modulo, refl)
+  expected_alone : IsExpected store recipe.name Addressed drv []
+      (output recipe (out_alone recipe) [] []) (out_alone recipe)
+  expected_alone = (text_of (drv_alone recipe []), modulo, refl)
     where
       modulo : IsModuloText drv [] true (text_of (drv_alone recipe []))
       modulo = record {
@@ -92,79 +181,19 @@ module _ (recipe : Recipe) where
         is_text = refl;
       }
 
-  -- the entry of its environment under the output's name is that path
-  env_value : (entry : EnvEntry) → Contains drv.env entry → entry.key ≡ codes "out"
-      → entry.value ≡ out_alone recipe
-  env_value entry (zero, low, is) key =
-      let clash : codes "builder" ≡ codes "out" = ap (λ (e : EnvEntry). e.key) is ∙ key in
-      absurd cc
-  env_value entry (suc zero, low, is) key =
-      let clash : codes "name" ≡ codes "out" = ap (λ (e : EnvEntry). e.key) is ∙ key in
-      absurd cc
-  env_value entry (suc (suc zero), low, is) key = sym (ap (λ (e : EnvEntry). e.value) is)
-  env_value entry (suc (suc (suc zero)), low, is) key =
-      let clash : codes "system" ≡ codes "out" = ap (λ (e : EnvEntry). e.key) is ∙ key in
-      absurd cc
-  env_value entry (suc (suc (suc (suc k))), low, is) key = absurd (omega arith)
+  pub node_name : is_name (recipe.name ++ codes ".drv") ≡ true
+      → name_of (node_alone recipe).path ≡ recipe.name ++ codes ".drv"
+  node_name filed = text_named (recipe.name ++ codes ".drv") (text_of drv) filed
 
-  none_other : (o : Output) → Contains drv.outputs o
-      → HasOtherEntry IsThePath (IsExpected store recipe.name Addressed drv []) drv o → ⊥
-  none_other o has (entry, path, among, key, expected, unfit) =
-      let named : o.name ≡ codes "out" = sym (ap (λ (p : Output). p.name) (one_of output o has)) in
-      unfit (env_value entry among (key ∙ named)
-      ∙ one_path store recipe.name Addressed drv [] o (out_alone recipe) path
-      (expected_alone o has) expected)
-
-  out_is_name : is_name (codes "out") ≡ true
-  unfolding is_name is_name_char is_dotted
-  out_is_name = refl
-
-  pub check_alone : is_name recipe.name ≡ true
-      → IsOutputsCheck IsThePath store recipe.name drv [] [] (Ok Addressed)
-  check_alone named =
-      let expected = IsExpected store recipe.name Addressed drv [] in
-      let fit : PathsFit IsThePath expected drv =
-      All-from_contains (λ (o : Output). (path : List ℕ) × expected o path × (o.path ≡ path))
-      drv.outputs (λ o has. (
-        out_alone recipe,
-        expected_alone o has,
-        sym (ap (λ (p : Output). p.path) (one_of output o has)),
-      )) in
-      let sound : AreSound recipe.name drv [] Addressed = record {
-        has_kind = kind_alone;
-        named = all_one (IsWellNamed recipe.name) output (out_is_name, named);
-        known = All-nil IsKnownUse;
-      } in (
-        sound,
-        fit,
-        All-from_contains (λ (o : Output). HasOtherEntry IsThePath expected drv o → ⊥)
-            drv.outputs none_other,
-      )
-
-  -- where its file has a name
-  module _ (filed : is_name (recipe.name ++ codes ".drv") ≡ true) where
-    pub node_name : name_of (node_alone recipe).path ≡ recipe.name ++ codes ".drv"
-    unfolding text_path
-    node_name = named_path (text_kind []) (sha256 (text_of drv)) (recipe.name ++ codes ".drv") filed
-
-    pub lawful_alone : (before : List Node) → is_name recipe.name ≡ true
-        → take (length (recipe.name ++ codes ".drv") - 4) (recipe.name ++ codes ".drv")
-        ≡ recipe.name
-        → ((earlier : Node) → Contains before earlier → ShareOutput earlier.drv drv → ⊥)
-        → IsLawful store before (node_alone recipe)
-    lawful_alone before named cut alone = record {
-      kind = Addressed;
-      right = record {
-        used = [];
-        hashes = [];
-        are_used = tt;
-        are_hashes = no_hashes;
-        check = subst (λ (n : List ℕ). IsOutputsCheck IsThePath store n drv [] [] (Ok Addressed))
-            (sym (ap (λ (n : List ℕ). take (length n - 4) n) node_name ∙ cut))
-            (check_alone named);
-      };
-      alone = alone;
-    }
+  pub lawful_alone : (before : List Node) → is_name (recipe.name ++ codes ".drv") ≡ true
+      → is_name recipe.name ≡ true
+      → take (length (recipe.name ++ codes ".drv") - 4) (recipe.name ++ codes ".drv")
+      ≡ recipe.name
+      → ((earlier : Node) → Contains before earlier → ShareOutput earlier.drv drv → ⊥)
+      → IsLawful store before (node_alone recipe)
+  lawful_alone before filed named cut alone =
+      lawful_with recipe (out_alone recipe) [] [] Addressed kind_alone expected_alone before filed
+      named cut (λ earlier has. inl (alone earlier has))
 
 -- ---- the two
 
@@ -176,7 +205,7 @@ pub left_filed : is_name (codes "left.drv") ≡ true
 unfolding is_name is_name_char is_dotted
 left_filed = refl
 
-right_named : is_name (codes "right") ≡ true
+pub right_named : is_name (codes "right") ≡ true
 unfolding is_name is_name_char is_dotted
 right_named = refl
 
@@ -189,13 +218,13 @@ shared_name : (one other : Recipe) → is_name one.name ≡ true → is_name oth
     → ShareOutput (node_alone one).drv (node_alone other).drv → one.name ≡ other.name
 shared_name one other named named' (x, y, of_x, of_y, same) =
     let outs : out_alone one ≡ out_alone other =
-    ap (λ (p : Output). p.path) (one_of (output one) x of_x) ∙ same
-    ∙ sym (ap (λ (p : Output). p.path) (one_of (output other) y of_y)) in
+    ap (λ (p : Output). p.path) (one_of _ x of_x) ∙ same
+    ∙ sym (ap (λ (p : Output). p.path) (one_of _ y of_y)) in
     sym (named_path (codes "output:out") (sha256 (text_of (drv_alone one []))) one.name named)
     ∙ ap name_of outs
     ∙ named_path (codes "output:out") (sha256 (text_of (drv_alone other []))) other.name named'
 
-outputs_differ : ShareOutput left.drv right.drv → ⊥
+pub outputs_differ : ShareOutput left.drv right.drv → ⊥
 outputs_differ share =
     let names : codes "left" ≡ codes "right" =
     shared_name failing making left_named right_named share in
@@ -208,12 +237,12 @@ files_differ same =
     cc
 
 lawful_left : IsLawful store [] left
-lawful_left = lawful_alone failing left_filed [] left_named refl
+lawful_left = lawful_alone failing [] left_filed left_named refl
     (λ earlier none. absurd (Contains-nothing earlier none))
 
 lawful_right : IsLawful store (left ∷ []) right
 lawful_right =
-    lawful_alone making right_filed (left ∷ []) right_named refl
+    lawful_alone making (left ∷ []) right_filed right_named refl
     (λ earlier has share. outputs_differ
     (subst (λ (n : Node). ShareOutput n.drv right.drv) (sym (one_of left earlier has)) share))
 
@@ -239,6 +268,7 @@ unfolding IsDistinct
 both_sound = record {
   dir = store;
   lawful = lawful_both;
+  few = omega arith;
   distinct = ((other_path left.path right.path files_differ, tt), (tt, tt));
   roots_within = all_two (λ root. root < 2) 0 1 (omega arith) (omega arith);
   roots_once = ((refl, tt), (tt, tt));

@@ -7,6 +7,7 @@ use Rattle.std.proofs.Math.Nat.{le_refl}
 use Rattle.std.proofs.lemmas.List.{length-map}
 use Rattle.nix_names.specs.Names.{same_bytes}
 use Rattle.nix_names.proofs.Lists.{Contains-nothing, same_element}
+use Rattle.nix_drv.specs.Derivation.{Output}
 use Rattle.nix_drv.specs.Parts.{bytes_of}
 use Rattle.nix_drv.specs.declared.derivation.EnvEntry.{EnvEntry as EnvEntryStruct}
 use Rattle.drv_graph.specs.Kinds.{HasKind}
@@ -20,7 +21,7 @@ use Rattle.ref_scan.specs.Scan.{IsFoundIn}
 use Rattle.ref_scan.specs.Trees.{Fits, depth_among, entry_count_among, file_bytes_among, pieces, pieces_among}
 use Rattle.ref_scan.specs.declared.tree.Tree.{Tree, File, Pieces, Dir', Row_of-Member, end_of-Member, more_of-Member}
 use Rattle.valid_table.specs.PathInfos.{PathInfo}
-use Rattle.sched_core.specs.Jobs.{IsJob}
+use Rattle.sched_core.specs.Jobs.{IsJob, seeds_of}
 use Rattle.sched_core.specs.Verdicts.{IsCyclic, IsRecordAt, IsRecordOf, IsTreeFault, IsVerdict, RefersTo, outputs_of, tree_at}
 use Rattle.sched_core.specs.declared.job.Answer.{Answer}
 use Rattle.sched_core.specs.declared.job.Job.{Job}
@@ -30,7 +31,7 @@ use Rattle.sched_core.specs.declared.reason.Reason.TheVariants.{ExitStatus, Hash
 use Rattle.sched_core.proofs.OneVerdict.{has_one_verdict}
 use Rattle.store_run.specs.Builders.{IsVerdictOn}
 use Rattle.store_run.specs.Scheduling.{HasOneOutcome}
-use Rattle.store_run.specs.ScheduleExample.{IsEmptyFolder, Leaves, Recipe, both, failing, left, making, may_leave, node_alone, out_alone, right}
+use Rattle.store_run.specs.ScheduleExample.{IsEmptyFolder, Leaves, Recipe, both, drv_alone, failing, left, making, may_leave, out_alone, right}
 use Rattle.store_run.proofs.AlonePlans.{kind_alone, out_short}
 use denote.RawPtr.{null_ptr}
 
@@ -48,12 +49,12 @@ no_bytes : {m : _} (row : Row_of-Member m) → entry_count_among row ≡ 0 → f
 no_bytes end_of-Member none = refl
 no_bytes (more_of-Member name tree rest) none = absurd (omega arith)
 
-empty_pieces : (tree : Tree) → IsEmptyFolder tree → pieces tree ≡ []
+pub empty_pieces : (tree : Tree) → IsEmptyFolder tree → pieces tree ≡ []
 empty_pieces (File bytes) is = absurd (let clash = is.0 in cc)
 empty_pieces (Pieces parts) is = absurd (let clash = is.0 in cc)
 empty_pieces (Dir' shape entries) is = no_pieces entries is.1
 
-empty_fits : (tree : Tree) → IsEmptyFolder tree → Fits tree
+pub empty_fits : (tree : Tree) → IsEmptyFolder tree → Fits tree
 empty_fits (File bytes) is = absurd (let clash = is.0 in cc)
 empty_fits (Pieces parts) is = absurd (let clash = is.0 in cc)
 empty_fits (Dir' shape entries) is = record {
@@ -92,75 +93,95 @@ no_fault tree is ReadFault none = none
 no_fault tree is OutOfMemory none = none
 no_fault tree is Killed none = none
 
-info_is : (n : ℕ) (info : PathInfo) → slice_get (nothing_in ∷ []) n ≡ Some info → nothing_in ≡ info
-info_is zero info at = cc
-info_is (suc n) info at = absurd cc
+-- ---- records without references
 
-pub no_cycle : (outputs : List (List ℕ)) → IsCyclic outputs (nothing_in ∷ []) → ⊥
-no_cycle outputs (a, b, there, back, apart, leads, leads') = by there leads
-  where
-    by : (steps : List (List ℕ)) → Leads (RefersTo outputs (nothing_in ∷ [])) a b steps → ⊥
-    by [] same = apart same
-    by (next ∷ steps) ((n, info, from, at, refers, to), rest) =
-        Contains-nothing next
-        (subst (λ (i : PathInfo). Contains i.references next) (sym (info_is n info at)) refers)
+module _ (info : PathInfo) (none : info.references ≡ []) where
+  info_is : (n : ℕ) (other : PathInfo) → slice_get (info ∷ []) n ≡ Some other → info ≡ other
+  info_is zero other at = cc
+  info_is (suc n) other at = absurd cc
+
+  pub no_cycle : (outputs : List (List ℕ)) → IsCyclic outputs (info ∷ []) → ⊥
+  no_cycle outputs (a, b, there, back, apart, leads, leads') = by there leads
+    where
+      by : (steps : List (List ℕ)) → Leads (RefersTo outputs (info ∷ [])) a b steps → ⊥
+      by [] same = apart same
+      by (next ∷ steps) ((n, other, from, at, refers, to), rest) =
+          Contains-nothing next
+          (subst (λ (l : List (List ℕ)). Contains l next)
+          (ap (λ (i : PathInfo). i.references) (sym (info_is n other at)) ∙ none) refers)
 
 -- ---- the verdicts
 
-right_node : (job : Job) (is : IsJob both.graph 1 job) → is.node ≡ right
-right_node job is = same_element both.graph.nodes 1 is.node right is.is_node refl
+pub tree_first : (answer : Answer) (tree : Tree) → answer.trees.items ≡ Some tree ∷ []
+    → tree_at answer 0 ≡ Some tree
+tree_first answer tree trees = rw trees refl
 
-tree_first : (answer : Answer) (folder : Tree) → answer.trees.items ≡ Some folder ∷ []
-    → tree_at answer 0 ≡ Some folder
-tree_first answer folder trees = rw trees refl
-
-module _ (job : Job) (is_job : IsJob both.graph 1 job) (answer : Answer)
-    (left_behind : Leaves false answer) (permitted : List (List ℕ)) where
-  one_output : length job.outputs.items ≡ 1
-  one_output = sym (length-map job.outputs.items (λ (o : JobOutput). o.path))
-      ∙ ap length is_job.paths
-      ∙ ap (λ (n : Node). length (output_paths_of n.drv)) (right_node job is_job)
-
-  job_kind : job.kind ≡ Addressed
-  job_kind = one_kind right.drv job.kind Addressed
-      (subst (λ (n : Node). HasKind n.drv job.kind) (right_node job is_job) is_job.kind)
-      (kind_alone making)
-
-  taken_at : (n : ℕ) → n < length job.outputs.items → tree_at answer n ≡ Some left_behind.1.0
-  taken_at zero low = tree_first answer left_behind.1.0 left_behind.1.2
+-- on one tree, that is taken, at the one output of a job
+module _ (job : Job) (one_output : length job.outputs.items ≡ 1) (answer : Answer) (tree : Tree)
+    (status : answer.status ≡ Some (pos 0)) (trees : answer.trees.items ≡ Some tree ∷ [])
+    (sound : (why : Reason) → IsTreeFault job.kind tree why → ⊥) where
+  taken_at : (n : ℕ) → n < length job.outputs.items → tree_at answer n ≡ Some tree
+  taken_at zero low = tree_first answer tree trees
   taken_at (suc n) low = absurd (omega (arith, one_output, low))
 
-  pub right_verdict : IsVerdict job permitted answer (Ok (nothing_in ∷ []))
-  right_verdict = (
+  pub one_verdict : (permitted : List (List ℕ)) (info : PathInfo) → info.references ≡ []
+      → IsRecordOf permitted tree info → IsVerdict job permitted answer (Ok (info ∷ []))
+  one_verdict permitted info none is_record = (
     (
-      (left_behind.0, λ n low none. let clash = sym none ∙ taken_at n low in cc),
+      (status, λ n low nothing. let clash = sym nothing ∙ taken_at n low in cc),
       λ n why low fault.
-          let same : fault.0 ≡ left_behind.1.0 =
-          let both_at = sym fault.1 ∙ taken_at n low in cc in
-          no_fault left_behind.1.0 left_behind.1.1 why
-          (subst (λ (t : Tree). IsTreeFault Addressed t why) same
-          (subst (λ (k : Kind). IsTreeFault k fault.0 why) job_kind fault.2)),
+          let same : fault.0 ≡ tree = let both_at = sym fault.1 ∙ taken_at n low in cc in
+          sound why (subst (λ (t : Tree). IsTreeFault job.kind t why) same fault.2),
     ),
-    record {
-      count = sym one_output;
-      each = records;
-    },
-    no_cycle (outputs_of job),
+    record { count = sym one_output; each = records },
+    no_cycle info none (outputs_of job),
   )
     where
-      records : (n : ℕ) (info : PathInfo) → slice_get (nothing_in ∷ []) n ≡ Some info
-          → IsRecordAt permitted answer n info
-      records zero info at = (
-        left_behind.1.0,
-        tree_first answer left_behind.1.0 left_behind.1.2,
-        subst (IsRecordOf permitted left_behind.1.0) (info_is 0 info at)
-            (record_of_empty permitted left_behind.1.0 left_behind.1.1),
+      records : (n : ℕ) (other : PathInfo) → slice_get (info ∷ []) n ≡ Some other
+          → IsRecordAt permitted answer n other
+      records zero other at = (
+        tree,
+        tree_first answer tree trees,
+        subst (IsRecordOf permitted tree) (info_is info none 0 other at) is_record,
       )
-      records (suc n) info at = absurd cc
+      records (suc n) other at = absurd cc
+
+-- on what right made, wherever it stands in a plan
+module _ (graph : Graph) (d : ℕ) (at : slice_get graph.nodes d ≡ Some right) (job : Job)
+    (is_job : IsJob graph d job) where
+  right_node : is_job.node ≡ right
+  right_node = same_element graph.nodes d is_job.node right is_job.is_node at
+
+  right_one_output : length job.outputs.items ≡ 1
+  right_one_output = sym (length-map job.outputs.items (λ (o : JobOutput). o.path))
+      ∙ ap length is_job.paths
+      ∙ ap (λ (n : Node). length (output_paths_of n.drv)) right_node
+
+  right_kind : job.kind ≡ Addressed
+  right_kind = one_kind right.drv job.kind Addressed
+      (subst (λ (n : Node). HasKind n.drv job.kind) right_node is_job.kind)
+      (kind_alone making)
+
+  pub right_builder : job.builder.items ≡ codes "/bin/sh"
+  right_builder = is_job.builder ∙ ap (λ (n : Node). n.drv.builder) right_node
+
+  pub right_verdict : (answer : Answer) → Leaves false answer → (permitted : List (List ℕ))
+      → IsVerdict job permitted answer (Ok (nothing_in ∷ []))
+  right_verdict answer left_behind permitted =
+      let folder = left_behind.1.0 in
+      one_verdict job right_one_output answer folder left_behind.0 left_behind.1.2
+      (λ why fault. no_fault folder left_behind.1.1 why
+      (subst (λ (k : Kind). IsTreeFault k folder why) right_kind fault))
+      permitted nothing_in refl (record_of_empty permitted folder left_behind.1.1)
 
 pub left_verdict : (job : Job) (permitted : List (List ℕ)) (answer : Answer)
     → Leaves true answer → IsVerdict job permitted answer (Err (ExitStatus (pos 1)))
 left_verdict job permitted answer left_behind = (left_behind.0, λ same. cc)
+
+left_builder : (job : Job) → IsJob both.graph 0 job → job.builder.items ≡ codes "/bin/false"
+left_builder job is =
+    let node : is.node ≡ left = same_element both.graph.nodes 0 is.node left is.is_node refl in
+    is.builder ∙ ap (λ (n : Node). n.drv.builder) node
 
 -- what each derivation comes to
 abbrev pub comes_to : ℕ → Result (List PathInfo) Reason
@@ -172,19 +193,15 @@ comes : (d : ℕ) (job : Job) (permitted : List (List ℕ)) (x : Result Answer R
     → IsVerdictOn job permitted x a → a ≡ comes_to d
 comes d job permitted (Err reason) a is may on = absurd may
 comes zero job permitted (Ok answer) a is may on =
-    let node : is.node ≡ left = same_element both.graph.nodes 0 is.node left is.is_node refl in
-    let builder : job.builder.items ≡ codes "/bin/false" =
-    is.builder ∙ ap (λ (n : Node). n.drv.builder) node in
     has_one_verdict job permitted answer a (comes_to 0) on
     (left_verdict job permitted answer
-    (subst (λ (b : List ℕ). Leaves (same_bytes b (codes "/bin/false")) answer) builder may))
+    (subst (λ (b : List ℕ). Leaves (same_bytes b (codes "/bin/false")) answer)
+    (left_builder job is) may))
 comes (suc zero) job permitted (Ok answer) a is may on =
-    let builder : job.builder.items ≡ codes "/bin/sh" =
-    is.builder ∙ ap (λ (n : Node). n.drv.builder) (right_node job is) in
     has_one_verdict job permitted answer a (comes_to 1) on
-    (right_verdict job is answer
-    (subst (λ (b : List ℕ). Leaves (same_bytes b (codes "/bin/false")) answer) builder may)
-    permitted)
+    (right_verdict both.graph 1 refl job is answer
+    (subst (λ (b : List ℕ). Leaves (same_bytes b (codes "/bin/false")) answer)
+    (right_builder both.graph 1 refl job is) may) permitted)
 comes (suc (suc d)) job permitted (Ok answer) a is may on = absurd (let none = is.is_node in cc)
 
 pub both_outcome : HasOneOutcome may_leave both.graph
@@ -193,10 +210,10 @@ both_outcome d job again permitted x y a b is is' may may' on on' =
 
 -- ---- a job and an answer for each
 
-heap : Global
+pub heap : Global
 heap = record { memory = record { seal = tt } }
 
-abbrev vec_of : {X : Type 0} → (xs : List X) → length xs < 2 ^ 63 → Vec X Global
+abbrev pub vec_of : {X : Type 0} → (xs : List X) → length xs < 2 ^ 63 → Vec X Global
 vec_of xs few = record {
   ptr = null_ptr;
   len = length xs;
@@ -213,68 +230,82 @@ small bytes few = omega arith
 env_of : (key value : List ℕ) → length key < 2 ^ 63 → length value < 2 ^ 63 → EnvEntryStruct
 env_of key value few few' = record { key = vec_of key few; value = vec_of value few' }
 
+abbrev making_args : List (Vec ℕ Global)
+making_args = vec_of (codes "-c") (omega arith)
+    ∷ vec_of (codes "/bin/mkdir $out") (omega arith) ∷ []
+
+-- a job of a derivation with one output, at this path
 module _ (recipe : Recipe) (short : length recipe.name < 256)
     (few : length recipe.builder < 2 ^ 63) (args : List (Vec ℕ Global))
-    (few_args : length args < 2 ^ 63) where
+    (few_args : length args < 2 ^ 63) (out : List ℕ) (out_few : length out < 1000) (kind : Kind)
+    (d : ℕ) where
   env_entries : List EnvEntryStruct
   env_entries =
       env_of (codes "builder") recipe.builder (omega arith) few
       ∷ env_of (codes "name") recipe.name (omega arith) (omega arith)
-      ∷ env_of (codes "out") (out_alone recipe) (omega arith)
-      (small (out_alone recipe) (out_short recipe short))
+      ∷ env_of (codes "out") out (omega arith) (small out out_few)
       ∷ env_of (codes "system") (codes "x86_64-linux") (omega arith) (omega arith) ∷ []
 
   job_output : JobOutput
-  job_output = record { name = vec_of (codes "out") (omega arith); path = out_alone recipe }
+  job_output = record { name = vec_of (codes "out") (omega arith); path = out }
 
-  job_of : ℕ → Job
+  pub job_of : Job
   unfolding env_entries
-  job_of d = record {
+  job_of = record {
     derivation = d;
     builder = vec_of recipe.builder few;
     args = vec_of args few_args;
     env = vec_of env_entries (omega arith);
     outputs = vec_of (job_output ∷ []) (omega arith);
-    kind = Addressed;
+    kind = kind;
     seeds = vec_of [] (omega arith);
   }
 
-  is_job_of : map bytes_of args ≡ recipe.args → (graph : Graph) (d : ℕ)
-      → slice_get graph.nodes d ≡ Some (node_alone recipe) → IsJob graph d (job_of d)
+  pub is_job_of : (graph : Graph) (node : Node) → slice_get graph.nodes d ≡ Some node
+      → recipe.builder ≡ node.drv.builder → map bytes_of args ≡ node.drv.args
+      → (drv_alone recipe out).env ≡ node.drv.env
+      → codes "out" ∷ [] ≡ map (λ (o : Output). o.name) node.drv.outputs
+      → out ∷ [] ≡ output_paths_of node.drv → HasKind node.drv kind
+      → [] ≡ seeds_of graph.nodes node.drv → IsJob graph d job_of
   unfolding job_of env_entries env_of job_output
-  is_job_of same graph d at = record {
-    node = node_alone recipe;
+  is_job_of graph node at builder same env names paths has_kind seeds = record {
+    node = node;
     is_node = at;
     derivation = refl;
-    builder = refl;
+    builder = builder;
     args = same;
-    env = refl;
-    names = refl;
-    paths = refl;
-    kind = kind_alone recipe;
-    seeds = refl;
+    env = env;
+    names = names;
+    paths = paths;
+    kind = has_kind;
+    seeds = seeds;
   }
+
+-- the job of right, by its number
+pub job_of_right : ℕ → Job
+job_of_right d = job_of making (omega arith) (omega arith) making_args (omega arith)
+    (out_alone making) (out_short making (omega arith)) Addressed d
+
+pub is_job_of_right : (graph : Graph) (d : ℕ) → slice_get graph.nodes d ≡ Some right
+    → IsJob graph d (job_of_right d)
+unfolding job_of_right
+is_job_of_right graph d at =
+    is_job_of making (omega arith) (omega arith) making_args (omega arith)
+    (out_alone making) (out_short making (omega arith)) Addressed d graph right at refl refl refl
+    refl refl (kind_alone making) refl
 
 -- ---- of the two
 
-abbrev making_args : List (Vec ℕ Global)
-making_args = vec_of (codes "-c") (omega arith)
-    ∷ vec_of (codes "/bin/mkdir $out") (omega arith) ∷ []
-
 pub left_job : Job
-left_job = job_of failing (omega arith) (omega arith) [] (omega arith) 0
+left_job = job_of failing (omega arith) (omega arith) [] (omega arith) (out_alone failing)
+    (out_short failing (omega arith)) Addressed 0
 
 pub left_is_job : IsJob both.graph 0 left_job
 unfolding left_job
-left_is_job = is_job_of failing (omega arith) (omega arith) [] (omega arith) refl both.graph 0 refl
-
-pub right_job : Job
-right_job = job_of making (omega arith) (omega arith) making_args (omega arith) 1
-
-pub right_is_job : IsJob both.graph 1 right_job
-unfolding right_job
-right_is_job = is_job_of making (omega arith) (omega arith) making_args (omega arith) refl
-    both.graph 1 refl
+left_is_job =
+    is_job_of failing (omega arith) (omega arith) [] (omega arith) (out_alone failing)
+    (out_short failing (omega arith)) Addressed 0 both.graph left refl refl refl refl refl refl
+    (kind_alone failing) refl
 
 pub left_answer : Answer
 left_answer = record { status = Some (pos 1); trees = vec_of [] (omega arith) }
@@ -297,9 +328,10 @@ unfolding right_answer
 right_leaves = (refl, (no_members, (refl, refl), refl))
 
 pub left_may : may_leave left_job (Ok left_answer)
-unfolding left_job job_of
-left_may = left_leaves
+left_may = subst (λ (b : List ℕ). Leaves (same_bytes b (codes "/bin/false")) left_answer)
+    (sym (left_builder left_job left_is_job)) left_leaves
 
-pub right_may : may_leave right_job (Ok right_answer)
-unfolding right_job job_of
-right_may = right_leaves
+pub right_may : may_leave (job_of_right 1) (Ok right_answer)
+right_may = subst (λ (b : List ℕ). Leaves (same_bytes b (codes "/bin/false")) right_answer)
+    (sym (right_builder both.graph 1 refl (job_of_right 1) (is_job_of_right both.graph 1 refl)))
+    right_leaves

@@ -19,14 +19,14 @@ use Rattle.nix_drv.proofs.Rising.{order_means_rising}
 use Rattle.drv_graph.specs.Nodes.{Node, inputs_of}
 use Rattle.drv_graph.specs.Plans.{AreLeft, IsPlan, IsReached, Leads, MayStand, Uses, left_behind_inputs, none_left}
 use Rattle.drv_graph.proofs.PathLists.{other_path}
-use Rattle.store_run.proofs.AlonePlans.{all_two, files_differ, lawful_both, left_file, left_filed, node_name, one_of, out_short, right_file, right_filed, store}
-use Rattle.store_run.specs.ScheduleExample.{Recipe, both, drv_alone, failing, left, making, node_alone, out_alone, right, text_of, two_files}
+use Rattle.store_run.proofs.AlonePlans.{all_two, drv_with, files_differ, lawful_both, left_file, left_filed, node_with, one_of, out_short, right_file, right_filed, store, text_named}
+use Rattle.store_run.specs.ScheduleExample.{Recipe, both, drv_alone, failing, left, making, out_alone, right, text_of, two_files}
 
 spelled_few : (byte : ℕ) (escape : Option ℕ) → length (spelled byte escape) ≤ 2
 spelled_few byte (Some escape) = omega arith
 spelled_few byte None = omega arith
 
-spelling_few : (bytes : List ℕ) → length (flat_map spelling bytes) ≤ 2 * length bytes
+pub spelling_few : (bytes : List ℕ) → length (flat_map spelling bytes) ≤ 2 * length bytes
 unfolding spelling
 spelling_few [] = omega arith
 spelling_few (b ∷ bs) =
@@ -54,42 +54,51 @@ unfolding KeysRise
 right_keys out = search rules
 
 -- lists that rise are in order
-in_order_by : (drv : Drv) → KeysRise derivation_form (drv_value drv)
+pub in_order_by : (drv : Drv) → KeysRise derivation_form (drv_value drv)
     → InOrder derivation_form (drv_value drv)
 in_order_by drv = (order_means_rising derivation_form (drv_value drv)).1
 
--- each stands at its own path
-found_alone : (recipe : Recipe) → is_name (recipe.name ++ codes ".drv") ≡ true
-    → IsDrvPath (node_alone recipe).path
-    → length (text_of (node_alone recipe).drv) ≤ max_len
-    → InOrder derivation_form (drv_value (node_alone recipe).drv)
-    → IsFoundAt store (node_alone recipe).path (text_of (node_alone recipe).drv)
-    (node_alone recipe).drv (node_alone recipe).path
-unfolding paths_of
-found_alone recipe filed file few order = record {
-  read = record {
-    named = file;
-    within = few;
-    is_text = record { is_text = refl; in_order = order };
-  };
-  in_store = All-nil (IsPathOf store);
-  own_path = record {
-    refs = [];
-    rising = tt;
-    same = λ ref. (λ has. has, λ has. has);
-    is_path = ap (λ (name : List ℕ). text_path store name (text_of (node_alone recipe).drv) [])
-        (sym (node_name recipe filed));
-  };
-}
+-- a derivation with one output, and without inputs and sources, stands at its own path
+module _ (recipe : Recipe) (out algo hash : List ℕ) where
+  abbrev drv : Drv
+  drv = drv_with recipe out algo hash
+
+  abbrev path : List ℕ
+  path = (node_with recipe out algo hash).path
+
+  pub found_with : is_name (recipe.name ++ codes ".drv") ≡ true → IsDrvPath path
+      → length (text_of drv) ≤ max_len → InOrder derivation_form (drv_value drv)
+      → IsFoundAt store path (text_of drv) drv path
+  unfolding paths_of
+  found_with filed file few order = record {
+    read = record {
+      named = file;
+      within = few;
+      is_text = record { is_text = refl; in_order = order };
+    };
+    in_store = All-nil (IsPathOf store);
+    own_path = record {
+      refs = [];
+      rising = tt;
+      same = λ ref. (λ has. has, λ has. has);
+      is_path = ap (λ (name : List ℕ). text_path store name (text_of drv) [])
+          (sym (text_named (recipe.name ++ codes ".drv") (text_of drv) filed));
+    };
+  }
 
 left_stands : MayStand store (listing_gives two_files) left.path left.drv
 left_stands = record {
   bytes = text_of left.drv;
   given = rw (nat_list_eq_equiv.refl left.path) refl;
-  found = found_alone failing left_filed left_file
+  found = found_with failing (out_alone failing) [] [] left_filed left_file
       (left_few (out_alone failing) (out_short failing (omega arith)))
       (in_order_by left.drv (left_keys (out_alone failing)));
 }
+
+pub right_found : IsFoundAt store right.path (text_of right.drv) right.drv right.path
+right_found = found_with making (out_alone making) [] [] right_filed right_file
+    (right_few (out_alone making) (out_short making (omega arith)))
+    (in_order_by right.drv (right_keys (out_alone making)))
 
 right_stands : MayStand store (listing_gives two_files) right.path right.drv
 right_stands = record {
@@ -98,30 +107,31 @@ right_stands = record {
     other_path right.path left.path (λ same. files_differ (sym same)),
     nat_list_eq_equiv.refl right.path,
   ) refl;
-  found = found_alone making right_filed right_file
-      (right_few (out_alone making) (out_short making (omega arith)))
-      (in_order_by right.drv (right_keys (out_alone making)));
+  found = right_found;
 }
 
 -- ---- plan order
 
-uses_none : (from next : List ℕ) → Uses both.graph.nodes from next → ⊥
-uses_none from next uses =
-    ⊎_elim
-    (λ is_left. Contains-nothing next
-    (subst (λ (n : Node). Contains (inputs_of n.drv) next) (sym is_left) uses.is_input))
-    (λ later. Contains-nothing next
-    (subst (λ (n : Node). Contains (inputs_of n.drv) next) (sym (one_of right uses.node later))
-    uses.is_input)) (Contains-cons_cases left (right ∷ []) uses.node uses.is_node)
+-- of nodes without inputs just the roots are reached
+module _ (nodes : List Node) (alone : (n : Node) → Contains nodes n → inputs_of n.drv ≡ []) where
+  uses_none : (from next : List ℕ) → Uses nodes from next → ⊥
+  uses_none from next uses = Contains-nothing next
+      (subst (λ l. Contains l next) (alone uses.node uses.is_node) uses.is_input)
 
-reached_root : (roots : List (List ℕ)) (path : List ℕ)
-    → IsReached (Uses both.graph.nodes) roots path → Contains roots path
-reached_root roots path reached = by reached.root reached.is_root reached.steps reached.leads
-  where
-    by : (root : List ℕ) → Contains roots root → (steps : List (List ℕ))
-        → Leads (Uses both.graph.nodes) root path steps → Contains roots path
-    by root is [] same = subst (Contains roots) same is
-    by root is (next ∷ steps) leads = absurd (uses_none root next leads.0)
+  pub reached_root : (roots : List (List ℕ)) (path : List ℕ) → IsReached (Uses nodes) roots path
+      → Contains roots path
+  reached_root roots path reached = by reached.root reached.is_root reached.steps reached.leads
+    where
+      by : (root : List ℕ) → Contains roots root → (steps : List (List ℕ))
+          → Leads (Uses nodes) root path steps → Contains roots path
+      by root is [] same = subst (Contains roots) same is
+      by root is (next ∷ steps) leads = absurd (uses_none root next leads.0)
+
+without_inputs : (n : Node) → Contains both.graph.nodes n → inputs_of n.drv ≡ []
+without_inputs n has =
+    ⊎_elim (λ is_left. sym (ap (λ (m : Node). inputs_of m.drv) is_left))
+    (λ later. sym (ap (λ (m : Node). inputs_of m.drv) (one_of right n later)))
+    (Contains-cons_cases left (right ∷ []) n has)
 
 in_order : AreLeft both.graph.nodes [] (left.path ∷ right.path ∷ []) (left.path ∷ right.path ∷ [])
 in_order =
@@ -141,7 +151,7 @@ loads = record {
       left_stands right_stands;
   in_order = in_order;
   reached = λ path has. record { root = path; is_root = has; steps = []; leads = refl };
-  whole = reached_root (left.path ∷ right.path ∷ []);
+  whole = reached_root both.graph.nodes without_inputs (left.path ∷ right.path ∷ []);
   lawful = lawful_both;
   few = omega arith;
   is_roots = rw (other_path left.path right.path files_differ) refl;

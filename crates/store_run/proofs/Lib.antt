@@ -21,3 +21,7 @@ pub mod ToldRuns
 pub mod Turns
 pub mod Unhindered
 pub mod Wanting
+pub mod TwinExample
+pub mod TwinJobs
+pub mod TwinLoads
+pub mod TwinPlans

@@ -1,24 +1,28 @@
 -- Two builds that overlap, of which one fails, are a whole run.
-use Rattle.std.proofs.Common.{◌≡◌, ◌∙◌, ◌<◌, inl, inr, ℕ, zero, suc, List, [], ◌∷◌, Some, Ok, Err, refl, sym, ap, subst, ⊎_elim, arith}
+use Rattle.std.proofs.Common.{◌≡◌, ◌∙◌, ◌<◌, inl, inr, ℕ, zero, suc, true, List, [], ◌∷◌, Some, None, Ok, Err, refl, sym, ap, subst, ⊎_elim, arith}
 use Rattle.std.specs.Prelude.{Contains, pos, slice_get}
 use Rattle.std.specs.List.{IsDistinct}
 use Rattle.std.proofs.lemmas.List.Elements.{All-nil}
-use Rattle.nix_names.proofs.Lists.{Contains-cons_cases, Contains-first, Contains-later, Contains-nothing}
+use Rattle.nix_names.proofs.Lists.{Contains-first, Contains-from_map, Contains-later, Contains-nothing}
+use Rattle.nix_drv.specs.Derivation.{Output}
 use Rattle.drv_graph.specs.Nodes.{Node}
+use Rattle.drv_graph.specs.Twins.{are_twins_at}
 use Rattle.drv_graph.specs.PlanNodes.{output_paths_of}
+use Rattle.drv_graph.specs.Plans.{Graph}
 use Rattle.drv_graph.specs.declared.kinds.Kind.TheVariants.{Addressed, Fixed}
 use Rattle.drv_graph.proofs.KindAnswers.{one_kind}
 use Rattle.valid_table.specs.Entries.{registered}
 use Rattle.valid_table.specs.PathInfos.{PathInfo}
 use Rattle.valid_table.specs.Valid.{HasDrvPath, IsJournal}
 use Rattle.valid_table.specs.declared.entry.Entry.{Entry}
+use Rattle.valid_table.specs.declared.entry.Entry.TheVariants.{Done as Entered}
 use Rattle.valid_table.specs.declared.entry.Registration.{Registration}
 use Rattle.sched_core.specs.Books.{ArePermittedPaths, IsRunSettled, opened}
 use Rattle.sched_core.specs.Courses.{IsOpen}
 use Rattle.sched_core.specs.Jobs.{IsJob, seeds_of}
-use Rattle.sched_core.specs.Legal.{ArePermitted, IsAllowed, IsEntryOf, IsLegal, begun, ended, failed, legal_begin, legal_done, legal_fail, legal_opening}
-use Rattle.sched_core.specs.Runs.{IsWanted, state_in, wanted_root}
-use Rattle.sched_core.specs.States.{state, states, table}
+use Rattle.sched_core.specs.Legal.{AreNewOutputs, AreOutputRecords, ArePermitted, IsAllowed, IsEntryOf, IsLegal, begun, ended, failed, legal_begin, legal_done, legal_fail, legal_opening}
+use Rattle.sched_core.specs.Runs.{History, IsWanted, earlier_twins, state_in, wanted_root}
+use Rattle.sched_core.specs.States.{Broken, Ended}
 use Rattle.sched_core.specs.Verdicts.{outputs_of}
 use Rattle.sched_core.specs.declared.job.Job.{Job}
 use Rattle.sched_core.specs.declared.reason.Event.TheVariants.{Begin, Done as Finish, Fail}
@@ -26,24 +30,28 @@ use Rattle.sched_core.specs.declared.reason.Reason.{Reason}
 use Rattle.sched_core.specs.declared.reason.Reason.TheVariants.{ExitStatus, OutOfMemory}
 use Rattle.sched_core.specs.declared.reason.State.{State}
 use Rattle.sched_core.specs.declared.reason.State.TheVariants.{Done, Failed, Ready}
+use Rattle.sched_core.specs.declared.standing.Standing.TheVariants.{Free}
+use Rattle.sched_core.proofs.TwinLaws.{is_earlier_twin, is_there, turned, twins_path}
 use Rattle.store_run.specs.Builders.{IsAnswered, IsVerdictBehind, answered_begin, answered_done, answered_fail, answered_opening}
 use Rattle.store_run.specs.OneThread.{IsOneThread, turn_done, turn_failed, turn_opening}
 use Rattle.store_run.specs.Scheduling.{HasMemory, IsWholeRun}
-use Rattle.store_run.specs.ScheduleExample.{Overlap, both, in_turn, left, made, making, may_leave, out_alone, right, side_by_side}
-use Rattle.store_run.proofs.AlonePlans.{both_sound, kind_alone}
+use Rattle.store_run.specs.ScheduleExample.{Overlap, both, failing, in_turn, left, made, making, may_leave, out_alone, right, side_by_side}
+use Rattle.store_run.proofs.AlonePlans.{both_sound, kind_alone, one_of, outputs_differ}
 use Rattle.store_run.proofs.OneOutcome.{job_outputs, job_seeds}
-use Rattle.store_run.proofs.ExampleJobs.{both_outcome, left_answer, left_is_job, left_job, left_leaves, left_may, left_verdict, no_cycle, nothing_in, right_answer, right_is_job, right_job, right_leaves, right_may, right_verdict}
+use Rattle.store_run.proofs.ExampleJobs.{both_outcome, is_job_of_right, job_of_right, left_answer, left_is_job, left_job, left_leaves, left_may, left_verdict, no_cycle, nothing_in, right_answer, right_leaves, right_may, right_verdict}
+use Rattle.store_run.proofs.Unhindered.{IsUnhindered, inputs_in, standing_in, state_by, unhindered_ready}
 
 -- ---- verdicts behind some entries
 
 -- to a job without seeds just its own outputs are permitted
-permitted_own : (entries : List Entry) (d : ℕ) (job : Job) (node : Node) → IsJob both.graph d job
-    → slice_get both.graph.nodes d ≡ Some node → seeds_of both.graph.nodes node.drv ≡ []
+pub permitted_own : (graph : Graph) (entries : List Entry) (d : ℕ) (job : Job) (node : Node)
+    → IsJob graph d job → slice_get graph.nodes d ≡ Some node
+    → seeds_of graph.nodes node.drv ≡ []
     → (path : List ℕ) → output_paths_of node.drv ≡ path ∷ []
     → ArePermittedPaths entries job (path ∷ [])
-permitted_own entries d job node is at none path one =
-    let seeds : job.seeds.items ≡ [] = job_seeds both.graph d job node is at ∙ none in
-    let outputs : outputs_of job ≡ path ∷ [] = job_outputs both.graph d job node is at ∙ one in
+permitted_own graph entries d job node is at none path one =
+    let seeds : job.seeds.items ≡ [] = job_seeds graph d job node is at ∙ none in
+    let outputs : outputs_of job ≡ path ∷ [] = job_outputs graph d job node is at ∙ one in
     subst (λ (ss : List (List ℕ)). ArePermitted (registered entries) ss (outputs_of job)
     (path ∷ [])) (sym seeds)
     (subst (λ (os : List (List ℕ)). ArePermitted (registered entries) [] os (path ∷ []))
@@ -65,7 +73,7 @@ left_behind entries = record {
     left_may,
     (
       output_paths_of left.drv,
-      permitted_own entries 0 left_job left left_is_job refl refl _ refl,
+      permitted_own both.graph entries 0 left_job left left_is_job refl refl _ refl,
       left_verdict left_job (output_paths_of left.drv) left_answer left_leaves,
     ),
   );
@@ -74,22 +82,24 @@ left_behind entries = record {
 right_behind : (entries : List Entry)
     → IsVerdictBehind may_leave both entries 1 (Ok (nothing_in ∷ []))
 right_behind entries = record {
-  job = right_job;
-  is_job = right_is_job;
+  job = job_of_right 1;
+  is_job = is_job_of_right both.graph 1 refl;
   comes_to = (
     Ok right_answer,
     right_may,
     (
       output_paths_of right.drv,
-      permitted_own entries 1 right_job right right_is_job refl refl _ refl,
-      right_verdict right_job right_is_job right_answer right_leaves (output_paths_of right.drv),
+      permitted_own both.graph entries 1 (job_of_right 1) right (is_job_of_right both.graph 1 refl)
+          refl refl _ refl,
+      right_verdict both.graph 1 refl (job_of_right 1) (is_job_of_right both.graph 1 refl)
+          right_answer right_leaves (output_paths_of right.drv),
     ),
   );
 }
 
 -- ---- the steps
 
-journal : IsJournal []
+pub journal : IsJournal []
 unfolding IsDistinct
 journal = record { closed = tt; once = tt; derived = All-nil HasDrvPath }
 
@@ -99,83 +109,128 @@ wanted opening (suc zero) low =
     wanted_root 1 (Contains-later 0 (1 ∷ []) 1 (Contains-first 1 []))
 wanted opening (suc (suc d)) low = absurd (omega arith)
 
-none_refers : (info : PathInfo) (path : List ℕ) → Contains (nothing_in ∷ []) info
-    → Contains info.references path → ⊥
-none_refers info path has refers =
-    ⊎_elim
-    (λ same. Contains-nothing path
-    (subst (λ (i : PathInfo). Contains i.references path) (sym same) refers))
-    (λ none. Contains-nothing info none) (Contains-cons_cases nothing_in [] info has)
+-- a record without references may be registered for the one output of a derivation, where that is
+-- new
+module _ (info : PathInfo) (none : info.references ≡ []) where
+  none_refers : (other : PathInfo) (path : List ℕ) → Contains (info ∷ []) other
+      → Contains other.references path → ⊥
+  none_refers other path has refers =
+      Contains-nothing path
+      (subst (λ (l : List (List ℕ)). Contains l path)
+      (ap (λ (i : PathInfo). i.references) (sym (one_of info other has)) ∙ none) refers)
+
+  pub one_allowed : (graph : Graph) (entries : List Entry) (node : Node)
+      → AreOutputRecords node.drv (info ∷ []) → AreNewOutputs entries node.drv
+      → IsAllowed graph entries node (info ∷ [])
+  one_allowed graph entries node own new = record {
+    records = record { own = own; acyclic = no_cycle info none (output_paths_of node.drv) };
+    new = new;
+    permitted = λ other path has refers. absurd (none_refers other path has refers);
+  }
+
+-- its entry
+module _ (node : Node) (own : List ℕ) (info : PathInfo)
+    (one : output_paths_of node.drv ≡ own ∷ []) where
+  abbrev registration : Registration
+  registration = record { path = own; info = info }
+
+  first_path : slice_get (output_paths_of node.drv) 0 ≡ Some own
+  first_path = ap (λ (l : List (List ℕ)). slice_get l 0) one
+
+  there : (path : List ℕ) (other : PathInfo)
+      → Contains (registration ∷ []) (record { path = path; info = other })
+      → (n : ℕ) × (slice_get (output_paths_of node.drv) n ≡ Some path)
+      × (slice_get (info ∷ []) n ≡ Some other)
+  there path other (zero, low, is) = (
+    0,
+    first_path ∙ ap (λ (r : Registration). Some r.path) is,
+    ap (λ (r : Registration). Some r.info) is,
+  )
+  there path other (suc k, low, is) = absurd (omega arith)
+
+  back : (path : List ℕ) (other : PathInfo)
+      → (n : ℕ) × (slice_get (output_paths_of node.drv) n ≡ Some path)
+      × (slice_get (info ∷ []) n ≡ Some other)
+      → Contains (registration ∷ []) (record { path = path; info = other })
+  back path other (zero, at, at') =
+      let paths : own ≡ path = let both_at = sym first_path ∙ at in cc in
+      let infos : info ≡ other = cc in
+      (0, omega arith, λ i. record { path = paths i; info = infos i })
+  back path other (suc n, at, at') = absurd cc
+
+  pub one_entry : IsEntryOf node (info ∷ []) (Entered node.path (registration ∷ []))
+  one_entry = record {
+    outputs = registration ∷ [];
+    is_done = refl;
+    rising = tt;
+    each = λ path other. (there path other, back path other);
+  }
 
 -- what right made may be registered
-right_allowed : IsAllowed both.graph [] right (nothing_in ∷ [])
-right_allowed = record {
-  records = record {
-    own = record {
+pub right_allowed : (graph : Graph) (entries : List Entry) → AreNewOutputs entries right.drv
+    → IsAllowed graph entries right (nothing_in ∷ [])
+right_allowed graph entries new =
+    one_allowed nothing_in refl graph entries right (record {
       count = refl;
       fixed = λ method digest kind info has.
           let clash : Addressed ≡ Fixed method digest = one_kind right.drv Addressed
           (Fixed method digest) (kind_alone making) kind in
           absurd cc;
-    };
-    acyclic = no_cycle (output_paths_of right.drv);
-  };
-  new = λ path own valid. Contains-nothing path valid;
-  permitted = λ info path has refers. absurd (none_refers info path has refers);
-}
+    }) new
 
-right_entry : IsEntryOf right (nothing_in ∷ []) made
-right_entry = record {
-  outputs = record {
-    path = out_alone making;
-    info = nothing_in;
-  } ∷ [];
-  is_done = refl;
-  rising = tt;
-  each = λ path info. (there path info, back path info);
-}
-  where
-    there : (path : List ℕ) (info : PathInfo)
-        → Contains {X = Registration} (record {
-          path = out_alone making;
-          info = nothing_in;
-        } ∷ []) (record { path = path; info = info })
-        → (n : ℕ) × (slice_get (output_paths_of right.drv) n ≡ Some path)
-        × (slice_get (nothing_in ∷ []) n ≡ Some info)
-    there path info (zero, low, is) =
-        (0, ap (λ (r : Registration). Some r.path) is, ap (λ (r : Registration). Some r.info) is)
-    there path info (suc k, low, is) = absurd (omega arith)
+pub right_entry : IsEntryOf right (nothing_in ∷ []) made
+right_entry = one_entry right (out_alone making) nothing_in refl
 
-    back : (path : List ℕ) (info : PathInfo)
-        → (n : ℕ) × (slice_get (output_paths_of right.drv) n ≡ Some path)
-        × (slice_get (nothing_in ∷ []) n ≡ Some info)
-        → Contains {X = Registration} (record {
-          path = out_alone making;
-          info = nothing_in;
-        } ∷ []) (record { path = path; info = info })
-    back path info (zero, at, at') =
-        let paths : out_alone making ≡ path = cc in
-        let infos : nothing_in ≡ info = cc in
-        (0, omega arith, λ i. record { path = paths i; info = infos i })
-    back path info (suc n, at, at') = absurd cc
+pub none_valid : (node : Node) → AreNewOutputs [] node.drv
+none_valid node path own valid = Contains-nothing path valid
 
 -- ---- side by side
 
+-- the two make different outputs, so neither has a twin
+no_twin : (opening : List Entry) (d t : ℕ) → Contains (earlier_twins both opening d) t → ⊥
+no_twin opening d t has =
+    let is = is_earlier_twin both opening d t has in by d t is.earlier is.twins
+  where
+    by : (d t : ℕ) → t < d
+        → are_twins_at (slice_get both.graph.nodes t) (slice_get both.graph.nodes d) ≡ true → ⊥
+    by zero t low twins = absurd (omega arith)
+    by (suc zero) (suc t) low twins = absurd (omega arith)
+    by (suc zero) zero low twins =
+        let path_in : Output → List ℕ = λ o. o.path in
+        let own : Contains (output_paths_of left.drv) (out_alone failing) =
+        Contains-first (out_alone failing) [] in
+        let one = Contains-from_map path_in left.drv.outputs (out_alone failing) own in
+        let other = Contains-from_map path_in right.drv.outputs (out_alone failing)
+        (twins_path left.drv right.drv (out_alone failing) twins own) in
+        outputs_differ (one.0, other.0, one.1, other.1, one.2 ∙ sym other.2)
+    by (suc (suc d)) t low twins =
+        let there = is_there None (slice_get both.graph.nodes t)
+        (turned (slice_get both.graph.nodes t) None twins) in
+        let clash : None ≡ Some there.0 = there.1 in
+        cc
+
+-- so each of them is ready until it begins
+unhindered : (history : History) (d : ℕ) → standing_in both history d ≡ Free
+    → inputs_in both d ≡ [] → IsUnhindered both history d
+unhindered history d free none = record {
+  free = free;
+  spent = λ t has. absurd (no_twin history.opening d t has);
+  good = λ i has. absurd (Contains-nothing i (subst (λ l. Contains l i) none has));
+}
+
 first_ready : state_in both (opened []) 0 ≡ Ready
-unfolding state states table
-first_ready = refl
+first_ready =
+    unhindered_ready both (opened []) both_sound 0 (unhindered (opened []) 0 refl refl) refl
 
 second_ready : state_in both (begun (opened []) 0) 1 ≡ Ready
-unfolding state states table
-second_ready = refl
+second_ready = unhindered_ready both (begun (opened []) 0) both_sound 1
+    (unhindered (begun (opened []) 0) 1 refl refl) refl
 
 pub left_failed : state_in both side_by_side 0 ≡ Failed (ExitStatus (pos 1))
-unfolding state states table
-left_failed = refl
+left_failed = state_by both side_by_side both_sound 0 (Broken (ExitStatus (pos 1))) refl
 
 pub right_built : state_in both side_by_side 1 ≡ Done
-unfolding state states table
-right_built = refl
+right_built = state_by both side_by_side both_sound 1 Ended refl
 
 legal_both : IsLegal both (begun (begun (opened []) 0) 1)
 legal_both =
@@ -187,7 +242,7 @@ legal : IsLegal both side_by_side
 legal =
     legal_fail (ended (begun (begun (opened []) 0) 1) 1 1 made) 0 0 (ExitStatus (pos 1))
     (legal_done (begun (begun (opened []) 0) 1) 1 1 right (nothing_in ∷ []) made legal_both refl
-    refl right_allowed right_entry) refl
+    refl (right_allowed both.graph [] (none_valid right)) right_entry) refl
 
 answered : IsAnswered may_leave both side_by_side
 answered =
@@ -197,12 +252,12 @@ answered =
     (answered_begin (opened []) 0 (answered_opening []))) refl (right_behind []) right_entry)
     (inr (left_behind (made ∷ [])))
 
-closed_failed : (s : State) (reason : Reason) → s ≡ Failed reason → IsOpen s → ⊥
+pub closed_failed : (s : State) (reason : Reason) → s ≡ Failed reason → IsOpen s → ⊥
 closed_failed s reason is (inl blocked) = cc
 closed_failed s reason is (inr (inl ready)) = cc
 closed_failed s reason is (inr (inr (lease, building))) = cc
 
-closed_done : (s : State) → s ≡ Done → IsOpen s → ⊥
+pub closed_done : (s : State) → s ≡ Done → IsOpen s → ⊥
 closed_done s is (inl blocked) = cc
 closed_done s is (inr (inl ready)) = cc
 closed_done s is (inr (inr (lease, building))) = cc
@@ -245,8 +300,9 @@ overlap = record {
 -- ---- in turn
 
 right_ready : state_in both (failed (begun (opened []) 0) 0 0 (ExitStatus (pos 1))) 1 ≡ Ready
-unfolding state states table
-right_ready = refl
+right_ready =
+    unhindered_ready both (failed (begun (opened []) 0) 0 0 (ExitStatus (pos 1))) both_sound 1
+    (unhindered (failed (begun (opened []) 0) 0 0 (ExitStatus (pos 1))) 1 refl refl) refl
 
 pub thread : IsOneThread may_leave both [] in_turn
 thread =

@@ -10,7 +10,8 @@ use Rattle.sched_core.specs.Runs.{cause_at, is_unsupported, is_valid, or_else, o
 use Rattle.sched_core.specs.declared.reason.Refusal.{Refusal}
 use Rattle.sched_core.specs.declared.reason.Refusal.TheVariants.{MissingSource, PartlyValid, Unsupported, WrongSystem}
 use Rattle.sched_core.specs.declared.standing.Standing.TheVariants.{AllValid, Free}
-use Rattle.sched_core.proofs.Seeds.{cause_none, list_all_has, none_found, not_false, or_else_none, standing_all, standing_free}
+use Rattle.sched_core.proofs.Seeds.{cause_none, none_found, not_false, or_else_none, standing_all, standing_free}
+use Rattle.sched_core.proofs.Tests.{list_all_has}
 
 or_else_first : (a b : Option Refusal) → or_else a b ≡ None → a ≡ None
 or_else_first (Some cause) b is = absurd cc

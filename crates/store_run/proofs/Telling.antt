@@ -20,14 +20,16 @@ use Rattle.valid_table.proofs.JournalLists.{closed_references_valid, registered-
 use Rattle.sched_core.specs.Headline.{AreDrvPaths}
 use Rattle.sched_core.specs.Jobs.{seeds_of}
 use Rattle.sched_core.specs.Legal.{IsEntryOf, IsLegal, begins, begun, ended, failed}
-use Rattle.sched_core.specs.Runs.{History, IsWanted, Run, standing_at, state_in}
-use Rattle.sched_core.specs.States.{Phase, Idle, Begun, Ended, Broken, is_good, later, phase_by, phase_of}
+use Rattle.sched_core.specs.Runs.{History, IsWanted, Run, earlier_twins, rows_of, standing_at, state_in}
+use Rattle.sched_core.specs.States.{Phase, Idle, Begun, Ended, Broken, is_bad, is_good, is_open, later, phase_by, phase_of, state}
 use Rattle.sched_core.specs.declared.job.Answer.{Answer}
 use Rattle.sched_core.specs.declared.job.Job.{Job}
 use Rattle.sched_core.specs.declared.reason.Event.{Event}
 use Rattle.sched_core.specs.declared.reason.Event.TheVariants.{Begin, Done as Finish, Fail}
 use Rattle.sched_core.specs.declared.reason.Reason.{Reason}
-use Rattle.sched_core.specs.declared.reason.State.TheVariants.{Ready}
+use Rattle.sched_core.specs.declared.reason.State.{State}
+use Rattle.sched_core.specs.declared.reason.State.TheVariants.{Blocked, Building, Done, Failed, Ready, Refused, Reused}
+use Rattle.sched_core.proofs.ClosedStates.{bad_is_closed, states_stay}
 use Rattle.sched_core.proofs.Dones.{registered_output}
 use Rattle.sched_core.proofs.Histories.{ready_is_idle}
 use Rattle.sched_core.proofs.Permitting.{begun_event}
@@ -35,7 +37,7 @@ use Rattle.sched_core.proofs.Registering.{entries_are_journal}
 use Rattle.sched_core.proofs.Seeds.{phase_push, same_number, seeds_are_valid}
 use Rattle.store_run.specs.Builders.{IsVerdictBehind}
 use Rattle.store_run.proofs.ToldRuns.{IsTold, told_begin, told_done, told_fail, told_opening}
-use Rattle.store_run.proofs.Unhindered.{IsGoodBy, IsUnhindered, good_ended, good_is, good_reused, is_good_by, ready_unhindered, state_by}
+use Rattle.store_run.proofs.Unhindered.{IsGoodBy, IsUnhindered, good_ended, good_is, good_reused, good_twin, is_good_by, ready_unhindered, state_by, twins_in}
 
 -- ---- where a derivation stands behind one event more
 
@@ -98,24 +100,61 @@ pub record WasBegun (run : Run) (history : History) (d : ℕ) : Type 0 where
   pub wanted : IsWanted run history.opening d
   pub unhindered : IsUnhindered run history d
 
+good_is_closed : (s : State) → is_good s ≡ true → is_open s ≡ false
+good_is_closed Done good = refl
+good_is_closed Reused good = refl
+good_is_closed (Failed reason) good = refl
+good_is_closed (Refused cause) good = refl
+good_is_closed (Building lease) good = absurd cc
+good_is_closed Ready good = absurd cc
+good_is_closed Blocked good = absurd cc
+
 module _ (run : Run) (sound : IsSound run.graph) (history after : History) (x : Event)
     (opening : after.opening ≡ history.opening) (events : after.events ≡ history.events ++ x ∷ [])
-    (bad : is_good (state_in run history (number_of x)) ≡ true → ⊥) where
-  -- an event of a derivation that isn't good leaves the good ones good
+    (still : is_open (state_in run history (number_of x)) ≡ true) where
+  -- a derivation that isn't open has no event
+  phase : (i : ℕ) → is_open (state_in run history i) ≡ false
+      → phase_of after.events i ≡ phase_of history.events i
+  phase i closed = ap (λ (es : List Event). phase_of es i) events
+      ∙ phase_other history.events x i (λ same.
+      let clash : false ≡ true =
+      sym closed ∙ ap (λ n. is_open (state_in run history n)) (sym same) ∙ still in cc)
+
+  -- an event of an open derivation leaves the good ones good
   good_stays : (i : ℕ) → is_good (state_in run history i) ≡ true
       → is_good (state_in run after i) ≡ true
   good_stays i good = is_good_by run after sound i (by (good_is run history sound i good))
     where
-      phase : phase_of after.events i ≡ phase_of history.events i
-      phase = ap (λ (es : List Event). phase_of es i) events
-          ∙ phase_other history.events x i (λ same.
-          bad (subst (λ n. is_good (state_in run history n) ≡ true) (sym same) good))
+      here : phase_of after.events i ≡ phase_of history.events i
+      here = phase i (good_is_closed (state_in run history i) good)
 
       by : IsGoodBy run history i → IsGoodBy run after i
-      by (good_ended at) = good_ended (phase ∙ at)
-      by (good_reused at stands) = good_reused (phase ∙ at)
+      by (good_ended at) = good_ended (here ∙ at)
+      by (good_reused at stands) = good_reused (here ∙ at)
           (ap (λ (opens : List Entry). standing_at run.system opens (slice_get run.graph.nodes i))
           opening ∙ stands)
+      by (good_twin t at has ends) = good_twin t (here ∙ at)
+          (subst (λ (opens : List Entry). Contains (earlier_twins run opens i) t) (sym opening) has)
+          (phase t (ap is_open (state_by run history sound t Ended ends)) ∙ ends)
+
+  -- and the bad ones bad
+  bad_stays : (i : ℕ) → is_bad (state_in run history i) ≡ true
+      → is_bad (state_in run after i) ≡ true
+  bad_stays i bad =
+      subst (λ (opens : List Entry). is_bad (state (rows_of run opens after.events) i) ≡ true)
+      (sym opening)
+      ((states_stay (rows_of run history.opening history.events) (phase_of after.events) moves i
+      (bad_is_closed (state_in run history i) bad)).2 ∙ bad)
+    where
+      moves : (d : ℕ) → (phase_of after.events d ≡ phase_of history.events d)
+          ⊎ (is_open (state_in run history d) ≡ true)
+      moves d = by (is_open (state_in run history d)) refl
+        where
+          by : (b : Bool) → is_open (state_in run history d) ≡ b
+              → (phase_of after.events d ≡ phase_of history.events d)
+              ⊎ (is_open (state_in run history d) ≡ true)
+          by true is = inr is
+          by false is = inl (phase d is)
 
   begun_stays : (d : ℕ) → WasBegun run history d → WasBegun run after d
   begun_stays d was = record {
@@ -124,20 +163,16 @@ module _ (run : Run) (sound : IsSound run.graph) (history after : History) (x : 
     unhindered = record {
       free = ap (λ (opens : List Entry). standing_at run.system opens
           (slice_get run.graph.nodes d)) opening ∙ was.unhindered.free;
+      spent = λ t has. bad_stays t (was.unhindered.spent t
+          (subst (λ (opens : List Entry). Contains (earlier_twins run opens d) t) opening has));
       good = λ i has. good_stays i (was.unhindered.good i has);
     };
   }
 
-ready_is_not_good : (run : Run) (history : History) (d : ℕ) → state_in run history d ≡ Ready
-    → is_good (state_in run history d) ≡ true → ⊥
-ready_is_not_good run history d ready good =
-    let clash : false ≡ true = sym (ap is_good ready) ∙ good in cc
-
-building_is_not_good : (run : Run) → IsSound run.graph → (history : History) (d lease : ℕ)
-    → phase_of history.events d ≡ Begun lease → is_good (state_in run history d) ≡ true → ⊥
-building_is_not_good run sound history d lease phase good =
-    let clash : false ≡ true =
-    sym (ap is_good (state_by run history sound d (Begun lease) phase)) ∙ good in cc
+building_is_open : (run : Run) → IsSound run.graph → (history : History) (d lease : ℕ)
+    → phase_of history.events d ≡ Begun lease → is_open (state_in run history d) ≡ true
+building_is_open run sound history d lease phase =
+    ap is_open (state_by run history sound d (Begun lease) phase)
 
 -- one phase is no other
 begun_not_idle : (p : Phase) (lease : ℕ) → p ≡ Begun lease → p ≡ Idle → ⊥
@@ -161,7 +196,7 @@ module _ (excused : Reason → Type 0) (may : Job → Result Answer Reason → T
   begun_is _ (told_opening entries journal) d moved = absurd (moved refl)
   begun_is _ (told_begin history e told legal can) d moved =
       begun_stays run sound history (begun history e) (Begin e (begins history.events)) refl refl
-      (ready_is_not_good run history e can.ready) d
+      (ap is_open can.ready) d
       (⊎_elim
       (λ same. subst (WasBegun run history) same (record {
         within = can.within;
@@ -174,7 +209,7 @@ module _ (excused : Reason → Type 0) (may : Job → Result Answer Reason → T
   begun_is _ (told_done history e lease node infos entry told legal phase is_node came is_entry) d
       moved =
       begun_stays run sound history (ended history e lease entry) (Finish e lease) refl refl
-      (building_is_not_good run sound history e lease phase) d
+      (building_is_open run sound history e lease phase) d
       (begun_is history told d (λ idle. ⊎_elim
       (λ same. begun_not_idle (phase_of history.events e) lease phase
       (ap (phase_of history.events) same ∙ idle))
@@ -182,7 +217,7 @@ module _ (excused : Reason → Type 0) (may : Job → Result Answer Reason → T
       (same_or_other e d)))
   begun_is _ (told_fail history e lease reason told legal phase why) d moved =
       begun_stays run sound history (failed history e lease reason) (Fail e lease reason) refl refl
-      (building_is_not_good run sound history e lease phase) d
+      (building_is_open run sound history e lease phase) d
       (begun_is history told d (λ idle. ⊎_elim
       (λ same. begun_not_idle (phase_of history.events e) lease phase
       (ap (phase_of history.events) same ∙ idle))

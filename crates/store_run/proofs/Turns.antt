@@ -1,9 +1,9 @@
 -- A history in which all derivations had their turns is a legal one that is settled, and tells what
 -- each event follows from, without an excuse.
 use Rattle.std.proofs.Common.{◌≡◌, ◌&&◌, cond, ◌∙◌, ◌⊎◌, inl, inr, ◌<◌, ◌≤◌, ℕ, zero, suc, Bool, true, false, List, [], ◌∷◌, length, take, drop, Result, Ok, Err, Option, Some, None, refl, sym, ap, subst, ⊎_elim, arith}
-use Rattle.std.specs.Prelude.{Contains, find, slice_get}
-use Rattle.std.specs.List.{list_all}
-use Rattle.std.proofs.lemmas.List.{length-take-le}
+use Rattle.std.specs.Prelude.{Contains, find, if◌then◌else◌, slice_get}
+use Rattle.std.specs.List.{list_all, list_any}
+use Rattle.std.proofs.lemmas.Bool.{and_from, false≢true}
 use Rattle.std.specs.Cmp.Lexicographic.{nat_list_eq_equiv}
 use Rattle.std.proofs.lemmas.Map.Views.{list_any-from_Contains}
 use Rattle.std.proofs.lemmas.Option.{slice_get_within}
@@ -21,8 +21,9 @@ use Rattle.valid_table.proofs.ClosureLaws.{registers_from_valid}
 use Rattle.sched_core.specs.Books.{CanBegin, IsRunSettled}
 use Rattle.sched_core.specs.Courses.{IsOpen}
 use Rattle.sched_core.specs.Legal.{IsAllowed, IsLegal, legal_begin, legal_done, legal_fail, legal_opening, begins, begun, ended, failed}
-use Rattle.sched_core.specs.Runs.{History, IsWanted, Run, is_valid, standing_at, state_in, wanted_input}
-use Rattle.sched_core.specs.States.{Idle, Ended, Broken, by_first, by_phase, by_standing, is_bad, is_good, phase_of}
+use Rattle.sched_core.specs.Runs.{History, IsWanted, Run, is_valid, is_wanted, standing_at, state_in, wanted_input}
+use Rattle.sched_core.specs.States.{Idle, Ended, Broken, by_first, by_hindrance, by_phase, by_validity, is_bad, is_done, is_good, is_open, phase_of}
+use Rattle.drv_graph.specs.Twins.{are_twins_at}
 use Rattle.sched_core.specs.declared.job.Answer.{Answer}
 use Rattle.sched_core.specs.declared.job.Job.{Job}
 use Rattle.sched_core.specs.declared.reason.Event.TheVariants.{Begin, Done as Finish, Fail}
@@ -31,54 +32,23 @@ use Rattle.sched_core.specs.declared.reason.State.{State}
 use Rattle.sched_core.specs.declared.reason.State.TheVariants.{Blocked, Building, Done, Failed, Ready, Refused, Reused}
 use Rattle.sched_core.specs.declared.standing.Standing.{Standing}
 use Rattle.sched_core.specs.declared.standing.Standing.TheVariants.{AllValid, Hindered, Free}
+use Rattle.sched_core.proofs.EarlierTwins.{twins_from}
+use Rattle.sched_core.proofs.SharedOutputs.{sharers}
 use Rattle.sched_core.proofs.Histories.{ready_is_idle}
+use Rattle.sched_core.proofs.NearestTwins.{legal_ended}
 use Rattle.sched_core.proofs.PlanInputs.{inputs_first}
 use Rattle.sched_core.proofs.Registrable.{verdicts_are_registrable}
+use Rattle.sched_core.proofs.TwinLaws.{is_earlier_twin, turned}
+use Rattle.sched_core.proofs.Wanting.{wanted_told}
 use Rattle.sched_core.specs.VerdictLaws.{AreRegistrable}
 use Rattle.store_run.specs.Builders.{IsOutcomeVerdict, IsVerdictBehind}
 use Rattle.store_run.specs.OneThread.{HadTurns, IsOneThread, turn_done, turn_failed, turn_opening, turn_skipped}
 use Rattle.store_run.proofs.Carried.{valid_from_registers}
 use Rattle.store_run.proofs.OneOutcome.{refers_behind}
 use Rattle.store_run.proofs.Standings.{output_of_free}
-use Rattle.store_run.proofs.Telling.{IsFrom, from_built, from_is, from_opening, phase_begun, phase_broken, phase_ended, phase_other, same_or_other}
+use Rattle.store_run.proofs.Telling.{IsFrom, begun_is, from_built, from_is, from_opening, phase_begun, phase_broken, phase_ended, phase_other, same_or_other}
 use Rattle.store_run.proofs.ToldRuns.{IsTold, told_begin, told_done, told_fail, told_opening}
-use Rattle.store_run.proofs.Unhindered.{aside_same, inputs_in, ready_unhindered, standing_in, state_by}
-
--- ---- an output is made by one derivation
-
-before_at : (nodes : List Node) (a b : ℕ) (x y : Node) → a < b → slice_get nodes a ≡ Some x
-    → slice_get nodes b ≡ Some y → Contains (take b nodes) x
-before_at nodes a b x y less at at' =
-    let within = slice_get_within nodes b y at' in
-    let found = element_at (take b nodes) a
-    (omega (arith, less, length-take-le b nodes (omega (arith, within)))) in
-    let there : slice_get nodes a ≡ Some found.0 =
-    subst (λ (ns : List Node). slice_get ns a ≡ Some found.0) (sym (split_get nodes b y at'))
-    (get_grows (take b nodes) (y ∷ drop (suc b) nodes) a found.0 found.1) in
-    subst (Contains (take b nodes)) (same_element nodes a found.0 x there at)
-    (Contains-from_get (take b nodes) a found.0 found.1)
-
-not_shared : (graph : Graph) → IsSound graph → (a b : ℕ) (x y : Node) (path : List ℕ) → a < b
-    → slice_get graph.nodes a ≡ Some x → slice_get graph.nodes b ≡ Some y
-    → Contains (output_paths_of x.drv) path → Contains (output_paths_of y.drv) path → ⊥
-not_shared graph sound a b x y path less at at' own own' =
-    let lawful = sound.lawful (take b graph.nodes) (drop (suc b) graph.nodes) y
-    (split_get graph.nodes b y at') in
-    let path_in : Output → List ℕ = λ o. o.path in
-    let one = Contains-from_map path_in x.drv.outputs path own in
-    let two = Contains-from_map path_in y.drv.outputs path own' in
-    lawful.alone x (before_at graph.nodes a b x y less at at')
-    (one.0, two.0, one.1, two.1, one.2 ∙ sym two.2)
-
-one_maker : (graph : Graph) → IsSound graph → (a b : ℕ) (x y : Node) (path : List ℕ)
-    → slice_get graph.nodes a ≡ Some x → slice_get graph.nodes b ≡ Some y
-    → Contains (output_paths_of x.drv) path → Contains (output_paths_of y.drv) path → a ≡ b
-one_maker graph sound a b x y path at at' own own' =
-    ⊎_elim (λ same. same)
-    (λ apart. ⊎_elim
-    (λ less. absurd (not_shared graph sound a b x y path less at at' own own'))
-    (λ more. absurd (not_shared graph sound b a y x path more at' at own' own)) apart)
-    (either_side a b)
+use Rattle.store_run.proofs.Unhindered.{aside_same, inputs_in, none_passes, ready_unhindered, standing_in, state_by, twins_in}
 
 -- ---- states of the first derivations
 
@@ -91,9 +61,13 @@ states_before run sound history after opening d phases zero e low less = absurd 
 states_before run sound history after opening d phases (suc bound) e low less =
     state_by run history sound e (phase_of after.events e) (phases e less)
     ∙ ap (by_phase (phase_of after.events e))
-    (aside_same run history after e opening (λ i has.
+    (aside_same run history after e opening
+    (λ i has.
     let first = inputs_first run.graph sound e i has in
-    states_before run sound history after opening d phases bound i (omega arith) (omega arith)))
+    states_before run sound history after opening d phases bound i (omega arith) (omega arith))
+    (λ t has.
+    let first = (is_earlier_twin run history.opening e t has).earlier in
+    states_before run sound history after opening d phases bound t (omega arith) (omega arith)))
     ∙ sym (state_by run after sound e (phase_of after.events e) refl)
 
 -- what isn't open is good or bad
@@ -105,6 +79,15 @@ not_open (Refused cause) closed = inr refl
 not_open (Building lease) closed = absurd (closed (inr (inr (lease, refl))))
 not_open Ready closed = absurd (closed (inr (inl refl)))
 not_open Blocked closed = absurd (closed (inl refl))
+
+closed_is : (s : State) → (IsOpen s → ⊥) → is_open s ≡ false
+closed_is Done closed = refl
+closed_is Reused closed = refl
+closed_is (Failed reason) closed = refl
+closed_is (Refused cause) closed = refl
+closed_is (Building lease) closed = absurd (closed (inr (inr (lease, refl))))
+closed_is Ready closed = absurd (closed (inr (inl refl)))
+closed_is Blocked closed = absurd (closed (inl refl))
 
 -- behind such inputs nothing is blocked
 all_good_or_bad : (f : ℕ → State) (inputs : List ℕ)
@@ -130,20 +113,34 @@ never_blocked (Some i) all closed is = cc
 never_blocked None true closed is = cc
 never_blocked None false closed is = let clash : false ≡ true = closed refl in cc
 
--- a derivation without an event is open only where it is ready or an input of it is open
-idle_open : (standing : Standing) (first : Option ℕ) (all : Bool)
-    → (standing ≡ Free → first ≡ None → all ≡ true)
-    → IsOpen (by_phase Idle (by_standing standing (by_first first all)))
-    → by_phase Idle (by_standing standing (by_first first all)) ≡ Ready
-idle_open AllValid first all closed (inl is) = absurd cc
-idle_open AllValid first all closed (inr (inl is)) = is
-idle_open AllValid first all closed (inr (inr is)) = let clash = is.1 in absurd cc
-idle_open (Hindered cause) first all closed (inl is) = absurd cc
-idle_open (Hindered cause) first all closed (inr (inl is)) = is
-idle_open (Hindered cause) first all closed (inr (inr is)) = let clash = is.1 in absurd cc
-idle_open Free first all closed (inl is) = absurd (never_blocked first all (closed refl) is)
-idle_open Free first all closed (inr (inl is)) = is
-idle_open Free first all closed (inr (inr is)) =
+-- a derivation without an event is open only where it is ready, or an earlier twin or an input of it
+-- is open
+idle_open : (standing : Standing) (built still : Bool) (first : Option ℕ) (all : Bool)
+    → still ≡ false → (standing ≡ Free → first ≡ None → all ≡ true)
+    → IsOpen (by_phase Idle (by_validity standing (if built then Reused else if still then Blocked
+    else by_hindrance standing (by_first first all))))
+    → by_phase Idle (by_validity standing (if built then Reused else if still then Blocked
+    else by_hindrance standing (by_first first all))) ≡ Ready
+idle_open standing built true first all none closed is = absurd (false≢true (sym none))
+idle_open AllValid built false first all none closed (inl is) = absurd cc
+idle_open AllValid built false first all none closed (inr (inl is)) = is
+idle_open AllValid built false first all none closed (inr (inr is)) =
+    let clash = is.1 in absurd cc
+idle_open (Hindered cause) true false first all none closed (inl is) = absurd cc
+idle_open (Hindered cause) true false first all none closed (inr (inl is)) = is
+idle_open (Hindered cause) true false first all none closed (inr (inr is)) =
+    let clash = is.1 in absurd cc
+idle_open (Hindered cause) false false first all none closed (inl is) = absurd cc
+idle_open (Hindered cause) false false first all none closed (inr (inl is)) = is
+idle_open (Hindered cause) false false first all none closed (inr (inr is)) =
+    let clash = is.1 in absurd cc
+idle_open Free true false first all none closed (inl is) = absurd cc
+idle_open Free true false first all none closed (inr (inl is)) = is
+idle_open Free true false first all none closed (inr (inr is)) = let clash = is.1 in absurd cc
+idle_open Free false false first all none closed (inl is) =
+    absurd (never_blocked first all (closed refl) is)
+idle_open Free false false first all none closed (inr (inl is)) = is
+idle_open Free false false first all none closed (inr (inr is)) =
     absurd (never_building first all is.0 is.1)
   where
     never_building : (first : Option ℕ) (all : Bool) (lease : ℕ)
@@ -168,7 +165,8 @@ pub record HaveTurned (may : Job → Result Answer Reason → Type 0) (run : Run
 module _ (may : Job → Result Answer Reason → Type 0) (run : Run) (sound : IsSound run.graph)
     (opening : List Entry) where
   -- the records of a verdict may be registered
-  module _ (history : History) (told : IsTold (λ reason. ⊥) may run history) (d : ℕ) (node : Node)
+  module _ (history : History) (told : IsTold (λ reason. ⊥) may run history)
+      (legal : IsLegal run history) (d : ℕ) (node : Node)
       (infos : List PathInfo) (at : slice_get run.graph.nodes d ≡ Some node)
       (can : CanBegin run history d) (behind : IsVerdictBehind may run history.entries d (Ok infos))
     where
@@ -178,6 +176,41 @@ module _ (may : Job → Result Answer Reason → Type 0) (run : Run) (sound : Is
           let had = registers_from_valid (registered history.entries) path valid in
           by had.0 (from_is (λ reason. ⊥) may run history told path had.0 had.1)
         where
+          -- no twin was built: an earlier one would stand for this one, and a later one would have
+          -- begun behind it
+          made_once : (e : ℕ) → phase_of history.events e ≡ Ended
+              → are_twins_at (slice_get run.graph.nodes d) (slice_get run.graph.nodes e) ≡ true
+              → (d ≡ e) ⊎ ((d < e) ⊎ (e < d)) → ⊥
+          made_once e ends twins (inl same) =
+              let clash : Idle ≡ Ended = sym (ready_is_idle run history d can.ready)
+              ∙ ap (phase_of history.events) same ∙ ends in
+              cc
+          made_once e ends twins (inr (inl less)) =
+              let moved : phase_of history.events e ≡ Idle → ⊥ =
+              λ idle. let clash : Idle ≡ Ended = sym idle ∙ ends in cc in
+              let wanted : is_wanted run history.opening d ≡ true =
+              (wanted_told run history.opening d sound).1 can.wanted in
+              let bad = legal_ended run history legal e d moved
+              (twins_from run history.opening e d less (and_from (is_wanted run history.opening d)
+              (are_twins_at (slice_get run.graph.nodes d) (slice_get run.graph.nodes e)) wanted
+              twins)) in
+              let clash : false ≡ true = sym (ap is_bad can.ready) ∙ bad in
+              cc
+          made_once e ends twins (inr (inr more)) =
+              let un = ready_unhindered run history sound d can.ready in
+              let moved : phase_of history.events e ≡ Idle → ⊥ =
+              λ idle. let clash : Idle ≡ Ended = sym idle ∙ ends in cc in
+              let was = begun_is (λ reason. ⊥) may run sound history told e moved in
+              let wanted : is_wanted run history.opening e ≡ true =
+              (wanted_told run history.opening e sound).1 was.wanted in
+              let bad = un.spent e (twins_from run history.opening d e more
+              (and_from (is_wanted run history.opening e)
+              (are_twins_at (slice_get run.graph.nodes e) (slice_get run.graph.nodes d)) wanted
+              (turned (slice_get run.graph.nodes d) (slice_get run.graph.nodes e) twins))) in
+              let done = ap is_bad (state_by run history sound e Ended ends) in
+              let clash : false ≡ true = sym done ∙ bad in
+              cc
+
           by : (info : PathInfo) → IsFrom run history path info → ⊥
           by info (from_opening has) =
               let un = ready_unhindered run history sound d can.ready in
@@ -190,10 +223,8 @@ module _ (may : Job → Result Answer Reason → Type 0) (run : Run) (sound : Is
               let clash : false ≡ true = sym none ∙ some in
               cc
           by info (from_built e other at' ends own') =
-              let same = one_maker run.graph sound d e node other path at at' own own' in
-              let clash : Idle ≡ Ended = sym (ready_is_idle run history d can.ready)
-              ∙ ap (phase_of history.events) same ∙ ends in
-              cc
+              made_once e ends (sharers run.graph sound d e node other path at at' own own')
+              (either_side d e)
 
       registrable : (permitted : List (List ℕ)) × AreRegistrable node permitted infos
       registrable = by behind.comes_to.0 behind.comes_to.2
@@ -242,6 +273,15 @@ module _ (may : Job → Result Answer Reason → Type 0) (run : Run) (sound : Is
           (subst (λ (opens : List Entry). standing_at run.system opens
           (slice_get run.graph.nodes d) ≡ Free) turned.opening_is free) has))
 
+      closed_twin : d < length run.graph.nodes → (t : ℕ) → Contains (twins_in run history d) t
+          → is_open (state_in run history t) ≡ false
+      closed_twin within t has =
+          let is = is_earlier_twin run history.opening d t has in
+          let less = is.earlier in
+          let wanted = subst (λ (opens : List Entry). IsWanted run opens t) turned.opening_is
+          ((wanted_told run history.opening t sound).0 is.wanted) in
+          closed_is (state_in run history t) (turned.closed t less (omega arith) wanted)
+
       here : d < length run.graph.nodes → IsWanted run opening d → IsOpen (state_in run history d)
           → ⊥
       here within wanted still =
@@ -249,8 +289,11 @@ module _ (may : Job → Result Answer Reason → Type 0) (run : Run) (sound : Is
           let inputs = inputs_in run d in
           let idle = turned.rest d (omega arith) in
           let is = state_by run history sound d Idle idle in
-          let ready = idle_open (standing_in run history d) (find (λ i. is_bad (f i)) inputs)
+          let twins = twins_in run history d in
+          let ready = idle_open (standing_in run history d) (list_any (λ t. is_done (f t)) twins)
+          (list_any (λ t. is_open (f t)) twins) (find (λ i. is_bad (f i)) inputs)
           (list_all (λ i. is_good (f i)) inputs)
+          (none_passes (λ t. is_open (f t)) twins (closed_twin within))
           (λ free. all_good_or_bad f inputs (closed_input within wanted free))
           (subst IsOpen is still) in
           cannot (record {
@@ -315,7 +358,7 @@ module _ (may : Job → Result Answer Reason → Type 0) (run : Run) (sound : Is
       (λ i other. phase_other middle.events (Finish d lease) i other
       ∙ phase_other history.events (Begin d lease) i other)
       (legal_done middle d lease node infos entry legal phase at
-      (allowed history turned.told d node infos at can behind) is_entry)
+      (allowed history turned.told turned.legal d node infos at can behind) is_entry)
       (told_done middle d lease node infos entry (told_begin history d turned.told turned.legal can)
       legal phase at behind is_entry)
       (λ still. done_is_closed

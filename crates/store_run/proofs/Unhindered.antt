@@ -1,18 +1,23 @@
 -- What the state of a derivation follows from, in a history of a run.
-use Rattle.std.proofs.Common.{◌≡◌, ◌∙◌, ℕ, Bool, true, false, List, [], ◌∷◌, Option, Some, None, refl, sym, ap}
+use Rattle.std.proofs.Common.{◌≡◌, ◌∙◌, ◌⊎◌, inl, inr, ℕ, ◌||◌, Bool, true, false, List, [], ◌∷◌, Option, Some, None, refl, sym, ap, subst, if◌then◌else◌}
 use Rattle.std.specs.Prelude.{Contains, find, slice_get}
-use Rattle.std.specs.List.{list_all}
+use Rattle.std.specs.List.{list_all, list_any}
 use Rattle.drv_graph.specs.SoundGraphs.{IsSound}
-use Rattle.sched_core.specs.Runs.{History, Run, inputs_at, rows_of, standing_at, state_in}
-use Rattle.sched_core.specs.States.{Phase, Idle, Begun, Ended, Broken, by_first, by_inputs, by_phase, by_standing, is_bad, is_good, phase_of, table}
+use Rattle.sched_core.specs.Runs.{History, Run, earlier_twins, inputs_at, rows_of, standing_at, state_in}
+use Rattle.sched_core.specs.States.{Phase, Idle, Begun, Ended, Broken, by_first, by_hindrance, by_inputs, by_phase, by_twins, by_validity, is_bad, is_done, is_good, is_open, phase_of, table}
 use Rattle.sched_core.specs.declared.reason.State.{State}
 use Rattle.sched_core.specs.declared.reason.State.TheVariants.{Blocked, Building, Done, Failed, Ready, Refused, Reused}
 use Rattle.sched_core.specs.declared.standing.Standing.{Standing}
 use Rattle.sched_core.specs.declared.standing.Standing.TheVariants.{AllValid, Hindered, Free}
-use Rattle.sched_core.proofs.PlanInputs.{inputs_first}
-use Rattle.sched_core.proofs.Seeds.{all_good, list_all_has, ready_by}
-use Rattle.sched_core.proofs.StateLaws.{all_same, find_same, states_agree}
+use Rattle.sched_core.proofs.ClosedStates.{bad_is_closed, bad_is_not_done}
+use Rattle.sched_core.proofs.EarlierTwins.{run_twins}
+use Rattle.sched_core.proofs.NearestTwins.{ready_ended}
+use Rattle.sched_core.proofs.PlanInputs.{rows_in_order}
+use Rattle.sched_core.proofs.Seeds.{all_good, done_is_ended, ready_by}
+use Rattle.sched_core.proofs.Tests.{any_passes, list_all_has, one_passes}
+use Rattle.sched_core.proofs.StateLaws.{all_same, any_same, find_same, states_agree}
 use Rattle.nix_names.proofs.Lists.{Contains-first, Contains-later}
+use Rattle.valid_table.specs.declared.entry.Entry.{Entry}
 
 -- the numbers of a derivation's inputs
 abbrev pub inputs_in : Run → ℕ → List ℕ
@@ -23,22 +28,31 @@ abbrev pub standing_in : Run → History → ℕ → Standing
 standing_in run history d =
     standing_at run.system history.opening (slice_get run.graph.nodes d)
 
+-- the numbers of its earlier twins
+abbrev pub twins_in : Run → History → ℕ → List ℕ
+twins_in run history d = earlier_twins run history.opening d
+
 -- its state, its own events aside
 abbrev pub state_aside : Run → History → ℕ → State
-state_aside run history d = by_standing (standing_in run history d)
-    (by_inputs (state_in run history) (inputs_in run d))
+state_aside run history d = by_validity (standing_in run history d)
+    (by_twins (state_in run history) (twins_in run history d)
+    (by_hindrance (standing_in run history d)
+    (by_inputs (state_in run history) (inputs_in run d))))
 
 pub state_by : (run : Run) (history : History) → IsSound run.graph → (d : ℕ) (p : Phase)
     → phase_of history.events d ≡ p
     → state_in run history d ≡ by_phase p (state_aside run history d)
 unfolding table
 state_by run history sound d p is =
-    states_agree (rows_of run history.opening history.events) d (inputs_first run.graph sound)
+    states_agree (rows_of run history.opening history.events) d
+    (rows_in_order run history.opening history.events sound)
     ∙ ap (λ (q : Phase). by_phase q (state_aside run history d)) is
 
 -- Nothing but its own events is in the way of a derivation.
 pub record IsUnhindered (run : Run) (history : History) (d : ℕ) : Type 0 where
   pub free : standing_in run history d ≡ Free
+  pub spent : (t : ℕ) → Contains (twins_in run history d) t
+      → is_bad (state_in run history t) ≡ true
   pub good : (i : ℕ) → Contains (inputs_in run d) i → is_good (state_in run history i) ≡ true
 
 good_not_bad : (s : State) → is_good s ≡ true → is_bad s ≡ false
@@ -66,18 +80,51 @@ none_bad f (i ∷ is) good =
     let rest = none_bad f is (λ j has. good j (Contains-later i is j has)) in
     rw (here, rest) refl
 
+-- a test of some numbers, none of which passes
+pub none_passes : (f : ℕ → Bool) (numbers : List ℕ) → ((n : ℕ) → Contains numbers n → f n ≡ false)
+    → list_any f numbers ≡ false
+none_passes f [] none = refl
+none_passes f (n ∷ ns) none =
+    let here = none n (Contains-first n ns) in
+    let rest = none_passes f ns (λ m has. none m (Contains-later n ns m has)) in
+    rw (here, rest) refl
+
 -- such a derivation is ready, its own events aside
 pub aside_ready : (run : Run) (history : History) (d : ℕ) → IsUnhindered run history d
     → state_aside run history d ≡ Ready
 aside_ready run history d un =
     let f = state_in run history in
-    rw (un.free, none_bad f (inputs_in run d) un.good, all_from f (inputs_in run d) un.good) refl
+    let twins = twins_in run history d in
+    rw (
+      un.free,
+      none_passes (λ t. is_done (f t)) twins (λ t has. bad_is_not_done (f t) (un.spent t has)),
+      none_passes (λ t. is_open (f t)) twins (λ t has. bad_is_closed (f t) (un.spent t has)),
+      none_bad f (inputs_in run d) un.good,
+      all_from f (inputs_in run d) un.good,
+    ) refl
 
 -- and ready where it has no event
 pub unhindered_ready : (run : Run) (history : History) → IsSound run.graph → (d : ℕ)
     → IsUnhindered run history d → phase_of history.events d ≡ Idle → state_in run history d ≡ Ready
 unhindered_ready run history sound d un idle =
     state_by run history sound d Idle idle ∙ aside_ready run history d un
+
+-- one that has no event is blocked where an earlier twin still has something before it, and none was
+-- built
+pub blocked_by_twin : (run : Run) (history : History) → IsSound run.graph → (d t : ℕ)
+    → phase_of history.events d ≡ Idle → standing_in run history d ≡ Free
+    → Contains (twins_in run history d) t → is_open (state_in run history t) ≡ true
+    → ((u : ℕ) → Contains (twins_in run history d) u → is_done (state_in run history u) ≡ false)
+    → state_in run history d ≡ Blocked
+blocked_by_twin run history sound d t idle free has still none =
+    let f = state_in run history in
+    let twins = twins_in run history d in
+    state_by run history sound d Idle idle
+    ∙ rw (
+      free,
+      none_passes (λ u. is_done (f u)) twins none,
+      any_passes (λ u. is_open (f u)) twins t has still,
+    ) refl
 
 -- and back
 pub ready_unhindered : (run : Run) (history : History) → IsSound run.graph → (d : ℕ)
@@ -86,20 +133,27 @@ ready_unhindered run history sound d ready =
     let f = state_in run history in
     let inputs = inputs_in run d in
     let facts = ready_by (phase_of history.events d) (standing_in run history d)
+    (list_any (λ t. is_done (f t)) (twins_in run history d))
+    (list_any (λ t. is_open (f t)) (twins_in run history d))
     (by_inputs f inputs)
     (sym (state_by run history sound d (phase_of history.events d) refl) ∙ ready) in
     let good = all_good (find (λ i. is_bad (f i)) inputs) (list_all (λ i. is_good (f i)) inputs)
     facts.open_is in
     record {
       free = facts.free;
+      spent = λ t has. ready_ended (rows_of run history.opening history.events)
+          (run_twins run history.opening history.events) d t ready has;
       good = λ i has. list_all_has (λ j. is_good (f j)) inputs i good has;
     }
 
--- who is good was built, or has no event and stands by valid outputs
+-- who is good was built, or has no event and stands by valid outputs or by an earlier twin that was
+-- built
 pub data IsGoodBy (run : Run) (history : History) (d : ℕ) : Type 0 where
   good_ended : phase_of history.events d ≡ Ended → IsGoodBy run history d
   good_reused : phase_of history.events d ≡ Idle → standing_in run history d ≡ AllValid
       → IsGoodBy run history d
+  good_twin : (t : ℕ) → phase_of history.events d ≡ Idle → Contains (twins_in run history d) t
+      → phase_of history.events t ≡ Ended → IsGoodBy run history d
 
 good_first : (first : Option ℕ) (all : Bool) → is_good (by_first first all) ≡ true → ⊥
 good_first (Some i) all is = cc
@@ -107,24 +161,46 @@ good_first None true is = cc
 good_first None false is = cc
 
 good_parts : (run : Run) (history : History) (d : ℕ) (p : Phase) (s : Standing)
-    (first : Option ℕ) (all : Bool)
+    (built still : Bool) (first : Option ℕ) (all : Bool)
     → phase_of history.events d ≡ p → standing_in run history d ≡ s
-    → is_good (by_phase p (by_standing s (by_first first all))) ≡ true → IsGoodBy run history d
-good_parts run history d Idle AllValid first all at stands is = good_reused at stands
-good_parts run history d Idle (Hindered cause) first all at stands is = absurd cc
-good_parts run history d Idle Free first all at stands is = absurd (good_first first all is)
-good_parts run history d (Begun n) s first all at stands is = absurd cc
-good_parts run history d Ended s first all at stands is = good_ended at
-good_parts run history d (Broken reason) s first all at stands is = absurd cc
+    → (built ≡ true → (t : ℕ) × Contains (twins_in run history d) t
+    × (phase_of history.events t ≡ Ended))
+    → is_good (by_phase p (by_validity s (if built then Reused else if still then Blocked
+    else by_hindrance s (by_first first all)))) ≡ true → IsGoodBy run history d
+good_parts run history d (Begun n) s built still first all at stands by_twin is = absurd cc
+good_parts run history d Ended s built still first all at stands by_twin is = good_ended at
+good_parts run history d (Broken reason) s built still first all at stands by_twin is = absurd cc
+good_parts run history d Idle AllValid built still first all at stands by_twin is =
+    good_reused at stands
+good_parts run history d Idle (Hindered cause) true still first all at stands by_twin is =
+    let twin = by_twin refl in good_twin twin.0 at twin.1 twin.2
+good_parts run history d Idle (Hindered cause) false true first all at stands by_twin is = absurd cc
+good_parts run history d Idle (Hindered cause) false false first all at stands by_twin is =
+    absurd cc
+good_parts run history d Idle Free true still first all at stands by_twin is =
+    let twin = by_twin refl in good_twin twin.0 at twin.1 twin.2
+good_parts run history d Idle Free false true first all at stands by_twin is = absurd cc
+good_parts run history d Idle Free false false first all at stands by_twin is =
+    absurd (good_first first all is)
 
 pub good_is : (run : Run) (history : History) → IsSound run.graph → (d : ℕ)
     → is_good (state_in run history d) ≡ true → IsGoodBy run history d
 good_is run history sound d good =
     let f = state_in run history in
     let inputs = inputs_in run d in
+    let twins = twins_in run history d in
     good_parts run history d (phase_of history.events d) (standing_in run history d)
+    (list_any (λ t. is_done (f t)) twins) (list_any (λ t. is_open (f t)) twins)
     (find (λ i. is_bad (f i)) inputs) (list_all (λ i. is_good (f i)) inputs) refl refl
+    (λ built. let found = one_passes (λ t. is_done (f t)) twins built in
+    (found.0, found.1, done_is_ended (rows_of run history.opening history.events) found.0 found.2))
     (sym (ap is_good (state_by run history sound d (phase_of history.events d) refl)) ∙ good)
+
+good_by_twin : (s : Standing) (still : Bool) (other : State) → is_good (by_validity s
+    (if true then Reused else if still then Blocked else other)) ≡ true
+good_by_twin AllValid still other = refl
+good_by_twin (Hindered cause) still other = refl
+good_by_twin Free still other = refl
 
 -- and is good then
 pub is_good_by : (run : Run) (history : History) → IsSound run.graph → (d : ℕ)
@@ -132,22 +208,41 @@ pub is_good_by : (run : Run) (history : History) → IsSound run.graph → (d : 
 is_good_by run history sound d (good_ended at) =
     ap is_good (state_by run history sound d Ended at)
 is_good_by run history sound d (good_reused at stands) =
-    ap is_good (state_by run history sound d Idle at
-    ∙ ap (λ (s : Standing). by_standing s (by_inputs (state_in run history) (inputs_in run d)))
-    stands)
+    ap is_good (state_by run history sound d Idle at) ∙ rw stands refl
+is_good_by run history sound d (good_twin t at has ends) =
+    let f = state_in run history in
+    let twins = twins_in run history d in
+    let built : list_any (λ u. is_done (f u)) twins ≡ true =
+    any_passes (λ u. is_done (f u)) twins t has (ap is_done (state_by run history sound t Ended ends))
+    in
+    ap is_good (state_by run history sound d Idle at)
+    ∙ ap (λ b. is_good (by_validity (standing_in run history d)
+    (if b then Reused else if list_any (λ u. is_open (f u)) twins then Blocked
+    else by_hindrance (standing_in run history d) (by_inputs f (inputs_in run d))))) built
+    ∙ good_by_twin (standing_in run history d) (list_any (λ u. is_open (f u)) twins)
+    (by_hindrance (standing_in run history d) (by_inputs f (inputs_in run d)))
 
 -- ---- two histories of one opening
 
--- where the states of its inputs are the same, and it has no event, its state is the same
+-- where the states of its inputs and of its earlier twins are the same, and it has no event, its
+-- state is the same
 pub aside_same : (run : Run) (history other : History) (d : ℕ) → history.opening ≡ other.opening
     → ((i : ℕ) → Contains (inputs_in run d) i → state_in run history i ≡ state_in run other i)
+    → ((t : ℕ) → Contains (twins_in run history d) t → state_in run history t ≡ state_in run other t)
     → state_aside run history d ≡ state_aside run other d
-aside_same run history other d opening same =
+aside_same run history other d opening same alike =
     let inputs = inputs_in run d in
-    ap (λ (s : Standing). by_standing s (by_inputs (state_in run history) inputs))
-    (ap (λ opens. standing_at run.system opens (slice_get run.graph.nodes d)) opening)
-    ∙ ap (by_standing (standing_in run other d))
-    (rw (
-      find_same (state_in run history) (state_in run other) inputs same,
-      all_same (state_in run history) (state_in run other) inputs same,
-    ) refl)
+    let f = state_in run history in
+    let g = state_in run other in
+    let twins = twins_in run history d in
+    rw (
+      find_same f g inputs same,
+      all_same f g inputs same,
+      any_same is_done f g twins alike,
+      any_same is_open f g twins alike,
+    )
+    (ap (λ (opens : List Entry). by_validity
+    (standing_at run.system opens (slice_get run.graph.nodes d))
+    (by_twins g (earlier_twins run opens d)
+    (by_hindrance (standing_at run.system opens (slice_get run.graph.nodes d))
+    (by_inputs g inputs)))) opening)

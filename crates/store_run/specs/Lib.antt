@@ -8,3 +8,4 @@ pub mod SameOutcomes
 pub mod ScheduleExample
 pub mod Scheduling
 pub mod Sharing
+pub mod TwinExample

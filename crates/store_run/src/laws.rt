@@ -2,15 +2,16 @@
 //! nothing.
 ghost use Rattle.std.specs.Prelude.{◌≡◌, [], ◌∷◌, codes, pos};
 ghost use Rattle.nix_drv.specs.Sources.{listing_gives};
-ghost use Rattle.drv_graph.specs.Plans.{IsPlan};
+ghost use Rattle.drv_graph.specs.Plans.{AreTwins, IsPlan};
 ghost use Rattle.sched_core.specs.Runs.{state_in};
 ghost use Rattle.sched_core.specs.declared.reason.Reason.TheVariants.{ExitStatus};
-ghost use Rattle.sched_core.specs.declared.reason.State.TheVariants.{Done, Failed};
+ghost use Rattle.sched_core.specs.declared.reason.State.TheVariants.{Blocked, Done, Failed, Ready};
 ghost use Rattle.store_run.specs.GivenOutcomes.{EqualOutcomesAreAlike, OutcomesDecide};
 ghost use Rattle.store_run.specs.OneThread.{IsOneThread};
 ghost use Rattle.store_run.specs.SameOutcomes.{AllowedIsOne};
 ghost use Rattle.store_run.specs.ScheduleExample.{Overlap, both, in_turn, left, may_leave, right, side_by_side, two_files};
 ghost use Rattle.store_run.specs.Scheduling.{AlikeReportTheSame, AnySchedule, HasOneThread, IsWholeRun, OneReport, RealisedIsEnded, RealisedIsWhole, SameReports, WholeRunsAreAlike};
+ghost use Rattle.store_run.specs.TwinExample.{first_source, freed, may_leave_file, one_by_one, second_source, three, three_files, tried_again, waiting};
 
 use crate::build::Build;
 
@@ -76,4 +77,23 @@ pub fn builds_may_overlap()
     ensures failed { state_in both side_by_side 0 ≡ Failed (ExitStatus (pos 1)) }
     ensures built { state_in both side_by_side 1 ≡ Done }
     ensures in_turn { IsOneThread may_leave both [] in_turn }
+{}
+
+/// There are whole runs in which a derivation is built after its twin failed, while a third is under
+/// way: over a plan that loading gives from three files the second waits behind the first, can begin
+/// once the first has failed, and is built beside the third. One thread leaves the events in another
+/// order.
+pub fn twin_is_built_after_the_first_failed()
+    ensures loads { IsPlan (codes "/nix/store") (listing_gives three_files)
+        (first_source.path ∷ second_source.path ∷ right.path ∷ []) three.graph }
+    ensures twins { AreTwins first_source.drv second_source.drv }
+    ensures waits { state_in three waiting 1 ≡ Blocked }
+    ensures freed { state_in three freed 1 ≡ Ready }
+    ensures whole { IsWholeRun may_leave_file three tried_again }
+    ensures beside_first { Overlap tried_again 0 2 }
+    ensures beside_second { Overlap tried_again 1 2 }
+    ensures failed { state_in three tried_again 0 ≡ Failed (ExitStatus (pos 1)) }
+    ensures built { state_in three tried_again 1 ≡ Done }
+    ensures third { state_in three tried_again 2 ≡ Done }
+    ensures in_turn { IsOneThread may_leave_file three [] one_by_one }
 {}

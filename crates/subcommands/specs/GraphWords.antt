@@ -32,4 +32,4 @@ node_fault_words node.TooMany = codes "TooMany"
 node_fault_words (node.Text fault) = drv_fault_words fault
 node_fault_words node.Cycle = codes "Cycle"
 node_fault_words (node.Outputs fault) = output_fault_words fault
-node_fault_words (node.SharedOutput earlier) = with_value (codes "SharedOutput") earlier
+node_fault_words node.OutputClash = codes "OutputClash"

@@ -18,7 +18,7 @@ pub fn write_node_fault(fault: &NodeFault, out: &mut Vec<u8>) -> Result<(), Allo
         NodeFault::Text(fault) => write_drv_fault(fault, out),
         NodeFault::Cycle => write_name(b"Cycle", out),
         NodeFault::Outputs(fault) => write_output_fault(fault, out),
-        NodeFault::SharedOutput(path) => write_with_value(b"SharedOutput", path.text(), out),
+        NodeFault::OutputClash => write_name(b"OutputClash", out),
     }
 }
 

@@ -2,8 +2,10 @@
 use super::all_built;
 use super::builders::Wild;
 use super::traces::{Traces, realised};
-use crate::random_plans::buildable_plan;
-use crate::rows::{BUILT, FAILED, REFUSED};
+use crate::random::Random;
+use crate::random_plans::{buildable_plan, made_up, random_plan};
+use crate::random_runs::{Ends, ends_of};
+use crate::rows::{BUILT, FAILED, REFUSED, REUSED};
 use drv_graph::Plan;
 use std::alloc::{AllocError, Global};
 use std::sync::Wait;
@@ -62,10 +64,11 @@ fn after_wild<R: Threads + Wait + Sync>(
     rt: &R,
     alloc: Global,
     plan: &Plan,
+    journal: &Journal,
     workers: usize,
 ) -> Result<Traces, Fail> {
     let builders = wild(alloc, workers)?;
-    realised(rt, alloc, plan, &Journal::new(alloc), builders)
+    realised(rt, alloc, plan, journal, builders)
 }
 
 // However the builds of a run fall out, any number of workers ends with one report, and registers
@@ -73,17 +76,40 @@ fn after_wild<R: Threads + Wait + Sync>(
 #[test]
 fn some_builds_fail(rt: HostRuntime) -> Result<(), Fail> {
     let plan = buildable_plan(rt.alloc(), 300, 2)?;
-    let alone = after_wild(&rt, rt.alloc(), &plan, 1)?;
+    let journal = Journal::new(rt.alloc());
+    let alone = after_wild(&rt, rt.alloc(), &plan, &journal, 1)?;
     for start in [BUILT, FAILED, REFUSED] {
         assert!(rt; lines(&alone.report, start) > 10);
     }
     for workers in [3, 64] {
-        let together = after_wild(&rt, rt.alloc(), &plan, workers)?;
+        let together = after_wild(&rt, rt.alloc(), &plan, &journal, workers)?;
         assert!(rt; alone.report == together.report, "by {workers}");
         assert!(rt;
             are_alike(&alone.entries, &together.entries),
             "by {workers}"
         );
+    }
+    Ok(())
+}
+
+// How many lines of a report there are of each way to end.
+fn reported(report: &[u8]) -> Ends {
+    [BUILT, REUSED, FAILED, REFUSED].map(|start| lines(report, start))
+}
+
+// The events of a run over a random plan come as they may, whatever the workers, and the report tells
+// how the derivations end with them.
+#[test]
+fn random_plan_by_workers(rt: HostRuntime) -> Result<(), Fail> {
+    let mut random = Random { state: 161_803 };
+    let made_up = made_up(rt.alloc(), &mut random, 200)?;
+    let plan = random_plan(rt.alloc(), &made_up, &mut random)?;
+    for workers in [1, 2, 4, 64] {
+        let traces = after_wild(&rt, rt.alloc(), &plan, &made_up.journal, workers)?;
+        let ends = ends_of(rt.alloc(), &plan, &traces.events)?;
+        assert_eq!(rt; ends, Some(reported(&traces.report)), "by {workers}");
+        let is_varied = reported(&traces.report).iter().all(|count| *count > 2);
+        assert!(rt; is_varied, "{ends:?} by {workers}");
     }
     Ok(())
 }

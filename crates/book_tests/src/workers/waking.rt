@@ -21,11 +21,22 @@ use store_run::{Build, Watch};
 // How many milliseconds the base's builder takes, so that all other workers wait when it ends.
 const HEAD_START: u64 = 100;
 
-// How often a user's builder looks whether enough users have begun.
+// How often a builder looks whether enough others have begun.
 const TURNS: u64 = 1_000_000;
 
-// A builder of a base, and of its users: of those each waits until so many have begun, and after
-// 1,000,000 looks it ends with the status 99.
+// Whether so many builds have begun, after at most 1,000,000 looks.
+fn have_begun(begun: &AtomicU64, enough: u64) -> bool {
+    for _ in 0..TURNS {
+        if begun.load(Ordering::SeqCst) >= enough {
+            return true;
+        }
+        thread::yield_now();
+    }
+    false
+}
+
+// A builder of a base, and of its users: of those each waits until so many have begun, or else ends
+// with the status 99.
 #[derive(Drop)]
 struct Together<'a, R> {
     rt: &'a R,
@@ -43,13 +54,10 @@ impl<'a, R: Clock> Build for Together<'a, R> {
             return Ok(left(self.alloc, job, b"")?);
         }
         self.begun.fetch_add(1, Ordering::SeqCst);
-        for _ in 0..TURNS {
-            if self.begun.load(Ordering::SeqCst) >= self.enough {
-                return Ok(left(self.alloc, job, b"")?);
-            }
-            thread::yield_now();
+        if !have_begun(self.begun, self.enough) {
+            return Ok(left_nothing(self.alloc, 99));
         }
-        Ok(left_nothing(self.alloc, 99))
+        Ok(left(self.alloc, job, b"")?)
     }
 }
 
@@ -96,6 +104,67 @@ fn all_users_at_once(rt: HostRuntime) -> Result<(), Fail> {
     for (users, workers, all) in [(2, 2, 3), (2, 4, 3), (4, 4, 5), (2, 64, 3), (64, 64, 65)] {
         let report = report_of_users(&rt, rt.alloc(), users, workers)?;
         assert_eq!(rt; lines(&report, BUILT), all, "{users} users by {workers}");
+    }
+    Ok(())
+}
+
+// A builder of which the first call fails, and of the others each waits until three have begun in
+// all, or else ends with the status 99.
+#[derive(Drop)]
+struct FailingFirst<'a, R> {
+    rt: &'a R,
+    alloc: Global,
+    begun: &'a AtomicU64,
+}
+
+impl<'a, R: Clock> Build for FailingFirst<'a, R> {
+    ghost may = { λ job outcome. ⊤ };
+
+    fn run(&self, _number: u64, job: &Job) -> Result<Answer, Reason> {
+        if self.begun.fetch_add(1, Ordering::SeqCst) == 0 {
+            thread::sleep(self.rt, Duration::from_millis(HEAD_START));
+            return Ok(left_nothing(self.alloc, 1));
+        }
+        if !have_begun(self.begun, 3) {
+            return Ok(left_nothing(self.alloc, 99));
+        }
+        Ok(left(self.alloc, job, b"")?)
+    }
+}
+
+impl<'a, R> Watch for FailingFirst<'a, R> {
+    fn begun(&self, _unsettled: usize) {}
+
+    fn ended(&self, _is_good: bool, _unsettled: usize) {}
+}
+
+// The plan of two pairs of twins; all are roots. The first of the second pair uses the first of the
+// first, so once that fails, the later twin of each pair is ready.
+fn two_pairs(alloc: Global) -> Result<Plan, Fail> {
+    let mut made = nothing(alloc);
+    for (pair, of) in [(1, usize::MAX), (1, usize::MAX), (2, 0), (2, usize::MAX)] {
+        made.push_twin(alloc, pair, of)?;
+    }
+    plan_of(alloc, &made, &made.paths)
+}
+
+// Behind a failure two derivations are under way at once.
+#[test]
+fn two_twins_behind_a_failure(rt: HostRuntime) -> Result<(), Fail> {
+    for workers in [2, 4, 64] {
+        let plan = two_pairs(rt.alloc())?;
+        let begun = &AtomicU64::new(0);
+        let mut builders = Vec::new(rt.alloc());
+        for _ in 0..workers {
+            let alloc = rt.alloc();
+            builders.push(FailingFirst {
+                rt: &rt,
+                alloc,
+                begun,
+            })?;
+        }
+        let report = report_of(&rt, rt.alloc(), &plan, builders)?;
+        assert_eq!(rt; lines(&report, BUILT), 2, "by {workers}");
     }
     Ok(())
 }

@@ -15,7 +15,10 @@ static WORDS: [(&str, u8); 17] = [
     ("there are more than 65,536 derivations", 22),
     ("the text has more than 4,194,304 bytes", 12),
     ("the derivation is an input of itself", 21),
-    ("an output is also that of another derivation", 26),
+    (
+        "an output is also that of a derivation with other outputs",
+        29,
+    ),
     ("memory was refused", 9),
     ("the outputs are not of one kind", 24),
     ("an output's content is fixed by no known method", 28),
@@ -31,13 +34,13 @@ static WORDS: [(&str, u8); 17] = [
 ];
 
 // A fault of each kind at a path.
-fn faults_at(alloc: Global, path: &StorePath) -> Result<Vec<NodeFault>, AllocError> {
+fn faults_at(alloc: Global) -> Result<Vec<NodeFault>, AllocError> {
     Ok(vec![in alloc;
         NodeFault::Unreadable,
         NodeFault::TooMany,
         NodeFault::Text(DrvFault::TooLong),
         NodeFault::Cycle,
-        NodeFault::SharedOutput(path.copy(alloc)?),
+        NodeFault::OutputClash,
     ]?)
 }
 
@@ -65,7 +68,7 @@ fn all_faults(alloc: Global, path: &StorePath) -> Result<Vec<GraphFault>, AllocE
         GraphFault::Name,
         GraphFault::Draft(NodeFault::TooMany),
     ]?;
-    for fault in faults_at(alloc, path)? {
+    for fault in faults_at(alloc)? {
         faults.push(GraphFault::At(path.copy(alloc)?, fault))?;
     }
     for fault in output_faults(alloc, path)? {

@@ -1,5 +1,5 @@
-use Rattle.sched_core.proofs.PlanInputs.{inputs_first}
+use Rattle.sched_core.proofs.PlanInputs.{rows_in_order}
 use Rattle.sched_core.proofs.laws.inputs_come_first.Goals as goal
 
 pub returns : goal.returns
-returns c = λ run opening events sound. inputs_first run.graph sound
+returns c = rows_in_order

@@ -7,33 +7,33 @@ use Rattle.sched_core.proofs.spreading.spread.Goals as goal
 
 pub tell-edges-requires-clause-told : goal.tell-edges-requires-clause-told
 tell-edges-requires-clause-told c =
-    let first : slice_get c.loop-input.agenda.work 0 ≡ Some c.in-Some.input =
+    let first : slice_get c.loop-ended.agenda.work 0 ≡ Some c.in-Some.ended =
     sym c.take.ensures.value ∙ c.in-Some.is in (
       c.requires.told.0,
       subst (λ (a : Agenda). IsSpreading c.requires.told.0 c.args.users.now
-          c.loop-input.tallies a (users_of c.args.users.now c.in-Some.input))
+          c.loop-ended.tallies a (users_of c.args.users.now c.in-Some.ended))
           (sym c.take.ensures.rest)
-          (work_taken c.requires.told.0 c.args.users.now c.loop-input.tallies c.loop-input.agenda
-          c.in-Some.input first (c.loop-input.invariant.told c.requires.told.0 c.requires.told.1)),
+          (work_taken c.requires.told.0 c.args.users.now c.loop-ended.tallies c.loop-ended.agenda
+          c.in-Some.ended first (c.loop-ended.invariant.told c.requires.told.0 c.requires.told.1)),
     )
 
-pub loop-input-preserved : goal.loop-input-preserved
-loop-input-preserved c =
-    let first : slice_get c.loop-input.agenda.work 0 ≡ Some c.in-Some.input =
+pub loop-ended-preserved : goal.loop-ended-preserved
+loop-ended-preserved c =
+    let first : slice_get c.loop-ended.agenda.work 0 ≡ Some c.in-Some.ended =
     sym c.take.ensures.value ∙ c.in-Some.is in
     record {
-      told = λ inputs start. c.tell-edges.ensures.told inputs
-          (subst (λ (a : Agenda). IsSpreading inputs c.args.users.now
-          c.loop-input.tallies a (users_of c.args.users.now c.in-Some.input))
+      told = λ awaited start. c.tell-edges.ensures.told awaited
+          (subst (λ (a : Agenda). IsSpreading awaited c.args.users.now
+          c.loop-ended.tallies a (users_of c.args.users.now c.in-Some.ended))
           (sym c.take.ensures.rest)
-          (work_taken inputs c.args.users.now c.loop-input.tallies c.loop-input.agenda
-          c.in-Some.input first (c.loop-input.invariant.told inputs start)));
-      same = same_then c.args.tallies.now c.loop-input.tallies c.tell-edges.new.tallies
-          c.loop-input.invariant.same c.tell-edges.ensures.same;
+          (work_taken awaited c.args.users.now c.loop-ended.tallies c.loop-ended.agenda
+          c.in-Some.ended first (c.loop-ended.invariant.told awaited start)));
+      same = same_then c.args.tallies.now c.loop-ended.tallies c.tell-edges.new.tallies
+          c.loop-ended.invariant.same c.tell-edges.ensures.same;
       edges = omega (
         arith,
-        c.loop-input.invariant.edges,
-        work_edges c.args.users.now c.loop-input.agenda c.in-Some.input first,
+        c.loop-ended.invariant.edges,
+        work_edges c.args.users.now c.loop-ended.agenda c.in-Some.ended first,
         ap (λ (a : Agenda). length (users_of_all c.args.users.now a.work)) c.take.ensures.rest,
         c.tell-edges.ensures.edges,
         c.tell-edges.ensures.ahead,
@@ -42,12 +42,12 @@ loop-input-preserved c =
 
 pub overflow_add-edges : goal.overflow_add-edges
 overflow_add-edges c =
-    let first : slice_get c.loop-input.agenda.work 0 ≡ Some c.in-Some.input =
+    let first : slice_get c.loop-ended.agenda.work 0 ≡ Some c.in-Some.ended =
     sym c.take.ensures.value ∙ c.in-Some.is in
     omega (
       arith,
-      c.loop-input.invariant.edges,
-      work_edges c.args.users.now c.loop-input.agenda c.in-Some.input first,
+      c.loop-ended.invariant.edges,
+      work_edges c.args.users.now c.loop-ended.agenda c.in-Some.ended first,
       c.tell-edges.ensures.edges,
       c.requires.few,
     )

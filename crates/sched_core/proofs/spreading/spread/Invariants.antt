@@ -1,13 +1,14 @@
-use Rattle.std.proofs.Common.{◌≡◌, ◌+◌, ℕ, List, [], length}
+use Rattle.std.proofs.Common.{◌≡◌, ◌+◌, ℕ, [], length}
 use Rattle.sched_core.specs.Agendas.{AreSameElse, IsSpreading, to_end}
+use Rattle.sched_core.specs.Courses.{Awaited}
 use Rattle.sched_core.specs.ToldEdges.{open_edges, sizes}
 use Rattle.sched_core.specs.Users.{users_of_all}
 use Rattle.sched_core.proofs.spreading.spread.Given as goal
 
-abbrev pub invariant-loop-input : goal.invariant-loop-input
-invariant-loop-input l = record {
-  told : (inputs : ℕ → List ℕ) → IsSpreading inputs l.users l.fn.tallies l.fn.agenda []
-      → IsSpreading inputs l.users l.tallies l.agenda [];
+abbrev pub invariant-loop-ended : goal.invariant-loop-ended
+invariant-loop-ended l = record {
+  told : (awaited : ℕ → Awaited) → IsSpreading awaited l.users l.fn.tallies l.fn.agenda []
+      → IsSpreading awaited l.users l.tallies l.agenda [];
   same : AreSameElse l.fn.tallies l.tallies;
   edges : l.edges + open_edges (sizes l.users) l.tallies
       + length (users_of_all l.users l.agenda.work)
@@ -15,5 +16,5 @@ invariant-loop-input l = record {
       + length (users_of_all l.users l.fn.agenda.work);
 }
 
-abbrev pub decreases-loop-input : goal.decreases-loop-input
-decreases-loop-input l = to_end l.tallies l.agenda
+abbrev pub decreases-loop-ended : goal.decreases-loop-ended
+decreases-loop-ended l = to_end l.tallies l.agenda

@@ -1,4 +1,4 @@
-use Rattle.std.proofs.Common.{◌≡◌, ◌∙◌, ◌<◌, ℕ, List, ap, sym, subst, length, false, get_or}
+use Rattle.std.proofs.Common.{◌≡◌, ◌∙◌, ◌<◌, ℕ, List, None, ap, sym, subst, length, false, get_or}
 use Rattle.std.proofs.lemmas.List.{length-set}
 use Rattle.sched_core.specs.Agendas.{noted}
 use Rattle.sched_core.specs.States.{is_good}
@@ -14,7 +14,17 @@ abbrev no_edge : Edge
 no_edge = record { user = 0; place = 0 }
 
 abbrev no_tally : Tally
-no_tally = record { standing = AllValid; wanted = false; state = Done; waits = 0; first = 0 }
+no_tally = record {
+  standing = AllValid;
+  wanted = false;
+  twin = None;
+  state = Done;
+  inputs = 0;
+  waits = 0;
+  first = 0;
+  failed = None;
+  held = false;
+}
 
 abbrev edge_at : List Edge → ℕ → Edge
 edge_at edges i = get_or edges i no_edge
@@ -24,17 +34,17 @@ tally_at tallies d = get_or tallies d no_tally
 
 pub told-after-requires : goal.told-after-requires
 told-after-requires c =
-    can_tell c.requires.told.0 c.args.users.now c.loop-edge.tallies c.loop-edge.agenda c.args.input
+    can_tell c.requires.told.0 c.args.users.now c.loop-edge.tallies c.loop-edge.agenda c.args.ended
     c.loop-edge.edge-index no_edge no_tally c.of-edges.result.now
-    (subst (λ n. c.args.input < n) (sym c.loop-edge.invariant.count) c.requires.within)
+    (subst (λ n. c.args.ended < n) (sym c.loop-edge.invariant.count) c.requires.within)
     c.of-edges.ensures c.loop-edge-test.true
     (c.loop-edge.invariant.told c.requires.told.0 c.requires.told.1)
 
 pub note-requires-clause-room : goal.note-requires-clause-room
 note-requires-clause-room c =
     told_room c.requires.told.0 c.args.users.now c.loop-edge.tallies c.loop-edge.agenda
-    c.args.input c.loop-edge.edge-index no_edge no_tally c.of-edges.result.now
-    (subst (λ n. c.args.input < n) (sym c.loop-edge.invariant.count) c.requires.within)
+    c.args.ended c.loop-edge.edge-index no_edge no_tally c.of-edges.result.now
+    (subst (λ n. c.args.ended < n) (sym c.loop-edge.invariant.count) c.requires.within)
     c.of-edges.ensures c.loop-edge-test.true
     (c.loop-edge.invariant.told c.requires.told.0 c.requires.told.1) c.told-after.result
     c.told-after.ensures.turns c.told-after.ensures.same
@@ -42,8 +52,8 @@ note-requires-clause-room c =
 pub note-requires-clause-space : goal.note-requires-clause-space
 note-requires-clause-space c =
     told_space c.requires.told.0 c.args.users.now c.loop-edge.tallies c.loop-edge.agenda
-    c.args.input c.loop-edge.edge-index no_edge no_tally c.of-edges.result.now
-    (subst (λ n. c.args.input < n) (sym c.loop-edge.invariant.count) c.requires.within)
+    c.args.ended c.loop-edge.edge-index no_edge no_tally c.of-edges.result.now
+    (subst (λ n. c.args.ended < n) (sym c.loop-edge.invariant.count) c.requires.within)
     c.of-edges.ensures c.loop-edge-test.true
     (c.loop-edge.invariant.told c.requires.told.0 c.requires.told.1) c.told-after.result
     c.told-after.ensures.turns c.told-after.ensures.same
@@ -51,8 +61,8 @@ note-requires-clause-space c =
 pub note-requires-clause-unsettled : goal.note-requires-clause-unsettled
 note-requires-clause-unsettled c =
     told_settles c.requires.told.0 c.args.users.now c.loop-edge.tallies c.loop-edge.agenda
-    c.args.input c.loop-edge.edge-index no_edge no_tally c.of-edges.result.now
-    (subst (λ n. c.args.input < n) (sym c.loop-edge.invariant.count) c.requires.within)
+    c.args.ended c.loop-edge.edge-index no_edge no_tally c.of-edges.result.now
+    (subst (λ n. c.args.ended < n) (sym c.loop-edge.invariant.count) c.requires.within)
     c.of-edges.ensures c.loop-edge-test.true
     (c.loop-edge.invariant.told c.requires.told.0 c.requires.told.1) c.told-after.result
     c.told-after.ensures.turns c.told-after.ensures.same
@@ -62,7 +72,7 @@ loop-edge-preserved c =
     let edge : Edge = get_or c.of-edges.result.now c.loop-edge.edge-index no_edge in
     let before : Tally = get_or c.loop-edge.tallies edge.user no_tally in
     let after : Tally = c.told-after.result in
-    let low = subst (λ n. c.args.input < n) (sym c.loop-edge.invariant.count) c.requires.within in
+    let low = subst (λ n. c.args.ended < n) (sym c.loop-edge.invariant.count) c.requires.within in
     let now : c.note.new.self ≡ noted c.loop-edge.agenda edge.user before after =
     c.note.ensures in
     let is = c.loop-edge.invariant.told c.requires.told.0 c.requires.told.1 in
@@ -71,29 +81,29 @@ loop-edge-preserved c =
       count = length-set c.loop-edge.tallies edge.user after ∙ c.loop-edge.invariant.count;
       good = c.loop-edge.invariant.good
           ∙ ap is_good (sym (told_good c.requires.told.0 c.args.users.now c.loop-edge.tallies
-          c.loop-edge.agenda c.args.input c.loop-edge.edge-index no_edge no_tally
+          c.loop-edge.agenda c.args.ended c.loop-edge.edge-index no_edge no_tally
           c.of-edges.result.now low c.of-edges.ensures c.loop-edge-test.true is after
           c.told-after.ensures.turns c.told-after.ensures.same));
-      told = λ inputs start. rw now
-          (told_user inputs c.args.users.now c.loop-edge.tallies
-          c.loop-edge.agenda c.args.input c.loop-edge.edge-index no_edge no_tally
+      told = λ awaited start. rw now
+          (told_user awaited c.args.users.now c.loop-edge.tallies
+          c.loop-edge.agenda c.args.ended c.loop-edge.edge-index no_edge no_tally
           c.of-edges.result.now low c.of-edges.ensures c.loop-edge-test.true
-          (c.loop-edge.invariant.told inputs start) after c.told-after.ensures.turns
+          (c.loop-edge.invariant.told awaited start) after c.told-after.ensures.turns
           c.told-after.ensures.same c.serves-good.result c.loop-edge.invariant.good
           c.told-after.ensures.is);
       same = same_then c.args.tallies.now c.loop-edge.tallies _ c.loop-edge.invariant.same
           (told_same c.requires.told.0 c.args.users.now c.loop-edge.tallies
-          c.loop-edge.agenda c.args.input c.loop-edge.edge-index no_edge no_tally
+          c.loop-edge.agenda c.args.ended c.loop-edge.edge-index no_edge no_tally
           c.of-edges.result.now low c.of-edges.ensures c.loop-edge-test.true is after
           c.told-after.ensures.turns c.told-after.ensures.same);
       measure = rw now
           (told_measure c.requires.told.0 c.args.users.now c.loop-edge.tallies
-          c.loop-edge.agenda c.args.input c.loop-edge.edge-index no_edge no_tally
+          c.loop-edge.agenda c.args.ended c.loop-edge.edge-index no_edge no_tally
           c.of-edges.result.now low c.of-edges.ensures c.loop-edge-test.true is after
           c.told-after.ensures.turns c.told-after.ensures.same ∙ c.loop-edge.invariant.measure);
       ahead = rw now
           (told_edges c.requires.told.0 c.args.users.now c.loop-edge.tallies
-          c.loop-edge.agenda c.args.input c.loop-edge.edge-index no_edge no_tally
+          c.loop-edge.agenda c.args.ended c.loop-edge.edge-index no_edge no_tally
           c.of-edges.result.now low c.of-edges.ensures c.loop-edge-test.true is after
           c.told-after.ensures.turns c.told-after.ensures.same ∙ c.loop-edge.invariant.ahead);
     }

@@ -1,5 +1,6 @@
-use Rattle.std.proofs.Common.{◌≡◌, ◌+◌, ℕ, List, drop, length}
+use Rattle.std.proofs.Common.{◌≡◌, ◌+◌, ℕ, drop, length}
 use Rattle.sched_core.specs.Agendas.{AreSameElse, IsSpreading, to_end}
+use Rattle.sched_core.specs.Courses.{Awaited}
 use Rattle.sched_core.specs.Coursing.{kept}
 use Rattle.sched_core.specs.States.{is_good}
 use Rattle.sched_core.specs.Tallies.{states_in}
@@ -9,13 +10,13 @@ use Rattle.sched_core.proofs.spreading.tell.Given as goal
 
 abbrev pub invariant-loop-edge : goal.invariant-loop-edge
 invariant-loop-edge l = record {
-  items : l.edges ≡ users_of l.users l.input;
+  items : l.edges ≡ users_of l.users l.ended;
   count : length l.tallies ≡ length l.fn.tallies;
-  good : l.good ≡ is_good (kept (states_in l.tallies) l.input);
-  told : (inputs : ℕ → List ℕ)
-      → IsSpreading inputs l.users l.fn.tallies l.fn.agenda (users_of l.users l.input)
-      → IsSpreading inputs l.users l.tallies l.agenda
-      (drop l.edge-index (users_of l.users l.input));
+  good : l.good ≡ is_good (kept (states_in l.tallies) l.ended);
+  told : (awaited : ℕ → Awaited)
+      → IsSpreading awaited l.users l.fn.tallies l.fn.agenda (users_of l.users l.ended)
+      → IsSpreading awaited l.users l.tallies l.agenda
+      (drop l.edge-index (users_of l.users l.ended));
   same : AreSameElse l.fn.tallies l.tallies;
   measure : to_end l.tallies l.agenda ≡ to_end l.fn.tallies l.fn.agenda;
   ahead : open_edges (sizes l.users) l.tallies + length (users_of_all l.users l.agenda.work)

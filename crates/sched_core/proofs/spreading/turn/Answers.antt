@@ -1,4 +1,4 @@
-use Rattle.std.proofs.Common.{◌≡◌, ◌+◌, ◌∙◌, ℕ, List, [], false, ap, arith, length, sym, subst, get_or, set}
+use Rattle.std.proofs.Common.{◌≡◌, ◌+◌, ◌∙◌, ℕ, List, [], false, None, ap, arith, length, sym, subst, get_or, set}
 use Rattle.sched_core.specs.Agendas.{Agenda, IsSpreading}
 use Rattle.sched_core.specs.declared.reason.State.{State}
 use Rattle.sched_core.specs.declared.reason.State.TheVariants.{Done}
@@ -6,12 +6,22 @@ use Rattle.sched_core.specs.declared.standing.Standing.TheVariants.{AllValid}
 use Rattle.sched_core.specs.Users.{users_of_all}
 use Rattle.sched_core.specs.declared.tally.Tally.{Tally}
 use Rattle.sched_core.specs.declared.users.Edge.{Edge}
-use Rattle.sched_core.proofs.Telling.{steady_after, turned_edges, turned_phases, turned_room, turned_settles, turned_space, turned_spreading, turned_standings, turned_wanted}
+use Rattle.sched_core.proofs.Telling.{steady_after, turned_edges, turned_phases, turned_room, turned_settles, turned_space, turned_spreading, turned_standings, turned_twins, turned_wanted}
 use Rattle.sched_core.proofs.spreading.turn.Goals as goal
 
 -- what is read past the end of the tallies
 abbrev no_tally : Tally
-no_tally = record { standing = AllValid; wanted = false; state = Done; waits = 0; first = 0 }
+no_tally = record {
+  standing = AllValid;
+  wanted = false;
+  twin = None;
+  state = Done;
+  inputs = 0;
+  waits = 0;
+  first = 0;
+  failed = None;
+  held = false;
+}
 
 abbrev old : List Tally → ℕ → Tally
 old tallies d = get_or tallies d no_tally
@@ -75,15 +85,15 @@ freshen-requires c =
     c.requires.steady.1.told))).listed
 
 pub returns-clause-steady : goal.returns-clause-steady
-returns-clause-steady c inputs steady =
-    steady_after inputs c.args.users.now c.spread-told.new.tallies c.spread-told.new.agenda
+returns-clause-steady c awaited steady =
+    steady_after awaited c.args.users.now c.spread-told.new.tallies c.spread-told.new.agenda
     c.freshen.new.self
-    (c.spread-told.ensures.told inputs
-    (subst (λ (a : Agenda). IsSpreading inputs c.args.users.now
+    (c.spread-told.ensures.told awaited
+    (subst (λ (a : Agenda). IsSpreading awaited c.args.users.now
     (set c.args.tallies.now c.args.d (now c.args.tallies.now c.args.d c.args.state)) a [])
     (sym c.note.ensures)
     (turned_spreading c.args.tallies.now c.args.agenda.now c.args.d no_tally c.args.state
-    c.requires.within c.requires.turns inputs c.args.users.now c.requires.begun steady.told)))
+    c.requires.within c.requires.turns awaited c.args.users.now c.requires.begun steady.told)))
     c.spread-told.ensures.none c.freshen.ensures.is c.freshen.ensures.fresh c.freshen.ensures.work
 
 pub returns-clause-standings : goal.returns-clause-standings
@@ -94,6 +104,11 @@ returns-clause-standings c = c.spread-told.ensures.same.standings
 pub returns-clause-wanted : goal.returns-clause-wanted
 returns-clause-wanted c = c.spread-told.ensures.same.wanted
     ∙ turned_wanted c.args.tallies.now c.args.agenda.now c.args.d no_tally c.args.state
+    c.requires.within c.requires.turns
+
+pub returns-clause-twins : goal.returns-clause-twins
+returns-clause-twins c = c.spread-told.ensures.same.twins
+    ∙ turned_twins c.args.tallies.now c.args.agenda.now c.args.d no_tally c.args.state
     c.requires.within c.requires.turns
 
 pub returns-clause-phases : goal.returns-clause-phases

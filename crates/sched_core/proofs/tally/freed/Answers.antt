@@ -1,11 +1,12 @@
-use Rattle.std.proofs.Common.{sym, subst, refl}
+use Rattle.std.proofs.Common.{refl, sym, subst}
 use Rattle.sched_core.specs.Tallies.{Turns, turns_freed, turns_stays}
 use Rattle.sched_core.specs.declared.reason.State.TheVariants.{Ready, Blocked}
-use Rattle.sched_core.proofs.ToldStates.{not_freed}
+use Rattle.sched_core.proofs.OneStates.{not_freed}
 use Rattle.sched_core.proofs.tally.freed.Goals as goal
 
-pub returns-then-all-clause-turns : goal.returns-then-all-clause-turns
-returns-then-all-clause-turns c = subst (λ s. Turns s Ready) (sym c.in-Blocked.is) turns_freed
+pub returns-then-not-held-clause-turns : goal.returns-then-not-held-clause-turns
+returns-then-not-held-clause-turns c =
+    subst (λ s. Turns s Ready) (sym c.in-Blocked.is) turns_freed
 
 pub returns-else-all-clause-turns : goal.returns-else-all-clause-turns
 returns-else-all-clause-turns c =
@@ -13,8 +14,8 @@ returns-else-all-clause-turns c =
 
 pub returns-in_default : goal.returns-in_default
 returns-in_default c = record {
-  is = λ standing first is.
-      not_freed c.args.state standing first c.args.all c.in_default.not-Blocked is;
+  is = λ standing twins first says is.
+      not_freed c.args.state standing twins first c.args.all c.in_default.not-Blocked is;
   phase = refl;
   turns = turns_stays c.args.state;
 }

@@ -3,8 +3,11 @@ use Rattle.sched_core.specs.Tallies.{Turns, turns_named, turns_refused, turns_st
 use Rattle.sched_core.specs.States.{by_first}
 use Rattle.sched_core.specs.declared.reason.Refusal.TheVariants.{InputNotRealised}
 use Rattle.sched_core.specs.declared.reason.State.TheVariants.{Refused}
-use Rattle.sched_core.proofs.ToldStates.{hindered_stays, not_refused}
+use Rattle.sched_core.proofs.OneStates.{hindered_stays, not_refused}
 use Rattle.sched_core.proofs.tally.refused.Goals as goal
+
+pub returns-then-held-clause-turns : goal.returns-then-held-clause-turns
+returns-then-held-clause-turns c = turns_stays c.args.state
 
 pub returns-in-Blocked-clause-turns : goal.returns-in-Blocked-clause-turns
 returns-in-Blocked-clause-turns c = ⊎_elim
@@ -16,8 +19,8 @@ returns-in-Blocked-clause-turns c = ⊎_elim
 
 pub returns-in_default-state : goal.returns-in_default-state
 returns-in_default-state c = record {
-  is = λ first is.
-      not_refused c.args.state c.args.standing first c.args.input c.in-Free.is
+  is = λ twins first says is.
+      not_refused c.args.state c.args.standing twins first c.args.input c.in-Free.is
       c.in_default-state.not-Blocked c.in_default-state.not-Refused is;
   phase = refl;
   turns = turns_stays c.args.state;
@@ -25,8 +28,8 @@ returns-in_default-state c = record {
 
 pub returns-in_default : goal.returns-in_default
 returns-in_default c = record {
-  is = λ first is.
-      hindered_stays c.args.state c.args.standing (by_first first false)
+  is = λ twins first says is.
+      hindered_stays c.args.state c.args.standing twins (by_first first false)
       (Refused (InputNotRealised c.args.input)) c.in_default.not-Free is;
   phase = refl;
   turns = turns_stays c.args.state;

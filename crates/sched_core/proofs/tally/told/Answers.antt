@@ -1,30 +1,48 @@
-use Rattle.std.specs.Prelude.{slice_get}
-use Rattle.sched_core.specs.Tallies.{turns_stays}
-use Rattle.sched_core.proofs.ToldStates.{told_bad, told_before, told_good, told_later, told_waits}
+use Rattle.std.proofs.Common.{subst, sym}
+use Rattle.std.specs.Prelude.{slice_get, slice_set}
+use Rattle.sched_core.specs.Tallies.{CanHear, IsTally, news_by, of_twins, turns_stays}
+use Rattle.sched_core.proofs.ToldStates.{is_input, told_bad, told_before, told_good, told_held, told_later, told_waits}
 use Rattle.sched_core.proofs.tally.told.Goals as goal
 
 pub overflow_sub-waits : goal.overflow_sub-waits
-overflow_sub-waits c = let (inputs, heard, can) = c.requires in
-    told_waits c.args.tally inputs heard c.args.place c.args.input can
-
-pub returns-then-good-clause-is : goal.returns-then-good-clause-is
-returns-then-good-clause-is c = λ inputs heard can.
-    told_good c.args.tally inputs heard c.args.place c.args.input can c.args.good c.if-good.true
-    c.freed-state.result
-    (c.freed-state.ensures.is c.args.tally.standing (slice_get inputs c.args.tally.first)
-    (told_before c.args.tally inputs heard c.args.place c.args.input can))
+overflow_sub-waits c = let (awaited, heard, can) = c.requires in
+    told_waits c.args.tally awaited heard c.args.place c.args.one can
+    (is_input c.args.tally awaited heard c.args.place c.args.one can c.if-place-tally.false)
 
 pub returns-then-place-tally-clause-is : goal.returns-then-place-tally-clause-is
-returns-then-place-tally-clause-is c = λ inputs heard can.
-    told_bad c.args.tally inputs heard c.args.place c.args.input can c.args.good c.if-good.false
-    c.if-place-tally.true c.refused-state.result
-    (c.refused-state.ensures.is (slice_get inputs c.args.tally.first)
-    (told_before c.args.tally inputs heard c.args.place c.args.input can))
+returns-then-place-tally-clause-is c = λ awaited heard can.
+    subst (λ n. IsTally awaited (slice_set heard n (news_by c.args.good)) c.released.result)
+    (sym c.if-place-tally.true)
+    (c.released.ensures.is awaited heard c.args.one
+    (subst (λ n. CanHear awaited heard c.args.tally n c.args.one) c.if-place-tally.true can))
 
-pub returns-else-place-tally-clause-is : goal.returns-else-place-tally-clause-is
-returns-else-place-tally-clause-is c = λ inputs heard can.
-    told_later c.args.tally inputs heard c.args.place c.args.input can c.args.good c.if-good.false
-    c.if-place-tally.false
+pub returns-then-good-clause-is : goal.returns-then-good-clause-is
+returns-then-good-clause-is c = λ awaited heard can.
+    let low = is_input c.args.tally awaited heard c.args.place c.args.one can
+    c.if-place-tally.false in
+    told_good c.args.tally awaited heard c.args.place c.args.one can low c.args.good c.if-good.true
+    c.freed-state.result
+    (c.freed-state.ensures.is c.args.tally.standing (of_twins awaited heard)
+    (slice_get awaited.inputs c.args.tally.first)
+    (told_held c.args.tally awaited heard c.args.place c.args.one can low)
+    (told_before c.args.tally awaited heard c.args.place c.args.one can low))
 
-pub returns-else-place-tally-clause-turns : goal.returns-else-place-tally-clause-turns
-returns-else-place-tally-clause-turns c = turns_stays c.args.tally.state
+pub returns-then-place-tally-2-clause-is : goal.returns-then-place-tally-2-clause-is
+returns-then-place-tally-2-clause-is c = λ awaited heard can.
+    let low = is_input c.args.tally awaited heard c.args.place c.args.one can
+    c.if-place-tally.false in
+    told_bad c.args.tally awaited heard c.args.place c.args.one can low c.args.good c.if-good.false
+    c.if-place-tally-2.true c.refused-state.result
+    (c.refused-state.ensures.is (of_twins awaited heard)
+    (slice_get awaited.inputs c.args.tally.first)
+    (told_held c.args.tally awaited heard c.args.place c.args.one can low)
+    (told_before c.args.tally awaited heard c.args.place c.args.one can low))
+
+pub returns-else-place-tally-2-clause-is : goal.returns-else-place-tally-2-clause-is
+returns-else-place-tally-2-clause-is c = λ awaited heard can.
+    told_later c.args.tally awaited heard c.args.place c.args.one can
+    (is_input c.args.tally awaited heard c.args.place c.args.one can c.if-place-tally.false)
+    c.args.good c.if-good.false c.if-place-tally-2.false
+
+pub returns-else-place-tally-2-clause-turns : goal.returns-else-place-tally-2-clause-turns
+returns-else-place-tally-2-clause-turns c = turns_stays c.args.tally.state

@@ -1,7 +1,7 @@
 use Rattle.std.proofs.Common.{◌∙◌, ◌<◌, ◌+◌, arith, get_or, length}
 use Rattle.std.proofs.lemmas.List.{get_or_default, length-set}
 use Rattle.std.proofs.lemmas.List.Sums.{sum_by-set}
-use Rattle.sched_core.proofs.UserSpans.{counted}
+use Rattle.sched_core.proofs.UserCounts.{counted}
 use Rattle.sched_core.proofs.users.count_inputs.Goals as goal
 
 pub loop-input-preserved : goal.loop-input-preserved

@@ -1,6 +1,5 @@
-use Rattle.std.proofs.Common.{◌≡◌, ◌↔◌, ℕ, IsTrue, MatchOption, Option, Some, None, refl, subst, sym}
+use Rattle.std.proofs.Common.{◌↔◌, ℕ, IsTrue, MatchOption, Option, Some, None, refl}
 use Rattle.std.specs.Option.{is_some}
-use Rattle.sched_core.specs.Books.{CanBegin, Ledger}
 use Rattle.sched_core.proofs.book.Book.can_begin.Goals as goal
 
 -- what is found is there, and where nothing is found nothing is there

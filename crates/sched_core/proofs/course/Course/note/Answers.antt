@@ -1,8 +1,11 @@
-use Rattle.std.proofs.Common.{◌∙◌, ◌<◌, ap, length, subst, sym}
-use Rattle.sched_core.specs.Courses.{Course, course_state}
+use Rattle.std.proofs.Common.{◌≡◌, ◌∙◌, ◌+◌, ◌<◌, ◌++◌, ap, drop, length, refl, subst, sym, take}
+use Rattle.std.proofs.Math.Seq.{take-append_seam}
+use Rattle.sched_core.specs.Agendas.{IsSteady, standings_in, twins_in, wanted_in}
+use Rattle.sched_core.specs.ToldEdges.{open_edges, sizes}
+use Rattle.sched_core.specs.Courses.{Course, awaited_at, course_state}
 use Rattle.sched_core.specs.Coursing.{kept}
 use Rattle.sched_core.specs.Tallies.{Turns, states_in}
-use Rattle.sched_core.proofs.Tallied.{state_kept}
+use Rattle.sched_core.proofs.Tallied.{noted_course, same_length, state_kept, told_more}
 use Rattle.sched_core.proofs.course.Course.note.Goals as goal
 
 pub turn-told-requires-clause-turns : goal.turn-told-requires-clause-turns
@@ -13,3 +16,30 @@ turn-told-requires-clause-turns c = subst (λ s. Turns s c.args.state)
     (subst (λ (k : Course). c.args.d < length k.graph.nodes) (sym c.self.view_is)
     c.requires.within)
     ∙ ap (λ k. course_state k c.args.d) c.self.view_is)) c.requires.turns
+
+pub invariant_of-self : goal.invariant_of-self
+invariant_of-self c =
+    let plan = c.self.inside.plan in
+    let items = c.self.inside.tallies.items in
+    let users = c.self.inside.users in
+    let now = c.turn-told.new.tallies in
+    let value = c.deref_mut.ensures.value in
+    let awaited = awaited_at plan (twins_in items) in
+    let stand : standings_in now ≡ standings_in items =
+    c.turn-told.ensures.standings ∙ ap standings_in value in
+    let want : wanted_in now ≡ wanted_in items =
+    c.turn-told.ensures.wanted ∙ ap wanted_in value in
+    let twin : twins_in now ≡ twins_in items = c.turn-told.ensures.twins ∙ ap twins_in value in
+    let steady = c.turn-told.ensures.steady awaited
+    (subst (λ l. IsSteady awaited users l c.self.inside.agenda) (sym value)
+    c.self.invariant.0.steady) in
+    let is = noted_course plan items now users c.self.inside.agenda c.turn-told.new.agenda
+    c.self.invariant.0 stand twin steady in
+    let told = told_more plan items now users c.self.inside.told c.turn-told.result
+    (c.self.inside.told + c.turn-told.result) c.self.invariant.1 stand want twin
+    (c.turn-told.ensures.told ∙ ap (open_edges (sizes users)) value) refl in
+    let size : c.self.inside.tallies.len ≡ length now =
+    sym (c.deref_mut.ensures.len) ∙ ap length value ∙ same_length items now stand in
+    let whole = ap (λ n. take n (now ++ drop (length now) items)) size
+    ∙ take-append_seam now (drop (length now) items) in
+    rw whole (is, told)

@@ -1,5 +1,8 @@
-use Rattle.std.proofs.Common.{subst}
+use Rattle.std.proofs.Common.{◌∙◌, ap, length, subst, sym}
 use Rattle.sched_core.specs.Agendas.{IsAgenda, IsFresh}
+use Rattle.sched_core.specs.Courses.{all_of, awaited_at}
+use Rattle.sched_core.specs.UserSpans.{uses}
+use Rattle.sched_core.specs.Users.{AreUsers}
 use Rattle.sched_core.proofs.Tallied.{opening_course, told_none}
 use Rattle.sched_core.proofs.course.Course.open.Goals as goal
 
@@ -9,12 +12,19 @@ invariant_of-result c =
     let tallies = c.in_ok-tallies.tallies.items in
     let users = c.in_ok-users.users in
     let agenda = c.in_ok-agenda.agenda in
-    let is = opening_course plan c.deref.result.now c.deref-2.result.now tallies users agenda
-    c.in_ok-tallies.ensures.ok c.in_ok-users.ensures.ok
-    (subst (λ l. IsAgenda l agenda) c.deref-3.ensures.value c.in_ok-agenda.ensures.is)
-    (subst (λ l. IsFresh l agenda) c.deref-3.ensures.value c.in_ok-agenda.ensures.fresh)
+    let is = opening_course plan c.deref-2.result.now c.deref-3.result.now c.deref-4.result.now
+    tallies users agenda
+    c.in_ok-tallies.ensures.ok
+    (subst (λ l. AreUsers (λ d. all_of (awaited_at plan l d)) (length plan.nodes) users)
+    (c.deref.ensures.value ∙ sym c.deref-4.ensures.value) c.in_ok-users.ensures.ok)
+    (subst (λ l. IsAgenda l agenda) c.deref-5.ensures.value c.in_ok-agenda.ensures.is)
+    (subst (λ l. IsFresh l agenda) c.deref-5.ensures.value c.in_ok-agenda.ensures.fresh)
     c.in_ok-agenda.ensures.none in (
       is,
-      told_none plan tallies users agenda is c.in_ok-users.ensures.sizes
+      told_none plan tallies users agenda is
+          (λ d low. c.in_ok-users.ensures.sizes d low
+          ∙ ap (λ l. uses (λ e. all_of (awaited_at plan l e)) (length plan.nodes) d)
+          (c.deref.ensures.value ∙ sym c.deref-4.ensures.value
+          ∙ sym c.in_ok-tallies.ensures.ok.are_twins))
           c.in_ok-tallies.ensures.ok.idle c.in_ok-users.ensures.few,
     )

@@ -1,6 +1,6 @@
 use Rattle.std.proofs.Common.{◌∙◌, sym}
 use Rattle.std.proofs.lemmas.Bool.{false≢true}
-use Rattle.sched_core.proofs.Keeping.{building_told, not_building}
+use Rattle.sched_core.proofs.KeptStates.{building_told, not_building}
 use Rattle.sched_core.proofs.progress.Progress.is_building.Goals as goal
 
 pub returns-in-Building : goal.returns-in-Building

@@ -1,4 +1,4 @@
-use Rattle.sched_core.proofs.Keeping.{can_begin, is_next, match_weaker}
+use Rattle.sched_core.proofs.KeptStates.{can_begin, is_next, match_weaker}
 use Rattle.sched_core.proofs.progress.Progress.next.Goals as goal
 
 pub returns-clause-can : goal.returns-clause-can

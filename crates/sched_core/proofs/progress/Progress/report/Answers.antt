@@ -1,5 +1,5 @@
 use Rattle.std.proofs.lemmas.Result.{IfOk-weaker}
-use Rattle.sched_core.proofs.Keeping.{report_told}
+use Rattle.sched_core.proofs.KeptStates.{report_told}
 use Rattle.sched_core.proofs.progress.Progress.report.Goals as goal
 
 pub returns-clause-ok : goal.returns-clause-ok

@@ -1,4 +1,4 @@
-use Rattle.sched_core.proofs.Keeping.{settled_told}
+use Rattle.sched_core.proofs.KeptStates.{settled_told}
 use Rattle.sched_core.proofs.progress.Progress.settled.Goals as goal
 
 pub returns : goal.returns

@@ -1,5 +1,5 @@
 use Rattle.std.proofs.Common.{◌∙◌}
-use Rattle.sched_core.proofs.Keeping.{states_told}
+use Rattle.sched_core.proofs.KeptStates.{states_told}
 use Rattle.sched_core.proofs.progress.Progress.state.Goals as goal
 
 pub returns : goal.returns

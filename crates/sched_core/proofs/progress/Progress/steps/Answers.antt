@@ -2,7 +2,7 @@ use Rattle.std.proofs.Common.{◌≡◌, ◌∙◌, ◌+◌, ◌*◌, ◌%◌, �
 use Rattle.std.proofs.Math.Nat.{add-mod-mod}
 use Rattle.sched_core.specs.Booking.{history_of, run_over}
 use Rattle.sched_core.specs.Steps.{told_in}
-use Rattle.sched_core.proofs.Keeping.{told_kept}
+use Rattle.sched_core.proofs.KeptStates.{told_kept}
 use Rattle.sched_core.proofs.progress.Progress.steps.Goals as goal
 
 pub returns : goal.returns

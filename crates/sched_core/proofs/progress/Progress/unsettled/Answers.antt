@@ -1,4 +1,4 @@
-use Rattle.sched_core.proofs.Keeping.{unsettled_told}
+use Rattle.sched_core.proofs.KeptStates.{unsettled_told}
 use Rattle.sched_core.proofs.progress.Progress.unsettled.Goals as goal
 
 pub returns : goal.returns

@@ -1,0 +1,244 @@
+-- What a course that is kept tells of its run.
+use Rattle.std.proofs.Common.{◌≡◌, ℕ, ◌-◌, Bool, true, false, List, [], ◌++◌, length, Option, Some, None, refl, sym, ap, ◌∙◌, subst, ⊎_elim, arith}
+use Rattle.std.specs.Prelude.{IsTrue, MatchOption, ◌↔◌, if◌then◌else◌, slice_get}
+use Rattle.std.specs.List.{slice_index_or}
+use Rattle.std.proofs.Math.Dec.{T, eqb}
+use Rattle.std.proofs.Math.Facts.{eqb_yes}
+use Rattle.std.proofs.lemmas.Bool.{cases_lt}
+use Rattle.std.proofs.lemmas.List.{get_or_past}
+use Rattle.std.proofs.lemmas.Option.{slice_get_past}
+use Rattle.nix_drv.proofs.Fixed.{eqb_same}
+use Rattle.sched_core.specs.Booking.{IsKept, run_over}
+use Rattle.sched_core.specs.Books.{CanBegin, IsRunSettled, IsUnsettled, opened}
+use Rattle.sched_core.specs.Counts.{AreSoMany}
+use Rattle.sched_core.specs.Courses.{Course, IsNext, IsOpen, IsSettled, IsUnsettledIn, all_of, awaited_at, course_rows, course_state, listed}
+use Rattle.sched_core.specs.Nearest.{last_alone, nearest}
+use Rattle.sched_core.specs.Reports.{IsReportIn, IsReportOf}
+use Rattle.sched_core.specs.Runs.{History, Run, earlier_twins, inputs_at, rows_of, standing_at, state_in}
+use Rattle.sched_core.specs.States.{Phase, Idle, Begun, Ended, Broken, by_first, by_hindrance, by_validity, is_done, is_open, phase_of}
+use Rattle.sched_core.specs.Steps.{awaited_by, edges_ahead, edges_ahead_in, told_in}
+use Rattle.sched_core.specs.ToldEdges.{course_ahead, course_told, rested}
+use Rattle.sched_core.specs.declared.reason.State.{State}
+use Rattle.sched_core.specs.declared.reason.State.TheVariants.{Blocked, Building, Refused, Reused}
+use Rattle.sched_core.specs.declared.standing.Standing.{Standing}
+use Rattle.sched_core.specs.declared.standing.Standing.TheVariants.{AllValid, Hindered, Free}
+use Rattle.sched_core.proofs.Counts.{so_many_same}
+use Rattle.sched_core.proofs.EarlierTwins.{run_twins, twins_past}
+use Rattle.sched_core.proofs.Histories.{building_from_begun, opening_legal}
+use Rattle.sched_core.proofs.NearestTwins.{all_good, any_twin, first_bad, nearest_told, stands_by, state_is}
+use Rattle.sched_core.proofs.RunReports.{report_in}
+use Rattle.sched_core.proofs.StateLaws.{AreSame, near_same}
+
+-- ---- states follow from rows that are the same
+
+twins_same : (system : List ℕ) (history : History) (course : Course) (given room : ℕ)
+    → IsKept system history course given room
+    → (d : ℕ) → listed (slice_index_or course.twins d None)
+    ≡ last_alone (earlier_twins (run_over course system) history.opening d)
+twins_same system history course given room kept d =
+    ⊎_elim
+    (λ below. kept.twins.each d below)
+    (λ past.
+    ap listed (get_or_past course.twins d None (omega (arith, kept.twins.count)))
+    ∙ sym (ap last_alone (twins_past (run_over course system) history.opening d
+    (slice_get_past course.graph.nodes d past))))
+    (cases_lt d (length course.graph.nodes))
+
+rows_same : (system : List ℕ) (history : History) (course : Course) (given room : ℕ)
+    → IsKept system history course given room
+    → AreSame (course_rows course)
+    (nearest (rows_of (run_over course system) history.opening history.events))
+rows_same system history course given room kept =
+    record {
+      inputs = λ d. refl;
+      twins = twins_same system history course given room kept;
+      standing = λ d. ⊎_elim
+          (λ below. kept.standings.each d below)
+          (λ past.
+          get_or_past course.standings d Free (omega (arith, kept.standings.count))
+          ∙ sym (ap (standing_at system history.opening)
+          (slice_get_past course.graph.nodes d past)))
+          (cases_lt d (length course.graph.nodes));
+      phase = kept.phases;
+    }
+
+-- a course tells the states
+pub states_told : (system : List ℕ) (history : History) (course : Course) (given room : ℕ)
+    → IsKept system history course given room
+    → (d : ℕ) → course_state course d ≡ state_in (run_over course system) history d
+states_told system history course given room kept d =
+    near_same (course_rows course)
+    (nearest (rows_of (run_over course system) history.opening history.events))
+    (rows_same system history course given room kept) d
+    ∙ nearest_told (run_over course system) history kept.legal d
+
+-- ---- what can be begun
+
+pub can_begin : (system : List ℕ) (history : History) (course : Course) (given room : ℕ)
+    → IsKept system history course given room
+    → (d : ℕ) → IsNext course d → CanBegin (run_over course system) history d
+can_begin system history course given room kept d next =
+    record {
+      within = next.0;
+      wanted = kept.wanted.yes d next.1;
+      ready = sym (states_told system history course given room kept d) ∙ next.2;
+    }
+
+pub is_next : (system : List ℕ) (history : History) (course : Course) (given room : ℕ)
+    → IsKept system history course given room
+    → (d : ℕ) → CanBegin (run_over course system) history d → IsNext course d
+is_next system history course given room kept d can = (
+  can.within,
+  kept.wanted.no d can.wanted,
+  states_told system history course given room kept d
+      ∙ can.ready,
+)
+
+pub unsettled_told : (system : List ℕ) (history : History) (course : Course) (given room : ℕ)
+    → IsKept system history course given room
+    → (count : ℕ) → AreSoMany (IsUnsettledIn course) count
+    → AreSoMany (IsUnsettled (run_over course system) history) count
+unsettled_told system history course given room kept count =
+    so_many_same (IsUnsettledIn course) (IsUnsettled (run_over course system) history) count
+    (λ d still. (
+      still.0,
+      kept.wanted.yes d still.1,
+      subst IsOpen (states_told system history course given room kept d) still.2,
+    ))
+    (λ d still. (
+      still.0,
+      kept.wanted.no d still.1,
+      subst IsOpen (sym (states_told system history course given room kept d)) still.2,
+    ))
+
+pub settled_told : (system : List ℕ) (history : History) (course : Course) (given room : ℕ)
+    → IsKept system history course given room
+    → IsSettled course ↔ IsRunSettled (run_over course system) history
+settled_told system history course given room kept = (
+  λ settled d within wanted still.
+      settled d within (kept.wanted.no d wanted)
+      (subst IsOpen (sym (states_told system history course given room kept d)) still),
+  λ settled d within wanted still.
+      settled d within (kept.wanted.yes d wanted)
+      (subst IsOpen (states_told system history course given room kept d) still),
+)
+
+-- what is known of an answer, weakened
+pub match_weaker : {X : Type 0} {P R : Type 0} {Q S : X → Type 0} (o : Option X) → MatchOption o P Q
+    → (P → R) → ((x : X) → Q x → S x) → MatchOption o R S
+match_weaker None is none some = none is
+match_weaker (Some x) is none some = some x is
+
+-- ---- a derivation that is building
+
+not_by_first : (found : Option ℕ) (all : Bool) (lease : ℕ) → by_first found all ≡ Building lease → ⊥
+not_by_first (Some input) all lease is = absurd cc
+not_by_first None true lease is = absurd cc
+not_by_first None false lease is = absurd cc
+
+not_by_twins : (built still : Bool) (other : State) (lease : ℕ) → (other ≡ Building lease → ⊥)
+    → (if built then Reused else if still then Blocked else other) ≡ Building lease → ⊥
+not_by_twins true still other lease none is = absurd cc
+not_by_twins false true other lease none is = absurd cc
+not_by_twins false false other lease none is = none is
+
+not_by_standing : (standing : Standing) (built still : Bool) (found : Option ℕ) (all : Bool)
+    (lease : ℕ) → by_validity standing (if built then Reused else if still then Blocked
+    else by_hindrance standing (by_first found all)) ≡ Building lease → ⊥
+not_by_standing AllValid built still found all lease is = absurd cc
+not_by_standing (Hindered cause) built still found all lease is =
+    not_by_twins built still (Refused cause) lease (λ refused. absurd cc) is
+not_by_standing Free built still found all lease is =
+    not_by_twins built still (by_first found all) lease (not_by_first found all lease) is
+
+begun_by_phase : (p : Phase) (standing : Standing) (built still : Bool) (found : Option ℕ)
+    (all : Bool) (lease : ℕ) → stands_by p standing built still found all ≡ Building lease
+    → p ≡ Begun lease
+begun_by_phase Idle standing built still found all lease is =
+    absurd (not_by_standing standing built still found all lease is)
+begun_by_phase (Begun n) standing built still found all lease is = cc
+begun_by_phase Ended standing built still found all lease is = absurd cc
+begun_by_phase (Broken reason) standing built still found all lease is = absurd cc
+
+pub begun_from_building : (run : Run) (history : History) (d lease : ℕ) → state_in run history d
+    ≡ Building lease → phase_of history.events d ≡ Begun lease
+begun_from_building run history d lease is =
+    let rows = rows_of run history.opening history.events in
+    begun_by_phase (phase_of history.events d) (rows.standing d) (any_twin rows is_done d)
+    (any_twin rows is_open d) (first_bad rows d) (all_good rows d) lease
+    (sym (state_is rows (run_twins run history.opening history.events) d) ∙ is)
+
+-- ---- whether a lease is out
+
+pub building_told : (system : List ℕ) (history : History) (course : Course) (given room : ℕ)
+    → IsKept system history course given room
+    → (d lease number : ℕ) → course_state course d ≡ Building lease → IsTrue (eqb lease number)
+    ↔ (phase_of history.events d ≡ Begun number)
+building_told system history course given room kept d lease number is =
+    let begun_is : phase_of history.events d ≡ Begun lease =
+    begun_from_building (run_over course system) history d lease
+    (sym (states_told system history course given room kept d) ∙ is) in (
+      λ yes. begun_is ∙ ap Begun (eqb_yes (subst T (sym yes) tt)),
+      λ other. let same : Begun lease ≡ Begun number = sym begun_is ∙ other in let one : lease
+          ≡ number = cc in subst (λ n. IsTrue (eqb lease n)) one (eqb_same lease),
+    )
+
+pub not_building : (system : List ℕ) (history : History) (course : Course) (given room : ℕ)
+    → IsKept system history course given room
+    → (d number : ℕ) → ((lease : ℕ) → course_state course d ≡ Building lease → ⊥)
+    → phase_of history.events d ≡ Begun number → ⊥
+not_building system history course given room kept d number none is =
+    none number (states_told system history course given room kept d
+    ∙ building_from_begun (run_over course system) history d number is)
+
+-- ---- the report
+
+pub report_told : (system : List ℕ) (history : History) (course : Course) (given room : ℕ)
+    → IsKept system history course given room
+    → (text : List ℕ) → IsReportOf course text → IsReportIn (run_over course system) history text
+report_told system history course given room kept text report =
+    report_in (run_over course system) history course text refl kept.wanted
+    (states_told system history course given room kept) report
+
+-- ---- along how many edges users were told
+
+pub told_kept : (system : List ℕ) (history : History) (course : Course) (given room : ℕ)
+    → IsKept system history course given room
+    → course_told course ≡ told_in (run_over course system) history
+told_kept system history course given room kept =
+    ap (λ n. n - course_ahead course) then'
+    ∙ ap (λ n. edges_ahead_in run (opened history.opening) - n) now
+  where
+    run : Run
+    run = run_over course system
+
+    count : ℕ
+    count = length course.graph.nodes
+
+    awaited_same : (d : ℕ) → all_of (awaited_at course.graph course.twins d)
+        ≡ awaited_by run history d
+    awaited_same d = ap (λ l. inputs_at course.graph.nodes (slice_get course.graph.nodes d) ++ l)
+        (twins_same system history course given room kept d)
+
+    ahead_same : (a b : ℕ → State) → ((d : ℕ) → a d ≡ b d)
+        → edges_ahead (λ d. all_of (awaited_at course.graph course.twins d)) a count
+        ≡ edges_ahead (awaited_by run history) b count
+    ahead_same a b same = λ i. edges_ahead (λ d. awaited_same d i) (λ d. same d i) count
+
+    same : AreSame (course_rows (rested course)) (nearest (rows_of run history.opening []))
+    same = record {
+      inputs = λ d. refl;
+      twins = twins_same system history course given room kept;
+      standing = (rows_same system history course given room kept).standing;
+      phase = λ d. refl;
+    }
+
+    then' : course_ahead (rested course) ≡ edges_ahead_in run (opened history.opening)
+    then' = ahead_same (course_state (rested course)) (state_in run (opened history.opening))
+        (λ d. near_same (course_rows (rested course))
+        (nearest (rows_of run history.opening [])) same d
+        ∙ nearest_told run (opened history.opening) (opening_legal run history kept.legal) d)
+
+    now : course_ahead course ≡ edges_ahead_in run history
+    now = ahead_same (course_state course) (state_in run history)
+        (states_told system history course given room kept)

@@ -1,0 +1,227 @@
+-- The nearest earlier twins, by the last wanted one of those that have the same first twin.
+use Rattle.std.proofs.Common.{◌≡◌, ◌∙◌, ⊎_elim, ℕ, ◌+◌, ◌<◌, ◌≤◌, Bool, true, false, List, [], ◌∷◌, ◌++◌, length, replicate, Option, Some, None, refl, sym, ap, subst, arith}
+use Rattle.std.specs.Prelude.{◌==◌, ◌&&◌, All, Contains, cond, filter, slice_get}
+use Rattle.std.specs.List.{range_with_len, slice_index_or}
+use Rattle.std.proofs.Math.ListN.{get_or-append, length-append, length-set, set}
+use Rattle.std.proofs.Math.Seq.{get_or-append_seam}
+use Rattle.std.proofs.lemmas.Bool.{and_from, and_left, and_right, cases_eq, cases_lt, eq-eqb, ne_eqb}
+use Rattle.std.proofs.lemmas.List.{append-nil, get_or-replicate, get_or-set_other, get_or-set_same, get_or_past, length-replicate}
+use Rattle.std.proofs.lemmas.List.Elements.{All-contains, All-filter, All-nil, filter-append, filter_agree}
+use Rattle.nix_names.proofs.Lists.{All-from_contains, Contains-later}
+use Rattle.drv_graph.specs.Nodes.{Node}
+use Rattle.drv_graph.specs.Plans.{Graph}
+use Rattle.drv_graph.specs.SoundGraphs.{IsSound}
+use Rattle.valid_table.specs.declared.entry.Entry.{Entry}
+use Rattle.sched_core.specs.Courses.{AreNearest, AreWanted, listed}
+use Rattle.sched_core.specs.Nearest.{last_alone}
+use Rattle.sched_core.specs.Runs.{Run, earlier_twins, is_wanted}
+use Rattle.drv_graph.specs.Twins.{are_twins_at, first_twin_of}
+use Rattle.sched_core.proofs.Tests.{range_below, range_more, same_test}
+use Rattle.sched_core.proofs.TwinLaws.{first_within, same_first}
+use Rattle.sched_core.proofs.Wanting.{wanted_told}
+
+-- ---- the last of a list
+
+pub last_pushed : (ns : List ℕ) (n : ℕ) → last_alone (ns ++ n ∷ []) ≡ n ∷ []
+last_pushed [] n = refl
+last_pushed (a ∷ []) n = refl
+last_pushed (a ∷ b ∷ more) n = last_pushed (b ∷ more) n
+
+-- the last of some numbers is one of them
+pub last_is_one : (ns : List ℕ) (n : ℕ) → Contains (last_alone ns) n → Contains ns n
+last_is_one [] n has = has
+last_is_one (a ∷ []) n has = has
+last_is_one (a ∷ b ∷ more) n has =
+    Contains-later a (b ∷ more) n (last_is_one (b ∷ more) n has)
+
+-- ---- the wanted ones that have the same first twin
+
+-- whether a derivation is wanted, and has this first twin
+abbrev pub is_wanted_with : (nodes : List Node) → (wanted : List Bool) → (first t : ℕ) → Bool
+is_wanted_with nodes wanted first t = slice_index_or wanted t false
+    && (first_twin_of nodes t == first)
+
+-- those of the first derivations, so many
+abbrev pub wanted_with : (nodes : List Node) → (wanted : List Bool) → (first count : ℕ) → List ℕ
+wanted_with nodes wanted first count = filter (is_wanted_with nodes wanted first)
+    (range_with_len 0 count)
+
+wanted_more : (nodes : List Node) (wanted : List Bool) (first d : ℕ)
+    → wanted_with nodes wanted first (d + 1) ≡ wanted_with nodes wanted first d
+    ++ cond (is_wanted_with nodes wanted first d) (d ∷ []) []
+wanted_more nodes wanted first d =
+    ap (filter (is_wanted_with nodes wanted first)) (range_more d)
+    ∙ filter-append (is_wanted_with nodes wanted first) (range_with_len 0 d) (d ∷ [])
+
+-- one of them more is their last
+last_with : (nodes : List Node) (wanted : List Bool) (first d : ℕ)
+    → is_wanted_with nodes wanted first d ≡ true
+    → last_alone (wanted_with nodes wanted first (d + 1)) ≡ d ∷ []
+last_with nodes wanted first d is =
+    ap last_alone (wanted_more nodes wanted first d
+    ∙ ap (λ b. wanted_with nodes wanted first d ++ cond b (d ∷ []) []) is)
+    ∙ last_pushed (wanted_with nodes wanted first d) d
+
+-- another leaves them as they were
+none_with : (nodes : List Node) (wanted : List Bool) (first d : ℕ)
+    → is_wanted_with nodes wanted first d ≡ false
+    → wanted_with nodes wanted first (d + 1) ≡ wanted_with nodes wanted first d
+none_with nodes wanted first d is_not =
+    wanted_more nodes wanted first d
+    ∙ ap (λ b. wanted_with nodes wanted first d ++ cond b (d ∷ []) []) is_not
+    ∙ append-nil (wanted_with nodes wanted first d)
+
+-- ---- what is known on the way
+
+-- Of each number, the last wanted one, of so many, that has it as its first twin.
+pub record AreLast (nodes : List Node) (wanted : List Bool) (last : List (Option ℕ)) (count : ℕ)
+    : Type 0 where
+  pub size : length last ≡ length nodes
+  pub each : (first : ℕ) → first < length nodes → listed (slice_index_or last first None)
+      ≡ last_alone (wanted_with nodes wanted first count)
+
+-- Of the first derivations, so many, the last wanted one before each that has the same first twin.
+pub record AreNear (nodes : List Node) (wanted : List Bool) (twins : List (Option ℕ)) (count : ℕ)
+    : Type 0 where
+  pub size : length twins ≡ count
+  pub each : (d : ℕ) → d < count → listed (slice_index_or twins d None)
+      ≡ last_alone (wanted_with nodes wanted (first_twin_of nodes d) d)
+
+pub none_last : (nodes : List Node) (wanted : List Bool) (last : List (Option ℕ)) (n : ℕ)
+    → n ≡ length nodes → last ≡ replicate n None → AreLast nodes wanted last 0
+none_last nodes wanted last n all none = record {
+  size = ap length none ∙ length-replicate n None ∙ all;
+  each = λ first low.
+      ap (λ l. listed (slice_index_or l first None)) none
+      ∙ ap listed (get_or-replicate n first None None (omega (arith, low, all)));
+}
+
+pub none_near : (nodes : List Node) (wanted : List Bool) (twins : List (Option ℕ)) → twins ≡ []
+    → AreNear nodes wanted twins 0
+none_near nodes wanted twins none = record {
+  size = ap length none;
+  each = λ d low. absurd (omega (arith, low));
+}
+
+-- a derivation more has its twin
+pub near_more : (nodes : List Node) (wanted : List Bool) (last twins : List (Option ℕ)) (d : ℕ)
+    (twin : Option ℕ) → d < length nodes
+    → twin ≡ slice_index_or last (first_twin_of nodes d) None
+    → AreLast nodes wanted last d → AreNear nodes wanted twins d
+    → AreNear nodes wanted (twins ++ twin ∷ []) (d + 1)
+near_more nodes wanted last twins d twin low read known before = record {
+  size = omega (arith, length-append twins (twin ∷ []), before.size);
+  each = λ k below. ⊎_elim
+      (λ less.
+      ap listed (get_or-append twins (twin ∷ []) None k (omega (arith, less, before.size)))
+      ∙ before.each k less)
+      (λ past. let same : k ≡ d = omega (arith, below, past) in
+      subst (λ n. listed (slice_index_or (twins ++ twin ∷ []) n None)
+      ≡ last_alone (wanted_with nodes wanted (first_twin_of nodes n) n)) (sym same) here)
+      (cases_lt k d);
+}
+  where
+    within : first_twin_of nodes d < length nodes
+    within =
+        let no_more : first_twin_of nodes d ≤ d = first_within nodes d low in
+        omega (arith, no_more, low)
+
+    here : listed (slice_index_or (twins ++ twin ∷ []) d None)
+        ≡ last_alone (wanted_with nodes wanted (first_twin_of nodes d) d)
+    here =
+        let seam : slice_index_or (twins ++ twin ∷ []) d None ≡ twin =
+        subst (λ n. slice_index_or (twins ++ twin ∷ []) n None ≡ twin) before.size
+        (get_or-append_seam twins twin [] None) in
+        ap listed (seam ∙ read) ∙ known.each (first_twin_of nodes d) within
+
+-- a wanted derivation is the last of its twins
+pub last_wanted : (nodes : List Node) (wanted : List Bool) (last : List (Option ℕ)) (d : ℕ) → d
+    < length nodes → slice_index_or wanted d false ≡ true → AreLast nodes wanted last d
+    → AreLast nodes wanted (set last (first_twin_of nodes d) (Some d)) (d + 1)
+last_wanted nodes wanted last d low is before = record {
+  size = length-set last (first_twin_of nodes d) (Some d) ∙ before.size;
+  each = λ first within. ⊎_elim (λ same. here first within same) (λ apart. kept first within apart)
+      (cases_eq first (first_twin_of nodes d));
+}
+  where
+    here : (first : ℕ) → first < length nodes → first ≡ first_twin_of nodes d
+        → listed (slice_index_or (set last (first_twin_of nodes d) (Some d)) first None)
+        ≡ last_alone (wanted_with nodes wanted first (d + 1))
+    here first within same =
+        let own = first_twin_of nodes d in
+        let own_within : own < length last = omega (arith, within, same, before.size) in
+        let its : is_wanted_with nodes wanted first d ≡ true =
+        and_from (slice_index_or wanted d false) (own == first) is
+        (eq-eqb own first (sym same)) in
+        ap (λ n. listed (slice_index_or (set last own (Some d)) n None)) same
+        ∙ ap listed (get_or-set_same last own (Some d) None own_within)
+        ∙ sym (last_with nodes wanted first d its)
+
+    kept : (first : ℕ) → first < length nodes → (first ≡ first_twin_of nodes d → ⊥)
+        → listed (slice_index_or (set last (first_twin_of nodes d) (Some d)) first None)
+        ≡ last_alone (wanted_with nodes wanted first (d + 1))
+    kept first within apart =
+        let own = first_twin_of nodes d in
+        let is_not : is_wanted_with nodes wanted first d ≡ false =
+        and_right (slice_index_or wanted d false) (own == first)
+        (ne_eqb own first (λ same. apart (sym same))) in
+        ap listed (get_or-set_other last own first (Some d) None apart)
+        ∙ before.each first within
+        ∙ ap last_alone (sym (none_with nodes wanted first d is_not))
+
+-- another is_not
+pub last_unwanted : (nodes : List Node) (wanted : List Bool) (last : List (Option ℕ)) (d : ℕ)
+    → slice_index_or wanted d false ≡ false → AreLast nodes wanted last d
+    → AreLast nodes wanted last (d + 1)
+last_unwanted nodes wanted last d is_not before = record {
+  size = before.size;
+  each = λ first within. before.each first within
+      ∙ ap last_alone (sym (none_with nodes wanted first d
+      (and_left (slice_index_or wanted d false) (first_twin_of nodes d == first) is_not)));
+}
+
+-- ---- what is known in the end
+
+-- each twin has a smaller number
+pub near_smaller : (nodes : List Node) (wanted : List Bool) (twins : List (Option ℕ)) (count : ℕ)
+    → AreNear nodes wanted twins count → (d : ℕ)
+    → All (λ t. t < d) (listed (slice_index_or twins d None))
+near_smaller nodes wanted twins count near d =
+    ⊎_elim
+    (λ low. subst (All (λ t. t < d)) (sym (near.each d low))
+    (All-from_contains (λ t. t < d) (last_alone (wanted_with nodes wanted (first_twin_of nodes d) d))
+    (λ t has. All-contains (λ t. t < d) (wanted_with nodes wanted (first_twin_of nodes d) d) t
+    (All-filter (is_wanted_with nodes wanted (first_twin_of nodes d)) (λ t. t < d)
+    (range_with_len 0 d) (range_below d))
+    (last_is_one (wanted_with nodes wanted (first_twin_of nodes d) d) t has))))
+    (λ past. subst (λ o. All (λ t. t < d) (listed o))
+    (sym (get_or_past twins d None (omega (arith, past, near.size)))) (All-nil (λ t. t < d)))
+    (cases_lt d count)
+
+-- they are the nearest earlier twins
+pub nearest_are : (graph : Graph) (wanted : List Bool) (twins : List (Option ℕ)) → IsSound graph
+    → AreNear graph.nodes wanted twins (length graph.nodes)
+    → (run : Run) (opening : List Entry) → run.graph ≡ graph → AreWanted run opening wanted
+    → AreNearest run opening twins
+unfolding earlier_twins
+nearest_are graph wanted twins sound near run opening same are = record {
+  count = near_here.size;
+  each = λ d low. near_here.each d low
+      ∙ ap last_alone (filter_agree (is_wanted_with nodes wanted (first_twin_of nodes d))
+      (λ t. is_wanted run opening t && are_twins_at (slice_get nodes t) (slice_get nodes d))
+      (λ t. ap (λ b. b && (first_twin_of nodes t == first_twin_of nodes d)) (told t)
+      ∙ ap (λ b. is_wanted run opening t && b) (same_first nodes d t low))
+      (range_with_len 0 d));
+}
+  where
+    nodes : List Node
+    nodes = run.graph.nodes
+
+    near_here : AreNear run.graph.nodes wanted twins (length run.graph.nodes)
+    near_here = subst (λ (g : Graph). AreNear g.nodes wanted twins (length g.nodes)) (sym same) near
+
+    told : (t : ℕ) → slice_index_or wanted t false ≡ is_wanted run opening t
+    told t =
+        let test = wanted_told run opening t (subst IsSound (sym same) sound) in
+        same_test (slice_index_or wanted t false) (is_wanted run opening t)
+        (λ is. test.1 (are.yes t is)) (λ is. are.no t (test.0 is))

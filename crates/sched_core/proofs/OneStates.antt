@@ -1,0 +1,183 @@
+-- How the state of a derivation changes with what is known of its inputs and of its nearest earlier
+-- twin.
+use Rattle.std.proofs.Common.{◌≡◌, ◌∙◌, ◌⊎◌, inl, inr, ℕ, ◌&&◌, not, Bool, true, false, List, [], ◌∷◌, Option, Some, None, refl, sym, ap, subst, if◌then◌else◌}
+use Rattle.std.proofs.lemmas.Bool.{false≢true}
+use Rattle.sched_core.specs.Coursing.{phase_in}
+use Rattle.sched_core.specs.Nearest.{News, Open, Good, Bad}
+use Rattle.sched_core.specs.States.{by_first, by_hindrance, by_phase}
+use Rattle.sched_core.specs.Tallies.{Turns, turns_freed, turns_refused, turns_stays, by_all, is_held, news_by}
+use Rattle.sched_core.specs.declared.reason.Refusal.{Refusal}
+use Rattle.sched_core.specs.declared.reason.Refusal.TheVariants.{InputNotRealised}
+use Rattle.sched_core.specs.declared.reason.State.{State}
+use Rattle.sched_core.specs.declared.reason.State.TheVariants.{Blocked, Building, Done, Failed, Ready, Refused, Reused}
+use Rattle.sched_core.specs.declared.standing.Standing.{Standing}
+use Rattle.sched_core.specs.declared.standing.Standing.TheVariants.{AllValid, Free, Hindered}
+
+-- good news of an input change one that is Blocked, as the table has it
+pub freed_now : (standing : Standing) (twins : List News) (first : Option ℕ) (held all : Bool)
+    → held ≡ is_held twins → Blocked ≡ by_all standing twins (by_first first false)
+    → ◌≡◌ {A = State} (if all && not held then Ready else Blocked)
+    (by_all standing twins (by_first first all))
+freed_now AllValid twins first held all is stands = absurd cc
+freed_now (Hindered cause) [] first held all is stands = absurd cc
+freed_now (Hindered cause) (Good ∷ more) first held all is stands = absurd cc
+freed_now (Hindered cause) (Bad ∷ more) first held all is stands = absurd cc
+freed_now (Hindered cause) (Open ∷ more) first held true is stands = rw is refl
+freed_now (Hindered cause) (Open ∷ more) first held false is stands = refl
+freed_now Free (Open ∷ more) first held true is stands = rw is refl
+freed_now Free (Open ∷ more) first held false is stands = refl
+freed_now Free (Good ∷ more) first held all is stands = absurd cc
+freed_now Free [] (Some input) held all is stands = absurd cc
+freed_now Free [] None held true is stands = rw is refl
+freed_now Free [] None held false is stands = refl
+freed_now Free (Bad ∷ more) (Some input) held all is stands = absurd cc
+freed_now Free (Bad ∷ more) None held true is stands = rw is refl
+freed_now Free (Bad ∷ more) None held false is stands = refl
+
+-- what the inputs alone would make doesn't matter to one that has begun
+begun_else : (state before after : State)
+    → state ≡ by_phase (phase_in state) before → (state ≡ before → state ≡ after)
+    → state ≡ by_phase (phase_in state) after
+begun_else (Building lease) before after is same = refl
+begun_else Done before after is same = refl
+begun_else (Failed reason) before after is same = refl
+begun_else Reused before after is same = same is
+begun_else (Refused cause) before after is same = same is
+begun_else Ready before after is same = same is
+begun_else Blocked before after is same = same is
+
+-- good news of an input change nothing of one that isn't Blocked
+pub not_freed : (state : State) (standing : Standing) (twins : List News) (first : Option ℕ)
+    (all : Bool) → (state ≡ Blocked → ⊥)
+    → state ≡ by_phase (phase_in state) (by_all standing twins (by_first first false))
+    → state ≡ by_phase (phase_in state) (by_all standing twins (by_first first all))
+not_freed state standing twins first all apart is =
+    begun_else state (by_all standing twins (by_first first false))
+    (by_all standing twins (by_first first all)) is (by standing twins first)
+  where
+    by : (standing : Standing) (twins : List News) (first : Option ℕ)
+        → state ≡ by_all standing twins (by_first first false)
+        → state ≡ by_all standing twins (by_first first all)
+    by AllValid twins first now = now
+    by (Hindered cause) [] first now = now
+    by (Hindered cause) (Good ∷ more) first now = now
+    by (Hindered cause) (Bad ∷ more) first now = now
+    by (Hindered cause) (Open ∷ more) first now = now
+    by Free (Good ∷ more) first now = now
+    by Free (Open ∷ more) first now = now
+    by Free [] (Some input) now = now
+    by Free [] None now = absurd (apart now)
+    by Free (Bad ∷ more) (Some input) now = now
+    by Free (Bad ∷ more) None now = absurd (apart now)
+
+-- news of an input change nothing of one that its twin holds
+held_else : (standing : Standing) (twins : List News) (before after : State)
+    → is_held twins ≡ true → by_all standing twins before ≡ by_all standing twins after
+held_else standing [] before after is = absurd (false≢true is)
+held_else standing (Open ∷ more) before after is = refl
+held_else standing (Good ∷ more) before after is = absurd (false≢true is)
+held_else standing (Bad ∷ more) before after is = absurd (false≢true is)
+
+pub held_stays : (state : State) (standing : Standing) (twins : List News) (before after : State)
+    (held : Bool) → held ≡ true → held ≡ is_held twins
+    → state ≡ by_phase (phase_in state) (by_all standing twins before)
+    → state ≡ by_phase (phase_in state) (by_all standing twins after)
+held_stays state standing twins before after held holds says is =
+    is ∙ ap (by_phase (phase_in state)) (held_else standing twins before after (sym says ∙ holds))
+
+-- bad news of an input make one refused that stands free, and that is Blocked or Refused
+refused_idle : (twins : List News) (first : Option ℕ) (input : ℕ) → is_held twins ≡ false
+    → (Reused ≡ by_all Free twins (by_first first false) → ⊥)
+    → ◌≡◌ {A = State} (Refused (InputNotRealised input))
+    (by_all Free twins (by_first (Some input) false))
+refused_idle [] first input held fresh = refl
+refused_idle (Open ∷ more) first input held fresh = absurd (false≢true (sym held))
+refused_idle (Good ∷ more) first input held fresh = absurd (fresh refl)
+refused_idle (Bad ∷ more) first input held fresh = refl
+
+pub refused_now : (state : State) (twins : List News) (first : Option ℕ) (input : ℕ) (held : Bool)
+    → held ≡ false → held ≡ is_held twins
+    → (state ≡ Blocked) ⊎ ((cause : Refusal) × (state ≡ Refused cause))
+    → state ≡ by_phase (phase_in state) (by_all Free twins (by_first first false))
+    → ◌≡◌ {A = State} (Refused (InputNotRealised input))
+    (by_all Free twins (by_first (Some input) false))
+refused_now state twins first input held free says (inl same) is =
+    let now : Blocked ≡ by_all Free twins (by_first first false) =
+    subst (λ s. s ≡ by_phase (phase_in s) (by_all Free twins (by_first first false))) same is in
+    refused_idle twins first input (sym says ∙ free) (λ reused. let clash : Reused ≡ Blocked =
+    reused ∙ sym now in cc)
+refused_now state twins first input held free says (inr (cause, same)) is =
+    let now : Refused cause ≡ by_all Free twins (by_first first false) =
+    subst (λ s. s ≡ by_phase (phase_in s) (by_all Free twins (by_first first false))) same is in
+    refused_idle twins first input (sym says ∙ free) (λ reused. let clash : Reused ≡ Refused cause =
+    reused ∙ sym now in cc)
+
+-- they change nothing of one that stands free and is neither
+pub not_refused : (state : State) (standing : Standing) (twins : List News) (first : Option ℕ)
+    (input : ℕ) → standing ≡ Free → (state ≡ Blocked → ⊥)
+    → ((cause : Refusal) → state ≡ Refused cause → ⊥)
+    → state ≡ by_phase (phase_in state) (by_all standing twins (by_first first false))
+    → state ≡ by_phase (phase_in state) (by_all standing twins (by_first (Some input) false))
+not_refused state AllValid twins first input free apart known is = absurd cc
+not_refused state (Hindered cause) twins first input free apart known is = absurd cc
+not_refused state Free twins first input free apart known is =
+    begun_else state (by_all Free twins (by_first first false))
+    (by_all Free twins (by_first (Some input) false)) is (by twins first)
+  where
+    by : (twins : List News) (first : Option ℕ)
+        → state ≡ by_all Free twins (by_first first false)
+        → state ≡ by_all Free twins (by_first (Some input) false)
+    by (Good ∷ more) first now = now
+    by (Open ∷ more) first now = now
+    by [] (Some other) now = absurd (known (InputNotRealised other) now)
+    by [] None now = absurd (apart now)
+    by (Bad ∷ more) (Some other) now = absurd (known (InputNotRealised other) now)
+    by (Bad ∷ more) None now = absurd (apart now)
+
+-- nor of one that doesn't stand free
+pub hindered_stays : (state : State) (standing : Standing) (twins : List News)
+    (before after : State) → (standing ≡ Free → ⊥)
+    → state ≡ by_phase (phase_in state) (by_all standing twins before)
+    → state ≡ by_phase (phase_in state) (by_all standing twins after)
+hindered_stays state AllValid twins before after apart is = is
+hindered_stays state (Hindered cause) twins before after apart is = is
+hindered_stays state Free twins before after apart is = absurd (apart refl)
+
+-- what its twin's end makes of one that is Blocked: it is reused, or decided by its own cause and
+-- its inputs
+pub released_now : (standing : Standing) (more : List News) (before : State) (good : Bool)
+    → Blocked ≡ by_all standing (Open ∷ more) before
+    → ◌≡◌ {A = State} (if good then Reused else by_hindrance standing before)
+    (by_all standing (news_by good ∷ more) before)
+released_now AllValid more before good is = absurd cc
+released_now (Hindered cause) more before true is = refl
+released_now (Hindered cause) more before false is = refl
+released_now Free more before true is = refl
+released_now Free more before false is = refl
+
+-- and of one that isn't
+pub not_released : (state : State) (standing : Standing) (more : List News) (before : State)
+    (good : Bool) → (state ≡ Blocked → ⊥)
+    → state ≡ by_phase (phase_in state) (by_all standing (Open ∷ more) before)
+    → state ≡ by_phase (phase_in state) (by_all standing (news_by good ∷ more) before)
+not_released state standing more before good apart is =
+    begun_else state (by_all standing (Open ∷ more) before)
+    (by_all standing (news_by good ∷ more) before) is (by standing)
+  where
+    by : (standing : Standing) → state ≡ by_all standing (Open ∷ more) before
+        → state ≡ by_all standing (news_by good ∷ more) before
+    by AllValid now = now
+    by (Hindered cause) now = absurd (apart now)
+    by Free now = absurd (apart now)
+
+first_turns : (first : Option ℕ) (all : Bool) → Turns Blocked (by_first first all)
+first_turns (Some input) all = turns_refused (InputNotRealised input)
+first_turns None true = turns_freed
+first_turns None false = turns_stays Blocked
+
+-- how its own cause and its inputs turn one that was Blocked
+pub own_turns : (standing : Standing) (first : Option ℕ) (all : Bool)
+    → Turns Blocked (by_hindrance standing (by_first first all))
+own_turns AllValid first all = first_turns first all
+own_turns (Hindered cause) first all = turns_refused cause
+own_turns Free first all = first_turns first all

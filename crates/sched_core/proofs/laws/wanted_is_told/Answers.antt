@@ -1,0 +1,5 @@
+use Rattle.sched_core.proofs.Wanting.{wanted_told}
+use Rattle.sched_core.proofs.laws.wanted_is_told.Goals as goal
+
+pub returns : goal.returns
+returns c = wanted_told

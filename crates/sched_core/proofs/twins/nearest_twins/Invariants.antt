@@ -1,0 +1,8 @@
+use Rattle.sched_core.proofs.LastTwins.{AreLast, AreNear}
+use Rattle.sched_core.proofs.twins.nearest_twins.Given as goal
+
+abbrev pub invariant-loop-d : goal.invariant-loop-d
+invariant-loop-d l = record {
+  last : AreLast l.plan.nodes l.wanted l.last.items l.d;
+  near : AreNear l.plan.nodes l.wanted l.twins.items l.d;
+}

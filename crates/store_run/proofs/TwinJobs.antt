@@ -1,0 +1,265 @@
+-- What the jobs of the three derivations come to.
+use Rattle.std.proofs.Common.{◌≡◌, ◌∙◌, ℕ, zero, suc, true, false, List, [], ◌∷◌, ◌++◌, length, map, Some, None, Result, Ok, Err, refl, sym, ap, subst, arith}
+use Rattle.std.specs.Prelude.{Contains, codes, pos, slice_get}
+use Rattle.std.specs.List.{list_any}
+use Rattle.std.specs.declared.alloc.Global.{Global}
+use Rattle.std.specs.declared.vec.Vec.{Vec}
+use Rattle.std.proofs.lemmas.List.{length-append, length-map}
+use Rattle.nix_names.specs.Names.{same_bytes}
+use Rattle.nix_names.specs.StorePaths.{hash_part_of, store_path}
+use Rattle.nix_names.proofs.Lists.{Contains-nothing, same_element}
+use Rattle.nix_names.proofs.PathDigests.{hash_part_of_fold}
+use Rattle.nix_names.proofs.PathTexts.{hash_part_len, hash_part_of_path}
+use Rattle.nix_drv.specs.Parts.{bytes_of}
+use Rattle.drv_graph.specs.Kinds.{HasKind}
+use Rattle.drv_graph.specs.Nodes.{Node}
+use Rattle.drv_graph.specs.PlanNodes.{output_paths_of}
+use Rattle.drv_graph.specs.Plans.{Graph}
+use Rattle.drv_graph.specs.declared.kinds.Kind.{Kind}
+use Rattle.drv_graph.proofs.KindAnswers.{one_kind}
+use Rattle.ref_scan.specs.Scan.{IsFoundIn, OccursIn}
+use Rattle.ref_scan.specs.Trees.{Fits, joined, pieces}
+use Rattle.ref_scan.specs.declared.tree.Tree.{Tree, File, Pieces, Dir'}
+use Rattle.valid_table.specs.PathInfos.{PathInfo}
+use Rattle.sched_core.specs.Jobs.{IsJob}
+use Rattle.sched_core.specs.Verdicts.{IsRecordOf, IsTreeFault, IsVerdict, tree_at}
+use Rattle.sched_core.specs.declared.job.Answer.{Answer}
+use Rattle.sched_core.specs.declared.job.Job.{Job}
+use Rattle.sched_core.specs.declared.job.JobOutput.{JobOutput}
+use Rattle.sched_core.specs.declared.reason.Reason.{Reason}
+use Rattle.sched_core.specs.declared.reason.Reason.TheVariants.{ExitStatus, HashMismatch, Killed, MissingOutput, NoStart, NotFlatFile, OutOfMemory, OutputCycle, ReadFault, TooLarge}
+use Rattle.store_run.specs.SameOutcomes.{AllowsOneOutcome, AreSameAnswers, AreSameOutcomes, AreSameTrees, HaveSameBytes}
+use Rattle.store_run.specs.Scheduling.{HasOneOutcome}
+use Rattle.store_run.specs.ScheduleExample.{IsEmptyFolder, Leaves, right}
+use Rattle.store_run.specs.TwinExample.{IsEmptyFile, LeavesWith, empty_digest, failing_source, first_source, making_source, may_leave_file, out_empty, script, second_source, three}
+use Rattle.store_run.proofs.AlonePlans.{one_of, store}
+use Rattle.store_run.proofs.ExampleJobs.{empty_fits, empty_pieces, is_job_of, is_job_of_right, job_of, job_of_right, left_answer, left_leaves, one_verdict, right_answer, right_leaves, tree_first, vec_of}
+use Rattle.store_run.proofs.SameOutcomes.{allowed_is_one}
+use Rattle.store_run.proofs.TwinPlans.{empty_kind, kind_empty, source_short, src_named}
+
+-- ---- a file of no bytes
+
+file_fits : (tree : Tree) → IsEmptyFile tree → Fits tree
+file_fits (File bytes) is =
+    let none : bytes.items ≡ [] = let same = is.1 in cc in
+    record { depth = omega arith; entries = omega arith; bytes = omega (arith, ap length none) }
+file_fits (Pieces parts) is =
+    let none : joined parts.items ≡ [] = let same = is.1 in cc in
+    record { depth = omega arith; entries = omega arith; bytes = omega (arith, ap length none) }
+file_fits (Dir' shape entries) is = absurd (let clash = is.0 in cc)
+
+-- its record
+abbrev pub file_in : PathInfo
+file_in = record { references = []; digest = Some empty_digest }
+
+no_fault : (tree : Tree) → IsEmptyFile tree → (why : Reason) → IsTreeFault empty_kind tree why → ⊥
+no_fault tree is TooLarge unfit = unfit (file_fits tree is)
+no_fault tree is NotFlatFile fault = let clash : None ≡ Some empty_digest = sym fault.1 ∙ is.0 in cc
+no_fault tree is HashMismatch fault =
+    let same : Some fault.1.0 ≡ Some empty_digest = sym fault.1.1 ∙ is.0 in
+    fault.1.2 (let digests : fault.1.0 ≡ empty_digest = cc in digests)
+no_fault tree is (ExitStatus n) none = none
+no_fault tree is NoStart none = none
+no_fault tree is (MissingOutput n) none = none
+no_fault tree is OutputCycle none = none
+no_fault tree is ReadFault none = none
+no_fault tree is OutOfMemory none = none
+no_fault tree is Killed none = none
+
+-- the output's path has a hash part, which stands in no empty file
+hash_long : length (hash_part_of (out_empty (codes "src"))) ≡ 32
+unfolding store_path
+hash_long = ap length (hash_part_of_path store _ (codes "src") (hash_part_of_fold _) src_named)
+    ∙ hash_part_len _ (hash_part_of_fold _)
+
+none_within : (part before after : List ℕ) → length part ≡ 32 → [] ≡ before ++ (part ++ after) → ⊥
+none_within part before after long is =
+    let sum : 0 ≡ length (before ++ (part ++ after)) = ap length is in
+    omega (arith, sum, long, length-append before (part ++ after), length-append part after)
+
+none_occurs : (part : List ℕ) → length part ≡ 32 → OccursIn part ([] ∷ []) → ⊥
+none_occurs part long (k, bytes, low, is, within) =
+    none_within part within.0 within.1 long (one_of [] bytes (k, low, is) ∙ within.2)
+
+record_of_file : (tree : Tree) → IsEmptyFile tree
+    → IsRecordOf (out_empty (codes "src") ∷ []) tree file_in
+record_of_file tree is = record {
+  found = subst
+      (λ (lists : List (List ℕ)). IsFoundIn lists (out_empty (codes "src") ∷ []) [])
+      (sym is.1) (record {
+        rising = tt;
+        each = λ path. (
+          λ none. absurd (Contains-nothing path none),
+          λ some. absurd (none_occurs (hash_part_of path)
+              (subst (λ (p : List ℕ). length (hash_part_of p) ≡ 32) (one_of _ path some.0) hash_long)
+              some.1),
+        );
+      });
+  digest = sym is.0;
+}
+
+-- ---- the job of the second
+
+module _ (job : Job) (is_job : IsJob three.graph 1 job) where
+  second_node : is_job.node ≡ second_source
+  second_node = same_element three.graph.nodes 1 is_job.node second_source is_job.is_node refl
+
+  second_one_output : length job.outputs.items ≡ 1
+  second_one_output = sym (length-map job.outputs.items (λ (o : JobOutput). o.path))
+      ∙ ap length is_job.paths
+      ∙ ap (λ (n : Node). length (output_paths_of n.drv)) second_node
+
+  second_kind : job.kind ≡ empty_kind
+  second_kind = one_kind second_source.drv job.kind empty_kind
+      (subst (λ (n : Node). HasKind n.drv job.kind) second_node is_job.kind)
+      (kind_empty making_source)
+
+  pub second_verdict : (answer : Answer) → LeavesWith true false answer
+      → IsVerdict job (out_empty (codes "src") ∷ []) answer (Ok (file_in ∷ []))
+  second_verdict answer left_behind =
+      let file = left_behind.1.0 in
+      one_verdict job second_one_output answer file left_behind.0 left_behind.1.2
+      (λ why fault. no_fault file left_behind.1.1 why
+      (subst (λ (k : Kind). IsTreeFault k file why) second_kind fault))
+      (out_empty (codes "src") ∷ []) file_in refl (record_of_file file left_behind.1.1)
+
+-- ---- what a job leaves behind is what its derivation says
+
+module _ (d : ℕ) (node : Node) (at : slice_get three.graph.nodes d ≡ Some node) (job : Job)
+    (is_job : IsJob three.graph d job) (answer : Answer) where
+  is_node : is_job.node ≡ node
+  is_node = same_element three.graph.nodes d is_job.node node is_job.is_node at
+
+  abbrev LeavesBy : (args : List (List ℕ)) → (builder : List ℕ) → Type 0
+  LeavesBy args builder = LeavesWith (list_any (same_bytes script) args)
+      (same_bytes builder (codes "/bin/false")) answer
+
+  args_are : map bytes_of job.args.items ≡ node.drv.args
+  args_are = is_job.args ∙ ap (λ (n : Node). n.drv.args) is_node
+
+  builder_is : job.builder.items ≡ node.drv.builder
+  builder_is = is_job.builder ∙ ap (λ (n : Node). n.drv.builder) is_node
+
+  leaves : may_leave_file job (Ok answer)
+      → LeavesWith (list_any (same_bytes script) node.drv.args)
+      (same_bytes node.drv.builder (codes "/bin/false")) answer
+  leaves may = subst (λ (b : List ℕ). LeavesBy node.drv.args b) builder_is
+      (subst (λ (all : List (List ℕ)). LeavesBy all job.builder.items) args_are may)
+
+  pub may_leave_by : LeavesWith (list_any (same_bytes script) node.drv.args)
+      (same_bytes node.drv.builder (codes "/bin/false")) answer
+      → may_leave_file job (Ok answer)
+  may_leave_by left_behind = subst (λ (all : List (List ℕ)). LeavesBy all job.builder.items)
+      (sym args_are) (subst (λ (b : List ℕ). LeavesBy node.drv.args b) (sym builder_is) left_behind)
+
+-- ---- one outcome for each
+
+tree_later : (answer : Answer) (tree : Tree) (n : ℕ) → answer.trees.items ≡ Some tree ∷ []
+    → tree_at answer (suc n) ≡ None
+tree_later answer tree n trees = rw trees refl
+
+tree_none : (answer : Answer) (n : ℕ) → answer.trees.items ≡ [] → tree_at answer n ≡ None
+tree_none answer n trees = rw trees refl
+
+-- two answers with one tree each, of the same bytes
+same_one : (x y : Answer) (a b : Tree) → x.status ≡ y.status → x.trees.items ≡ Some a ∷ []
+    → y.trees.items ≡ Some b ∷ [] → HaveSameBytes a b → AreSameAnswers x y
+same_one x y a b status at_x at_y same = record { status = status; trees = each }
+  where
+    each : (n : ℕ) → AreSameTrees (tree_at x n) (tree_at y n)
+    each zero = rw (tree_first x a at_x, tree_first y b at_y) same
+    each (suc n) = rw (tree_later x a n at_x, tree_later y b n at_y) tt
+
+same_files : (a b : Tree) → IsEmptyFile a → IsEmptyFile b → HaveSameBytes a b
+same_files a b is is' = record {
+  bytes = is.1 ∙ sym is'.1;
+  digest = is.0 ∙ sym is'.0;
+  fits = (λ fits. file_fits b is', λ fits. file_fits a is);
+}
+
+same_folders : (a b : Tree) → IsEmptyFolder a → IsEmptyFolder b → HaveSameBytes a b
+same_folders a b is is' = record {
+  bytes = empty_pieces a is ∙ sym (empty_pieces b is');
+  digest = is.0 ∙ sym is'.0;
+  fits = (λ fits. empty_fits b is', λ fits. empty_fits a is);
+}
+
+none_twice : (x y : Answer) → Leaves true x → Leaves true y → AreSameAnswers x y
+none_twice x y one other = record {
+  status = one.0 ∙ sym other.0;
+  trees = λ n. rw (tree_none x n one.1, tree_none y n other.1) tt;
+}
+
+file_twice : (x y : Answer) → LeavesWith true false x → LeavesWith true false y
+    → AreSameAnswers x y
+file_twice x y one other = same_one x y one.1.0 other.1.0 (one.0 ∙ sym other.0) one.1.2 other.1.2
+    (same_files one.1.0 other.1.0 one.1.1 other.1.1)
+
+folder_twice : (x y : Answer) → Leaves false x → Leaves false y → AreSameAnswers x y
+folder_twice x y one other =
+    same_one x y one.1.0 other.1.0 (one.0 ∙ sym other.0) one.1.2 other.1.2
+    (same_folders one.1.0 other.1.0 one.1.1 other.1.1)
+
+allows_one : AllowsOneOutcome may_leave_file three.graph
+allows_one d job again (Err reason) y is is' may may' = absurd may
+allows_one d job again (Ok x) (Err reason) is is' may may' = absurd may'
+allows_one zero job again (Ok x) (Ok y) is is' may may' =
+    none_twice x y (leaves 0 first_source refl job is x may)
+    (leaves 0 first_source refl again is' y may')
+allows_one (suc zero) job again (Ok x) (Ok y) is is' may may' =
+    file_twice x y (leaves 1 second_source refl job is x may)
+    (leaves 1 second_source refl again is' y may')
+allows_one (suc (suc zero)) job again (Ok x) (Ok y) is is' may may' =
+    folder_twice x y (leaves 2 right refl job is x may) (leaves 2 right refl again is' y may')
+allows_one (suc (suc (suc d))) job again (Ok x) (Ok y) is is' may may' =
+    absurd (let none = is.is_node in cc)
+
+pub three_outcome : HasOneOutcome may_leave_file three.graph
+three_outcome = allowed_is_one may_leave_file three.graph allows_one
+
+-- ---- a job and an answer for each
+
+abbrev source_args : List (Vec ℕ Global)
+source_args = vec_of (codes "-c") (omega arith) ∷ vec_of script (omega arith) ∷ []
+
+pub first_job : Job
+first_job = job_of failing_source (omega arith) (omega arith) [] (omega arith)
+    (out_empty (codes "src")) source_short empty_kind 0
+
+pub first_is_job : IsJob three.graph 0 first_job
+unfolding first_job
+first_is_job =
+    is_job_of failing_source (omega arith) (omega arith) [] (omega arith)
+    (out_empty (codes "src")) source_short empty_kind 0 three.graph first_source refl refl refl
+    refl refl refl (kind_empty failing_source) refl
+
+pub second_job : Job
+second_job = job_of making_source (omega arith) (omega arith) source_args (omega arith)
+    (out_empty (codes "src")) source_short empty_kind 1
+
+pub second_is_job : IsJob three.graph 1 second_job
+unfolding second_job
+second_is_job =
+    is_job_of making_source (omega arith) (omega arith) source_args (omega arith)
+    (out_empty (codes "src")) source_short empty_kind 1 three.graph second_source refl refl refl
+    refl refl refl (kind_empty making_source) refl
+
+pub second_answer : Answer
+second_answer = record {
+  status = Some (pos 0);
+  trees = vec_of (Some (File (vec_of [] (omega arith))) ∷ []) (omega arith);
+}
+
+pub second_leaves : LeavesWith true false second_answer
+unfolding second_answer
+second_leaves = (refl, (File (vec_of [] (omega arith)), (refl, refl), refl))
+
+pub first_may : may_leave_file first_job (Ok left_answer)
+first_may = may_leave_by 0 first_source refl first_job first_is_job left_answer left_leaves
+
+pub second_may : may_leave_file second_job (Ok second_answer)
+second_may = may_leave_by 1 second_source refl second_job second_is_job second_answer second_leaves
+
+pub third_may : may_leave_file (job_of_right 2) (Ok right_answer)
+third_may = may_leave_by 2 right refl (job_of_right 2) (is_job_of_right three.graph 2 refl)
+    right_answer right_leaves

@@ -1,0 +1,152 @@
+-- Two derivations of one file, of which the first fails and the second is built then, while a third
+-- is under way: a whole run, so that the conditions of *Any schedule* can be met where there are
+-- twins (this product's own).
+use Rattle.std.specs.Prelude.{◌≡◌, ◌++◌, Bool, true, false, ℕ, pos, Some, None, List, [], ◌∷◌, codes, map, Result, Ok, Err}
+use Rattle.std.specs.List.{list_any}
+use Rattle.hex.specs.Hex.{encode_lower}
+use Rattle.sha2.specs.Sha256.{sha256}
+use Rattle.nix_names.specs.Names.{same_bytes}
+use Rattle.nix_names.specs.StorePaths.{store_path}
+use Rattle.nix_drv.specs.Derivation.{Drv}
+use Rattle.nix_drv.specs.OwnPath.{text_path}
+use Rattle.nix_drv.specs.Parts.{bytes_of}
+use Rattle.nix_drv.specs.Sources.{Listing}
+use Rattle.drv_graph.specs.Expected.{flat_text}
+use Rattle.drv_graph.specs.Nodes.{Node}
+use Rattle.ref_scan.specs.Trees.{pieces}
+use Rattle.ref_scan.specs.declared.tree.Tree.{Tree}
+use Rattle.valid_table.specs.declared.entry.Entry.{Entry}
+use Rattle.valid_table.specs.declared.entry.Entry.TheVariants.{Done}
+use Rattle.sched_core.specs.Runs.{History, Run}
+use Rattle.sched_core.specs.Verdicts.{digest_of}
+use Rattle.sched_core.specs.declared.job.Answer.{Answer}
+use Rattle.sched_core.specs.declared.job.Job.{Job}
+use Rattle.sched_core.specs.declared.reason.Event.TheVariants.{Begin, Done as Finish, Fail}
+use Rattle.sched_core.specs.declared.reason.Reason.{Reason}
+use Rattle.sched_core.specs.declared.reason.Reason.TheVariants.{ExitStatus}
+use Rattle.store_run.specs.ScheduleExample.{Leaves, Recipe, drv_alone, made, right, text_of}
+
+-- the digest of a file of no bytes
+abbrev pub empty_digest : List ℕ
+empty_digest = sha256 []
+
+-- the path of such a file with a name
+abbrev pub out_empty : (name : List ℕ) → List ℕ
+out_empty name = store_path (codes "output:out") (sha256 (flat_text empty_digest))
+    (codes "/nix/store") name
+
+-- a derivation without inputs and sources, whose one output is such a file
+abbrev pub drv_empty : Recipe → Drv
+drv_empty recipe = record (drv_alone recipe (out_empty recipe.name)) {
+  outputs = record {
+    name = codes "out";
+    path = out_empty recipe.name;
+    algo = codes "sha256";
+    hash = encode_lower empty_digest;
+  } ∷ [];
+}
+
+-- the derivation at its own path
+abbrev pub node_empty : Recipe → Node
+node_empty recipe = record {
+  path = text_path (codes "/nix/store") (recipe.name ++ codes ".drv") (text_of (drv_empty recipe))
+      [];
+  drv = drv_empty recipe;
+}
+
+-- one that fails, and one that makes the file
+abbrev pub failing_source : Recipe
+failing_source = record { name = codes "src"; builder = codes "/bin/false"; args = [] }
+
+-- the script that makes it
+abbrev pub script : List ℕ
+script = codes ": > $out"
+
+abbrev pub making_source : Recipe
+making_source = record {
+  name = codes "src";
+  builder = codes "/bin/sh";
+  args = codes "-c" ∷ script ∷ [];
+}
+
+abbrev pub first_source : Node
+first_source = node_empty failing_source
+
+abbrev pub second_source : Node
+second_source = node_empty making_source
+
+-- the plan of both and of one that makes an empty folder
+abbrev pub three : Run
+three = record {
+  graph = record {
+    nodes = first_source ∷ second_source ∷ right ∷ [];
+    roots = 0 ∷ 1 ∷ 2 ∷ [];
+  };
+  system = codes "x86_64-linux";
+}
+
+-- a source that has the three files alone
+abbrev pub three_files : Listing
+three_files = record {
+  files = (first_source.path, text_of first_source.drv)
+      ∷ (second_source.path, text_of second_source.drv) ∷ (right.path, text_of right.drv) ∷ [];
+  failing = [];
+  fetches = 0;
+  failures = 0;
+}
+
+-- a tree is a file of no bytes
+abbrev pub IsEmptyFile : Tree → Type 0
+IsEmptyFile tree = (digest_of tree ≡ Some empty_digest) × (pieces tree ≡ [] ∷ [])
+
+-- what a job leaves behind: with that script it ends with status 0 and leaves a file of no bytes at
+-- one output, and any other leaves what its program does
+abbrev pub LeavesWith : (has_script fails : Bool) → Answer → Type 0
+LeavesWith true fails answer = (answer.status ≡ Some (pos 0))
+    × ((file : Tree) × IsEmptyFile file × (answer.trees.items ≡ Some file ∷ []))
+LeavesWith false fails answer = Leaves fails answer
+
+-- what a job may come to
+abbrev pub may_leave_file : Job → Result Answer Reason → Type 0
+may_leave_file job (Ok answer) =
+    LeavesWith (list_any (same_bytes script) (map bytes_of job.args.items))
+    (same_bytes job.builder.items (codes "/bin/false")) answer
+may_leave_file job (Err reason) = ⊥
+
+-- the entry of what the second source made
+abbrev pub made_file : Entry
+made_file = Done second_source.path
+    (record {
+      path = out_empty making_source.name;
+      info = record { references = []; digest = Some empty_digest };
+    } ∷ [])
+
+-- the first source and the third are being built, and the second source waits
+abbrev pub waiting : History
+waiting = record { opening = []; entries = []; events = Begin 0 0 ∷ Begin 2 1 ∷ [] }
+
+-- the first source has failed, and the second can begin
+abbrev pub freed : History
+freed = record {
+  opening = [];
+  entries = [];
+  events = Begin 0 0 ∷ Begin 2 1 ∷ Fail 0 0 (ExitStatus (pos 1)) ∷ [];
+}
+
+-- two workers: the second source begins and ends while the third is being built
+abbrev pub tried_again : History
+tried_again = record {
+  opening = [];
+  entries = made_file ∷ made ∷ [];
+  events = Begin 0 0 ∷ Begin 2 1 ∷ Fail 0 0 (ExitStatus (pos 1)) ∷ Begin 1 2 ∷ Finish 1 2
+      ∷ Finish 2 1 ∷ [];
+}
+
+-- one thread: each begins when the one before it has ended
+abbrev pub one_by_one : History
+one_by_one = record {
+  opening = [];
+  entries = made_file ∷ made ∷ [];
+  events = Begin 0 0 ∷ Fail 0 0 (ExitStatus (pos 1)) ∷ Begin 1 1 ∷ Finish 1 1 ∷ Begin 2 2
+      ∷ Finish 2 2 ∷ [];
+}
