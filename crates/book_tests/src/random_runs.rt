@@ -465,6 +465,6 @@ fn random_runs(rt: HostRuntime) -> Result<(), Fail> {
 #[test]
 fn long_random_run(rt: HostRuntime) -> Result<(), Fail> {
     let events = events(rt.alloc(), 141_421, 2_000, 10)?;
-    assert!(rt; events > 1_000, "{events} events");
+    assert!(rt; events > 500, "{events} events");
     Ok(())
 }
