@@ -3,7 +3,7 @@
 //!
 //! | Module | What is tried |
 //! |---|---|
-//! | `rows`, `twin_rows` | runs, with their reports, journals and counts of events |
+//! | `rows`, `twin_rows`, `digests` | runs, with their reports, journals and counts of events |
 //! | `runs` | these runs on one thread |
 //! | `workers` | these runs and others by workers, over a view |
 //! | `causes` | derivations that ask for what is left out |
@@ -34,6 +34,8 @@ mod calls;
 mod causes;
 #[cfg(test)]
 mod costs;
+#[cfg(test)]
+mod digests;
 #[cfg(test)]
 mod example;
 #[cfg(test)]

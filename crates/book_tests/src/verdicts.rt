@@ -6,7 +6,7 @@ ghost use Rattle.std.specs.declared.cmp.Ordering.{Ordering};
 ghost use Rattle.nix_names.specs.Rising.{IsRising};
 
 use drv_graph::{Kind, Method};
-use nix_names::{StoreDir, StorePath, parse_path};
+use nix_names::{Digest, StoreDir, StorePath, parse_path};
 use ref_scan::{Member, Tree};
 use sched_core::{Answer, Checked, Job, JobOutput, Reason, Refusal, examine, permitted_beside};
 use std::alloc::Global;
@@ -144,7 +144,7 @@ fn refers(record: Option<&Record>, texts: &[&[u8]]) -> bool {
     }
 }
 
-const FLAT: Kind = Kind::Fixed(Method::Flat, EMPTY);
+const FLAT: Kind = Kind::Fixed(Method::Flat, Digest::Sha256(EMPTY));
 
 // What a builder leaves at its outputs, and how it ends: the first reason that holds, or none.
 struct Row {
@@ -303,6 +303,65 @@ fn surplus_trees_are_ignored(rt: HostRuntime) -> Result<(), Fail> {
     let alloc = rt.alloc();
     let files = [NOTHING, NOTHING, NOTHING, OUT];
     assert_eq!(rt; verdict(alloc, &files)??.records().len(), 3);
+    Ok(())
+}
+
+// The digests of `abc` by each algorithm (RFC 1321, section A.5; the examples of FIPS 180-4).
+static OF_ABC: [&[u8]; 4] = [
+    b"md5:900150983cd24fb0d6963f7d28e17f72",
+    b"sha1:a9993e364706816aba3e25717850c26c9cd0d89d",
+    b"sha256:ba7816bf8f01cfea414140de5dae2223b00361a396177a9cb410ff61f20015ad",
+    b"sha512:ddaf35a193617abacc417349ae20413112e6fa4e89a97ea20a9eeee64b55d39a\
+        2192992a274fc1a836ba3c23a3feebbd454d4423643ce80e2a9ac94fa54ca49f",
+];
+
+fn of_abc() -> &'static [&'static [u8]] {
+    &OF_ABC
+}
+
+const ABC: &[&[u8]] = &[b"a", b"", b"bc"];
+
+const AB: &[&[u8]] = &[b"a", b"b"];
+
+// The verdict on a file in these pieces, at the one output of a job of this kind.
+fn verdict_on_pieces(
+    alloc: Global,
+    kind: Kind,
+    pieces: &[&[u8]],
+) -> Result<Result<Checked, Reason>, Fail> {
+    let job = small_job(alloc, kind, 1)?;
+    let mut parts = Vec::new(alloc);
+    for piece in pieces {
+        parts.push(piece.to_vec(alloc)?)?;
+    }
+    let trees = vec![in alloc; Some(Tree::Pieces(parts))]?;
+    Ok(examine(alloc, &job, &[], ended_well(trees)))
+}
+
+// The digest of the first record.
+fn first_digest(checked: &Checked) -> Option<Digest> {
+    match checked.records().first() {
+        Some(record) => record.digest(),
+        None => None,
+    }
+}
+
+// The digest is taken by the declared algorithm, and else by SHA-256.
+#[test]
+fn digests_of_pieces(rt: HostRuntime) -> Result<(), Fail> {
+    let alloc = rt.alloc();
+    let plain = verdict_on_pieces(alloc, Kind::Addressed, ABC)??;
+    assert!(rt; first_digest(&plain) == Digest::of_text(OF_ABC[2]));
+    for text in of_abc() {
+        let Some(digest) = Digest::of_text(text) else {
+            return Err("no digest".into());
+        };
+        let kind = Kind::Fixed(Method::Flat, digest);
+        let found = verdict_on_pieces(alloc, kind, ABC)??;
+        assert!(rt; first_digest(&found) == Some(digest));
+        let other = verdict_on_pieces(alloc, kind, AB)?;
+        assert!(rt; other.err() == Some(Reason::HashMismatch));
+    }
     Ok(())
 }
 

@@ -10,10 +10,10 @@ const FILE: &str = "<dir>/file";
 const JOURNAL: &str = "<dir>/realiser-journal";
 
 // The digest is SHA-256 of `hello` with a newline.
-const GREETED: &str = "realiser-journal 1\nD <greet>\nO <greet.out> \
-    5891b5b522d5df086d0ff0b110fbd9d21bb4fc7163af34d08286a2e846f6be03\n";
+const GREETED: &str = "realiser-journal 2\nD <greet>\nO <greet.out> \
+    sha256:5891b5b522d5df086d0ff0b110fbd9d21bb4fc7163af34d08286a2e846f6be03\n";
 
-static BUILT: [Row; 6] = [
+static BUILT: [Row; 7] = [
     // A first run builds a derivation and registers its output. A second one, for another system,
     // finds the output valid, and leaves all as it is.
     Row {
@@ -82,6 +82,34 @@ static BUILT: [Row; 6] = [
             Step::Run(
                 "nix_realise realise --store-dir <dir> --system x86_64-linux <empty>",
                 "built <empty>\noutput <empty.out>\n",
+                "",
+                0,
+            ),
+            Step::Left(4),
+        ],
+    },
+    // The digest of a flat fixed output is kept under its own algorithm: MD5 of no bytes (RFC 1321).
+    Row {
+        name: "md5-output",
+        steps: &[
+            Step::Put(
+                "md5",
+                "Derive([(\"out\",\"\",\"md5\",\"d41d8cd98f00b204e9800998ecf8427e\")],[],[],\
+                    \"x86_64-linux\",\"/bin/sh\",[\"-c\",\": > $out\"],[(\"out\",\"\")])",
+            ),
+            Step::Run(
+                "nix_realise realise --store-dir <dir> --system x86_64-linux <md5>",
+                "built <md5>\noutput <md5.out>\n",
+                "",
+                0,
+            ),
+            Step::Ends(
+                JOURNAL,
+                "O <md5.out> md5:d41d8cd98f00b204e9800998ecf8427e\n",
+            ),
+            Step::Run(
+                "nix_realise realise --store-dir <dir> --system x86_64-linux <md5>",
+                "reused <md5>\noutput <md5.out>\n",
                 "",
                 0,
             ),
@@ -270,7 +298,7 @@ static FAILING: [Row; 3] = [
                 "",
                 1,
             ),
-            Step::Holds(JOURNAL, "realiser-journal 1\n"),
+            Step::Holds(JOURNAL, "realiser-journal 2\n"),
             Step::Left(5),
         ],
     },

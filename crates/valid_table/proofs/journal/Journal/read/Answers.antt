@@ -1,14 +1,18 @@
-use Rattle.std.proofs.Common.{◌∙◌, arith, rules, sym}
+use Rattle.std.proofs.Common.{◌∙◌, rules, sym}
 use Rattle.std.proofs.lemmas.Bool.{false≢true}
 use Rattle.valid_table.proofs.ReadAnswers.{bad_line_number, few_lines, read_as}
 use Rattle.valid_table.proofs.journal.Journal.read.Goals as goal
 
 pub checked-requires-clause-few : goal.checked-requires-clause-few
-checked-requires-clause-few c = few_lines _ _ _ (omega arith) c.in-Ok.ensures.ok
+checked-requires-clause-few c =
+    few_lines _ _ _
+    (λ long. false≢true (sym c.if-is_too_long.false ∙ c.is_too_long.ensures.1 long))
+    c.in-Ok.ensures.ok
 
 pub returns-in-Ok : goal.returns-in-Ok
 returns-in-Ok c =
-    read_as _ _ c.in-Ok.entries.items _ (omega arith)
+    read_as _ _ c.in-Ok.entries.items _
+    (λ long. false≢true (sym c.if-is_too_long.false ∙ c.is_too_long.ensures.1 long))
     (λ other. false≢true (sym c.if-is_other_version.false ∙ c.is_other_version.ensures.1 other))
     c.in-Ok.ensures.ok c.checked.ensures
 
