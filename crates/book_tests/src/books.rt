@@ -2,6 +2,7 @@
 ghost use Rattle.std.specs.Prelude.{◌≡◌, ◌++◌, IfOk};
 ghost use Rattle.sched_core.specs.Books.{opened};
 
+use crate::digests::DIGEST_FILES;
 use crate::files::{FILES, File};
 use crate::hindered::HINDERED;
 use crate::twin_files::TWIN_FILES;
@@ -47,7 +48,8 @@ fn listed(alloc: Global, file: &File) -> Result<ListedFile, AllocError> {
 fn all_files(alloc: Global) -> Result<Vec<ListedFile>, AllocError> {
     let mut files = Vec::new(alloc);
     let hindered = HINDERED.iter().map(|hindered| &hindered.file);
-    for file in FILES.iter().chain(&TWIN_FILES).chain(hindered) {
+    let fixed = TWIN_FILES.iter().chain(&DIGEST_FILES);
+    for file in FILES.iter().chain(fixed).chain(hindered) {
         files.push(listed(alloc, file)?)?;
     }
     Ok(files)

@@ -33,7 +33,7 @@ fn told_at_two(
 // An outlet tells how many entries it shows, which are all when a lease is given.
 #[test]
 fn told_once(rt: HostRuntime) -> Result<(), Fail> {
-    let before: [&[u8]; 4] = [b"realiser-journal 1\n", b"A ", SRC, b" -\n"];
+    let before: [&[u8]; 4] = [b"realiser-journal 2\n", b"A ", SRC, b" -\n"];
     let mut book = open(rt.alloc(), &[LEFT], &before)?;
     let told = told_at_two(rt.alloc(), &mut book);
     book.close();
@@ -61,7 +61,7 @@ fn shown_along(alloc: Global, book: &mut Book<ListOutlet>) -> Result<[(usize, us
 // What is registered is told of once the next lease is given.
 #[test]
 fn tells_what_is_shown(rt: HostRuntime) -> Result<(), Fail> {
-    let before: [&[u8]; 4] = [b"realiser-journal 1\n", b"A ", SRC, b" -\n"];
+    let before: [&[u8]; 4] = [b"realiser-journal 2\n", b"A ", SRC, b" -\n"];
     let mut book = open(rt.alloc(), &[LEFT], &before)?;
     let shown = shown_along(rt.alloc(), &mut book);
     book.close();
@@ -150,7 +150,7 @@ fn build_and_fail(alloc: Global, book: &mut Book<ListOutlet>) -> Result<(), Fail
 #[test]
 fn tells_of_itself(rt: HostRuntime) -> Result<(), Fail> {
     let before: [&[u8]; 7] = [
-        b"realiser-journal 1\n",
+        b"realiser-journal 2\n",
         b"A ",
         SRC,
         b" -\n",

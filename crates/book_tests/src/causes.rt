@@ -40,7 +40,7 @@ fn is_refused(alloc: Global, hindered: &Hindered) -> Result<bool, Fail> {
 fn is_reused(alloc: Global, hindered: &Hindered) -> Result<bool, Fail> {
     let path = hindered.file.path;
     let output = hindered.output;
-    let before: [&[u8]; 4] = [b"realiser-journal 1\n", b"A ", output, b" -\n"];
+    let before: [&[u8]; 4] = [b"realiser-journal 2\n", b"A ", output, b" -\n"];
     let report: [&[u8]; 6] = [b"reused ", path, b"\n", b"output ", output, b"\n"];
     is_settled_at_once(alloc, path, &before, &report)
 }

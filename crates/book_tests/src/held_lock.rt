@@ -14,7 +14,7 @@ use std::test::*;
 use valid_view::{Name, Naming, Tells, ViewFault, ViewReader, open};
 
 // A journal that has the output of `BASE`.
-const BEFORE: &[&[u8]] = &[b"realiser-journal 1\nA ", BASE_OUT, b" -\n"];
+const BEFORE: &[&[u8]] = &[b"realiser-journal 2\nA ", BASE_OUT, b" -\n"];
 
 // What a reader answers. Nothing here could wait: no handle is in reach.
 fn closure<J: Naming>(

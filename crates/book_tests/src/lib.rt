@@ -3,12 +3,13 @@
 //!
 //! | Module | What is tried |
 //! |---|---|
-//! | `rows`, `twin_rows` | runs, with their reports, journals and counts of events |
+//! | `rows`, `twin_rows`, `digests` | runs, with their reports, journals and counts of events |
 //! | `runs` | these runs on one thread |
 //! | `workers` | these runs and others by workers, over a view |
 //! | `causes` | derivations that ask for what is left out |
 //! | `calls` | leases, and what a book tells of itself |
 //! | `verdicts` | the verdict on an answer |
+//! | `digest_vectors` | the digest of a file in pieces, by each algorithm |
 //! | `permitted` | what is permitted beside a closure |
 //! | `many` | a job with many inputs, an entry with many outputs |
 //! | `refusals` | leases of another book, records of another job |
@@ -34,6 +35,10 @@ mod calls;
 mod causes;
 #[cfg(test)]
 mod costs;
+#[cfg(test)]
+mod digest_vectors;
+#[cfg(test)]
+mod digests;
 #[cfg(test)]
 mod example;
 #[cfg(test)]

@@ -50,7 +50,7 @@ const BESIDE: [Beside; 5] = [
 
 // Paths without references.
 const REGISTERED: [&[u8]; 10] = [
-    b"realiser-journal 1\n",
+    b"realiser-journal 2\n",
     b"A ",
     SRC,
     b" -\n",

@@ -135,7 +135,7 @@ struct Other {
 }
 
 // SHA-256 of no bytes (FIPS 180-4).
-const EMPTY: &[u8] = b" e3b0c44298fc1c149afbf4c8996fb92427ae41e4649b934ca495991b7852b855\n";
+const EMPTY: &[u8] = b" sha256:e3b0c44298fc1c149afbf4c8996fb92427ae41e4649b934ca495991b7852b855\n";
 
 static OTHERS: [Other; 4] = [
     // One output more.
@@ -143,14 +143,14 @@ static OTHERS: [Other; 4] = [
         root: BASE,
         places: &[0, 0],
         report: &[b"built ", BASE, b"\noutput ", BASE_OUT, b"\n"],
-        journal: &[b"realiser-journal 1\nD ", BASE, b"\nO ", BASE_OUT, EMPTY],
+        journal: &[b"realiser-journal 2\nD ", BASE, b"\nO ", BASE_OUT, EMPTY],
     },
     // None.
     Other {
         root: BASE,
         places: &[],
         report: &[b"built ", BASE, b"\noutput ", BASE_OUT, b"\n"],
-        journal: &[b"realiser-journal 1\nD ", BASE, b"\nO ", BASE_OUT, EMPTY],
+        journal: &[b"realiser-journal 2\nD ", BASE, b"\nO ", BASE_OUT, EMPTY],
     },
     // Each holds its own path; taken in another order, the two make a cycle. The second one's path
     // is the lesser, so it is registered first.
@@ -167,7 +167,7 @@ static OTHERS: [Other; 4] = [
             b"\n",
         ],
         journal: &[
-            b"realiser-journal 1\nD ",
+            b"realiser-journal 2\nD ",
             TURNED,
             b"\nO ",
             TURNED_OUT,
@@ -182,7 +182,7 @@ static OTHERS: [Other; 4] = [
         root: FLAT,
         places: &[0],
         report: &[b"built ", FLAT, b"\noutput ", FLAT_OUT, b"\n"],
-        journal: &[b"realiser-journal 1\nD ", FLAT, b"\nO ", FLAT_OUT, EMPTY],
+        journal: &[b"realiser-journal 2\nD ", FLAT, b"\nO ", FLAT_OUT, EMPTY],
     },
 ];
 

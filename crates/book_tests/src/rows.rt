@@ -15,19 +15,22 @@ pub(crate) struct Row {
     pub report: Pieces,
 }
 
-pub(crate) const VERSION: &[u8] = b"realiser-journal 1\n";
+pub(crate) const VERSION: &[u8] = b"realiser-journal 2\n";
 
 // SHA-256 of no bytes (FIPS 180-4).
 pub(crate) const EMPTY: &[u8] =
-    b" e3b0c44298fc1c149afbf4c8996fb92427ae41e4649b934ca495991b7852b855\n";
+    b" sha256:e3b0c44298fc1c149afbf4c8996fb92427ae41e4649b934ca495991b7852b855\n";
 
 // SHA-256 of the bytes of `TWO_DEV` and of `TWO_OUT`, by Python's hashlib.
-const OF_TWO_DEV: &[u8] = b" bbad65d50d44c432d553ea2a00481dd08784b7e1ebf0e472b5afd96f308669aa\n";
+const OF_TWO_DEV: &[u8] =
+    b" sha256:bbad65d50d44c432d553ea2a00481dd08784b7e1ebf0e472b5afd96f308669aa\n";
 
-const OF_TWO_OUT: &[u8] = b" 10a1e6fb1a0dee8a9701698de1ec1e12885c446f6272bef20c9a8ea7cf802948\n";
+const OF_TWO_OUT: &[u8] =
+    b" sha256:10a1e6fb1a0dee8a9701698de1ec1e12885c446f6272bef20c9a8ea7cf802948\n";
 
 // SHA-256 of the bytes of `BASE_OUT`, by Python's hashlib.
-const OF_BASE_OUT: &[u8] = b" d6d229db8bbc722522f89dbdf41b1310222a82997c8eb7519d528b3f4fcd3de4\n";
+const OF_BASE_OUT: &[u8] =
+    b" sha256:d6d229db8bbc722522f89dbdf41b1310222a82997c8eb7519d528b3f4fcd3de4\n";
 
 // A folder's digest.
 pub(crate) const NONE: &[u8] = b" -\n";

@@ -1,6 +1,7 @@
 //! Runs to their end on one thread, whose builders do as they are told.
 use crate::books::{has_journal, has_report, open};
 use crate::builders::build_all;
+use crate::digests::digests;
 use crate::files::TOP;
 use crate::rows::{Row, diamonds, others};
 use crate::twin_rows::twins;
@@ -44,6 +45,14 @@ fn other_runs(rt: HostRuntime) -> Result<(), Fail> {
 #[test]
 fn runs_of_twins(rt: HostRuntime) -> Result<(), Fail> {
     for row in twins() {
+        assert!(rt; holds(rt.alloc(), row)?, "{}", row.label);
+    }
+    Ok(())
+}
+
+#[test]
+fn runs_of_digests(rt: HostRuntime) -> Result<(), Fail> {
+    for row in digests() {
         assert!(rt; holds(rt.alloc(), row)?, "{}", row.label);
     }
     Ok(())

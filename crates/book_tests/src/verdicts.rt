@@ -6,7 +6,7 @@ ghost use Rattle.std.specs.declared.cmp.Ordering.{Ordering};
 ghost use Rattle.nix_names.specs.Rising.{IsRising};
 
 use drv_graph::{Kind, Method};
-use nix_names::{StoreDir, StorePath, parse_path};
+use nix_names::{Digest, StoreDir, StorePath, parse_path};
 use ref_scan::{Member, Tree};
 use sched_core::{Answer, Checked, Job, JobOutput, Reason, Refusal, examine, permitted_beside};
 use std::alloc::Global;
@@ -64,8 +64,8 @@ fn job(alloc: Global, kind: Kind, outputs: Vec<JobOutput>) -> Job {
     }
 }
 
-// A job that is to make so many outputs, at most three.
-fn small_job(alloc: Global, kind: Kind, count: usize) -> Result<Job, Fail> {
+/// A job that is to make so many outputs, at most three.
+pub(crate) fn small_job(alloc: Global, kind: Kind, count: usize) -> Result<Job, Fail> {
     let mut outputs = Vec::new(alloc);
     for text in [DEV, DOC, OUT].iter().take(count) {
         outputs.push(output(alloc, text)?)?;
@@ -110,7 +110,8 @@ fn tree(alloc: Global, left: &Left) -> Result<Option<Tree>, Fail> {
     })
 }
 
-fn ended_well(trees: Vec<Option<Tree>>) -> Answer {
+/// The answer of a builder that ended with exit status 0 and left these trees.
+pub(crate) fn ended_well(trees: Vec<Option<Tree>>) -> Answer {
     Answer {
         status: Some(0),
         trees,
@@ -144,7 +145,7 @@ fn refers(record: Option<&Record>, texts: &[&[u8]]) -> bool {
     }
 }
 
-const FLAT: Kind = Kind::Fixed(Method::Flat, EMPTY);
+const FLAT: Kind = Kind::Fixed(Method::Flat, Digest::Sha256(EMPTY));
 
 // What a builder leaves at its outputs, and how it ends: the first reason that holds, or none.
 struct Row {

@@ -3,6 +3,7 @@ ghost use Rattle.std.specs.Prelude.{◌≡◌};
 
 use crate::books::{book_of, joined, journal, plan};
 use crate::builders::Script;
+use crate::digests::digests;
 use crate::files::*;
 use crate::rows::{END, FAILED, Row, diamonds, others};
 use crate::twin_rows::twins;
@@ -84,6 +85,17 @@ fn other_runs(rt: HostRuntime) -> Result<(), Fail> {
 #[test]
 fn runs_of_twins(rt: HostRuntime) -> Result<(), Fail> {
     for row in twins() {
+        for workers in [1, 2, 4, 64] {
+            let holds = holds(&rt, rt.alloc(), row, workers)?;
+            assert!(rt; holds, "{} by {workers}", row.label);
+        }
+    }
+    Ok(())
+}
+
+#[test]
+fn runs_of_digests(rt: HostRuntime) -> Result<(), Fail> {
+    for row in digests() {
         for workers in [1, 2, 4, 64] {
             let holds = holds(&rt, rt.alloc(), row, workers)?;
             assert!(rt; holds, "{} by {workers}", row.label);

@@ -4,6 +4,7 @@ use Rattle.std.proofs.Common.{◌≡◌, ◌∙◌, ℕ, ◌<◌, List, [], ◌�
 use Rattle.std.specs.Prelude.{◌≢◌, ◌⊎◌, All, Contains, codes}
 use Rattle.std.proofs.lemmas.List.Elements.{All-contains, Contains-append_right}
 use Rattle.sha2.specs.Sha256.{sha256}
+use Rattle.nix_names.specs.Digests.{bytes_of}
 use Rattle.nix_names.specs.Names.{is_name}
 use Rattle.nix_names.specs.StorePaths.{IsPathOf, path_fault}
 use Rattle.nix_names.specs.declared.fault.NameFault.{NameFault}
@@ -87,7 +88,7 @@ expected_in_store dir name (Fixed Flat digest) drv hashes is named o has path ma
     (fixed_named name (Fixed Flat digest) drv is named is.0 is.1.0 is.1.1))
 expected_in_store dir name (Fixed Recursive digest) drv hashes is named o has path made =
     subst (IsPathOf dir) (sym made)
-    (store_path_is_path (codes "source") digest dir name
+    (store_path_is_path (codes "source") (bytes_of digest) dir name
     (fixed_named name (Fixed Recursive digest) drv is named is.0 is.1.0 is.1.1))
 
 -- so are the paths of outputs that are right

@@ -2,12 +2,16 @@
 use Rattle.std.proofs.Common.{◌≡◌, ◌≢◌, ℕ, List, [], ◌∷◌, length, Ok, Err, inl, inr, refl, sym, ap, subst, ◌∙◌}
 use Rattle.std.specs.Prelude.{All, Contains, IfOk, IfErr, Result, codes}
 use Rattle.std.proofs.lemmas.List.Elements.{All-contains}
-use Rattle.nix_names.proofs.HexDigits.{one_digest}
+use Rattle.nix_names.proofs.DigestTexts.{one_digest, one_name}
+use Rattle.nix_names.specs.Digests.{algorithm_of, name_of}
+use Rattle.nix_names.specs.declared.digest.Algorithm.{Algorithm}
+use Rattle.nix_names.specs.declared.digest.Algorithm.TheVariants.{Md5, Sha1, Sha256, Sha512}
+use Rattle.nix_names.specs.declared.digest.Digest.{Digest}
 use Rattle.nix_drv.specs.Derivation.{Drv, Output}
 use Rattle.drv_graph.specs.Checking.{IsFixedKind, IsKindFault, SaysSome}
 use Rattle.drv_graph.specs.declared.fault.OutputFault.{OutputFault}
 use Rattle.drv_graph.specs.declared.fault.OutputFault.TheVariants.{NoMemory, MixedOutputs, UnknownMethod, BadName, UnknownOutput, OutputMismatch, EnvMismatch}
-use Rattle.drv_graph.specs.Kinds.{AreMixed, HasKind, IsAddressed, IsFixed, IsUnknown, algo_of}
+use Rattle.drv_graph.specs.Kinds.{AreMixed, HasKind, IsAddressed, IsFixed, IsTaken, IsUnknown, algo_of}
 use Rattle.drv_graph.specs.declared.kinds.Kind.{Kind}
 use Rattle.drv_graph.specs.declared.kinds.Kind.TheVariants.{Addressed, Fixed}
 use Rattle.drv_graph.specs.declared.kinds.Method.{Method}
@@ -63,7 +67,7 @@ says_alone only outputs is (o, has, says) addressed =
 pub unknown : (drv : Drv) (outputs : List Output) (only : Output) (name : List ℕ) → outputs
     ≡ drv.outputs → outputs ≡ only ∷ [] → only.name ≡ codes "out"
     → (o : Output) × Contains outputs o × (IsAddressed o → ⊥)
-    → ((method : Method) (digest : List ℕ) → IsFixed only method digest → ⊥) → name ≡ only.name
+    → ((method : Method) (digest : Digest) → IsFixed only method digest → ⊥) → name ≡ only.name
     → (AreMixed drv → ⊥) × ((o : Output) × Contains drv.outputs o × IsUnknown o × (name ≡ o.name))
 unknown drv outputs only name here is named says none same = (
   not_mixed drv only (sym here ∙ is) named,
@@ -106,26 +110,40 @@ kind_from drv outputs only (Err fault) here is named says h =
 
 -- ---- one kind
 
-methods_differ : codes "sha256" ≡ codes "r:sha256" → ⊥
-methods_differ e = cc
+-- a flat method isn't spelled as the one of whole trees
+not_recursive : (algorithm : Algorithm) → name_of algorithm ≡ codes "r:sha256" → ⊥
+not_recursive Md5 e = cc
+not_recursive Sha1 e = cc
+not_recursive Sha256 e = cc
+not_recursive Sha512 e = cc
 
-one_method : (a b : Method) → algo_of a ≡ algo_of b → a ≡ b
-one_method Flat Flat e = refl
-one_method Flat Recursive e = absurd (methods_differ e)
-one_method Recursive Flat e = absurd (methods_differ (sym e))
-one_method Recursive Recursive e = refl
+-- method and algorithm are told by their spelling
+one_method : (a b : Method) (d e : Digest) → IsTaken a d → IsTaken b e → algo_of a d ≡ algo_of b e
+    → (a ≡ b) × (algorithm_of d ≡ algorithm_of e)
+one_method Flat Flat d e taken taken' same =
+    (refl, one_name (algorithm_of d) (algorithm_of e) same)
+one_method Flat Recursive d e taken taken' same = absurd (not_recursive (algorithm_of d) same)
+one_method Recursive Flat d e taken taken' same =
+    absurd (not_recursive (algorithm_of e) (sym same))
+one_method Recursive Recursive d e taken taken' same = (refl, taken ∙ sym taken')
 
-pub some_method : (m : Method) → algo_of m ≡ [] → ⊥
-some_method Flat e = cc
-some_method Recursive e = cc
+some_name : (algorithm : Algorithm) → name_of algorithm ≡ [] → ⊥
+some_name Md5 e = cc
+some_name Sha1 e = cc
+some_name Sha256 e = cc
+some_name Sha512 e = cc
 
-not_both : (drv : Drv) (method : Method) (digest : List ℕ) → All IsAddressed drv.outputs
+some_method : (m : Method) (digest : Digest) → algo_of m digest ≡ [] → ⊥
+some_method Flat digest e = some_name (algorithm_of digest) e
+some_method Recursive digest e = cc
+
+not_both : (drv : Drv) (method : Method) (digest : Digest) → All IsAddressed drv.outputs
     → HasKind drv (Fixed method digest) → ⊥
 not_both drv method digest each (output, only, fixed) =
     let addressed = All-contains IsAddressed drv.outputs output each
     (subst (λ (os : List Output). Contains os output) (sym only.0) (Contains-first output []))
     in
-    some_method method (sym fixed.0 ∙ addressed.0)
+    some_method method digest (sym fixed.0 ∙ addressed.0)
 
 pub one_kind : (drv : Drv) (a b : Kind) → HasKind drv a → HasKind drv b → a ≡ b
 one_kind drv Addressed Addressed is_a is_b = refl
@@ -136,8 +154,8 @@ one_kind drv (Fixed method digest) Addressed is_a is_b =
 one_kind drv (Fixed m d) (Fixed m' d') (o, only, fixed) (o', only', fixed') =
     let lists : o ∷ [] ≡ o' ∷ [] = sym only.0 ∙ only'.0 in
     let same : o ≡ o' = cc in
-    let method : m
-    ≡ m' = one_method m m' (sym fixed.0 ∙ ap (λ (p : Output). p.algo) same ∙ fixed'.0) in
-    let digest : d ≡ d' = one_digest d d' fixed.2 fixed'.2
+    let method = one_method m m' d d' fixed.3 fixed'.3
+    (sym fixed.0 ∙ ap (λ (p : Output). p.algo) same ∙ fixed'.0) in
+    let digest : d ≡ d' = one_digest d d' fixed.2 fixed'.2 method.1
     (sym fixed.1 ∙ ap (λ (p : Output). p.hash) same ∙ fixed'.1) in
-    ap (λ (k : Method). Fixed k d) method ∙ ap (λ (e : List ℕ). Fixed m' e) digest
+    ap (λ (k : Method). Fixed k d) method.0 ∙ ap (λ (e : Digest). Fixed m' e) digest

@@ -13,7 +13,7 @@ use Rattle.drv_graph.specs.PlanNodes.{AreKept, IsKept, node_of, nodes_of}
 use Rattle.drv_graph.specs.Plans.{HaveSamePaths}
 use Rattle.drv_graph.specs.Walks.{SetsEntry}
 use Rattle.drv_graph.specs.declared.fault.GraphFault.{GraphFault}
-use Rattle.drv_graph.specs.declared.fault.GraphFault.TheVariants.{NoMemory, At}
+use Rattle.drv_graph.specs.declared.fault.GraphFault.TheVariants.{At}
 use Rattle.drv_graph.specs.declared.fault.NodeFault.TheVariants.{OutputClash}
 use Rattle.drv_graph.specs.declared.node.PlanNode.{PlanNode}
 use Rattle.drv_graph.proofs.PathLists.{all_among, as_long, known_cases, not_before, path_cases}
@@ -447,7 +447,5 @@ owning_all kept owners after own (Some m) first many entered are right once many
 -- the fault of a clash
 pub owning_clash : (kept : List PlanNode) (path : List ℕ) (own : List (List ℕ))
     (owners : List ℕ → Option ℕ) (fault : GraphFault)
-    → (fault ≡ NoMemory) ⊎ (fault ≡ At path OutputClash) → IsClash kept own
-    → IsOwning kept path own owners (Err fault)
-owning_clash kept path own owners fault (inl memory) clash = inl memory
-owning_clash kept path own owners fault (inr is) clash = inr (is, clash)
+    → fault ≡ At path OutputClash → IsClash kept own → IsOwning kept path own owners (Err fault)
+owning_clash kept path own owners fault is clash = inr (is, clash)

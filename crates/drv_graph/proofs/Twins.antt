@@ -5,6 +5,7 @@ use Rattle.std.proofs.lemmas.List.{length-map}
 use Rattle.std.proofs.lemmas.List.Elements.{All-contains}
 use Rattle.std.proofs.lemmas.Option.{none-some}
 use Rattle.sha2.specs.Sha256.{sha256}
+use Rattle.nix_names.specs.declared.digest.Digest.{Digest}
 use Rattle.nix_drv.specs.Derivation.{Drv, Output}
 use Rattle.drv_graph.specs.Kinds.{HasKind, IsFixed}
 use Rattle.drv_graph.specs.Loading.{AreDistinct}
@@ -106,7 +107,7 @@ only_one drv x y is is' =
     same
 
 -- the only output is fixed
-only_fixed : (drv : Drv) (method : Method) (digest : List ℕ) (x : Output)
+only_fixed : (drv : Drv) (method : Method) (digest : Digest) (x : Output)
     → HasKind drv (Fixed method digest) → drv.outputs ≡ x ∷ [] → IsFixed x method digest
 only_fixed drv method digest x has is = subst (λ (o : Output). IsFixed o method digest)
     (only_one drv has.0 x has.1.0 is) has.2

@@ -3,6 +3,7 @@ use Rattle.std.specs.Prelude.{◌≡◌, ◌<◌, Bool, true, false, ⊤, ℕ, L
 use Rattle.std.specs.List.{AllZip}
 use Rattle.std.specs.declared.alloc.Global.{Global}
 use Rattle.nix_names.specs.Firsts.{IsFirstWhere}
+use Rattle.nix_names.specs.declared.digest.Digest.{Digest}
 use Rattle.nix_drv.specs.Derivation.{Drv, Output, EnvEntry}
 use Rattle.drv_graph.specs.Expected.{IsExpected}
 use Rattle.drv_graph.specs.Kinds.{HasKind, AreMixed, IsAddressed, IsFixed, IsUnknown}
@@ -19,7 +20,7 @@ SaysSome outputs = (o : Output) × Contains outputs o × (IsAddressed o → ⊥)
 
 -- an output's content is fixed by no known method
 abbrev pub IsNotFixed : Output → Type 0
-IsNotFixed output = (method : Method) (digest : List ℕ) → IsFixed output method digest → ⊥
+IsNotFixed output = (method : Method) (digest : Digest) → IsFixed output method digest → ⊥
 
 -- the fault names this output as one with no known method
 abbrev pub NamesUnknown : Output → OutputFault → Type 0

@@ -1,8 +1,9 @@
 -- *Expected path*: the paths that a derivation's outputs must have (Nix manual, "Complete Store
 -- Path Calculation" and "Store Derivation"; Dolstra's thesis, sections 5.1 and 5.4).
 use Rattle.std.specs.Prelude.{◌≡◌, ◌-◌, true, ℕ, List, ◌++◌, length, take, codes, if◌then◌else◌}
-use Rattle.hex.specs.Hex.{encode_lower}
 use Rattle.sha2.specs.Sha256.{sha256}
+use Rattle.nix_names.specs.Digests.{bytes_of, text_of}
+use Rattle.nix_names.specs.declared.digest.Digest.{Digest}
 use Rattle.nix_names.specs.Names.{same_bytes}
 use Rattle.nix_names.specs.StorePaths.{name_of, store_path}
 use Rattle.nix_drv.specs.Derivation.{Drv, Output}
@@ -22,8 +23,8 @@ path_name name output = if same_bytes output (codes "out") then name else name +
     ++ output
 
 -- what a flat fixed path is made of
-abbrev pub flat_text : (digest : List ℕ) → List ℕ
-flat_text digest = codes "fixed:out:sha256:" ++ encode_lower digest ++ codes ":"
+abbrev pub flat_text : Digest → List ℕ
+flat_text digest = codes "fixed:out:" ++ text_of digest ++ codes ":"
 
 -- the path of an output of the derivation with this name and kind, in a folder, by the hashes of
 -- the inputs
@@ -36,4 +37,4 @@ IsExpected dir name Addressed drv hashes output path =
 IsExpected dir name (Fixed Flat digest) drv hashes output path = path
     ≡ store_path (codes "output:out") (sha256 (flat_text digest)) dir name
 IsExpected dir name (Fixed Recursive digest) drv hashes output path = path
-    ≡ store_path (codes "source") digest dir name
+    ≡ store_path (codes "source") (bytes_of digest) dir name

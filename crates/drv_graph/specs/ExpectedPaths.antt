@@ -1,6 +1,8 @@
 -- The parts of expected paths.
 use Rattle.std.specs.Prelude.{◌≡◌, true, ℕ, List, ◌++◌, codes}
 use Rattle.sha2.specs.Sha256.{sha256}
+use Rattle.nix_names.specs.Digests.{bytes_of}
+use Rattle.nix_names.specs.declared.digest.Digest.{Digest}
 use Rattle.nix_names.specs.StorePaths.{store_path}
 use Rattle.nix_drv.specs.Derivation.{Drv, Output}
 use Rattle.drv_graph.specs.Expected.{flat_text, path_name}
@@ -20,7 +22,8 @@ output_path dir name inner output = store_path (codes "output:" ++ output.name) 
     (path_name name output.name)
 
 -- the path of a fixed output
-abbrev pub IsFixedPath : (dir name : List ℕ) → Method → (digest path : List ℕ) → Type 0
+abbrev pub IsFixedPath : (dir name : List ℕ) → Method → Digest → (path : List ℕ) → Type 0
 IsFixedPath dir name Flat digest path = path ≡ store_path (codes "output:out")
     (sha256 (flat_text digest)) dir name
-IsFixedPath dir name Recursive digest path = path ≡ store_path (codes "source") digest dir name
+IsFixedPath dir name Recursive digest path = path
+    ≡ store_path (codes "source") (bytes_of digest) dir name

@@ -1,31 +1,34 @@
 -- The kinds of a derivation's outputs (Nix manual, "Store Derivation": input-addressed and fixed
 -- content-addressed outputs; Dolstra's thesis, section 5.4). Which methods of a fixed output are
 -- taken is this product's own.
-use Rattle.std.specs.Prelude.{◌≡◌, ◌<◌, ℕ, List, [], ◌∷◌, ◌⊎◌, length, codes, All, Contains}
-use Rattle.hex.specs.Hex.{encode_lower}
+use Rattle.std.specs.Prelude.{◌≡◌, ⊤, ℕ, List, [], ◌∷◌, ◌⊎◌, codes, All, Contains}
+use Rattle.nix_names.specs.Digests.{IsDigest, algorithm_of, digits_of, name_of}
+use Rattle.nix_names.specs.declared.digest.Algorithm.TheVariants.{Sha256}
+use Rattle.nix_names.specs.declared.digest.Digest.{Digest}
 use Rattle.nix_drv.specs.Derivation.{Drv, Output}
 use Rattle.drv_graph.specs.declared.kinds.Kind.{Kind}
 use Rattle.drv_graph.specs.declared.kinds.Kind.TheVariants.{Addressed, Fixed}
 use Rattle.drv_graph.specs.declared.kinds.Method.{Method}
 use Rattle.drv_graph.specs.declared.kinds.Method.TheVariants.{Flat, Recursive}
 
--- a method as an output's text has it
-abbrev pub algo_of : Method → List ℕ
-algo_of Flat = codes "sha256"
-algo_of Recursive = codes "r:sha256"
+-- a method with a digest's algorithm, as an output's text has them
+abbrev pub algo_of : Method → Digest → List ℕ
+algo_of Flat digest = name_of (algorithm_of digest)
+algo_of Recursive digest = codes "r:sha256"
 
--- a digest of SHA-256: 32 bytes
-abbrev pub IsDigest : List ℕ → Type 0
-IsDigest digest = (length digest ≡ 32) × All (λ byte. byte < 256) digest
+-- the digest can be one by this method: that of a whole tree is by SHA-256
+abbrev pub IsTaken : Method → Digest → Type 0
+IsTaken Flat digest = ⊤
+IsTaken Recursive digest = algorithm_of digest ≡ Sha256
 
 -- the output says nothing of its content
 abbrev pub IsAddressed : Output → Type 0
 IsAddressed output = (output.algo ≡ []) × (output.hash ≡ [])
 
 -- the output's content has this digest, in lower-case hex digits, by this method
-abbrev pub IsFixed : Output → Method → List ℕ → Type 0
-IsFixed output method digest = (output.algo ≡ algo_of method) × (output.hash ≡ encode_lower digest)
-    × IsDigest digest
+abbrev pub IsFixed : Output → Method → Digest → Type 0
+IsFixed output method digest = (output.algo ≡ algo_of method digest)
+    × (output.hash ≡ digits_of digest) × IsDigest digest × IsTaken method digest
 
 -- the output is the derivation's only one, and named `out`
 abbrev pub IsOnlyOut : Drv → Output → Type 0
@@ -48,4 +51,4 @@ AreMixed drv =
 -- the output says something of its content, by a method or with a hash that isn't known
 pub record IsUnknown (output : Output) : Type 0 where
   pub says : IsAddressed output → ⊥
-  pub none : (method : Method) (digest : List ℕ) → IsFixed output method digest → ⊥
+  pub none : (method : Method) (digest : Digest) → IsFixed output method digest → ⊥

@@ -6,16 +6,15 @@ ghost use Rattle.nix_names.specs.StorePaths.{store_path};
 ghost use Rattle.nix_drv.specs.Parts.{output_of};
 ghost use Rattle.drv_graph.specs.Checking.{AreExpected};
 ghost use Rattle.drv_graph.specs.Expected.{flat_text, path_name};
-ghost use Rattle.drv_graph.specs.Kinds.{HasKind};
+ghost use Rattle.drv_graph.specs.Kinds.{HasKind, IsTaken};
 ghost use Rattle.drv_graph.specs.ExpectedPaths.{IsFixedPath, IsMaskedDigest, output_path};
 ghost use Rattle.drv_graph.specs.Outputs.{IsWellNamed};
 
-use crate::kind_of::digits_of;
 use crate::kinds::{Kind, Method};
 use crate::modulo::text_by_hashes;
 use nix_drv::{Derivation, Output};
-use nix_names::{StoreDir, StorePath, make_named_path};
-use sha2::{Digest, Sha256};
+use nix_names::{Digest, StoreDir, StorePath, make_named_path};
+use sha2::{Digest as _, Sha256};
 use std::alloc::{AllocError, Global};
 
 // The expected paths of the outputs of a derivation with this name and kind, by the hashes of its
@@ -103,27 +102,34 @@ fn fixed_path(
     dir: &StoreDir,
     name: &[u8],
     method: Method,
-    digest: &[u8; 32],
+    digest: &Digest,
 ) -> Result<StorePath, AllocError>
-    requires { IsTrue (is_name name.now) }
+    requires named { IsTrue (is_name name.now) }
+    requires taken { IsTaken method digest.now }
     ensures { IfOk result (λ path. IsFixedPath dir.now name.now method digest.now path) }
 {
     match method {
-        Method::Flat => make_named_path(alloc, b"output:out", &flat_digest(digest), dir, name),
-        Method::Recursive => make_named_path(alloc, b"source", digest, dir, name),
+        Method::Flat => {
+            let inner = flat_digest(alloc, digest)?;
+            make_named_path(alloc, b"output:out", &inner, dir, name)
+        }
+        Method::Recursive => {
+            let Digest::Sha256(inner) = digest else {
+                unreachable!()
+            };
+            make_named_path(alloc, b"source", inner, dir, name)
+        }
     }
 }
 
 // The SHA-256 of what the path of a flat fixed output is made of.
-fn flat_digest(digest: &[u8; 32]) -> [u8; 32]
-    ensures { result ≡ sha256 (flat_text digest.now) }
+fn flat_digest(alloc: Global, digest: &Digest) -> Result<[u8; 32], AllocError>
+    ensures { IfOk result (λ inner. inner ≡ sha256 (flat_text digest.now)) }
 {
-    let digits = digits_of(digest);
-    let mut hasher = Sha256::new();
-    hasher.update(b"fixed:out:sha256:");
-    hasher.update(&digits);
-    hasher.update(b":");
-    hasher.finalize()
+    let mut text = Vec::from_slice(alloc, b"fixed:out:")?;
+    digest.push_text(&mut text)?;
+    text.extend_from_slice(b":")?;
+    Ok(Sha256::digest(&text))
 }
 
 // The name of the path of an output of a derivation with this name.

@@ -1,17 +1,15 @@
 //! The kind of a derivation's outputs, as its text has them.
-ghost use Rattle.std.specs.Prelude.{◌≡◌, ◌∷◌, [], ℕ, List, IfOk, IfErr, MatchOption, All, codes, map};
+ghost use Rattle.std.specs.Prelude.{◌≡◌, ◌∷◌, [], IfOk, IfErr, MatchOption, All, codes, map};
 ghost use Rattle.std.specs.Bool.{MatchBool};
-ghost use Rattle.hex.specs.Hex.{encode_lower};
 ghost use Rattle.nix_drv.specs.Derivation.{Output as DrvOutput};
 ghost use Rattle.nix_drv.specs.Parts.{output_of};
-ghost use Rattle.drv_graph.specs.Checking.{IsFixedKind, IsKindFault, NamesUnknown, SaysSome};
-ghost use Rattle.drv_graph.specs.Kinds.{HasKind, IsAddressed, IsDigest, algo_of};
-ghost use Rattle.drv_graph.specs.declared.kinds.Method.{Method as HashMethod};
+ghost use Rattle.drv_graph.specs.Checking.{IsFixedKind, IsKindFault, IsNotFixed, NamesUnknown, SaysSome};
+ghost use Rattle.drv_graph.specs.Kinds.{HasKind, IsAddressed, IsFixed};
 
 use crate::fault::OutputFault;
 use crate::kinds::{Kind, Method};
-use hex::FromHex;
 use nix_drv::{Derivation, Output};
+use nix_names::{Algorithm, Digest};
 use std::alloc::{AllocError, Global};
 
 // The kind of a derivation's outputs. `MixedOutputs` where they are of none, and else
@@ -74,13 +72,10 @@ fn only_out(outputs: &[Output]) -> Option<&Output>
 fn fixed_kind(alloc: Global, output: &Output) -> Result<Kind, OutputFault>
     ensures { IsFixedKind (output_of output.now) result }
 {
-    let Some(method) = method_of(&output.algo) else {
-        return Err(unknown_method(alloc, output)?);
-    };
-    let Some(digest) = digest_of(&output.hash) else {
-        return Err(unknown_method(alloc, output)?);
-    };
-    Ok(Kind::Fixed(method, digest))
+    match method_and_digest(output) {
+        Some((method, digest)) => Ok(Kind::Fixed(method, digest)),
+        None => Err(unknown_method(alloc, output)?),
+    }
 }
 
 // The fault that an output's content is fixed by no known method.
@@ -90,40 +85,16 @@ fn unknown_method(alloc: Global, output: &Output) -> Result<OutputFault, AllocEr
     Ok(OutputFault::UnknownMethod(Vec::from_slice(alloc, &output.name)?))
 }
 
-// The method that is spelled so, if there is one.
-fn method_of(algo: &[u8]) -> Option<Method>
-    ensures { MatchOption result ((method : HashMethod) → algo.now ≡ algo_of method → ⊥)
-        (λ method. algo.now ≡ algo_of method) }
+// The method and the digest of a fixed output, where both are known.
+fn method_and_digest(output: &Output) -> Option<(Method, Digest)>
+    ensures { MatchOption result (IsNotFixed (output_of output.now))
+        (λ found. IsFixed (output_of output.now) found.0 found.1) }
 {
-    if algo == b"sha256".as_slice() {
-        Some(Method::Flat)
-    } else if algo == b"r:sha256".as_slice() {
-        Some(Method::Recursive)
-    } else {
-        None
+    if output.algo.as_slice() == b"r:sha256".as_slice() {
+        let digest = Digest::of_digits(Algorithm::Sha256, &output.hash)?;
+        return Some((Method::Recursive, digest));
     }
-}
-
-// The digest whose 64 lower-case hex digits these are, if they are one's.
-fn digest_of(text: &[u8]) -> Option<[u8; 32]>
-    ensures { MatchOption result ((digest : List ℕ) → IsDigest digest → text.now
-        ≡ encode_lower digest → ⊥) (λ digest. IsDigest digest × (text.now ≡ encode_lower digest)) }
-{
-    let Ok(digest) = <[u8; 32] as FromHex>::from_hex(text) else {
-        return None;
-    };
-    if text == digits_of(&digest).as_slice() {
-        Some(digest)
-    } else {
-        None
-    }
-}
-
-// A digest's 64 lower-case hex digits.
-pub(crate) fn digits_of(digest: &[u8; 32]) -> [u8; 64]
-    ensures { result ≡ encode_lower digest.now }
-{
-    let mut digits = [0; 64];
-    let _ = hex::encode_to_slice(digest, &mut digits);
-    digits
+    let algorithm = Algorithm::named(&output.algo)?;
+    let digest = Digest::of_digits(algorithm, &output.hash)?;
+    Some((Method::Flat, digest))
 }

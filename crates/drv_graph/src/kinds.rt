@@ -1,11 +1,13 @@
 //! The kinds of a derivation's outputs.
 
-/// How a fixed output's content is hashed.
+use nix_names::Digest;
+
+/// What is hashed of a fixed output's content.
 #[derive(Clone, Copy, Debug, PartialEq, Eq)]
 pub enum Method {
-    /// The bytes of one file, `sha256`.
+    /// The bytes of one file: `md5`, `sha1`, `sha256` or `sha512`.
     Flat,
-    /// A whole tree, `r:sha256`.
+    /// A whole tree, by SHA-256 alone: `r:sha256`.
     Recursive,
 }
 
@@ -14,6 +16,6 @@ pub enum Method {
 pub enum Kind {
     /// They follow from the inputs.
     Addressed,
-    /// There is one output, whose content has this SHA-256 by this method.
-    Fixed(Method, [u8; 32]),
+    /// There is one output, whose content has this digest by this method.
+    Fixed(Method, Digest),
 }

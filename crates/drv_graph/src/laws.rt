@@ -38,7 +38,8 @@ pub fn twins_are_told()
     ensures { TwinsAreTold }
 {}
 
-/// Twins with one fixed output of one method and digest have one modulo hash.
+/// Twins with one fixed output of one method and digest, its algorithm and its bytes, have one
+/// modulo hash.
 pub fn fixed_twins_have_one_hash()
     ensures { FixedTwinsHaveOneHash }
 {}

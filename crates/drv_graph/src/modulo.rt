@@ -12,7 +12,6 @@ ghost use Rattle.drv_graph.specs.Modulo.{IsModuloText, IsUnited, masked, masked_
 ghost use Rattle.drv_graph.specs.Uniting.{IsAdded, IsGathered, IsNameSorted, masked_output};
 
 use crate::fault::GraphFault;
-use crate::kind_of::digits_of;
 use nix_drv::{Derivation, EnvEntry, Input, Output, Parts};
 use std::alloc::{AllocError, Global};
 
@@ -86,6 +85,15 @@ fn with_hash(alloc: Global, input: &Input, hash: &[u8; 32]) -> Result<Input, All
     let path = Vec::from_slice(alloc, &digits_of(hash))?;
     let names = copy_names(alloc, &input.names)?;
     Ok(Input { path, names })
+}
+
+// A hash's 64 lower-case hex digits.
+fn digits_of(hash: &[u8; 32]) -> [u8; 64]
+    ensures { result ≡ encode_lower hash.now }
+{
+    let mut digits = [0; 64];
+    let _ = hex::encode_to_slice(hash, &mut digits);
+    digits
 }
 
 // The same names again.

@@ -1,5 +1,5 @@
 //! Which derivation owns an output path: the first of those that have it.
-ghost use Rattle.std.specs.Prelude.{◌≡◌, ◌<◌, ◌⊎◌, All, IfOk, IfSome, length, slice_get};
+ghost use Rattle.std.specs.Prelude.{◌≡◌, ◌<◌, All, IfOk, IfSome, length, slice_get};
 ghost use Rattle.drv_graph.specs.Loading.{AreDistinct};
 ghost use Rattle.drv_graph.specs.Nodes.{Node, output_paths_of};
 ghost use Rattle.drv_graph.specs.Owners.{AreOwners, HasAsMany, IsEntering, IsOwning, first_owner, outputs_of, owned};
@@ -30,11 +30,11 @@ pub(crate) fn own(
 {
     let owner = first_owner(owners, outputs);
     if !has_as_many(kept, owner, outputs.len()) {
-        return Err(clash(alloc, path));
+        return Err(clash(alloc, path)?);
     }
     let first = owner.unwrap_or(kept.len());
     if !enter(alloc, owners, owner, outputs, first)? {
-        return Err(clash(alloc, path));
+        return Err(clash(alloc, path)?);
     }
     Ok(first)
 }
@@ -82,12 +82,8 @@ fn enter(
 }
 
 // The fault that the outputs of the derivation at a path clash.
-fn clash(alloc: Global, path: &StorePath) -> GraphFault
-    ensures { (result ≡ GraphFault.NoMemory)
-        ⊎ (result ≡ GraphFault.At path.now NodeFault.OutputClash) }
+fn clash(alloc: Global, path: &StorePath) -> Result<GraphFault, AllocError>
+    ensures { IfOk result (λ fault. fault ≡ GraphFault.At path.now NodeFault.OutputClash) }
 {
-    match path.copy(alloc) {
-        Ok(path) => GraphFault::At(path, NodeFault::OutputClash),
-        Err(_) => GraphFault::NoMemory,
-    }
+    Ok(GraphFault::At(path.copy(alloc)?, NodeFault::OutputClash))
 }

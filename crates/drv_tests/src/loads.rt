@@ -9,6 +9,7 @@ use std::alloc::{AllocError, Global};
 use std::test::*;
 use twin_files::*;
 
+mod digests;
 mod files;
 mod filling;
 mod large;
@@ -18,6 +19,7 @@ mod output_files;
 mod outputs;
 mod plans;
 mod twin_files;
+mod twins;
 mod words;
 
 fn push_file(

@@ -5,6 +5,7 @@ pub mod Base32Laws
 pub mod Base32Reading
 pub mod Base32Runs
 pub mod Base32Texts
+pub mod DigestTexts
 pub mod FirstElements
 pub mod HexDigits
 pub mod Lists

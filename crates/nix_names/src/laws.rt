@@ -3,6 +3,7 @@
 ghost use Rattle.std.specs.Prelude.{◌≡◌, ◌↔◌, ◌<◌, ℕ, List, length, Contains};
 ghost use Rattle.std.specs.List.{All};
 ghost use Rattle.nix_names.specs.Base32.{StandsFor, base32, base32_fault};
+ghost use Rattle.nix_names.specs.Digests.{DigitsAreOfOneDigest, TextIsOfOneDigest};
 ghost use Rattle.nix_names.specs.Rising.{IsRising};
 
 /// A text stands for some bytes exactly where it is their base-32 text.
@@ -29,4 +30,14 @@ pub fn base32_fault_is_exact()
 pub fn members_tell_a_rising_list()
     ensures { (a b : List (List ℕ)) → IsRising a → IsRising b
         → ((text : List ℕ) → (Contains a text ↔ Contains b text)) → a ≡ b }
+{}
+
+/// A text of an algorithm's name, a colon and digits is that of one digest.
+pub fn text_is_of_one_digest()
+    ensures { TextIsOfOneDigest }
+{}
+
+/// Digits are those of one digest of an algorithm.
+pub fn digits_are_of_one_digest()
+    ensures { DigitsAreOfOneDigest }
 {}

@@ -1,4 +1,4 @@
-//! Base-32 and store paths: the names of things in a Nix store.
+//! Base-32, store paths and digests: the names of things in a Nix store.
 //!
 //! | Module | What is in it |
 //! |---|---|
@@ -7,11 +7,13 @@
 //! | `store_path` | store paths: parsed, lent, copied, compared |
 //! | `making` | the path of a type, an inner digest, a folder and a name |
 //! | `name` | the bytes of names and components |
+//! | `digest` | digests of a file's bytes, and their text |
 //! | `fault` | why a text is no name, no path or no base-32 text |
 //! | `laws`, `path_laws` | laws over the definitions that contracts cite |
 #![tactic(auto)]
 
 mod base32;
+mod digest;
 mod fault;
 pub mod laws;
 mod making;
@@ -21,6 +23,7 @@ mod store_dir;
 mod store_path;
 
 pub use base32::{from_base32, to_base32};
+pub use digest::{Algorithm, Digest};
 pub use fault::NameFault;
 pub use making::{fold20, make_named_path, make_path};
 pub use name::{is_drv_name, is_name};

@@ -7,8 +7,7 @@ use process_build::{Builders, ByProcesses};
 use std::alloc::{AllocError, Global};
 use std::io::ErrorKind;
 use std::process;
-use std::process::Processes;
-use std::rt::{Env, Files};
+use std::rt::Files;
 use std::sync::Wait;
 use std::test::Fail;
 use std::thread::Threads;
@@ -97,7 +96,7 @@ static ADDING: [Row; 4] = [
         before: &[
             FILE,
             TEXT,
-            Step::Write("<dir>/realiser-journal", "realiser-journal 1\n"),
+            Step::Write("<dir>/realiser-journal", "realiser-journal 2\n"),
         ],
         line: "nix_realise add-text --store-dir <dir> greeting <dir>/file",
         calls: "open <dir>/file\nread \nread \nstat <dir>/realiser-journal\n\
@@ -199,18 +198,6 @@ where
     Ok(run_by(double, make, &words))
 }
 
-// The store folder of a case, as it is before the run.
-fn before<R: Env + Host + Processes, M: Builders>(
-    rt: &R,
-    make: &M,
-    process: u32,
-    case: &Case<'_>,
-) -> Result<Scene, Fail> {
-    let mut scene = Scene::new(rt, process, case.row.name)?;
-    scene.take(rt, make, case.row.before)?;
-    Ok(scene)
-}
-
 // Whether what was to come of a case came: what the run wrote and its status, these calls where
 // none was refused, and the status 0 of the same run once more.
 fn came<R: Host>(
@@ -236,7 +223,7 @@ fn refused_calls_of_adding(rt: HostRuntime) -> Result<(), Fail> {
     let make = ByProcesses::new(&rt, &rt);
     let mut stray = None;
     for case in cases(rt.alloc(), adding())?.iter() {
-        let scene = before(&rt, &make, process, case)?;
+        let scene = Scene::behind(&rt, &make, process, case.row.name, case.row.before)?;
         let line = scene.said(rt.alloc(), case.row.line)?;
         let double = Double::new(rt.clone()?, Event::Refused(case.number, case.kind))?;
         let first = ran(&double, &ByProcesses::new(&double, &double), line.as_str())?;
@@ -258,7 +245,7 @@ fn refused_calls_of_a_run(rt: HostRuntime) -> Result<(), Fail> {
     let make = ByProcesses::new(&rt, &rt);
     let mut stray = None;
     for case in cases(rt.alloc(), run_rows())?.iter() {
-        let scene = before(&rt, &make, process, case)?;
+        let scene = Scene::behind(&rt, &make, process, case.row.name, case.row.before)?;
         let line = scene.said(rt.alloc(), case.row.line)?;
         let double = Double::new(rt.clone()?, Event::Refused(case.number, case.kind))?;
         let first = ran(&double, &ByProcesses::new(&double, &double), line.as_str())?;

@@ -4,7 +4,7 @@ use crate::scene::Scene;
 use crate::texts::text_of;
 use nix_drv::read;
 use process_build::Builders;
-use std::alloc::Global;
+use std::alloc::{AllocError, Global};
 use std::fs;
 use std::test::Fail;
 use subcommands::run;
@@ -19,7 +19,7 @@ impl Scene {
 
     // Whether a run writes these texts, and has this status.
     pub(crate) fn runs<R: Host, M: Builders>(
-        &self,
+        &mut self,
         rt: &R,
         make: &M,
         line: &str,
@@ -27,13 +27,12 @@ impl Scene {
         status: u8,
     ) -> Result<bool, Fail> {
         let ran = self.ran(rt, make, line)?;
-        let told = is_as(&ran.out, self.said(rt.alloc(), out)?.as_str());
-        Ok(told && is_as(&ran.err, self.said(rt.alloc(), err)?.as_str()) && ran.status == status)
+        self.is_told(rt.alloc(), &ran, [out, err], status)
     }
 
     // Whether a run tells of these derivations by their paths, and of these outputs.
     pub(crate) fn realises<R: Host, M: Builders>(
-        &self,
+        &mut self,
         rt: &R,
         make: &M,
         line: &str,
@@ -43,7 +42,25 @@ impl Scene {
     ) -> Result<bool, Fail> {
         let ran = self.ran(rt, make, line)?;
         let report = self.report(rt.alloc(), told, outputs)?;
-        Ok(ran.out.as_slice() == report.as_bytes() && ran.err.is_empty() && ran.status == status)
+        self.is_told(rt.alloc(), &ran, [report.as_str(), ""], status)
+    }
+
+    // Whether a run wrote these texts, and has this status.
+    pub(crate) fn is_told(
+        &mut self,
+        alloc: Global,
+        ran: &Outcome,
+        [out, err]: [&str; 2],
+        status: u8,
+    ) -> Result<bool, Fail> {
+        let (out, err) = (self.said(alloc, out)?, self.said(alloc, err)?);
+        let (out, err) = (out.as_str(), err.as_str());
+        if is_as(&ran.out, out) && is_as(&ran.err, err) && ran.status == status {
+            return Ok(true);
+        }
+        let wanted = told(alloc, out.as_bytes(), err.as_bytes(), status)?;
+        let came = told(alloc, &ran.out, &ran.err, ran.status)?;
+        self.strays(alloc, wanted.as_str(), came.as_str())
     }
 
     // Lines by the paths in them, and a text behind them.
@@ -98,18 +115,29 @@ impl Scene {
     pub(crate) fn put<R: Host>(&mut self, rt: &R, name: &str, draft: &str) -> Result<bool, Fail> {
         let draft = self.said(rt.alloc(), draft)?;
         let path = put_draft(rt, self.site.folder.as_str(), name, draft.as_str())?;
-        self.name_outputs(rt, name, path.as_str())?;
-        Ok(self.names.bind(rt.alloc(), name, path).map(|()| true)?)
+        self.name_drv(rt, name, path)
     }
 
-    // Names the paths of the outputs of the derivation in a file.
-    fn name_outputs<R: Host>(&mut self, rt: &R, name: &str, file: &str) -> Result<(), Fail> {
-        for (output, path) in outputs_of(rt, file)? {
-            let word = format!(in rt.alloc(); "{name}.{output}")?;
-            self.names.bind(rt.alloc(), word.as_str(), path)?;
+    // Names the path of a derivation's file, and the paths of its outputs.
+    pub(crate) fn name_drv<R: Host>(
+        &mut self,
+        rt: &R,
+        word: &str,
+        path: String,
+    ) -> Result<bool, Fail> {
+        for (name, output) in outputs_of(rt, path.as_str())? {
+            let word = format!(in rt.alloc(); "{word}.{name}")?;
+            self.names.bind(rt.alloc(), word.as_str(), output)?;
         }
-        Ok(())
+        Ok(self.names.bind(rt.alloc(), word, path).map(|()| true)?)
     }
+}
+
+// What a run writes and its status, in one text.
+fn told(alloc: Global, out: &[u8], err: &[u8], status: u8) -> Result<String, AllocError> {
+    let out = String::from_utf8_lossy(alloc, out)?;
+    let err = String::from_utf8_lossy(alloc, err)?;
+    format!(in alloc; "{out:?} {err:?} {status}")
 }
 
 /// Puts the derivation of a draft into a store folder. The path of its file.

@@ -52,10 +52,15 @@ impl Scene {
     }
 
     // Whether a file has this text.
-    pub(crate) fn holds<R: Host>(&self, rt: &R, file: &str, text: &str) -> Result<bool, Fail> {
+    pub(crate) fn holds<R: Host>(&mut self, rt: &R, file: &str, text: &str) -> Result<bool, Fail> {
         let file = self.said(rt.alloc(), file)?;
         let text = self.said(rt.alloc(), text)?;
-        Ok(fs::read(rt, file.as_str())?.as_slice() == text.as_bytes())
+        let came = fs::read(rt, file.as_str())?;
+        if came.as_slice() == text.as_bytes() {
+            return Ok(true);
+        }
+        let came = String::from_utf8_lossy(rt.alloc(), &came)?;
+        self.strays(rt.alloc(), text.as_str(), came.as_str())
     }
 
     // Whether a file's text ends so.
@@ -90,12 +95,23 @@ impl Scene {
     }
 
     // Whether so many files and folders stand in the store folder.
-    pub(crate) fn left<R: Host>(&self, rt: &R, wanted: usize) -> Result<bool, Fail> {
+    pub(crate) fn left<R: Host>(&mut self, rt: &R, wanted: usize) -> Result<bool, Fail> {
+        let count = self.count(rt)?;
+        if count == wanted {
+            return Ok(true);
+        }
+        let wanted = format!(in rt.alloc(); "{wanted} files and folders")?;
+        let came = format!(in rt.alloc(); "{count}")?;
+        self.strays(rt.alloc(), wanted.as_str(), came.as_str())
+    }
+
+    // How many files and folders stand in the store folder.
+    fn count<R: Host>(&self, rt: &R) -> Result<usize, Fail> {
         let mut count = 0usize;
         for entry in fs::read_dir(rt, self.site.folder.as_str())? {
             entry?;
             count = count.saturating_add(1);
         }
-        Ok(count == wanted)
+        Ok(count)
     }
 }

@@ -1,12 +1,13 @@
 //! Runs whose reads and writes are short, and runs in whose way another process gets.
 use crate::calls::{DRAFT, ran};
 use crate::double::{Double, Event};
-use crate::running::Outcome;
+use crate::running::{Host, Outcome};
 use crate::scene::Scene;
 use crate::steps::Step;
-use process_build::ByProcesses;
+use process_build::{Builders, ByProcesses};
 use std::alloc::Global;
 use std::process;
+use std::process::Processes;
 use std::test::Fail;
 
 // What gets in the way of a run, whose calls are counted from 1.
@@ -49,16 +50,16 @@ const ADD: &str = "nix_realise add-text --store-dir <dir> greeting <dir>/file";
 const REALISE: &str = "nix_realise realise --store-dir <dir> <any>";
 
 // The digests of this file are SHA-256 of `hello` with a newline, and of `made` with one.
-const WITH_TEXT: &str = "realiser-journal 1\nA <text> \
-    5891b5b522d5df086d0ff0b110fbd9d21bb4fc7163af34d08286a2e846f6be03\n";
+const WITH_TEXT: &str = "realiser-journal 2\nA <text> \
+    sha256:5891b5b522d5df086d0ff0b110fbd9d21bb4fc7163af34d08286a2e846f6be03\n";
 
-const ANOTHER: &str = "realiser-journal 1\nA <dir>/aaaaaaaaaaaaaaaaaaaaaaaaaaaaaaaa-x -\n";
+const ANOTHER: &str = "realiser-journal 2\nA <dir>/aaaaaaaaaaaaaaaaaaaaaaaaaaaaaaaa-x -\n";
 
-const WITH_BOTH: &str = "realiser-journal 1\nA <dir>/aaaaaaaaaaaaaaaaaaaaaaaaaaaaaaaa-x -\nA \
-    <text> 5891b5b522d5df086d0ff0b110fbd9d21bb4fc7163af34d08286a2e846f6be03\n";
+const WITH_BOTH: &str = "realiser-journal 2\nA <dir>/aaaaaaaaaaaaaaaaaaaaaaaaaaaaaaaa-x -\nA \
+    <text> sha256:5891b5b522d5df086d0ff0b110fbd9d21bb4fc7163af34d08286a2e846f6be03\n";
 
-const WITH_OUTPUT: &str = "realiser-journal 1\nD <any>\nO <any.out> \
-    9ccbd3f1b19a1cdfd8d7c6ae48e9e822e2345f5be1a6187b19e41486c6941004\n";
+const WITH_OUTPUT: &str = "realiser-journal 2\nD <any>\nO <any.out> \
+    sha256:9ccbd3f1b19a1cdfd8d7c6ae48e9e822e2345f5be1a6187b19e41486c6941004\n";
 
 const GREETED: (&str, &str, u8) = ("<text>\n", "", 0);
 
@@ -140,7 +141,7 @@ static READ: [Row; 5] = [
         line: REALISE,
         way: Way::Removes(14, "<any.out>"),
         told: ("failed <any>: MissingOutput(\"out\")\n", "", 1),
-        after: &[Step::Holds(JOURNAL, "realiser-journal 1\n")],
+        after: &[Step::Holds(JOURNAL, "realiser-journal 2\n")],
     },
     Row {
         name: "output-removed-unread",
@@ -148,7 +149,7 @@ static READ: [Row; 5] = [
         line: REALISE,
         way: Way::Removes(15, "<any.out>"),
         told: ("failed <any>: ReadFault\n", "", 1),
-        after: &[Step::Holds(JOURNAL, "realiser-journal 1\n")],
+        after: &[Step::Holds(JOURNAL, "realiser-journal 2\n")],
     },
 ];
 
@@ -268,36 +269,32 @@ fn event_of(alloc: Global, scene: &Scene, way: &Way) -> Result<Event, Fail> {
     }
 }
 
-// Whether a run wrote what its row says, and has its status.
-fn is_told(alloc: Global, scene: &Scene, row: &Row, ran: &Outcome) -> Result<bool, Fail> {
+// Whether a run, and the steps behind it, do as a row says.
+fn does<R: Host + Processes, M: Builders>(
+    rt: &R,
+    make: &M,
+    scene: &mut Scene,
+    row: &Row,
+    ran: &Outcome,
+) -> Result<bool, Fail> {
     let (out, err, status) = row.told;
-    let (out, err) = (scene.said(alloc, out)?, scene.said(alloc, err)?);
-    Ok(
-        ran.out.as_slice() == out.as_bytes()
-            && ran.err.as_slice() == err.as_bytes()
-            && ran.status == status,
-    )
+    let is_told = scene.is_told(rt.alloc(), ran, [out, err], status)?;
+    Ok(is_told && scene.take(rt, make, row.after)? == row.after.len())
 }
 
 #[test]
 fn hindered_runs(rt: HostRuntime) -> Result<(), Fail> {
     let process = process::id(rt.process());
     let make = ByProcesses::new(&rt, &rt);
-    let mut stray = None;
     for row in tables().iter().flat_map(|rows| rows.iter()) {
-        let mut scene = Scene::new(&rt, process, row.name)?;
-        scene.take(&rt, &make, row.before)?;
+        let mut scene = Scene::behind(&rt, &make, process, row.name, row.before)?;
         let event = event_of(rt.alloc(), &scene, &row.way)?;
         let line = scene.said(rt.alloc(), row.line)?;
         let double = Double::new(rt.clone()?, event)?;
         let ran = ran(&double, &ByProcesses::new(&double, &double), line.as_str())?;
-        let told = is_told(rt.alloc(), &scene, row, &ran)?;
-        if !told || scene.take(&rt, &make, row.after)? < row.after.len() {
-            stray = Some(row.name);
-            break;
-        }
+        let is_right = does(&rt, &make, &mut scene, row, &ran)?;
+        assert!(rt; is_right, "{}: {}", row.name, scene.stray);
         scene.close(&rt)?;
     }
-    assert_eq!(rt; stray, None);
     Ok(())
 }

@@ -14,15 +14,23 @@ const JOURNAL: &str = "<dir>/realiser-journal";
 const ADD: &str = "nix_realise add-text --store-dir <dir> greeting <dir>/file";
 
 // The digests are SHA-256 of no bytes, and of `hello` with a newline.
-const WITH_EMPTY: &str = "realiser-journal 1\nA <text> \
+const WITH_EMPTY: &str = "realiser-journal 2\nA <text> \
+    sha256:e3b0c44298fc1c149afbf4c8996fb92427ae41e4649b934ca495991b7852b855\n";
+
+// The same in version 1, and what is written where another text of no bytes comes behind it.
+const IN_VERSION_1: &str = "realiser-journal 1\nA <text> \
     e3b0c44298fc1c149afbf4c8996fb92427ae41e4649b934ca495991b7852b855\n";
 
-const WITH_ANOTHER: &str = "realiser-journal 1\nA <dir>/aaaaaaaaaaaaaaaaaaaaaaaaaaaaaaaa-x -\n";
+const WITH_OTHER: &str = "realiser-journal 2\nA <text> \
+    sha256:e3b0c44298fc1c149afbf4c8996fb92427ae41e4649b934ca495991b7852b855\nA <other> \
+    sha256:e3b0c44298fc1c149afbf4c8996fb92427ae41e4649b934ca495991b7852b855\n";
 
-const WITH_BOTH: &str = "realiser-journal 1\nA <dir>/aaaaaaaaaaaaaaaaaaaaaaaaaaaaaaaa-x -\nA \
-    <text> 5891b5b522d5df086d0ff0b110fbd9d21bb4fc7163af34d08286a2e846f6be03\n";
+const WITH_ANOTHER: &str = "realiser-journal 2\nA <dir>/aaaaaaaaaaaaaaaaaaaaaaaaaaaaaaaa-x -\n";
 
-static WRITTEN: [Row; 3] = [
+const WITH_BOTH: &str = "realiser-journal 2\nA <dir>/aaaaaaaaaaaaaaaaaaaaaaaaaaaaaaaa-x -\nA \
+    <text> sha256:5891b5b522d5df086d0ff0b110fbd9d21bb4fc7163af34d08286a2e846f6be03\n";
+
+static WRITTEN: [Row; 4] = [
     // The first run writes text and journal. The second finds no text and a link to the journal,
     // and leaves both as they are.
     Row {
@@ -72,6 +80,32 @@ static WRITTEN: [Row; 3] = [
             Step::Left(4),
         ],
     },
+    // A journal of version 1 stays as it is where the path is valid, and else is written in version
+    // 2.
+    Row {
+        name: "version-1",
+        steps: &[
+            Step::Write(FILE, ""),
+            Step::TextPath("text", "empty", ""),
+            Step::TextPath("other", "other", ""),
+            Step::Write(JOURNAL, IN_VERSION_1),
+            Step::Run(
+                "nix_realise add-text --store-dir <dir> empty <dir>/file",
+                "<text>\n",
+                "",
+                0,
+            ),
+            Step::Holds(JOURNAL, IN_VERSION_1),
+            Step::Run(
+                "nix_realise add-text --store-dir <dir> other <dir>/file",
+                "<other>\n",
+                "",
+                0,
+            ),
+            Step::Holds(JOURNAL, WITH_OTHER),
+            Step::Left(3),
+        ],
+    },
     // The journal's folder is missing: the path is printed and the text written.
     Row {
         name: "journal-that-cannot-be-written",
@@ -90,16 +124,16 @@ static WRITTEN: [Row; 3] = [
     },
 ];
 
-const AS_REPEATED: &str = "realiser-journal 1\nA <dir>/aaaaaaaaaaaaaaaaaaaaaaaaaaaaaaaa-x -\nA \
+const AS_REPEATED: &str = "realiser-journal 2\nA <dir>/aaaaaaaaaaaaaaaaaaaaaaaaaaaaaaaa-x -\nA \
     <dir>/aaaaaaaaaaaaaaaaaaaaaaaaaaaaaaaa-x -\n";
 
-const AS_OPEN: &str = "realiser-journal 1\nA <dir>/aaaaaaaaaaaaaaaaaaaaaaaaaaaaaaaa-x -\nR \
+const AS_OPEN: &str = "realiser-journal 2\nA <dir>/aaaaaaaaaaaaaaaaaaaaaaaaaaaaaaaa-x -\nR \
     <dir>/cccccccccccccccccccccccccccccccc-y\n";
 
-const AS_REFERENCE: &str = "realiser-journal 1\nR <dir>/aaaaaaaaaaaaaaaaaaaaaaaaaaaaaaaa-x\n";
+const AS_REFERENCE: &str = "realiser-journal 2\nR <dir>/aaaaaaaaaaaaaaaaaaaaaaaaaaaaaaaa-x\n";
 
 const AS_OUTSIDE: &str =
-    "realiser-journal 1\nA /nix/store/<dir>/aaaaaaaaaaaaaaaaaaaaaaaaaaaaaaaa-x -\n";
+    "realiser-journal 2\nA /nix/store/<dir>/aaaaaaaaaaaaaaaaaaaaaaaaaaaaaaaa-x -\n";
 
 static REFUSED: [Row; 3] = [
     // A refused journal stays as it is, and nothing is printed.
@@ -107,12 +141,12 @@ static REFUSED: [Row; 3] = [
         name: "refused-journals",
         steps: &[
             Step::Write(FILE, GREETING),
-            Step::Write(JOURNAL, "realiser-journal 2\n"),
+            Step::Write(JOURNAL, "realiser-journal 3\n"),
             Step::Run(ADD, "", "nix_realise: journal: WrongVersion\n", 2),
-            Step::Holds(JOURNAL, "realiser-journal 2\n"),
-            Step::Write(JOURNAL, "realiser-journal 1"),
+            Step::Holds(JOURNAL, "realiser-journal 3\n"),
+            Step::Write(JOURNAL, "realiser-journal 2"),
             Step::Run(ADD, "", "nix_realise: journal: BadLine(1)\n", 2),
-            Step::Holds(JOURNAL, "realiser-journal 1"),
+            Step::Holds(JOURNAL, "realiser-journal 2"),
             Step::Write(JOURNAL, AS_REFERENCE),
             Step::Run(ADD, "", "nix_realise: journal: BadLine(2)\n", 2),
             Step::Holds(JOURNAL, AS_REFERENCE),
@@ -133,9 +167,9 @@ static REFUSED: [Row; 3] = [
         name: "long-journals",
         steps: &[
             Step::Write(FILE, GREETING),
-            Step::Fill(JOURNAL, b'\n', 67_108_864),
+            Step::Fill(JOURNAL, b'\n', 134_217_728),
             Step::Run(ADD, "", "nix_realise: journal: BadLine(1)\n", 2),
-            Step::Fill(JOURNAL, b'\n', 67_108_865),
+            Step::Fill(JOURNAL, b'\n', 134_217_729),
             Step::Run(ADD, "", "nix_realise: journal: TooLong\n", 2),
             Step::Left(2),
         ],

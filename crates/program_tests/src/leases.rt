@@ -37,6 +37,9 @@ const LINES: [&str; 3] = [
     "nix_realise realise --store-dir <dir> --jobs 8 <a> <b> <c>",
 ];
 
+// The folders in which they are built, one for each.
+const FOLDERS: [&str; 3] = ["<dir>/.build-0", "<dir>/.build-1", "<dir>/.build-2"];
+
 // The calls of a lease that name its output or its build folder, in their order: room is made, the
 // builder runs, its output is read, and its folder is removed.
 const LEASE: &str = "lstat <it.out>\nlstat <build>\nmkdir <build>\nspawn cd \"<build>\" && env -i \
@@ -65,70 +68,81 @@ fn calls_on(alloc: Global, calls: &str, paths: (&str, &str)) -> Result<String, A
     Ok(found)
 }
 
-// Whether the calls for a derivation are those of a lease in this build folder.
-fn is_lease(
-    alloc: Global,
-    scene: &Scene,
-    calls: &str,
-    word: &str,
-    folder: &str,
-) -> Result<bool, Fail> {
-    let wanted = replaced(
-        alloc,
-        LEASE,
-        "k=\"<it>\"",
-        format!(in alloc; "k=\"{word}\"")?.as_str(),
-    )?;
-    let wanted = replaced(
-        alloc,
-        wanted.as_str(),
-        "<it",
-        format!(in alloc; "<{word}")?.as_str(),
-    )?;
-    let wanted = replaced(alloc, wanted.as_str(), "<build>", folder)?;
-    let wanted = scene.said(alloc, wanted.as_str())?;
-    let output = scene.said(alloc, format!(in alloc; "<{word}.out>")?.as_str())?;
-    let folder = scene.said(alloc, folder)?;
+// Whether a call starts the builder of an output in a folder.
+fn is_start(call: &str, output: &str, folder: &str) -> bool {
+    call.starts_with("spawn ") && call.contains(output) && call.contains(folder)
+}
+
+// The build folder in which the builder of an output is started; none of the three is `<build>`.
+fn build_folder(alloc: Global, scene: &Scene, calls: &str, output: &str) -> Result<String, Fail> {
+    for folder in FOLDERS {
+        let folder = scene.said(alloc, folder)?;
+        if calls
+            .lines()
+            .any(|call| is_start(call, output, folder.as_str()))
+        {
+            return Ok(folder);
+        }
+    }
+    Ok(String::from_str(alloc, "<build>")?)
+}
+
+// The calls for a derivation, with `<build>` for its build folder.
+fn calls_for(alloc: Global, scene: &Scene, calls: &str, word: &str) -> Result<String, Fail> {
+    let output = format!(in alloc; "<{word}.out>")?;
+    let output = scene.said(alloc, output.as_str())?;
+    let folder = build_folder(alloc, scene, calls, output.as_str())?;
     let found = calls_on(alloc, calls, (output.as_str(), folder.as_str()))?;
-    Ok(found == wanted)
+    Ok(replaced(alloc, found.as_str(), folder.as_str(), "<build>")?)
 }
 
-// How many of the build folders are that of a derivation's lease.
-fn leases_of(alloc: Global, scene: &Scene, calls: &str, word: &str) -> Result<usize, Fail> {
-    let mut count = 0usize;
-    for folder in ["<dir>/.build-0", "<dir>/.build-1", "<dir>/.build-2"] {
-        if is_lease(alloc, scene, calls, word, folder)? {
-            count = count.saturating_add(1);
-        }
-    }
-    Ok(count)
+// The calls of a derivation's lease.
+fn lease_of(alloc: Global, scene: &Scene, word: &str) -> Result<String, Fail> {
+    let output = format!(in alloc; "<{word}.out>")?;
+    let lease = replaced(alloc, LEASE, "<it.out>", output.as_str())?;
+    let lease = replaced(alloc, lease.as_str(), "<it>", word)?;
+    scene.said(alloc, lease.as_str())
 }
 
-// Whether each derivation has one lease, and the journal is written behind them.
-fn are_leases(alloc: Global, scene: &Scene, calls: &str) -> Result<bool, Fail> {
+// The last calls, as many as there are of the run's end.
+fn last_calls(alloc: Global, calls: &str) -> Result<String, AllocError> {
+    let lines: Vec<&str> = calls.split_inclusive('\n').collect(alloc)?;
+    let before = lines.len().saturating_sub(END.lines().count());
+    lines[before..].concat(alloc)
+}
+
+// A run's status, the calls for each derivation, and the last ones.
+fn found(alloc: Global, scene: &Scene, status: u8, calls: &str) -> Result<String, Fail> {
+    let mut found = format!(in alloc; "{status}\n")?;
     for word in WORDS {
-        if leases_of(alloc, scene, calls, word)? != 1 {
-            return Ok(false);
-        }
+        found.push_str(calls_for(alloc, scene, calls, word)?.as_str())?;
     }
-    Ok(calls.ends_with(scene.said(alloc, END)?.as_str()))
+    found.push_str(last_calls(alloc, calls)?.as_str())?;
+    Ok(found)
+}
+
+// The same of a good run.
+fn wanted(alloc: Global, scene: &Scene) -> Result<String, Fail> {
+    let mut wanted = String::from_str(alloc, "0\n")?;
+    for word in WORDS {
+        wanted.push_str(lease_of(alloc, scene, word)?.as_str())?;
+    }
+    wanted.push_str(scene.said(alloc, END)?.as_str())?;
+    Ok(wanted)
 }
 
 #[test]
 fn calls_of_each_lease(rt: HostRuntime) -> Result<(), Fail> {
+    let process = process::id(rt.process());
     let make = ByProcesses::new(&rt, &rt);
     for line in LINES {
-        let mut scene = Scene::new(&rt, process::id(rt.process()), "leases")?;
-        assert!(rt; scene.take(&rt, &make, puts())? == 3);
+        let scene = Scene::behind(&rt, &make, process, "leases", puts())?;
         let line = scene.said(rt.alloc(), line)?;
         let double = Double::new(rt.clone()?, Event::Nothing)?;
         let ran = ran(&double, &ByProcesses::new(&double, &double), line.as_str())?;
-        assert!(rt; ran.status == 0, "at {line}");
         let calls = double.calls()?;
-        assert!(rt;
-            are_leases(rt.alloc(), &scene, calls.as_str())?,
-            "at {line}"
-        );
+        let found = found(rt.alloc(), &scene, ran.status, calls.as_str())?;
+        assert_eq!(rt; found, wanted(rt.alloc(), &scene)?, "at {line}");
         scene.close(&rt)?;
     }
     Ok(())

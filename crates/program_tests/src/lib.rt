@@ -10,6 +10,7 @@
 //! | `added_texts`, `journals` | `add-text`, and the journal file that it writes |
 //! | `drvs` | `add-drv` |
 //! | `realising`, `realisations`, `many` | `realise`: its faults, its reports, many derivations |
+//! | `twins` | `realise` over derivations that share all their outputs |
 //! | `progress` | the line of progress |
 //! | `starts`, `folders`, `outputs` | a builder's start, its folder, what is read of its outputs |
 //! | `places` | what is no regular file, and the permissions of a new file |
@@ -71,5 +72,7 @@ mod starts;
 mod steps;
 #[cfg(test)]
 mod texts;
+#[cfg(test)]
+mod twins;
 #[cfg(test)]
 mod usage;

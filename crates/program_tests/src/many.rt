@@ -165,7 +165,7 @@ fn come_to_the_same<R: Host, M: Builders>(rt: &R, make: &M, folder: &str) -> Res
 #[test]
 fn one_worker_or_eight(rt: HostRuntime) -> Result<(), Fail> {
     let make = ByProcesses::new(&rt, &rt);
-    let scene = Scene::new(&rt, process::id(rt.process()), "many")?;
+    let mut scene = Scene::new(&rt, process::id(rt.process()), "many")?;
     assert!(rt; come_to_the_same(&rt, &make, scene.site.folder.as_str())?);
     // The file, the derivations and their outputs.
     assert!(rt; scene.left(&rt, 401)?);

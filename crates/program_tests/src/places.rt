@@ -131,14 +131,14 @@ static WRITTEN: [Row; 5] = [
         name: "modes",
         steps: &[
             Step::Write(FILE, "hello\n"),
-            Step::Write(JOURNAL, "realiser-journal 1\n"),
+            Step::Write(JOURNAL, "realiser-journal 2\n"),
             Step::Mode(JOURNAL, 0o600),
             Step::TextPath("text", "greeting", "hello\n"),
             Step::Run(ADD, "<text>\n", "", 0),
             Step::HasMode(JOURNAL, 0o600),
             Step::Ends(
                 JOURNAL,
-                "5891b5b522d5df086d0ff0b110fbd9d21bb4fc7163af34d08286a2e846f6be03\n",
+                "sha256:5891b5b522d5df086d0ff0b110fbd9d21bb4fc7163af34d08286a2e846f6be03\n",
             ),
             Step::Put("any", DRAFT),
             Step::Move(JOURNAL, "<dir>/moved"),
@@ -146,12 +146,13 @@ static WRITTEN: [Row; 5] = [
             Step::Run(REALISE, "built <any>\noutput <any.out>\n", "", 0),
             Step::Ends(
                 JOURNAL,
-                "O <any.out> 9ccbd3f1b19a1cdfd8d7c6ae48e9e822e2345f5be1a6187b19e41486c6941004\n",
+                "O <any.out> \
+                    sha256:9ccbd3f1b19a1cdfd8d7c6ae48e9e822e2345f5be1a6187b19e41486c6941004\n",
             ),
             Step::HasMode("<dir>/moved", 0o600),
             Step::Ends(
                 "<dir>/moved",
-                "5891b5b522d5df086d0ff0b110fbd9d21bb4fc7163af34d08286a2e846f6be03\n",
+                "sha256:5891b5b522d5df086d0ff0b110fbd9d21bb4fc7163af34d08286a2e846f6be03\n",
             ),
         ],
     },

@@ -4,7 +4,7 @@ use crate::sites::Site;
 use crate::steps::{Row, Step};
 use crate::texts::Names;
 use process_build::Builders;
-use std::alloc::Global;
+use std::alloc::{AllocError, Global};
 use std::fs;
 use std::process::Processes;
 use std::rt::Env;
@@ -15,6 +15,8 @@ use std::test::Fail;
 pub struct Scene {
     pub site: Site,
     pub names: Names,
+    /// What a step wanted, and what came instead.
+    pub stray: String,
 }
 
 impl Scene {
@@ -23,7 +25,21 @@ impl Scene {
         let folder = new_folder(rt, process, name)?;
         let names = Names::of(rt.alloc(), folder.as_str())?;
         let site = Site { folder };
-        Ok(Scene { site, names })
+        let stray = String::new(rt.alloc());
+        Ok(Scene { site, names, stray })
+    }
+
+    /// A store folder in which these steps were taken.
+    pub fn behind<R: Env + Host + Processes, M: Builders>(
+        rt: &R,
+        make: &M,
+        process: u32,
+        name: &str,
+        steps: &[Step],
+    ) -> Result<Scene, Fail> {
+        let mut scene = Scene::new(rt, process, name)?;
+        scene.take(rt, make, steps)?;
+        Ok(scene)
     }
 
     /// Takes these steps, one after another, until one does not do as it says. How many did.
@@ -56,6 +72,7 @@ impl Scene {
                 self.realises(rt, make, line, told, outputs, *status)
             }
             Step::Put(name, draft) => self.put(rt, name, draft),
+            Step::Twins(name, first, second) => self.put_twins(rt, name, *first, *second),
             Step::Start(call, made) => self.starts(rt, call, made),
             Step::Script(script, outputs, made) => self.builds(rt, script, outputs, made),
             other => self.takes_narrow(rt, make, other),
@@ -84,7 +101,7 @@ impl Scene {
     }
 
     // The same of a step that changes a file.
-    fn changes<R: Host>(&self, rt: &R, step: &Step) -> Result<bool, Fail> {
+    fn changes<R: Host>(&mut self, rt: &R, step: &Step) -> Result<bool, Fail> {
         match step {
             Step::Write(file, text) => self.write(rt, file, text),
             Step::Fill(file, byte, length) => self.fill(rt, file, *byte, *length),
@@ -98,7 +115,7 @@ impl Scene {
     }
 
     // The same of a step that looks at a file.
-    fn finds<R: Host>(&self, rt: &R, step: &Step) -> Result<bool, Fail> {
+    fn finds<R: Host>(&mut self, rt: &R, step: &Step) -> Result<bool, Fail> {
         match step {
             Step::Holds(file, text) => self.holds(rt, file, text),
             Step::Ends(file, text) => self.ends(rt, file, text),
@@ -108,6 +125,12 @@ impl Scene {
             Step::Left(count) => self.left(rt, *count),
             _ => Ok(false),
         }
+    }
+
+    /// Keeps what a step wanted, and what came instead.
+    pub fn strays(&mut self, alloc: Global, wanted: &str, came: &str) -> Result<bool, Fail> {
+        self.stray = format!(in alloc; "wanted {wanted}, came {came}")?;
+        Ok(false)
     }
 
     /// A text in which each word in angle brackets is what it stands for.
@@ -121,32 +144,61 @@ impl Scene {
     }
 }
 
-/// The first of these rows of which a step does not do as it says, and the number of that step,
-/// counted from 0.
-pub fn first_fault<'a, R: Env + Host + Processes, M: Builders>(
+/// What is wrong with the first of these rows of which a step does not do as it says.
+pub fn first_fault<R: Env + Host + Processes, M: Builders>(
     rt: &R,
     make: &M,
     process: u32,
-    rows: &'a [Row],
-) -> Result<Option<(&'a str, usize)>, Fail> {
+    rows: &[Row],
+) -> Result<Option<String>, Fail> {
+    first_fault_by(rt, make, process, rows, "1")
+}
+
+/// The same where the word `<jobs>` stands for a number of workers.
+pub fn first_fault_by<R: Env + Host + Processes, M: Builders>(
+    rt: &R,
+    make: &M,
+    process: u32,
+    rows: &[Row],
+    jobs: &str,
+) -> Result<Option<String>, Fail> {
     for row in rows {
-        let taken = play(rt, make, process, row)?;
-        if taken < row.steps.len() {
-            return Ok(Some((row.name, taken)));
+        let fault = play(rt, make, process, row, jobs)?;
+        if fault.is_some() {
+            return Ok(fault);
         }
     }
     Ok(None)
 }
 
-// How many steps of a row do as they say. Its folder is removed.
+// What is wrong with a row of which a step does not do as it says. Its folder is removed.
 fn play<R: Env + Host + Processes, M: Builders>(
     rt: &R,
     make: &M,
     process: u32,
     row: &Row,
-) -> Result<usize, Fail> {
+    jobs: &str,
+) -> Result<Option<String>, Fail> {
     let mut scene = Scene::new(rt, process, row.name)?;
+    let jobs = String::from_str(rt.alloc(), jobs)?;
+    scene.names.bind(rt.alloc(), "jobs", jobs)?;
     let taken = scene.take(rt, make, row.steps)?;
+    let fault = fault_of(rt.alloc(), &scene, row, taken)?;
     scene.close(rt)?;
-    Ok(taken)
+    Ok(fault)
+}
+
+// What is wrong with a row of which so many steps did as they say: the name of the row, and the
+// number of its next step, counted from 0.
+fn fault_of(
+    alloc: Global,
+    scene: &Scene,
+    row: &Row,
+    taken: usize,
+) -> Result<Option<String>, AllocError> {
+    if taken == row.steps.len() {
+        return Ok(None);
+    }
+    let fault = format!(in alloc; "{}, step {taken}: {}", row.name, scene.stray)?;
+    Ok(Some(fault))
 }

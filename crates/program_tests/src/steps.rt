@@ -26,6 +26,9 @@ pub enum Step {
     /// `add-drv` puts the derivation of a draft into the folder. Its name is a word for its path,
     /// and its name with a dot and an output's is one for the output's path.
     Put(&'static str, &'static str),
+    /// The same of two drafts under this name, each with its word. In both `<try>` stands for the
+    /// first number, from 0, with which the first path is the lesser.
+    Twins(&'static str, (&'static str, &'static str), (&'static str, &'static str)),
     /// A builder is called, and makes this.
     Start(Call, Made),
     /// A script that is to make these outputs makes this.

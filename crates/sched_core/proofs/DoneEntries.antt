@@ -8,6 +8,7 @@ use Rattle.std.proofs.lemmas.List.Elements.{All-contains, All-push}
 use Rattle.std.proofs.lemmas.List.Sorted.{Contains-permutation, IsPermutation-sym}
 use Rattle.std.proofs.lemmas.Option.{slice_get-map}
 use Rattle.nix_drv.specs.Derivation.{Drv, Output}
+use Rattle.drv_graph.proofs.KindAnswers.{one_kind}
 use Rattle.drv_graph.specs.Kinds.{HasKind}
 use Rattle.drv_graph.specs.Loading.{AreDistinct}
 use Rattle.drv_graph.specs.Nodes.{Node, paths_of as node_paths}
@@ -27,7 +28,6 @@ use Rattle.sched_core.specs.Legal.{AreNewOutputs, AreOutputRecords, IsEntryOf}
 use Rattle.sched_core.specs.Verdicts.{IsCyclic}
 use Rattle.sched_core.specs.declared.fault.BookFault.{BookFault}
 use Rattle.sched_core.specs.declared.fault.BookFault.TheVariants.{NoMemory}
-use Rattle.sched_core.proofs.Registrable.{fixed_kind}
 use Rattle.nix_names.proofs.Lists.{All-from_contains, Contains-from_get, element_at, get_from_contains, get_source, same_element, taken_more}
 
 -- ---- paths that are new
@@ -77,9 +77,9 @@ fitting_own entries drv kind infos has_kind fitting = (
   record {
     count = fitting.count ∙ length-map drv.outputs (λ (o : Output). o.path);
     fixed = λ method digest is_fixed info has.
-        let other = fixed_kind drv kind method digest has_kind is_fixed in
+        let same = one_kind drv kind (Fixed method digest) has_kind is_fixed in
         All-contains (λ (i : PathInfo). i.digest ≡ Some digest) infos info
-        (subst (λ (k : Kind). HaveDigest k infos) other.1 fitting.digests)
+        (subst (λ (k : Kind). HaveDigest k infos) same fitting.digests)
         has;
   },
   λ path has. All-contains (IsNotValid (registered entries)) (output_paths_of drv) path

@@ -2,6 +2,7 @@
 use Rattle.std.proofs.Common.{◌≡◌, ◌≢◌, ◌<◌, ◌∙◌, ℕ, suc, List, [], ◌∷◌, length, Option, Some, None, refl, sym, ap, subst, arith}
 use Rattle.std.specs.Prelude.{ℤ, pos, Result, Ok, Err}
 use Rattle.std.specs.List.{range_with_len, slice_get}
+use Rattle.nix_names.specs.declared.digest.Algorithm.{Algorithm}
 use Rattle.nix_names.proofs.FirstElements.{number_within, one_first}
 use Rattle.drv_graph.specs.declared.kinds.Kind.{Kind}
 use Rattle.nix_names.proofs.RisingLists.{rising_same}
@@ -11,7 +12,7 @@ use Rattle.sched_core.specs.declared.job.Answer.{Answer}
 use Rattle.sched_core.specs.declared.job.Job.{Job}
 use Rattle.sched_core.specs.declared.reason.Reason.{Reason}
 use Rattle.sched_core.specs.declared.reason.Reason.TheVariants.{ExitStatus, NoStart, MissingOutput, NotFlatFile, HashMismatch, OutputCycle, TooLarge, ReadFault, OutOfMemory, Killed}
-use Rattle.sched_core.specs.Verdicts.{AreRecords, HasOneVerdict, IsCyclic, IsFaulty, IsFirstFault, IsFirstNumber, IsRecordOf, IsTaken, IsThere, IsTreeFault, IsVerdict, digest_of, outputs_of, tree_at}
+use Rattle.sched_core.specs.Verdicts.{AreRecords, HasOneVerdict, IsCyclic, IsFaulty, IsFirstFault, IsFirstNumber, IsRecordOf, IsTaken, IsThere, IsTreeFault, IsVerdict, algorithm_for, digest_of, outputs_of, tree_at}
 use Rattle.sched_core.proofs.Verdicts.{TreeFault, mismatched, not_flat, one_tree, too_large, tree_fault_cases}
 
 some_is_one : {X : Type 0} (o : Option X) (x y : X) → o ≡ Some x → o ≡ Some y → x ≡ y
@@ -38,9 +39,9 @@ same_list (x ∷ xs) (y ∷ ys) long same =
     cc
 
 -- a tree has one record
-one_record : (permitted : List (List ℕ)) (tree : Tree) (a b : PathInfo)
-    → IsRecordOf permitted tree a → IsRecordOf permitted tree b → a ≡ b
-one_record permitted tree a b of of' =
+one_record : (algorithm : Algorithm) (permitted : List (List ℕ)) (tree : Tree) (a b : PathInfo)
+    → IsRecordOf algorithm permitted tree a → IsRecordOf algorithm permitted tree b → a ≡ b
+one_record algorithm permitted tree a b of of' =
     let found = rising_same a.references b.references of.found.rising of'.found.rising (λ path. (
       λ has. (of'.found.each path).1 ((of.found.each path).0 has),
       λ has. (of.found.each path).1 ((of'.found.each path).0 has),
@@ -58,11 +59,11 @@ one_tree_fault kind tree _ _ (too_large not_fit) (mismatched found fits some) =
 one_tree_fault kind tree _ _ (not_flat fits none) (too_large not_fit) = absurd (not_fit fits)
 one_tree_fault kind tree _ _ (not_flat fits none) (not_flat fits' none') = refl
 one_tree_fault kind tree _ _ (not_flat fits none) (mismatched found fits' some) =
-    absurd (none_or_some (digest_of tree) found none some)
+    absurd (none_or_some (digest_of (algorithm_for kind) tree) found none some)
 one_tree_fault kind tree _ _ (mismatched found fits some) (too_large not_fit) =
     absurd (not_fit fits)
 one_tree_fault kind tree _ _ (mismatched found fits some) (not_flat fits' none) =
-    absurd (none_or_some (digest_of tree) found none some)
+    absurd (none_or_some (digest_of (algorithm_for kind) tree) found none some)
 one_tree_fault kind tree _ _ (mismatched found fits some) (mismatched found' fits' some') = refl
 
 module _ (job : Job) (permitted : List (List ℕ)) (answer : Answer) where
@@ -111,9 +112,9 @@ module _ (job : Job) (permitted : List (List ℕ)) (answer : Answer) where
       same_list a b (records.count ∙ sym records'.count) (λ n x y at at'.
       let of = records.each n x at in
       let of' = records'.each n y at' in
-      one_record permitted of'.0 x y
-      (subst (λ (t : Tree). IsRecordOf permitted t x) (one_tree answer n of.0 of'.0 of.1 of'.1)
-      of.2) of'.2)
+      one_record (algorithm_for job.kind) permitted of'.0 x y
+      (subst (λ (t : Tree). IsRecordOf (algorithm_for job.kind) permitted t x)
+      (one_tree answer n of.0 of'.0 of.1 of'.1) of.2) of'.2)
 
   one_fault : (a b : Reason) → IsFirstFault job answer a → IsFirstFault job answer b → a ≡ b
   one_fault a b (n, first, (tree, at, fault)) (m, first', (tree', at', fault')) =

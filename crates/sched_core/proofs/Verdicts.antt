@@ -3,6 +3,8 @@ use Rattle.std.proofs.Common.{◌≡◌, ◌∙◌, inl, inr, ⊎_elim, ℕ, suc
 use Rattle.std.specs.Prelude.{pos, Ok, Err}
 use Rattle.std.specs.List.{slice_get}
 use Rattle.std.proofs.Math.Nat.{eq-or-lt_of_le}
+use Rattle.nix_names.specs.declared.digest.Algorithm.{Algorithm}
+use Rattle.nix_names.specs.declared.digest.Digest.{Digest}
 use Rattle.nix_names.proofs.Lists.{get_push_cases}
 use Rattle.nix_names.proofs.FirstElements.{first_number}
 use Rattle.drv_graph.specs.declared.kinds.Kind.{Kind}
@@ -14,7 +16,7 @@ use Rattle.sched_core.specs.declared.job.Answer.{Answer}
 use Rattle.sched_core.specs.declared.job.Job.{Job}
 use Rattle.sched_core.specs.declared.reason.Reason.{Reason}
 use Rattle.sched_core.specs.declared.reason.Reason.TheVariants.{ExitStatus, NoStart, MissingOutput, NotFlatFile, HashMismatch, OutputCycle, TooLarge, ReadFault, OutOfMemory, Killed}
-use Rattle.sched_core.specs.Verdicts.{AreRecords, IsCyclic, IsExamining, IsFaulty, IsFirstFault, IsRecordAt, IsRecordOf, IsTaken, IsThere, IsTreeFault, IsVerdict, digest_of, outputs_of, tree_at}
+use Rattle.sched_core.specs.Verdicts.{AreRecords, IsCyclic, IsExamining, IsFaulty, IsFirstFault, IsRecordAt, IsRecordOf, IsTaken, IsThere, IsTreeFault, IsVerdict, algorithm_for, digest_of, outputs_of, tree_at}
 
 -- What is known where the first outputs, so many, were looked at: nothing is missing there.
 abbrev pub ThereSoFar : Answer → ℕ → Type 0
@@ -62,34 +64,35 @@ pub taken_at : (job : Job) (answer : Answer) (n : ℕ) (tree : Tree) → IsTaken
 taken_at job answer n tree taken below at why fault = taken.1 n why below (tree, at, fault)
 
 -- Records of the first outputs, so many.
-pub record RecordsSoFar (permitted : List (List ℕ)) (answer : Answer) (infos : List PathInfo)
-    (count : ℕ) : Type 0 where
+pub record RecordsSoFar (algorithm : Algorithm) (permitted : List (List ℕ)) (answer : Answer)
+    (infos : List PathInfo) (count : ℕ) : Type 0 where
   pub as_many : length infos ≡ count
   pub records : (n : ℕ) (info : PathInfo) → slice_get infos n ≡ Some info
-      → IsRecordAt permitted answer n info
+      → IsRecordAt algorithm permitted answer n info
 
-pub records_none : (permitted : List (List ℕ)) (answer : Answer) (infos : List PathInfo)
-    → infos ≡ [] → RecordsSoFar permitted answer infos 0
-records_none permitted answer infos is = record {
+pub records_none : (algorithm : Algorithm) (permitted : List (List ℕ)) (answer : Answer)
+    (infos : List PathInfo) → infos ≡ [] → RecordsSoFar algorithm permitted answer infos 0
+records_none algorithm permitted answer infos is = record {
   as_many = ap length is;
   records = λ n info at. let none : slice_get [] n
       ≡ Some info = subst (λ (l : List PathInfo). slice_get l n ≡ Some info) is at in absurd cc;
 }
 
-pub records_more : (permitted : List (List ℕ)) (answer : Answer) (infos more : List PathInfo)
-    (count : ℕ) (tree : Tree) (info : PathInfo)
-    → RecordsSoFar permitted answer infos count → tree_at answer count ≡ Some tree
-    → IsRecordOf permitted tree info → more ≡ infos ++ info ∷ []
-    → RecordsSoFar permitted answer more (count + 1)
-records_more permitted answer infos more count tree info before at is_record is =
-    subst (λ (l : List PathInfo). RecordsSoFar permitted answer l (count + 1)) (sym is) (record {
+pub records_more : (algorithm : Algorithm) (permitted : List (List ℕ)) (answer : Answer)
+    (infos more : List PathInfo) (count : ℕ) (tree : Tree) (info : PathInfo)
+    → RecordsSoFar algorithm permitted answer infos count → tree_at answer count ≡ Some tree
+    → IsRecordOf algorithm permitted tree info → more ≡ infos ++ info ∷ []
+    → RecordsSoFar algorithm permitted answer more (count + 1)
+records_more algorithm permitted answer infos more count tree info before at is_record is =
+    subst (λ (l : List PathInfo). RecordsSoFar algorithm permitted answer l (count + 1)) (sym is)
+    (record {
       as_many = pushed infos info ∙ ap suc before.as_many ∙ omega arith;
       records = λ n other here. ⊎_elim
           (λ earlier. before.records n other earlier)
           (λ h.
           let place : n ≡ count = h.0 ∙ before.as_many in
-          subst (λ k. IsRecordAt permitted answer k other) (sym place)
-          (tree, at, subst (IsRecordOf permitted tree) h.1 is_record))
+          subst (λ k. IsRecordAt algorithm permitted answer k other) (sym place)
+          (tree, at, subst (IsRecordOf algorithm permitted tree) h.1 is_record))
           (get_push_cases infos info n other here);
     })
   where
@@ -98,7 +101,8 @@ records_more permitted answer infos more count tree info before at is_record is 
     pushed (y ∷ ys) x = ap suc (pushed ys x)
 
 pub are_records : (job : Job) (permitted : List (List ℕ)) (answer : Answer) (infos : List PathInfo)
-    (count : ℕ) → count ≡ length job.outputs.items → RecordsSoFar permitted answer infos count
+    (count : ℕ) → count ≡ length job.outputs.items
+    → RecordsSoFar (algorithm_for job.kind) permitted answer infos count
     → AreRecords job permitted answer infos
 are_records job permitted answer infos count all so_far =
     record { count = so_far.as_many ∙ all; each = so_far.records }
@@ -106,8 +110,9 @@ are_records job permitted answer infos count all so_far =
 -- What is at fault with a tree, by its cases.
 pub data TreeFault (kind : Kind) (tree : Tree) : Reason → Type 0 where
   too_large : (Fits tree → ⊥) → TreeFault kind tree TooLarge
-  not_flat : Fits tree → digest_of tree ≡ None → TreeFault kind tree NotFlatFile
-  mismatched : (found : List ℕ) → Fits tree → digest_of tree ≡ Some found
+  not_flat : Fits tree → digest_of (algorithm_for kind) tree ≡ None
+      → TreeFault kind tree NotFlatFile
+  mismatched : (found : Digest) → Fits tree → digest_of (algorithm_for kind) tree ≡ Some found
       → TreeFault kind tree HashMismatch
 
 pub tree_fault_cases : (kind : Kind) (tree : Tree) (why : Reason) → IsTreeFault kind tree why

@@ -2,6 +2,7 @@
 -- Dolstra's thesis, section 5.5).
 use Rattle.std.specs.Prelude.{◌≡◌, ◌↔◌, ◌⊎◌, ◌<◌, ◌++◌, Bool, true, false, ℕ, Some, List, [], ◌∷◌, length, count_by, slice_get, Contains}
 use Rattle.nix_names.specs.Rising.{IsRising}
+use Rattle.nix_names.specs.declared.digest.Digest.{Digest}
 use Rattle.nix_drv.specs.Derivation.{Drv}
 use Rattle.drv_graph.specs.Kinds.{HasKind}
 use Rattle.drv_graph.specs.Nodes.{Node}
@@ -84,10 +85,11 @@ ArePermittedTo graph entries node infos = (info : PathInfo) (path : List ℕ) �
     → Contains info.references path
     → MayRefer (registered entries) (seeds_of graph.nodes node.drv) (output_paths_of node.drv) path
 
--- Records of a derivation's outputs: one for each, with the declared digest where it is fixed.
+-- Records of a derivation's outputs: one for each, with the declared digest, under the declared
+-- algorithm, where it is fixed.
 pub record AreOutputRecords (drv : Drv) (infos : List PathInfo) : Type 0 where
   pub count : length infos ≡ length drv.outputs
-  pub fixed : (method : Method) (digest : List ℕ) → HasKind drv (Fixed method digest)
+  pub fixed : (method : Method) (digest : Digest) → HasKind drv (Fixed method digest)
       → (info : PathInfo) → Contains infos info → info.digest ≡ Some digest
 
 -- Such records by which no two different outputs lead to each other.

@@ -2,11 +2,19 @@
 -- Dolstra's thesis, section 5.5.1; the order of the reasons is this product's own).
 use Rattle.std.specs.Prelude.{◌≡◌, ◌≢◌, ◌⊎◌, ◌<◌, ℕ, pos, Option, Some, None, List, length, map, Contains, Result, Ok, Err, slice_get}
 use Rattle.std.specs.List.{range_with_len}
+use Rattle.md5.specs.Md5.{md5}
+use Rattle.sha1.specs.Sha1.{sha1}
 use Rattle.sha2.specs.Sha256.{sha256}
+use Rattle.sha2.specs.Sha512.{sha512}
+use Rattle.nix_names.specs.Digests.{algorithm_of}
 use Rattle.nix_names.specs.Firsts.{IsFirstWhere}
+use Rattle.nix_names.specs.declared.digest.Algorithm.{Algorithm}
+use Rattle.nix_names.specs.declared.digest.Algorithm.TheVariants.{Md5, Sha1, Sha256, Sha512}
+use Rattle.nix_names.specs.declared.digest.Digest.{Digest}
+use Rattle.nix_names.specs.declared.digest.Digest.TheVariants.{Md5 as OfMd5, Sha1 as OfSha1, Sha256 as OfSha256, Sha512 as OfSha512}
 use Rattle.drv_graph.specs.Plans.{Leads}
 use Rattle.drv_graph.specs.declared.kinds.Kind.{Kind}
-use Rattle.drv_graph.specs.declared.kinds.Kind.TheVariants.{Fixed}
+use Rattle.drv_graph.specs.declared.kinds.Kind.TheVariants.{Addressed, Fixed}
 use Rattle.ref_scan.specs.Scan.{IsFound}
 use Rattle.ref_scan.specs.Trees.{Fits, joined}
 use Rattle.ref_scan.specs.declared.tree.Tree.{Tree, File, Pieces, Dir'}
@@ -17,28 +25,43 @@ use Rattle.sched_core.specs.declared.job.JobOutput.{JobOutput}
 use Rattle.sched_core.specs.declared.reason.Reason.{Reason}
 use Rattle.sched_core.specs.declared.reason.Reason.TheVariants.{ExitStatus, NoStart, MissingOutput, NotFlatFile, HashMismatch, OutputCycle, TooLarge, ReadFault, OutOfMemory, Killed}
 
--- SHA-256 of a file's bytes, which pieces make together; a folder has no digest
-abbrev pub digest_of : Tree → Option (List ℕ)
-digest_of (File bytes) = Some (sha256 bytes.items)
-digest_of (Pieces parts) = Some (sha256 (joined parts.items))
-digest_of (Dir' shape entries) = None
+-- the digest of some bytes by an algorithm (RFC 1321; FIPS 180-4)
+abbrev pub digest_by : Algorithm → List ℕ → Digest
+digest_by Md5 bytes = OfMd5 (md5 bytes)
+digest_by Sha1 bytes = OfSha1 (sha1 bytes)
+digest_by Sha256 bytes = OfSha256 (sha256 bytes)
+digest_by Sha512 bytes = OfSha512 (sha512 bytes)
+
+-- the digest of a file's bytes, which pieces make together; a folder has no digest
+abbrev pub digest_of : Algorithm → Tree → Option Digest
+digest_of algorithm (File bytes) = Some (digest_by algorithm bytes.items)
+digest_of algorithm (Pieces parts) = Some (digest_by algorithm (joined parts.items))
+digest_of algorithm (Dir' shape entries) = None
+
+-- the algorithm by which outputs of a kind are hashed: the declared one, and else SHA-256
+abbrev pub algorithm_for : Kind → Algorithm
+algorithm_for Addressed = Sha256
+algorithm_for (Fixed method digest) = algorithm_of digest
 
 -- the paths of a job's outputs
 abbrev pub outputs_of : Job → List (List ℕ)
 outputs_of job = map (λ (o : JobOutput). o.path) job.outputs.items
 
--- what a tree's record says: the permitted paths that are found in it, and a file's digest
-pub record IsRecordOf (permitted : List (List ℕ)) (tree : Tree) (info : PathInfo) : Type 0 where
+-- what a tree's record says: the permitted paths that are found in it, and a file's digest by the
+-- algorithm
+pub record IsRecordOf (algorithm : Algorithm) (permitted : List (List ℕ)) (tree : Tree)
+    (info : PathInfo) : Type 0 where
   pub found : IsFound tree permitted info.references
-  pub digest : info.digest ≡ digest_of tree
+  pub digest : info.digest ≡ digest_of algorithm tree
 
 -- why the tree of an output of this kind isn't taken: it passes the limits; or else the output is
 -- fixed, and it is no file, or a file of another digest
 abbrev pub IsTreeFault : Kind → Tree → Reason → Type 0
 IsTreeFault kind tree TooLarge = Fits tree → ⊥
-IsTreeFault (Fixed method digest) tree NotFlatFile = Fits tree × (digest_of tree ≡ None)
+IsTreeFault (Fixed method digest) tree NotFlatFile = Fits tree
+    × (digest_of (algorithm_of digest) tree ≡ None)
 IsTreeFault (Fixed method digest) tree HashMismatch = Fits tree
-    × ((found : List ℕ) × (digest_of tree ≡ Some found) × (found ≢ digest))
+    × ((found : Digest) × (digest_of (algorithm_of digest) tree ≡ Some found) × (found ≢ digest))
 IsTreeFault kind tree reason = ⊥
 
 -- the tree at the output with this number, counted from 0; an answer that ends before it has none
@@ -76,16 +99,16 @@ IsTaken job answer = IsThere job answer
     × ((n : ℕ) (why : Reason) → n < length job.outputs.items → IsFaulty job answer why n → ⊥)
 
 -- a record is that of what lies at the output with this number
-abbrev pub IsRecordAt : (permitted : List (List ℕ)) → Answer → ℕ → PathInfo → Type 0
-IsRecordAt permitted answer n info = (tree : Tree) × (tree_at answer n ≡ Some tree)
-    × IsRecordOf permitted tree info
+abbrev pub IsRecordAt : Algorithm → (permitted : List (List ℕ)) → Answer → ℕ → PathInfo → Type 0
+IsRecordAt algorithm permitted answer n info = (tree : Tree) × (tree_at answer n ≡ Some tree)
+    × IsRecordOf algorithm permitted tree info
 
 -- Records of a job's outputs, in the job's order.
 pub record AreRecords (job : Job) (permitted : List (List ℕ)) (answer : Answer)
     (infos : List PathInfo) : Type 0 where
   pub count : length infos ≡ length job.outputs.items
   pub each : (n : ℕ) (info : PathInfo) → slice_get infos n ≡ Some info
-      → IsRecordAt permitted answer n info
+      → IsRecordAt (algorithm_for job.kind) permitted answer n info
 
 -- one output refers to another one, by their records
 abbrev pub RefersTo : (outputs : List (List ℕ)) → List PathInfo → (from to : List ℕ) → Type 0

@@ -8,6 +8,7 @@
 //! | `progress` | a run's history, and where its derivations stand |
 //! | `permitted` | to what outputs may refer |
 //! | `verdict`, `checked` | the verdict on an answer, and the records that it gives |
+//! | `digest` | the digest of a file by each algorithm |
 //! | `done_entry` | the entry of a derivation that was built |
 //! | `cycle`, `links`, `walk` | whether outputs refer to each other in a cycle |
 //! | `reason` | why a derivation was not built, its state, and events |
@@ -31,6 +32,7 @@ mod book;
 mod checked;
 mod course;
 mod cycle;
+mod digest;
 mod done_entry;
 mod fault;
 mod has_seeds;

@@ -1,26 +1,25 @@
 //! The verdict on what a builder left behind.
 ghost use Rattle.std.specs.Prelude.{◌≡◌, ◌↔◌, ℕ, List, Ok, Err, pos, Some, IfOk, IfErr, IsTrue, MatchResult, OnOk, length, map};
 ghost use Rattle.nix_names.specs.Rising.{IsRising};
-ghost use Rattle.ref_scan.specs.Trees.{joined};
-ghost use Rattle.sha2.specs.Sha256.{sha256};
 ghost use Rattle.sched_core.specs.declared.job.JobOutput.{JobOutput};
-ghost use Rattle.sched_core.specs.Verdicts.{AreRecords, IsCyclic, IsExamining, IsRecordOf, IsTaken, IsThere, IsTreeFault, IsVerdict, digest_of, outputs_of};
+ghost use Rattle.sched_core.specs.Verdicts.{AreRecords, IsCyclic, IsExamining, IsRecordOf, IsTaken, IsThere, IsTreeFault, IsVerdict, algorithm_for, digest_of, outputs_of};
 ghost use Rattle.sched_core.specs.declared.reason.Reason.TheVariants.{OutOfMemory};
 
 use crate::checked::Checked;
 use crate::cycle::is_cyclic;
+use crate::digest::digest_of;
 use crate::job::{Answer, Job, JobOutput};
 use crate::reason::Reason;
 use drv_graph::Kind;
-use nix_names::StorePath;
+use nix_names::{Algorithm, Digest, StorePath};
 use ref_scan::{Tree, scan};
-use sha2::{Digest, Sha256};
 use std::alloc::{AllocError, Global};
 use valid_table::Record;
 
 /// The verdict on what the builder of a job left behind, where the outputs may refer to these
 /// permitted paths alone: a record of each output, in the job's order, with the permitted paths
-/// that are found in it and a file's SHA-256.
+/// that are found in it and a file's digest, which is by the declared algorithm where the output is
+/// fixed, and else by SHA-256.
 ///
 /// Else the first of these that holds: `Killed`; `ExitStatus` with a status that isn't 0;
 /// `MissingOutput` with the first output at which nothing lies; for the first output at which one
@@ -124,7 +123,7 @@ fn check_tree(kind: &Kind, tree: &Tree) -> Result<(), Reason>
     let Kind::Fixed(_, declared) = kind else {
         return Ok(());
     };
-    match digest_of(tree) {
+    match digest_of(declared.algorithm(), tree) {
         None => Err(Reason::NotFlatFile),
         Some(found) if found != *declared => Err(Reason::HashMismatch),
         Some(_) => Ok(()),
@@ -163,7 +162,8 @@ fn record_of(
 ) -> Result<Record, Reason>
     requires rising { IsRising permitted.now }
     requires taken { (why : Reason) → IsTreeFault kind.now tree.now why → ⊥ }
-    ensures record { IfOk result (λ info. IsRecordOf permitted.now tree.now info) }
+    ensures record { IfOk result (λ info.
+        IsRecordOf (algorithm_for kind.now) permitted.now tree.now info) }
     ensures err { IfErr result (λ why. why ≡ OutOfMemory) }
 {
     let references = scan(alloc, tree, permitted)?;
@@ -171,34 +171,12 @@ fn record_of(
 }
 
 // The digest of an output's tree, which is taken: a fixed output has the declared one.
-fn taken_digest(kind: &Kind, tree: &Tree) -> Option<[u8; 32]>
+fn taken_digest(kind: &Kind, tree: &Tree) -> Option<Digest>
     requires { (why : Reason) → IsTreeFault kind.now tree.now why → ⊥ }
-    ensures { result ≡ digest_of tree.now }
+    ensures { result ≡ digest_of (algorithm_for kind.now) tree.now }
 {
     match kind {
-        Kind::Addressed => digest_of(tree),
+        Kind::Addressed => digest_of(Algorithm::Sha256, tree),
         Kind::Fixed(_, declared) => Some(*declared),
     }
-}
-
-// SHA-256 of a file's bytes.
-fn digest_of(tree: &Tree) -> Option<[u8; 32]>
-    ensures { result ≡ digest_of tree.now }
-{
-    match tree {
-        Tree::File(bytes) => Some(Sha256::digest(bytes)),
-        Tree::Pieces(parts) => Some(digest_of_pieces(parts)),
-        Tree::Dir(_) => None,
-    }
-}
-
-// SHA-256 of the file that some pieces make together.
-fn digest_of_pieces(parts: &[Vec<u8>]) -> [u8; 32]
-    ensures { result ≡ sha256 (joined parts.now) }
-{
-    let mut hasher = Sha256::new();
-    'parts: for part in parts {
-        hasher.update(part.as_slice());
-    }
-    hasher.finalize()
 }

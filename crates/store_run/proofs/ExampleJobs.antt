@@ -6,6 +6,7 @@ use Rattle.std.specs.declared.vec.Vec.{Vec}
 use Rattle.std.proofs.Math.Nat.{le_refl}
 use Rattle.std.proofs.lemmas.List.{length-map}
 use Rattle.nix_names.specs.Names.{same_bytes}
+use Rattle.nix_names.specs.declared.digest.Algorithm.TheVariants.{Sha256}
 use Rattle.nix_names.proofs.Lists.{Contains-nothing, same_element}
 use Rattle.nix_drv.specs.Derivation.{Output}
 use Rattle.nix_drv.specs.Parts.{bytes_of}
@@ -22,7 +23,7 @@ use Rattle.ref_scan.specs.Trees.{Fits, depth_among, entry_count_among, file_byte
 use Rattle.ref_scan.specs.declared.tree.Tree.{Tree, File, Pieces, Dir', Row_of-Member, end_of-Member, more_of-Member}
 use Rattle.valid_table.specs.PathInfos.{PathInfo}
 use Rattle.sched_core.specs.Jobs.{IsJob, seeds_of}
-use Rattle.sched_core.specs.Verdicts.{IsCyclic, IsRecordAt, IsRecordOf, IsTreeFault, IsVerdict, RefersTo, outputs_of, tree_at}
+use Rattle.sched_core.specs.Verdicts.{IsCyclic, IsRecordAt, IsRecordOf, IsTreeFault, IsVerdict, RefersTo, algorithm_for, outputs_of, tree_at}
 use Rattle.sched_core.specs.declared.job.Answer.{Answer}
 use Rattle.sched_core.specs.declared.job.Job.{Job}
 use Rattle.sched_core.specs.declared.job.JobOutput.{JobOutput}
@@ -68,7 +69,7 @@ abbrev pub nothing_in : PathInfo
 nothing_in = record { references = []; digest = None }
 
 record_of_empty : (permitted : List (List ℕ)) (tree : Tree) → IsEmptyFolder tree
-    → IsRecordOf permitted tree nothing_in
+    → IsRecordOf Sha256 permitted tree nothing_in
 record_of_empty permitted tree is = record {
   found = subst (λ (lists : List (List ℕ)). IsFoundIn lists permitted [])
       (sym (empty_pieces tree is)) (record {
@@ -125,7 +126,8 @@ module _ (job : Job) (one_output : length job.outputs.items ≡ 1) (answer : Ans
   taken_at (suc n) low = absurd (omega (arith, one_output, low))
 
   pub one_verdict : (permitted : List (List ℕ)) (info : PathInfo) → info.references ≡ []
-      → IsRecordOf permitted tree info → IsVerdict job permitted answer (Ok (info ∷ []))
+      → IsRecordOf (algorithm_for job.kind) permitted tree info
+      → IsVerdict job permitted answer (Ok (info ∷ []))
   one_verdict permitted info none is_record = (
     (
       (status, λ n low nothing. let clash = sym nothing ∙ taken_at n low in cc),
@@ -138,11 +140,12 @@ module _ (job : Job) (one_output : length job.outputs.items ≡ 1) (answer : Ans
   )
     where
       records : (n : ℕ) (other : PathInfo) → slice_get (info ∷ []) n ≡ Some other
-          → IsRecordAt permitted answer n other
+          → IsRecordAt (algorithm_for job.kind) permitted answer n other
       records zero other at = (
         tree,
         tree_first answer tree trees,
-        subst (IsRecordOf permitted tree) (info_is info none 0 other at) is_record,
+        subst (IsRecordOf (algorithm_for job.kind) permitted tree) (info_is info none 0 other at)
+            is_record,
       )
       records (suc n) other at = absurd cc
 
@@ -172,7 +175,9 @@ module _ (graph : Graph) (d : ℕ) (at : slice_get graph.nodes d ≡ Some right)
       one_verdict job right_one_output answer folder left_behind.0 left_behind.1.2
       (λ why fault. no_fault folder left_behind.1.1 why
       (subst (λ (k : Kind). IsTreeFault k folder why) right_kind fault))
-      permitted nothing_in refl (record_of_empty permitted folder left_behind.1.1)
+      permitted nothing_in refl
+      (subst (λ (k : Kind). IsRecordOf (algorithm_for k) permitted folder nothing_in)
+      (sym right_kind) (record_of_empty permitted folder left_behind.1.1))
 
 pub left_verdict : (job : Job) (permitted : List (List ℕ)) (answer : Answer)
     → Leaves true answer → IsVerdict job permitted answer (Err (ExitStatus (pos 1)))

@@ -1,12 +1,14 @@
 -- Verdicts on answers that are the same, trees of the same bytes counting as one.
 use Rattle.std.proofs.Common.{◌≡◌, ◌∙◌, ℕ, List, All, Option, Some, None, Result, Ok, Err, refl, sym, ap, subst, length}
 use Rattle.std.specs.List.{slice_index_or}
+use Rattle.nix_names.specs.Digests.{algorithm_of}
+use Rattle.nix_names.specs.declared.digest.Algorithm.{Algorithm}
 use Rattle.drv_graph.specs.declared.kinds.Kind.{Kind}
 use Rattle.drv_graph.specs.declared.kinds.Kind.TheVariants.{Addressed, Fixed}
 use Rattle.ref_scan.specs.Scan.{IsFoundIn}
 use Rattle.ref_scan.specs.declared.tree.Tree.{Tree}
 use Rattle.valid_table.specs.PathInfos.{PathInfo}
-use Rattle.sched_core.specs.Verdicts.{AreRecords, IsFaulty, IsFirstFault, IsFirstNumber, IsRecordOf, IsTaken, IsThere, IsTreeFault, IsVerdict, tree_at}
+use Rattle.sched_core.specs.Verdicts.{AreRecords, IsFaulty, IsFirstFault, IsFirstNumber, IsRecordOf, IsTaken, IsThere, IsTreeFault, IsVerdict, algorithm_for, tree_at}
 use Rattle.sched_core.specs.declared.job.Answer.{Answer}
 use Rattle.sched_core.specs.declared.job.Job.{Job}
 use Rattle.sched_core.specs.declared.reason.Reason.{Reason}
@@ -21,7 +23,7 @@ use Rattle.store_run.proofs.SameVerdicts.{same_kind, same_outputs, verdict_too}
 same_back : (tree other : Tree) → HaveSameBytes tree other → HaveSameBytes other tree
 same_back tree other same = record {
   bytes = sym same.bytes;
-  digest = sym same.digest;
+  digest = λ algorithm. sym (same.digest algorithm);
   fits = (same.fits.1, same.fits.0);
 }
 
@@ -29,9 +31,10 @@ fault_there : (kind : Kind) (tree other : Tree) → HaveSameBytes tree other →
     → IsTreeFault kind tree why → IsTreeFault kind other why
 fault_there kind tree other same TooLarge fault = λ fits. fault (same.fits.1 fits)
 fault_there (Fixed method digest) tree other same NotFlatFile fault =
-    (same.fits.0 fault.0, sym same.digest ∙ fault.1)
+    (same.fits.0 fault.0, sym (same.digest (algorithm_of digest)) ∙ fault.1)
 fault_there (Fixed method digest) tree other same HashMismatch fault =
-    (same.fits.0 fault.0, (fault.1.0, sym same.digest ∙ fault.1.1, fault.1.2))
+    let found = sym (same.digest (algorithm_of digest)) ∙ fault.1.1 in
+    (same.fits.0 fault.0, (fault.1.0, found, fault.1.2))
 fault_there Addressed tree other same NotFlatFile fault = absurd fault
 fault_there Addressed tree other same HashMismatch fault = absurd fault
 fault_there Addressed tree other same (ExitStatus n) fault = absurd fault
@@ -49,12 +52,13 @@ fault_there (Fixed method digest) tree other same ReadFault fault = absurd fault
 fault_there (Fixed method digest) tree other same OutOfMemory fault = absurd fault
 fault_there (Fixed method digest) tree other same Killed fault = absurd fault
 
-record_there : (permitted : List (List ℕ)) (tree other : Tree) → HaveSameBytes tree other
-    → (info : PathInfo) → IsRecordOf permitted tree info → IsRecordOf permitted other info
-record_there permitted tree other same info is = record {
+record_there : (algorithm : Algorithm) (permitted : List (List ℕ)) (tree other : Tree)
+    → HaveSameBytes tree other → (info : PathInfo) → IsRecordOf algorithm permitted tree info
+    → IsRecordOf algorithm permitted other info
+record_there algorithm permitted tree other same info is = record {
   found = subst (λ (bytes : List (List ℕ)). IsFoundIn bytes permitted info.references) same.bytes
       is.found;
-  digest = is.digest ∙ same.digest;
+  digest = is.digest ∙ same.digest algorithm;
 }
 
 -- ---- firsts
@@ -117,7 +121,9 @@ module _ (job : Job) (answer other : Answer) (same : AreSameAnswers answer other
     each = λ n info at.
         let is = are.each n info at in
         let found = some_same is.0 (tree_at answer n) (tree_at other n) is.1 (same.trees n) in
-        (found.0, found.1, record_there permitted is.0 found.0 found.2 info is.2);
+        let record_is = record_there (algorithm_for job.kind) permitted is.0 found.0 found.2 info is.2
+        in
+        (found.0, found.1, record_is);
   }
 
 module _ (job : Job) (answer other : Answer) (same : AreSameAnswers answer other) where

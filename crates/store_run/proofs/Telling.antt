@@ -37,7 +37,7 @@ use Rattle.sched_core.proofs.Registering.{entries_are_journal}
 use Rattle.sched_core.proofs.Seeds.{phase_push, same_number, seeds_are_valid}
 use Rattle.store_run.specs.Builders.{IsVerdictBehind}
 use Rattle.store_run.proofs.ToldRuns.{IsTold, told_begin, told_done, told_fail, told_opening}
-use Rattle.store_run.proofs.Unhindered.{IsGoodBy, IsUnhindered, good_ended, good_is, good_reused, good_twin, is_good_by, ready_unhindered, state_by, twins_in}
+use Rattle.store_run.proofs.Unhindered.{IsGoodBy, IsUnhindered, good_ended, good_is, good_reused, good_twin, is_good_by, ready_unhindered, state_by}
 
 -- ---- where a derivation stands behind one event more
 

@@ -1,17 +1,14 @@
 -- A history in which all derivations had their turns is a legal one that is settled, and tells what
 -- each event follows from, without an excuse.
-use Rattle.std.proofs.Common.{◌≡◌, ◌&&◌, cond, ◌∙◌, ◌⊎◌, inl, inr, ◌<◌, ◌≤◌, ℕ, zero, suc, Bool, true, false, List, [], ◌∷◌, length, take, drop, Result, Ok, Err, Option, Some, None, refl, sym, ap, subst, ⊎_elim, arith}
+use Rattle.std.proofs.Common.{◌≡◌, ◌&&◌, cond, ◌∙◌, ◌⊎◌, inl, inr, ◌<◌, ◌≤◌, ℕ, zero, suc, Bool, true, false, List, [], ◌∷◌, length, Result, Ok, Err, Option, Some, None, refl, sym, ap, subst, ⊎_elim, arith}
 use Rattle.std.specs.Prelude.{Contains, find, if◌then◌else◌, slice_get}
 use Rattle.std.specs.List.{list_all, list_any}
 use Rattle.std.proofs.lemmas.Bool.{and_from, false≢true}
 use Rattle.std.specs.Cmp.Lexicographic.{nat_list_eq_equiv}
 use Rattle.std.proofs.lemmas.Map.Views.{list_any-from_Contains}
-use Rattle.std.proofs.lemmas.Option.{slice_get_within}
-use Rattle.nix_names.proofs.Lists.{Contains-first, Contains-from_get, Contains-from_map, Contains-later, either_side, element_at, get_grows, same_element, split_get}
-use Rattle.nix_drv.specs.Derivation.{Output}
+use Rattle.nix_names.proofs.Lists.{Contains-first, Contains-later, either_side}
 use Rattle.drv_graph.specs.Nodes.{Node}
 use Rattle.drv_graph.specs.PlanNodes.{output_paths_of}
-use Rattle.drv_graph.specs.Plans.{Graph}
 use Rattle.drv_graph.specs.SoundGraphs.{IsSound}
 use Rattle.valid_table.specs.Entries.{paths_of, registered}
 use Rattle.valid_table.specs.PathInfos.{PathInfo}

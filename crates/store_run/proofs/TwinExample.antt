@@ -1,10 +1,9 @@
 -- A derivation that is built after its twin failed, beside a third, is part of a whole run.
-use Rattle.std.proofs.Common.{◌≡◌, ◌∙◌, ◌<◌, inr, ⊎_elim, ℕ, zero, suc, true, false, List, [], ◌∷◌, Some, None, Ok, Err, refl, sym, ap, subst, if◌then◌else◌, arith}
+use Rattle.std.proofs.Common.{◌≡◌, ◌∙◌, ◌<◌, inr, ℕ, zero, suc, true, false, List, [], ◌∷◌, Some, Ok, Err, refl, sym, ap, subst, arith}
 use Rattle.std.specs.Prelude.{Contains, codes, pos, slice_get}
-use Rattle.std.specs.List.{list_any}
 use Rattle.std.proofs.lemmas.Bool.{and_from}
-use Rattle.nix_names.proofs.Lists.{Contains-first, Contains-from_map, Contains-later, Contains-nothing}
-use Rattle.nix_drv.specs.Derivation.{Output}
+use Rattle.nix_names.specs.declared.digest.Digest.{Digest}
+use Rattle.nix_names.proofs.Lists.{Contains-first, Contains-later, Contains-nothing}
 use Rattle.drv_graph.specs.Nodes.{Node}
 use Rattle.drv_graph.specs.PlanNodes.{output_paths_of}
 use Rattle.drv_graph.specs.Twins.{are_twins_at}
@@ -18,28 +17,25 @@ use Rattle.valid_table.specs.declared.entry.Entry.{Entry}
 use Rattle.sched_core.specs.Books.{CanBegin, IsRunSettled, opened}
 use Rattle.sched_core.specs.Legal.{AreNewOutputs, IsAllowed, IsEntryOf, IsLegal, begun, ended, failed, legal_begin, legal_done, legal_fail, legal_opening}
 use Rattle.sched_core.specs.Runs.{History, IsWanted, earlier_twins, is_wanted, state_in, wanted_root}
-use Rattle.sched_core.specs.States.{Begun, Broken, Ended, Idle, by_inputs, by_validity, by_hindrance, is_bad, is_done, is_open, phase_of}
+use Rattle.sched_core.specs.States.{Begun, Broken, Ended, is_bad, is_done, is_open, phase_of}
 use Rattle.sched_core.specs.declared.reason.Event.{Event}
 use Rattle.sched_core.specs.declared.reason.Event.TheVariants.{Begin, Done as Finish, Fail}
 use Rattle.sched_core.specs.declared.reason.Reason.{Reason}
 use Rattle.sched_core.specs.declared.reason.Reason.TheVariants.{ExitStatus, OutOfMemory}
-use Rattle.sched_core.specs.declared.reason.State.{State}
 use Rattle.sched_core.specs.declared.reason.State.TheVariants.{Blocked, Building, Done, Failed, Ready}
-use Rattle.sched_core.specs.declared.standing.Standing.TheVariants.{Free}
 use Rattle.sched_core.proofs.EarlierTwins.{twins_from}
-use Rattle.sched_core.proofs.Tests.{any_passes}
 use Rattle.sched_core.proofs.TwinLaws.{is_earlier_twin, twins_path}
 use Rattle.sched_core.proofs.Wanting.{wanted_told}
 use Rattle.store_run.specs.Builders.{IsAnswered, IsVerdictBehind, answered_begin, answered_done, answered_fail, answered_opening}
 use Rattle.store_run.specs.OneThread.{IsOneThread, turn_done, turn_failed, turn_opening}
 use Rattle.store_run.specs.Scheduling.{HasMemory, IsWholeRun}
 use Rattle.store_run.specs.ScheduleExample.{Overlap, made, making, out_alone, right}
-use Rattle.store_run.specs.TwinExample.{empty_digest, failing_source, first_source, freed, made_file, making_source, may_leave_file, one_by_one, out_empty, second_source, three, tried_again, waiting}
+use Rattle.store_run.specs.TwinExample.{empty_digest, first_twin, freed, made_file, making_twin, may_leave_file, one_by_one, out_empty, second_twin, three, tried_again, waiting}
 use Rattle.store_run.proofs.AlonePlans.{one_of}
 use Rattle.store_run.proofs.ExampleJobs.{is_job_of_right, job_of_right, left_answer, left_leaves, left_verdict, nothing_in, right_answer, right_leaves, right_verdict}
 use Rattle.store_run.proofs.ScheduleExample.{closed_done, closed_failed, journal, none_valid, one_allowed, one_entry, permitted_own, right_allowed, right_entry}
 use Rattle.store_run.proofs.TwinJobs.{file_in, first_is_job, first_job, first_may, second_answer, second_is_job, second_job, second_leaves, second_may, second_verdict, third_may, three_outcome}
-use Rattle.store_run.proofs.TwinPlans.{are_twins, empty_kind, kind_empty, none_shared, outs_differ, three_sound}
+use Rattle.store_run.proofs.TwinPlans.{are_twins, empty_kind, kind_empty, outs_differ, three_sound}
 use Rattle.store_run.proofs.Unhindered.{IsUnhindered, blocked_by_twin, state_by, unhindered_ready}
 
 abbrev ends : Reason
@@ -55,9 +51,9 @@ first_behind entries = record {
     Ok left_answer,
     first_may,
     (
-      output_paths_of first_source.drv,
-      permitted_own three.graph entries 0 first_job first_source first_is_job refl refl _ refl,
-      left_verdict first_job (output_paths_of first_source.drv) left_answer left_leaves,
+      output_paths_of first_twin.drv,
+      permitted_own three.graph entries 0 first_job first_twin first_is_job refl refl _ refl,
+      left_verdict first_job (output_paths_of first_twin.drv) left_answer left_leaves,
     ),
   );
 }
@@ -71,8 +67,8 @@ second_behind entries = record {
     Ok second_answer,
     second_may,
     (
-      output_paths_of second_source.drv,
-      permitted_own three.graph entries 1 second_job second_source second_is_job refl refl _ refl,
+      output_paths_of second_twin.drv,
+      permitted_own three.graph entries 1 second_job second_twin second_is_job refl refl _ refl,
       second_verdict second_job second_is_job second_answer second_leaves,
     ),
   );
@@ -98,23 +94,23 @@ third_behind entries = record {
 
 -- ---- what is registered
 
-same_digest : (method other : Method) (a b : List ℕ) → Fixed method a ≡ Fixed other b → a ≡ b
+same_digest : (method other : Method) (a b : Digest) → Fixed method a ≡ Fixed other b → a ≡ b
 same_digest method other a b same = cc
 
-second_allowed : IsAllowed three.graph [] second_source (file_in ∷ [])
+second_allowed : IsAllowed three.graph [] second_twin (file_in ∷ [])
 second_allowed =
-    one_allowed file_in refl three.graph [] second_source (record {
+    one_allowed file_in refl three.graph [] second_twin (record {
       count = refl;
       fixed = λ method digest kind info has.
           let kinds : Fixed method digest ≡ empty_kind =
-          one_kind second_source.drv (Fixed method digest) empty_kind kind
-          (kind_empty making_source) in
+          one_kind second_twin.drv (Fixed method digest) empty_kind kind
+          (kind_empty making_twin) in
           sym (ap (λ (i : PathInfo). i.digest) (one_of file_in info has))
           ∙ ap Some (sym (same_digest method Flat digest empty_digest kinds));
-    }) (none_valid second_source)
+    }) (none_valid second_twin)
 
-second_entry : IsEntryOf second_source (file_in ∷ []) made_file
-second_entry = one_entry second_source (out_empty (codes "src")) file_in refl
+second_entry : IsEntryOf second_twin (file_in ∷ []) made_file
+second_entry = one_entry second_twin (out_empty (codes "src")) file_in refl
 
 new_third : AreNewOutputs (made_file ∷ []) right.drv
 new_third path own valid = outs_differ (one_of _ path valid ∙ sym (one_of _ path own))
@@ -139,7 +135,7 @@ first_is_twin =
     twins_from three [] 1 0 (omega arith)
     (and_from (is_wanted three [] 0) _
     ((wanted_told three [] 0 three_sound).1 (wanted 0 (omega arith)))
-    ((twins_are_told first_source.drv second_source.drv).1 are_twins))
+    ((twins_are_told first_twin.drv second_twin.drv).1 are_twins))
 
 -- the first and the third have none
 first_no_twin : (t : ℕ) → Contains (earlier_twins three [] 0) t → ⊥
@@ -158,9 +154,9 @@ third_no_twin t has = let is = is_earlier_twin three [] 2 t has in by t is.earli
   where
     by : (t : ℕ) → t < 2 → are_twins_at (slice_get three.graph.nodes t) (Some right) ≡ true → ⊥
     by zero low twins =
-        not_twins first_source (out_empty (codes "src")) refl outs_differ twins
+        not_twins first_twin (out_empty (codes "src")) refl outs_differ twins
     by (suc zero) low twins =
-        not_twins second_source (out_empty (codes "src")) refl outs_differ twins
+        not_twins second_twin (out_empty (codes "src")) refl outs_differ twins
     by (suc (suc t)) low twins = absurd (omega arith)
 
 -- ---- states
@@ -248,7 +244,7 @@ legal_begun =
 legal : IsLegal three tried_again
 legal =
     legal_done (ended (begun freed 1) 1 2 made_file) 2 1 right (nothing_in ∷ []) made
-    (legal_done (begun freed 1) 1 2 second_source (file_in ∷ []) made_file legal_begun refl refl
+    (legal_done (begun freed 1) 1 2 second_twin (file_in ∷ []) made_file legal_begun refl refl
     second_allowed second_entry) refl refl
     (right_allowed three.graph (made_file ∷ []) new_third) right_entry
 
@@ -261,7 +257,7 @@ answered_freed =
 answered : IsAnswered may_leave_file three tried_again
 answered =
     answered_done (ended (begun freed 1) 1 2 made_file) 2 1 right (nothing_in ∷ []) made
-    (answered_done (begun freed 1) 1 2 second_source (file_in ∷ []) made_file
+    (answered_done (begun freed 1) 1 2 second_twin (file_in ∷ []) made_file
     (answered_begin freed 1 answered_freed) refl (second_behind []) second_entry) refl
     (third_behind (made_file ∷ [])) right_entry
 
@@ -342,7 +338,7 @@ last_can = record {
 pub thread : IsOneThread may_leave_file three [] one_by_one
 thread =
     turn_done 2 two_tried right (nothing_in ∷ []) made
-    (turn_done 1 one_tried second_source (file_in ∷ []) made_file
+    (turn_done 1 one_tried second_twin (file_in ∷ []) made_file
     (turn_failed 0 (opened []) ends (turn_opening journal)
     (record { within = omega arith; wanted = wanted 0 (omega arith); ready = first_ready })
     (first_behind [])) second_can refl (second_behind []) second_entry) last_can refl

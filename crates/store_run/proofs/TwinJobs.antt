@@ -1,12 +1,14 @@
 -- What the jobs of the three derivations come to.
-use Rattle.std.proofs.Common.{◌≡◌, ◌∙◌, ℕ, zero, suc, true, false, List, [], ◌∷◌, ◌++◌, length, map, Some, None, Result, Ok, Err, refl, sym, ap, subst, arith}
-use Rattle.std.specs.Prelude.{Contains, codes, pos, slice_get}
+use Rattle.std.proofs.Common.{◌≡◌, ◌∙◌, ℕ, zero, suc, true, false, List, [], ◌∷◌, ◌++◌, length, map, Some, None, Ok, Err, refl, sym, ap, subst, arith}
+use Rattle.std.specs.Prelude.{codes, pos, slice_get}
 use Rattle.std.specs.List.{list_any}
 use Rattle.std.specs.declared.alloc.Global.{Global}
 use Rattle.std.specs.declared.vec.Vec.{Vec}
 use Rattle.std.proofs.lemmas.List.{length-append, length-map}
 use Rattle.nix_names.specs.Names.{same_bytes}
 use Rattle.nix_names.specs.StorePaths.{hash_part_of, store_path}
+use Rattle.nix_names.specs.declared.digest.Algorithm.{Algorithm}
+use Rattle.nix_names.specs.declared.digest.Algorithm.TheVariants.{Sha256}
 use Rattle.nix_names.proofs.Lists.{Contains-nothing, same_element}
 use Rattle.nix_names.proofs.PathDigests.{hash_part_of_fold}
 use Rattle.nix_names.proofs.PathTexts.{hash_part_len, hash_part_of_path}
@@ -14,28 +16,27 @@ use Rattle.nix_drv.specs.Parts.{bytes_of}
 use Rattle.drv_graph.specs.Kinds.{HasKind}
 use Rattle.drv_graph.specs.Nodes.{Node}
 use Rattle.drv_graph.specs.PlanNodes.{output_paths_of}
-use Rattle.drv_graph.specs.Plans.{Graph}
 use Rattle.drv_graph.specs.declared.kinds.Kind.{Kind}
 use Rattle.drv_graph.proofs.KindAnswers.{one_kind}
 use Rattle.ref_scan.specs.Scan.{IsFoundIn, OccursIn}
-use Rattle.ref_scan.specs.Trees.{Fits, joined, pieces}
+use Rattle.ref_scan.specs.Trees.{Fits, joined}
 use Rattle.ref_scan.specs.declared.tree.Tree.{Tree, File, Pieces, Dir'}
 use Rattle.valid_table.specs.PathInfos.{PathInfo}
 use Rattle.sched_core.specs.Jobs.{IsJob}
-use Rattle.sched_core.specs.Verdicts.{IsRecordOf, IsTreeFault, IsVerdict, tree_at}
+use Rattle.sched_core.specs.Verdicts.{IsRecordOf, IsTreeFault, IsVerdict, algorithm_for, digest_by, digest_of, tree_at}
 use Rattle.sched_core.specs.declared.job.Answer.{Answer}
 use Rattle.sched_core.specs.declared.job.Job.{Job}
 use Rattle.sched_core.specs.declared.job.JobOutput.{JobOutput}
 use Rattle.sched_core.specs.declared.reason.Reason.{Reason}
 use Rattle.sched_core.specs.declared.reason.Reason.TheVariants.{ExitStatus, HashMismatch, Killed, MissingOutput, NoStart, NotFlatFile, OutOfMemory, OutputCycle, ReadFault, TooLarge}
-use Rattle.store_run.specs.SameOutcomes.{AllowsOneOutcome, AreSameAnswers, AreSameOutcomes, AreSameTrees, HaveSameBytes}
+use Rattle.store_run.specs.SameOutcomes.{AllowsOneOutcome, AreSameAnswers, AreSameTrees, HaveSameBytes}
 use Rattle.store_run.specs.Scheduling.{HasOneOutcome}
 use Rattle.store_run.specs.ScheduleExample.{IsEmptyFolder, Leaves, right}
-use Rattle.store_run.specs.TwinExample.{IsEmptyFile, LeavesWith, empty_digest, failing_source, first_source, making_source, may_leave_file, out_empty, script, second_source, three}
+use Rattle.store_run.specs.TwinExample.{IsEmptyFile, LeavesWith, empty_digest, failing_twin, first_twin, making_twin, may_leave_file, out_empty, script, second_twin, three}
 use Rattle.store_run.proofs.AlonePlans.{one_of, store}
 use Rattle.store_run.proofs.ExampleJobs.{empty_fits, empty_pieces, is_job_of, is_job_of_right, job_of, job_of_right, left_answer, left_leaves, one_verdict, right_answer, right_leaves, tree_first, vec_of}
 use Rattle.store_run.proofs.SameOutcomes.{allowed_is_one}
-use Rattle.store_run.proofs.TwinPlans.{empty_kind, kind_empty, source_short, src_named}
+use Rattle.store_run.proofs.TwinPlans.{empty_kind, kind_empty, output_short, src_named}
 
 -- ---- a file of no bytes
 
@@ -82,7 +83,7 @@ none_occurs part long (k, bytes, low, is, within) =
     none_within part within.0 within.1 long (one_of [] bytes (k, low, is) ∙ within.2)
 
 record_of_file : (tree : Tree) → IsEmptyFile tree
-    → IsRecordOf (out_empty (codes "src") ∷ []) tree file_in
+    → IsRecordOf Sha256 (out_empty (codes "src") ∷ []) tree file_in
 record_of_file tree is = record {
   found = subst
       (λ (lists : List (List ℕ)). IsFoundIn lists (out_empty (codes "src") ∷ []) [])
@@ -101,8 +102,8 @@ record_of_file tree is = record {
 -- ---- the job of the second
 
 module _ (job : Job) (is_job : IsJob three.graph 1 job) where
-  second_node : is_job.node ≡ second_source
-  second_node = same_element three.graph.nodes 1 is_job.node second_source is_job.is_node refl
+  second_node : is_job.node ≡ second_twin
+  second_node = same_element three.graph.nodes 1 is_job.node second_twin is_job.is_node refl
 
   second_one_output : length job.outputs.items ≡ 1
   second_one_output = sym (length-map job.outputs.items (λ (o : JobOutput). o.path))
@@ -110,9 +111,9 @@ module _ (job : Job) (is_job : IsJob three.graph 1 job) where
       ∙ ap (λ (n : Node). length (output_paths_of n.drv)) second_node
 
   second_kind : job.kind ≡ empty_kind
-  second_kind = one_kind second_source.drv job.kind empty_kind
+  second_kind = one_kind second_twin.drv job.kind empty_kind
       (subst (λ (n : Node). HasKind n.drv job.kind) second_node is_job.kind)
-      (kind_empty making_source)
+      (kind_empty making_twin)
 
   pub second_verdict : (answer : Answer) → LeavesWith true false answer
       → IsVerdict job (out_empty (codes "src") ∷ []) answer (Ok (file_in ∷ []))
@@ -121,7 +122,9 @@ module _ (job : Job) (is_job : IsJob three.graph 1 job) where
       one_verdict job second_one_output answer file left_behind.0 left_behind.1.2
       (λ why fault. no_fault file left_behind.1.1 why
       (subst (λ (k : Kind). IsTreeFault k file why) second_kind fault))
-      (out_empty (codes "src") ∷ []) file_in refl (record_of_file file left_behind.1.1)
+      (out_empty (codes "src") ∷ []) file_in refl
+      (subst (λ (k : Kind). IsRecordOf (algorithm_for k) (out_empty (codes "src") ∷ []) file file_in)
+      (sym second_kind) (record_of_file file left_behind.1.1))
 
 -- ---- what a job leaves behind is what its derivation says
 
@@ -170,17 +173,35 @@ same_one x y a b status at_x at_y same = record { status = status; trees = each 
     each zero = rw (tree_first x a at_x, tree_first y b at_y) same
     each (suc n) = rw (tree_later x a n at_x, tree_later y b n at_y) tt
 
+-- an empty file's digest by each algorithm is that of no bytes
+digest_of_file : (algorithm : Algorithm) (tree : Tree) → IsEmptyFile tree
+    → digest_of algorithm tree ≡ Some (digest_by algorithm [])
+digest_of_file algorithm (File bytes) is =
+    let none : bytes.items ≡ [] = let same = is.1 in cc in
+    ap (λ (l : List ℕ). Some (digest_by algorithm l)) none
+digest_of_file algorithm (Pieces parts) is =
+    let none : joined parts.items ≡ [] = let same = is.1 in cc in
+    ap (λ (l : List ℕ). Some (digest_by algorithm l)) none
+digest_of_file algorithm (Dir' shape entries) is = absurd (let clash = is.0 in cc)
+
+-- an empty folder has none by any
+digest_of_folder : (algorithm : Algorithm) (tree : Tree) → IsEmptyFolder tree
+    → digest_of algorithm tree ≡ None
+digest_of_folder algorithm (File bytes) is = absurd (let clash = is.0 in cc)
+digest_of_folder algorithm (Pieces parts) is = absurd (let clash = is.0 in cc)
+digest_of_folder algorithm (Dir' shape entries) is = refl
+
 same_files : (a b : Tree) → IsEmptyFile a → IsEmptyFile b → HaveSameBytes a b
 same_files a b is is' = record {
   bytes = is.1 ∙ sym is'.1;
-  digest = is.0 ∙ sym is'.0;
+  digest = λ algorithm. digest_of_file algorithm a is ∙ sym (digest_of_file algorithm b is');
   fits = (λ fits. file_fits b is', λ fits. file_fits a is);
 }
 
 same_folders : (a b : Tree) → IsEmptyFolder a → IsEmptyFolder b → HaveSameBytes a b
 same_folders a b is is' = record {
   bytes = empty_pieces a is ∙ sym (empty_pieces b is');
-  digest = is.0 ∙ sym is'.0;
+  digest = λ algorithm. digest_of_folder algorithm a is ∙ sym (digest_of_folder algorithm b is');
   fits = (λ fits. empty_fits b is', λ fits. empty_fits a is);
 }
 
@@ -204,11 +225,11 @@ allows_one : AllowsOneOutcome may_leave_file three.graph
 allows_one d job again (Err reason) y is is' may may' = absurd may
 allows_one d job again (Ok x) (Err reason) is is' may may' = absurd may'
 allows_one zero job again (Ok x) (Ok y) is is' may may' =
-    none_twice x y (leaves 0 first_source refl job is x may)
-    (leaves 0 first_source refl again is' y may')
+    none_twice x y (leaves 0 first_twin refl job is x may)
+    (leaves 0 first_twin refl again is' y may')
 allows_one (suc zero) job again (Ok x) (Ok y) is is' may may' =
-    file_twice x y (leaves 1 second_source refl job is x may)
-    (leaves 1 second_source refl again is' y may')
+    file_twice x y (leaves 1 second_twin refl job is x may)
+    (leaves 1 second_twin refl again is' y may')
 allows_one (suc (suc zero)) job again (Ok x) (Ok y) is is' may may' =
     folder_twice x y (leaves 2 right refl job is x may) (leaves 2 right refl again is' y may')
 allows_one (suc (suc (suc d))) job again (Ok x) (Ok y) is is' may may' =
@@ -219,30 +240,30 @@ three_outcome = allowed_is_one may_leave_file three.graph allows_one
 
 -- ---- a job and an answer for each
 
-abbrev source_args : List (Vec ℕ Global)
-source_args = vec_of (codes "-c") (omega arith) ∷ vec_of script (omega arith) ∷ []
+abbrev script_args : List (Vec ℕ Global)
+script_args = vec_of (codes "-c") (omega arith) ∷ vec_of script (omega arith) ∷ []
 
 pub first_job : Job
-first_job = job_of failing_source (omega arith) (omega arith) [] (omega arith)
-    (out_empty (codes "src")) source_short empty_kind 0
+first_job = job_of failing_twin (omega arith) (omega arith) [] (omega arith)
+    (out_empty (codes "src")) output_short empty_kind 0
 
 pub first_is_job : IsJob three.graph 0 first_job
 unfolding first_job
 first_is_job =
-    is_job_of failing_source (omega arith) (omega arith) [] (omega arith)
-    (out_empty (codes "src")) source_short empty_kind 0 three.graph first_source refl refl refl
-    refl refl refl (kind_empty failing_source) refl
+    is_job_of failing_twin (omega arith) (omega arith) [] (omega arith)
+    (out_empty (codes "src")) output_short empty_kind 0 three.graph first_twin refl refl refl
+    refl refl refl (kind_empty failing_twin) refl
 
 pub second_job : Job
-second_job = job_of making_source (omega arith) (omega arith) source_args (omega arith)
-    (out_empty (codes "src")) source_short empty_kind 1
+second_job = job_of making_twin (omega arith) (omega arith) script_args (omega arith)
+    (out_empty (codes "src")) output_short empty_kind 1
 
 pub second_is_job : IsJob three.graph 1 second_job
 unfolding second_job
 second_is_job =
-    is_job_of making_source (omega arith) (omega arith) source_args (omega arith)
-    (out_empty (codes "src")) source_short empty_kind 1 three.graph second_source refl refl refl
-    refl refl refl (kind_empty making_source) refl
+    is_job_of making_twin (omega arith) (omega arith) script_args (omega arith)
+    (out_empty (codes "src")) output_short empty_kind 1 three.graph second_twin refl refl refl
+    refl refl refl (kind_empty making_twin) refl
 
 pub second_answer : Answer
 second_answer = record {
@@ -255,10 +276,10 @@ unfolding second_answer
 second_leaves = (refl, (File (vec_of [] (omega arith)), (refl, refl), refl))
 
 pub first_may : may_leave_file first_job (Ok left_answer)
-first_may = may_leave_by 0 first_source refl first_job first_is_job left_answer left_leaves
+first_may = may_leave_by 0 first_twin refl first_job first_is_job left_answer left_leaves
 
 pub second_may : may_leave_file second_job (Ok second_answer)
-second_may = may_leave_by 1 second_source refl second_job second_is_job second_answer second_leaves
+second_may = may_leave_by 1 second_twin refl second_job second_is_job second_answer second_leaves
 
 pub third_may : may_leave_file (job_of_right 2) (Ok right_answer)
 third_may = may_leave_by 2 right refl (job_of_right 2) (is_job_of_right three.graph 2 refl)

@@ -1,12 +1,12 @@
 -- The plan of the three derivations is what loading gives from their files.
-use Rattle.std.proofs.Common.{◌≡◌, ◌<◌, ◌≤◌, ℕ, List, [], ◌∷◌, ◌++◌, length, refl, sym, ap, ⊎_elim, arith, rules}
+use Rattle.std.proofs.Common.{◌≡◌, ◌<◌, ◌≤◌, ℕ, List, [], ◌∷◌, length, refl, sym, ap, ⊎_elim, arith, rules}
 use Rattle.std.specs.Prelude.{Contains, codes}
 use Rattle.std.proofs.lemmas.List.{length-append}
 use Rattle.std.specs.Cmp.Lexicographic.{nat_list_eq_equiv}
-use Rattle.hex.specs.Hex.{encode_lower, encode_with}
+use Rattle.hex.specs.Hex.{encode_with}
 use Rattle.sha2.specs.Sha256.{compress, digest_bytes, first_words, hash_after, rounds, schedule, sha256}
+use Rattle.nix_names.specs.Digests.{digits_of}
 use Rattle.nix_names.proofs.Lists.{Contains-cons_cases, Contains-first, Contains-later, Contains-nothing}
-use Rattle.nix_drv.specs.Checked.{IsFoundAt}
 use Rattle.nix_drv.specs.Derivation.{derivation_form, drv_value}
 use Rattle.nix_drv.specs.Grammar.{text}
 use Rattle.nix_drv.specs.Order.{KeysRise}
@@ -16,73 +16,73 @@ use Rattle.drv_graph.specs.Nodes.{Node, inputs_of}
 use Rattle.drv_graph.specs.Plans.{AreLeft, IsPlan, MayStand, left_behind_inputs, none_left}
 use Rattle.drv_graph.proofs.PathLists.{other_path}
 use Rattle.store_run.specs.ScheduleExample.{right, text_of}
-use Rattle.store_run.specs.TwinExample.{empty_digest, failing_source, first_source, making_source, out_empty, second_source, three, three_files}
+use Rattle.store_run.specs.TwinExample.{empty_digest, failing_twin, first_twin, making_twin, out_empty, second_twin, three, three_files}
 use Rattle.store_run.proofs.AlonePlans.{drv_with, one_of, store}
 use Rattle.store_run.proofs.ExampleLoads.{found_with, in_order_by, reached_root, right_found, spelling_few}
-use Rattle.store_run.proofs.TwinPlans.{all_three, lawful_three, other_file, source_file, source_short, sources_differ, src_filed}
+use Rattle.store_run.proofs.TwinPlans.{all_three, lawful_three, other_file, twin_file, output_short, twins_differ, src_filed}
 
 -- ---- the texts
 
 abbrev hash : List ℕ
-hash = encode_lower empty_digest
+hash = digits_of empty_digest
 
 hash_short : length hash < 1000
 unfolding first_words schedule rounds compress hash_after digest_bytes sha256 encode_with
 hash_short = omega arith
 
 first_few : (out hash : List ℕ) → length out < 1000 → length hash < 1000
-    → length (text_of (drv_with failing_source out (codes "sha256") hash)) ≤ 4194304
+    → length (text_of (drv_with failing_twin out (codes "sha256") hash)) ≤ 4194304
 unfolding text spelling
 first_few out hash few few' =
     simp length-append (omega (arith, few, few', spelling_few out, spelling_few hash))
 
 second_few : (out hash : List ℕ) → length out < 1000 → length hash < 1000
-    → length (text_of (drv_with making_source out (codes "sha256") hash)) ≤ 4194304
+    → length (text_of (drv_with making_twin out (codes "sha256") hash)) ≤ 4194304
 unfolding text spelling
 second_few out hash few few' =
     simp length-append (omega (arith, few, few', spelling_few out, spelling_few hash))
 
 first_keys : (out hash : List ℕ)
-    → KeysRise derivation_form (drv_value (drv_with failing_source out (codes "sha256") hash))
+    → KeysRise derivation_form (drv_value (drv_with failing_twin out (codes "sha256") hash))
 unfolding KeysRise
 first_keys out hash = search rules
 
 second_keys : (out hash : List ℕ)
-    → KeysRise derivation_form (drv_value (drv_with making_source out (codes "sha256") hash))
+    → KeysRise derivation_form (drv_value (drv_with making_twin out (codes "sha256") hash))
 unfolding KeysRise
 second_keys out hash = search rules
 
 -- ---- each stands at its own path
 
-first_stands : MayStand store (listing_gives three_files) first_source.path first_source.drv
+first_stands : MayStand store (listing_gives three_files) first_twin.path first_twin.drv
 first_stands = record {
-  bytes = text_of first_source.drv;
-  given = rw (nat_list_eq_equiv.refl first_source.path) refl;
-  found = found_with failing_source (out_empty (codes "src")) (codes "sha256") hash src_filed
-      (source_file failing_source refl)
-      (first_few (out_empty (codes "src")) hash source_short hash_short)
-      (in_order_by first_source.drv (first_keys (out_empty (codes "src")) hash));
+  bytes = text_of first_twin.drv;
+  given = rw (nat_list_eq_equiv.refl first_twin.path) refl;
+  found = found_with failing_twin (out_empty (codes "src")) (codes "sha256") hash src_filed
+      (twin_file failing_twin refl)
+      (first_few (out_empty (codes "src")) hash output_short hash_short)
+      (in_order_by first_twin.drv (first_keys (out_empty (codes "src")) hash));
 }
 
-second_stands : MayStand store (listing_gives three_files) second_source.path second_source.drv
+second_stands : MayStand store (listing_gives three_files) second_twin.path second_twin.drv
 second_stands = record {
-  bytes = text_of second_source.drv;
+  bytes = text_of second_twin.drv;
   given = rw (
-    other_path second_source.path first_source.path (λ same. sources_differ (sym same)),
-    nat_list_eq_equiv.refl second_source.path,
+    other_path second_twin.path first_twin.path (λ same. twins_differ (sym same)),
+    nat_list_eq_equiv.refl second_twin.path,
   ) refl;
-  found = found_with making_source (out_empty (codes "src")) (codes "sha256") hash src_filed
-      (source_file making_source refl)
-      (second_few (out_empty (codes "src")) hash source_short hash_short)
-      (in_order_by second_source.drv (second_keys (out_empty (codes "src")) hash));
+  found = found_with making_twin (out_empty (codes "src")) (codes "sha256") hash src_filed
+      (twin_file making_twin refl)
+      (second_few (out_empty (codes "src")) hash output_short hash_short)
+      (in_order_by second_twin.drv (second_keys (out_empty (codes "src")) hash));
 }
 
 right_stands : MayStand store (listing_gives three_files) right.path right.drv
 right_stands = record {
   bytes = text_of right.drv;
   given = rw (
-    other_path right.path first_source.path (λ same. other_file failing_source refl (sym same)),
-    other_path right.path second_source.path (λ same. other_file making_source refl (sym same)),
+    other_path right.path first_twin.path (λ same. other_file failing_twin refl (sym same)),
+    other_path right.path second_twin.path (λ same. other_file making_twin refl (sym same)),
     nat_list_eq_equiv.refl right.path,
   ) refl;
   found = right_found;
@@ -91,7 +91,7 @@ right_stands = record {
 -- ---- plan order
 
 abbrev roots : List (List ℕ)
-roots = first_source.path ∷ second_source.path ∷ right.path ∷ []
+roots = first_twin.path ∷ second_twin.path ∷ right.path ∷ []
 
 without_inputs : (n : Node) → Contains three.graph.nodes n → inputs_of n.drv ≡ []
 without_inputs n has =
@@ -99,50 +99,50 @@ without_inputs n has =
     (λ later.
     ⊎_elim (λ is_second. sym (ap (λ (m : Node). inputs_of m.drv) is_second))
     (λ last. sym (ap (λ (m : Node). inputs_of m.drv) (one_of right n last)))
-    (Contains-cons_cases second_source (right ∷ []) n later))
-    (Contains-cons_cases first_source (second_source ∷ right ∷ []) n has)
+    (Contains-cons_cases second_twin (right ∷ []) n later))
+    (Contains-cons_cases first_twin (second_twin ∷ right ∷ []) n has)
 
-second_not_left : Contains (first_source.path ∷ []) second_source.path → ⊥
-second_not_left has = sources_differ (one_of first_source.path second_source.path has)
+second_not_left : Contains (first_twin.path ∷ []) second_twin.path → ⊥
+second_not_left has = twins_differ (one_of first_twin.path second_twin.path has)
 
-right_not_left : Contains (first_source.path ∷ second_source.path ∷ []) right.path → ⊥
+right_not_left : Contains (first_twin.path ∷ second_twin.path ∷ []) right.path → ⊥
 right_not_left has =
-    ⊎_elim (λ is_first. other_file failing_source refl is_first)
-    (λ later. other_file making_source refl (one_of second_source.path right.path later))
-    (Contains-cons_cases first_source.path (second_source.path ∷ []) right.path has)
+    ⊎_elim (λ is_first. other_file failing_twin refl is_first)
+    (λ later. other_file making_twin refl (one_of second_twin.path right.path later))
+    (Contains-cons_cases first_twin.path (second_twin.path ∷ []) right.path has)
 
-right_left : AreLeft three.graph.nodes (first_source.path ∷ second_source.path ∷ [])
+right_left : AreLeft three.graph.nodes (first_twin.path ∷ second_twin.path ∷ [])
     (right.path ∷ []) roots
 right_left =
-    left_behind_inputs right (first_source.path ∷ second_source.path ∷ [])
-    (first_source.path ∷ second_source.path ∷ []) [] roots
-    (Contains-later first_source (second_source ∷ right ∷ []) right
-    (Contains-later second_source (right ∷ []) right (Contains-first right []))) right_not_left
-    (none_left (first_source.path ∷ second_source.path ∷ [])) right_not_left (none_left roots)
+    left_behind_inputs right (first_twin.path ∷ second_twin.path ∷ [])
+    (first_twin.path ∷ second_twin.path ∷ []) [] roots
+    (Contains-later first_twin (second_twin ∷ right ∷ []) right
+    (Contains-later second_twin (right ∷ []) right (Contains-first right []))) right_not_left
+    (none_left (first_twin.path ∷ second_twin.path ∷ [])) right_not_left (none_left roots)
 
 in_order : AreLeft three.graph.nodes [] roots roots
 in_order =
-    left_behind_inputs first_source [] [] (second_source.path ∷ right.path ∷ []) roots
-    (Contains-first first_source (second_source ∷ right ∷ []))
-    (Contains-nothing first_source.path) (none_left []) (Contains-nothing first_source.path)
-    (left_behind_inputs second_source (first_source.path ∷ []) (first_source.path ∷ [])
+    left_behind_inputs first_twin [] [] (second_twin.path ∷ right.path ∷ []) roots
+    (Contains-first first_twin (second_twin ∷ right ∷ []))
+    (Contains-nothing first_twin.path) (none_left []) (Contains-nothing first_twin.path)
+    (left_behind_inputs second_twin (first_twin.path ∷ []) (first_twin.path ∷ [])
     (right.path ∷ []) roots
-    (Contains-later first_source (second_source ∷ right ∷ []) second_source
-    (Contains-first second_source (right ∷ []))) second_not_left
-    (none_left (first_source.path ∷ [])) second_not_left right_left)
+    (Contains-later first_twin (second_twin ∷ right ∷ []) second_twin
+    (Contains-first second_twin (right ∷ []))) second_not_left
+    (none_left (first_twin.path ∷ [])) second_not_left right_left)
 
 pub loads : IsPlan store (listing_gives three_files) roots three.graph
 loads = record {
   given = all_three (λ (n : Node). MayStand store (listing_gives three_files) n.path n.drv)
-      first_source second_source right first_stands second_stands right_stands;
+      first_twin second_twin right first_stands second_stands right_stands;
   in_order = in_order;
   reached = λ path has. record { root = path; is_root = has; steps = []; leads = refl };
   whole = reached_root three.graph.nodes without_inputs roots;
   lawful = lawful_three;
   few = omega arith;
   is_roots = rw (
-    other_path first_source.path second_source.path sources_differ,
-    other_path second_source.path right.path (other_file making_source refl),
-    other_path first_source.path right.path (other_file failing_source refl),
+    other_path first_twin.path second_twin.path twins_differ,
+    other_path second_twin.path right.path (other_file making_twin refl),
+    other_path first_twin.path right.path (other_file failing_twin refl),
   ) refl;
 }

@@ -1,6 +1,7 @@
 -- *Same outcomes*: where builders may give one outcome to each derivation, trees of the same bytes
 -- counting as one, the verdicts are one (this product's own).
 use Rattle.std.specs.Prelude.{◌≡◌, ◌↔◌, ℕ, Option, Some, None, Result, Ok, Err}
+use Rattle.nix_names.specs.declared.digest.Algorithm.{Algorithm}
 use Rattle.drv_graph.specs.Plans.{Graph}
 use Rattle.ref_scan.specs.Trees.{Fits, pieces}
 use Rattle.ref_scan.specs.declared.tree.Tree.{Tree}
@@ -11,11 +12,11 @@ use Rattle.sched_core.specs.declared.job.Job.{Job}
 use Rattle.sched_core.specs.declared.reason.Reason.{Reason}
 use Rattle.store_run.specs.Scheduling.{HasOneOutcome}
 
--- Two trees have the same bytes: in their files and names, and in a file's digest; and both keep
+-- Two trees have the same bytes: in their files and names, and in a file's digests; and both keep
 -- the limits, or neither does.
 pub record HaveSameBytes (tree other : Tree) : Type 0 where
   pub bytes : pieces tree ≡ pieces other
-  pub digest : digest_of tree ≡ digest_of other
+  pub digest : (algorithm : Algorithm) → digest_of algorithm tree ≡ digest_of algorithm other
   pub fits : Fits tree ↔ Fits other
 
 -- at an output there are two trees with the same bytes, or none twice

@@ -4,6 +4,7 @@ use Rattle.std.specs.Prelude.{◌≡◌, ◌++◌, Bool, true, false, ℕ, pos, 
 use Rattle.sha2.specs.Sha256.{sha256}
 use Rattle.nix_names.specs.Names.{same_bytes}
 use Rattle.nix_names.specs.StorePaths.{store_path}
+use Rattle.nix_names.specs.declared.digest.Algorithm.TheVariants.{Sha256}
 use Rattle.nix_drv.specs.Derivation.{Drv, derivation_form, drv_value}
 use Rattle.nix_drv.specs.Grammar.{text}
 use Rattle.nix_drv.specs.OwnPath.{text_path}
@@ -96,7 +97,7 @@ two_files = record {
 
 -- a tree is a folder with nothing in it
 abbrev pub IsEmptyFolder : Tree → Type 0
-IsEmptyFolder tree = (digest_of tree ≡ None) × (entry_count tree ≡ 0)
+IsEmptyFolder tree = (digest_of Sha256 tree ≡ None) × (entry_count tree ≡ 0)
 
 -- what a program leaves behind: one that fails ends with status 1 and leaves nothing, any other
 -- makes an empty folder at one output

@@ -1,12 +1,14 @@
 -- Two derivations of one file, of which the first fails and the second is built then, while a third
 -- is under way: a whole run, so that the conditions of *Any schedule* can be met where there are
 -- twins (this product's own).
-use Rattle.std.specs.Prelude.{◌≡◌, ◌++◌, Bool, true, false, ℕ, pos, Some, None, List, [], ◌∷◌, codes, map, Result, Ok, Err}
+use Rattle.std.specs.Prelude.{◌≡◌, ◌++◌, Bool, true, false, ℕ, pos, Some, List, [], ◌∷◌, codes, map, Result, Ok, Err}
 use Rattle.std.specs.List.{list_any}
-use Rattle.hex.specs.Hex.{encode_lower}
 use Rattle.sha2.specs.Sha256.{sha256}
+use Rattle.nix_names.specs.Digests.{digits_of}
 use Rattle.nix_names.specs.Names.{same_bytes}
 use Rattle.nix_names.specs.StorePaths.{store_path}
+use Rattle.nix_names.specs.declared.digest.Algorithm.TheVariants.{Sha256}
+use Rattle.nix_names.specs.declared.digest.Digest.{Digest}
 use Rattle.nix_drv.specs.Derivation.{Drv}
 use Rattle.nix_drv.specs.OwnPath.{text_path}
 use Rattle.nix_drv.specs.Parts.{bytes_of}
@@ -18,7 +20,7 @@ use Rattle.ref_scan.specs.declared.tree.Tree.{Tree}
 use Rattle.valid_table.specs.declared.entry.Entry.{Entry}
 use Rattle.valid_table.specs.declared.entry.Entry.TheVariants.{Done}
 use Rattle.sched_core.specs.Runs.{History, Run}
-use Rattle.sched_core.specs.Verdicts.{digest_of}
+use Rattle.sched_core.specs.Verdicts.{digest_by, digest_of}
 use Rattle.sched_core.specs.declared.job.Answer.{Answer}
 use Rattle.sched_core.specs.declared.job.Job.{Job}
 use Rattle.sched_core.specs.declared.reason.Event.TheVariants.{Begin, Done as Finish, Fail}
@@ -26,9 +28,9 @@ use Rattle.sched_core.specs.declared.reason.Reason.{Reason}
 use Rattle.sched_core.specs.declared.reason.Reason.TheVariants.{ExitStatus}
 use Rattle.store_run.specs.ScheduleExample.{Leaves, Recipe, drv_alone, made, right, text_of}
 
--- the digest of a file of no bytes
-abbrev pub empty_digest : List ℕ
-empty_digest = sha256 []
+-- the digest of a file of no bytes, by SHA-256
+abbrev pub empty_digest : Digest
+empty_digest = digest_by Sha256 []
 
 -- the path of such a file with a name
 abbrev pub out_empty : (name : List ℕ) → List ℕ
@@ -42,7 +44,7 @@ drv_empty recipe = record (drv_alone recipe (out_empty recipe.name)) {
     name = codes "out";
     path = out_empty recipe.name;
     algo = codes "sha256";
-    hash = encode_lower empty_digest;
+    hash = digits_of empty_digest;
   } ∷ [];
 }
 
@@ -54,32 +56,32 @@ node_empty recipe = record {
   drv = drv_empty recipe;
 }
 
--- one that fails, and one that makes the file
-abbrev pub failing_source : Recipe
-failing_source = record { name = codes "src"; builder = codes "/bin/false"; args = [] }
-
--- the script that makes it
+-- the script that makes such a file
 abbrev pub script : List ℕ
 script = codes ": > $out"
 
-abbrev pub making_source : Recipe
-making_source = record {
+-- one that fails, and one that makes the file
+abbrev pub failing_twin : Recipe
+failing_twin = record { name = codes "src"; builder = codes "/bin/false"; args = [] }
+
+abbrev pub making_twin : Recipe
+making_twin = record {
   name = codes "src";
   builder = codes "/bin/sh";
   args = codes "-c" ∷ script ∷ [];
 }
 
-abbrev pub first_source : Node
-first_source = node_empty failing_source
+abbrev pub first_twin : Node
+first_twin = node_empty failing_twin
 
-abbrev pub second_source : Node
-second_source = node_empty making_source
+abbrev pub second_twin : Node
+second_twin = node_empty making_twin
 
 -- the plan of both and of one that makes an empty folder
 abbrev pub three : Run
 three = record {
   graph = record {
-    nodes = first_source ∷ second_source ∷ right ∷ [];
+    nodes = first_twin ∷ second_twin ∷ right ∷ [];
     roots = 0 ∷ 1 ∷ 2 ∷ [];
   };
   system = codes "x86_64-linux";
@@ -88,8 +90,8 @@ three = record {
 -- a source that has the three files alone
 abbrev pub three_files : Listing
 three_files = record {
-  files = (first_source.path, text_of first_source.drv)
-      ∷ (second_source.path, text_of second_source.drv) ∷ (right.path, text_of right.drv) ∷ [];
+  files = (first_twin.path, text_of first_twin.drv)
+      ∷ (second_twin.path, text_of second_twin.drv) ∷ (right.path, text_of right.drv) ∷ [];
   failing = [];
   fetches = 0;
   failures = 0;
@@ -97,35 +99,35 @@ three_files = record {
 
 -- a tree is a file of no bytes
 abbrev pub IsEmptyFile : Tree → Type 0
-IsEmptyFile tree = (digest_of tree ≡ Some empty_digest) × (pieces tree ≡ [] ∷ [])
+IsEmptyFile tree = (digest_of Sha256 tree ≡ Some empty_digest) × (pieces tree ≡ [] ∷ [])
 
--- what a job leaves behind: with that script it ends with status 0 and leaves a file of no bytes at
--- one output, and any other leaves what its program does
+-- what a job leaves behind: where that script is an argument it ends with status 0 and leaves a file
+-- of no bytes at one output; else what its program leaves
 abbrev pub LeavesWith : (has_script fails : Bool) → Answer → Type 0
 LeavesWith true fails answer = (answer.status ≡ Some (pos 0))
     × ((file : Tree) × IsEmptyFile file × (answer.trees.items ≡ Some file ∷ []))
 LeavesWith false fails answer = Leaves fails answer
 
--- what a job may come to
+-- what a job may come to: by its arguments and its builder, and nothing else
 abbrev pub may_leave_file : Job → Result Answer Reason → Type 0
 may_leave_file job (Ok answer) =
     LeavesWith (list_any (same_bytes script) (map bytes_of job.args.items))
     (same_bytes job.builder.items (codes "/bin/false")) answer
 may_leave_file job (Err reason) = ⊥
 
--- the entry of what the second source made
+-- the entry of what the second twin made
 abbrev pub made_file : Entry
-made_file = Done second_source.path
+made_file = Done second_twin.path
     (record {
-      path = out_empty making_source.name;
+      path = out_empty making_twin.name;
       info = record { references = []; digest = Some empty_digest };
     } ∷ [])
 
--- the first source and the third are being built, and the second source waits
+-- the first twin and the third derivation are being built, and the second twin waits
 abbrev pub waiting : History
 waiting = record { opening = []; entries = []; events = Begin 0 0 ∷ Begin 2 1 ∷ [] }
 
--- the first source has failed, and the second can begin
+-- the first twin has failed, and the second can begin
 abbrev pub freed : History
 freed = record {
   opening = [];
@@ -133,7 +135,7 @@ freed = record {
   events = Begin 0 0 ∷ Begin 2 1 ∷ Fail 0 0 (ExitStatus (pos 1)) ∷ [];
 }
 
--- two workers: the second source begins and ends while the third is being built
+-- two workers: the second twin begins and ends while the third derivation is being built
 abbrev pub tried_again : History
 tried_again = record {
   opening = [];

@@ -2,6 +2,7 @@
 //! nothing.
 ghost use Rattle.std.specs.Prelude.{◌≡◌, [], ◌∷◌, codes, pos};
 ghost use Rattle.nix_drv.specs.Sources.{listing_gives};
+ghost use Rattle.drv_graph.specs.Nodes.{output_paths_of};
 ghost use Rattle.drv_graph.specs.Plans.{AreTwins, IsPlan};
 ghost use Rattle.sched_core.specs.Runs.{state_in};
 ghost use Rattle.sched_core.specs.declared.reason.Reason.TheVariants.{ExitStatus};
@@ -11,7 +12,7 @@ ghost use Rattle.store_run.specs.OneThread.{IsOneThread};
 ghost use Rattle.store_run.specs.SameOutcomes.{AllowedIsOne};
 ghost use Rattle.store_run.specs.ScheduleExample.{Overlap, both, in_turn, left, may_leave, right, side_by_side, two_files};
 ghost use Rattle.store_run.specs.Scheduling.{AlikeReportTheSame, AnySchedule, HasOneThread, IsWholeRun, OneReport, RealisedIsEnded, RealisedIsWhole, SameReports, WholeRunsAreAlike};
-ghost use Rattle.store_run.specs.TwinExample.{first_source, freed, may_leave_file, one_by_one, second_source, three, three_files, tried_again, waiting};
+ghost use Rattle.store_run.specs.TwinExample.{first_twin, freed, may_leave_file, one_by_one, second_twin, three, three_files, tried_again, waiting};
 
 use crate::build::Build;
 
@@ -80,13 +81,19 @@ pub fn builds_may_overlap()
 {}
 
 /// There are whole runs in which a derivation is built after its twin failed, while a third is under
-/// way: over a plan that loading gives from three files the second waits behind the first, can begin
-/// once the first has failed, and is built beside the third. One thread leaves the events in another
-/// order.
+/// way: over a plan that loading gives from three files, which stand at these paths, the second waits
+/// behind the first, can begin once the first has failed, and is built beside the third. One thread
+/// leaves the events in another order.
 pub fn twin_is_built_after_the_first_failed()
     ensures loads { IsPlan (codes "/nix/store") (listing_gives three_files)
-        (first_source.path ∷ second_source.path ∷ right.path ∷ []) three.graph }
-    ensures twins { AreTwins first_source.drv second_source.drv }
+        (first_twin.path ∷ second_twin.path ∷ right.path ∷ []) three.graph }
+    ensures first_path { first_twin.path
+        ≡ codes "/nix/store/i7ijkf1b6qi7kw7licrnin8qfy9dmrbm-src.drv" }
+    ensures second_path { second_twin.path
+        ≡ codes "/nix/store/dxb3bgj9ir3sagyjx9ycikrsfpp01cbn-src.drv" }
+    ensures output { output_paths_of first_twin.drv
+        ≡ codes "/nix/store/2qgpd47jrm1g5pyj4s1dacj3hnkrfzvw-src" ∷ [] }
+    ensures twins { AreTwins first_twin.drv second_twin.drv }
     ensures waits { state_in three waiting 1 ≡ Blocked }
     ensures freed { state_in three freed 1 ≡ Ready }
     ensures whole { IsWholeRun may_leave_file three tried_again }

@@ -6,7 +6,7 @@ use std::test::Fail;
 use valid_table::{Table, TableFault};
 
 // Paths 0 to 5: 1 and 2 refer to each other, 3 to 1, 4 to itself, 5 to 0 and 4.
-const SIX_PATHS: &[u8] = b"realiser-journal 1
+const SIX_PATHS: &[u8] = b"realiser-journal 2
 A /nix/store/00000000000000000000000000000000-x -
 D /nix/store/00000000000000000000000000000009-p.drv
 O /nix/store/00000000000000000000000000000001-x -

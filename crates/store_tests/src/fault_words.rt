@@ -148,7 +148,7 @@ fn table_faults(alloc: Global) -> Result<[(TableFault, &'static str); 9], Fail> 
         ),
         (
             TableFault::TooLong,
-            "35 the journal has more than 67,108,864 bytes",
+            "35 the journal has more bytes than its version may have",
         ),
         (unclosed(alloc)?, "36 a reference is not valid"),
         (

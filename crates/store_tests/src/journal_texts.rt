@@ -1,18 +1,24 @@
 //! The rows of journals: which texts are read, what stands in them, what is written.
-use crate::paths::{is_written_as, read};
+use crate::paths::read;
 use std::alloc::{AllocError, Global};
 use std::test::Fail;
-use valid_table::TableFault;
+use valid_table::{Journal, TableFault};
+
+/// The first line of version 1.
+pub(crate) const V1: &[u8] = b"realiser-journal 1\n";
+
+/// The first line of version 2.
+pub(crate) const V2: &[u8] = b"realiser-journal 2\n";
 
 // Two added paths, of which the second refers to the first.
-pub(crate) const TWO_PATHS: &[u8] = b"realiser-journal 1
+pub(crate) const TWO_PATHS: &[u8] = b"realiser-journal 2
 A /nix/store/aaaaaaaaaaaaaaaaaaaaaaaaaaaaaaaa-x -
 A /nix/store/cccccccccccccccccccccccccccccccc-y -
 R /nix/store/aaaaaaaaaaaaaaaaaaaaaaaaaaaaaaaa-x
 ";
 
 // The outputs of one derivation, which refer to each other.
-pub(crate) const CYCLE: &[u8] = b"realiser-journal 1
+pub(crate) const CYCLE: &[u8] = b"realiser-journal 2
 D /nix/store/aaaaaaaaaaaaaaaaaaaaaaaaaaaaaaaa-p.drv
 O /nix/store/aaaaaaaaaaaaaaaaaaaaaaaaaaaaaaaa-x -
 R /nix/store/cccccccccccccccccccccccccccccccc-y
@@ -24,40 +30,33 @@ R /nix/store/aaaaaaaaaaaaaaaaaaaaaaaaaaaaaaaa-x
 // line, or 0 where it has none.
 type Reading = (&'static [u8], u8, usize);
 
-static READINGS: [Reading; 34] = [
+static READINGS: [Reading; 32] = [
     // Texts that are accepted.
     (b"", 0, 0),
-    (b"realiser-journal 1\n", 0, 0),
+    (b"realiser-journal 2\n", 0, 0),
     (TWO_PATHS, 0, 2),
     (CYCLE, 0, 1),
     (
-        b"realiser-journal 1
+        b"realiser-journal 2
 A /nix/store/aaaaaaaaaaaaaaaaaaaaaaaaaaaaaaaa-x -
 R /nix/store/aaaaaaaaaaaaaaaaaaaaaaaaaaaaaaaa-x
 ",
         0,
         1,
     ),
-    (
-        b"realiser-journal 1
-A /nix/store/aaaaaaaaaaaaaaaaaaaaaaaaaaaaaaaa-x e3b0c44298fc1c149afbf4c8996fb92427ae41e4649b934ca495991b7852b855
-",
-        0,
-        1,
-    ),
     // The first line.
-    (b"realiser-journal 2\n", 33, 0),
-    (b"realiser-journal 10\n", 33, 0),
+    (b"realiser-journal 3\n", 33, 0),
+    (b"realiser-journal 20\n", 33, 0),
     (b"realiser-journal 01\n", 33, 0),
-    (b"realiser-journal 2\n\n", 33, 0),
+    (b"realiser-journal 3\n\n", 33, 0),
     (b"realiser-journal\n", 30, 1),
     (b"realiser-journal \n", 30, 1),
-    (b"realiser-journal 2", 30, 1),
+    (b"realiser-journal 3", 30, 1),
     (b"\n", 30, 1),
     // Lines that have no form, stand where they may not or break an order.
-    (b"realiser-journal 1\n\n", 30, 2),
+    (b"realiser-journal 2\n\n", 30, 2),
     (
-        b"realiser-journal 1
+        b"realiser-journal 2
 A /nix/store/aaaaaaaaaaaaaaaaaaaaaaaaaaaaaaaa-x -
 A /nix/store/cccccccccccccccccccccccccccccccc-y -
 R /nix/store/aaaaaaaaaaaaaaaaaaaaaaaaaaaaaaaa-x",
@@ -65,14 +64,14 @@ R /nix/store/aaaaaaaaaaaaaaaaaaaaaaaaaaaaaaaa-x",
         4,
     ),
     (
-        b"realiser-journal 1
+        b"realiser-journal 2
 R /nix/store/aaaaaaaaaaaaaaaaaaaaaaaaaaaaaaaa-x
 ",
         30,
         2,
     ),
     (
-        b"realiser-journal 1
+        b"realiser-journal 2
 A /nix/store/cccccccccccccccccccccccccccccccc-y -
 R /nix/store/cccccccccccccccccccccccccccccccc-y
 R /nix/store/aaaaaaaaaaaaaaaaaaaaaaaaaaaaaaaa-x
@@ -81,14 +80,7 @@ R /nix/store/aaaaaaaaaaaaaaaaaaaaaaaaaaaaaaaa-x
         4,
     ),
     (
-        b"realiser-journal 1
-A /nix/store/aaaaaaaaaaaaaaaaaaaaaaaaaaaaaaaa-x E3B0C44298FC1C149AFBF4C8996FB92427AE41E4649B934CA495991B7852B855
-",
-        30,
-        2,
-    ),
-    (
-        b"realiser-journal 1
+        b"realiser-journal 2
 A /nix/store/cccccccccccccccccccccccccccccccc-y -
 R /nix/store/aaaaaaaaaaaaaaaaaaaaaaaaaaaaaaaa-x
 R /nix/store/aaaaaaaaaaaaaaaaaaaaaaaaaaaaaaaa-x
@@ -97,7 +89,7 @@ R /nix/store/aaaaaaaaaaaaaaaaaaaaaaaaaaaaaaaa-x
         4,
     ),
     (
-        b"realiser-journal 1
+        b"realiser-journal 2
 A /nix/store/aaaaaaaaaaaaaaaaaaaaaaaaaaaaaaaa-x -
 O /nix/store/cccccccccccccccccccccccccccccccc-y -
 ",
@@ -105,14 +97,14 @@ O /nix/store/cccccccccccccccccccccccccccccccc-y -
         3,
     ),
     (
-        b"realiser-journal 1
+        b"realiser-journal 2
 A /nix/store/aaaaaaaaaaaaaaaaaaaaaaaaaaaaaaaa-x 00
 ",
         30,
         2,
     ),
     (
-        b"realiser-journal 1
+        b"realiser-journal 2
 D /nix/store/aaaaaaaaaaaaaaaaaaaaaaaaaaaaaaaa-p.drv
 O /nix/store/aaaaaaaaaaaaaaaaaaaaaaaaaaaaaaaa-x -\x20
 ",
@@ -120,7 +112,7 @@ O /nix/store/aaaaaaaaaaaaaaaaaaaaaaaaaaaaaaaa-x -\x20
         3,
     ),
     (
-        b"realiser-journal 1
+        b"realiser-journal 2
 D /nix/store/aaaaaaaaaaaaaaaaaaaaaaaaaaaaaaaa-p.drv
 O /nix/store/cccccccccccccccccccccccccccccccc-y -
 O /nix/store/aaaaaaaaaaaaaaaaaaaaaaaaaaaaaaaa-x -
@@ -131,7 +123,7 @@ O /nix/store/aaaaaaaaaaaaaaaaaaaaaaaaaaaaaaaa-x -
     // A deriver's line is bad where its name is no derivation's, or no output follows it, whatever
     // else does.
     (
-        b"realiser-journal 1
+        b"realiser-journal 2
 D /nix/store/aaaaaaaaaaaaaaaaaaaaaaaaaaaaaaaa-p
 O /nix/store/aaaaaaaaaaaaaaaaaaaaaaaaaaaaaaaa-x -
 ",
@@ -139,7 +131,7 @@ O /nix/store/aaaaaaaaaaaaaaaaaaaaaaaaaaaaaaaa-x -
         2,
     ),
     (
-        b"realiser-journal 1
+        b"realiser-journal 2
 D /nix/store/aaaaaaaaaaaaaaaaaaaaaaaaaaaaaaaa-p.drv
 A /nix/store/aaaaaaaaaaaaaaaaaaaaaaaaaaaaaaaa-x -
 ",
@@ -147,21 +139,21 @@ A /nix/store/aaaaaaaaaaaaaaaaaaaaaaaaaaaaaaaa-x -
         2,
     ),
     (
-        b"realiser-journal 1
+        b"realiser-journal 2
 D /nix/store/aaaaaaaaaaaaaaaaaaaaaaaaaaaaaaaa-p.drv
 ",
         30,
         2,
     ),
     (
-        b"realiser-journal 1
+        b"realiser-journal 2
 D /nix/store/aaaaaaaaaaaaaaaaaaaaaaaaaaaaaaaa-p.drv
 O",
         30,
         2,
     ),
     (
-        b"realiser-journal 1
+        b"realiser-journal 2
 D /nix/store/aaaaaaaaaaaaaaaaaaaaaaaaaaaaaaaa-p.drv
 O x",
         30,
@@ -169,7 +161,7 @@ O x",
     ),
     // Where every line has its form.
     (
-        b"realiser-journal 1
+        b"realiser-journal 2
 A /nix/store/aaaaaaaaaaaaaaaaaaaaaaaaaaaaaaaa-x -
 R /nix/store/cccccccccccccccccccccccccccccccc-y
 ",
@@ -177,7 +169,7 @@ R /nix/store/cccccccccccccccccccccccccccccccc-y
         3,
     ),
     (
-        b"realiser-journal 1
+        b"realiser-journal 2
 A /nix/store/aaaaaaaaaaaaaaaaaaaaaaaaaaaaaaaa-x -
 A /nix/store/aaaaaaaaaaaaaaaaaaaaaaaaaaaaaaaa-x -
 ",
@@ -185,7 +177,7 @@ A /nix/store/aaaaaaaaaaaaaaaaaaaaaaaaaaaaaaaa-x -
         3,
     ),
     (
-        b"realiser-journal 1
+        b"realiser-journal 2
 A /nix/store/aaaaaaaaaaaaaaaaaaaaaaaaaaaaaaaa-x -
 D /nix/store/aaaaaaaaaaaaaaaaaaaaaaaaaaaaaaaa-p.drv
 O /nix/store/aaaaaaaaaaaaaaaaaaaaaaaaaaaaaaaa-w -
@@ -196,7 +188,7 @@ O /nix/store/aaaaaaaaaaaaaaaaaaaaaaaaaaaaaaaa-x -
         5,
     ),
     (
-        b"realiser-journal 1
+        b"realiser-journal 2
 A /nix/store/aaaaaaaaaaaaaaaaaaaaaaaaaaaaaaaa-x -
 A /nix/store/aaaaaaaaaaaaaaaaaaaaaaaaaaaaaaaa-x -
 R /nix/store/cccccccccccccccccccccccccccccccc-y
@@ -205,7 +197,7 @@ R /nix/store/cccccccccccccccccccccccccccccccc-y
         3,
     ),
     (
-        b"realiser-journal 1
+        b"realiser-journal 2
 A /nix/store/aaaaaaaaaaaaaaaaaaaaaaaaaaaaaaaa-x -
 R /nix/store/cccccccccccccccccccccccccccccccc-y
 A /nix/store/aaaaaaaaaaaaaaaaaaaaaaaaaaaaaaaa-x -
@@ -220,80 +212,132 @@ fn readings() -> &'static [Reading] {
     &READINGS
 }
 
-// What a journal of this text is written as: no bytes as line 1.
-fn written(text: &[u8]) -> &[u8] {
-    if text.is_empty() {
-        b"realiser-journal 1\n"
-    } else {
-        text
+// The same text with the first line of version 1, if it has that of version 2.
+fn in_version_1(alloc: Global, text: &[u8]) -> Result<Vec<u8>, AllocError> {
+    let Some(lines) = text.strip_prefix(V2) else {
+        return text.to_vec(alloc);
+    };
+    let mut other = V1.to_vec(alloc)?;
+    other.extend_from_slice(lines)?;
+    Ok(other)
+}
+
+// What is behind the first line of a text of either version. No bytes have nothing behind it.
+fn behind_version(text: &[u8]) -> &[u8] {
+    if let Some(lines) = text.strip_prefix(V1) {
+        return lines;
+    }
+    match text.strip_prefix(V2) {
+        Some(lines) => lines,
+        None => text,
     }
 }
 
-// The line that a fault names, or 0.
-fn line_of(fault: &TableFault) -> usize {
+// Whether a journal that was read of a text, which is of version 2 or has no digests, is written in
+// version 2.
+fn is_kept(alloc: Global, journal: &Journal, text: &[u8]) -> bool {
+    match journal.write(alloc) {
+        Ok(written) => {
+            written.starts_with(V2) && behind_version(&written) == behind_version(text)
+        }
+        Err(_) => false,
+    }
+}
+
+/// The line that a fault names, or 0.
+pub(crate) fn line_of(fault: &TableFault) -> usize {
     match fault {
         TableFault::BadLine(line) | TableFault::NotClosed(line) | TableFault::Twice(line) => *line,
         _ => 0,
     }
 }
 
-// How a text is read: 0 and how many entries there are, or the number of the fault and its line.
-// None where the journal is not written as it was read.
+// How a text of version 2, or one without digests, is read: 0 and how many entries there are, or the
+// number of the fault and its line. None where the journal is not written as it was read.
 fn reading(alloc: Global, text: &[u8]) -> Option<(u8, usize)> {
     match read(alloc, text) {
-        Ok(journal) if is_written_as(alloc, &journal, written(text)) => {
-            Some((0, journal.entries().len()))
-        }
+        Ok(journal) if is_kept(alloc, &journal, text) => Some((0, journal.entries().len())),
         Ok(_) => None,
         Err(fault) => Some((fault.number(), line_of(&fault))),
     }
 }
 
 #[test]
-fn read_texts(rt: HostRuntime) {
+fn read_texts(rt: HostRuntime) -> Result<(), Fail> {
     for (text, number, count) in readings() {
+        let other = in_version_1(rt.alloc(), text)?;
         assert!(rt; reading(rt.alloc(), text) == Some((*number, *count)));
-    }
-}
-
-// A text of so many bytes that begins as a journal of another version.
-fn long_text(alloc: Global, len: usize) -> Result<Vec<u8>, AllocError> {
-    let mut text = b"realiser-journal 2\n".to_vec(alloc)?;
-    text.resize(len, b'x')?;
-    Ok(text)
-}
-
-#[test]
-fn texts_at_the_limit(rt: HostRuntime) -> Result<(), Fail> {
-    for (len, number) in [(67_108_864, 33), (67_108_865, 35)] {
-        let text = long_text(rt.alloc(), len)?;
-        assert!(rt; reading(rt.alloc(), &text) == Some((number, 0)), "at {len}");
+        assert!(rt; reading(rt.alloc(), &other) == Some((*number, *count)));
     }
     Ok(())
 }
 
-// Whether a beginning of the journal of two paths is read as it should be: where a line ends it is
-// accepted, and else its last line is the bad one.
-fn is_read_rightly(alloc: Global, front: &[u8]) -> bool {
+// A text of so many bytes with this first line.
+fn long_text(alloc: Global, line: &[u8], len: usize) -> Result<Vec<u8>, AllocError> {
+    let mut text = line.to_vec(alloc)?;
+    text.resize(len, b'x')?;
+    Ok(text)
+}
+
+// The number of the fault of a text of so many bytes with this first line.
+fn fault_of_long(alloc: Global, line: &[u8], len: usize) -> Result<Option<u8>, AllocError> {
+    let text = long_text(alloc, line, len)?;
+    Ok(reading(alloc, &text).map(|(number, _)| number))
+}
+
+#[test]
+fn limit_of_version_1(rt: HostRuntime) -> Result<(), Fail> {
+    for (len, number) in [(67_108_864, 30), (67_108_865, 35)] {
+        let found = fault_of_long(rt.alloc(), V1, len)?;
+        assert!(rt; found == Some(number), "at {len}");
+    }
+    Ok(())
+}
+
+#[test]
+fn limit_of_version_2(rt: HostRuntime) -> Result<(), Fail> {
+    let found = fault_of_long(rt.alloc(), V2, 134_217_729)?;
+    assert!(rt; found == Some(35));
+    Ok(())
+}
+
+#[test]
+fn limit_of_other_versions(rt: HostRuntime) -> Result<(), Fail> {
+    let found = fault_of_long(rt.alloc(), b"realiser-journal 3\n", 134_217_728)?;
+    assert!(rt; found == Some(33));
+    Ok(())
+}
+
+/// Whether a beginning of a journal of added paths is read as it should be: where a line ends it is
+/// accepted, and else its last line is the bad one.
+pub(crate) fn is_read_rightly(alloc: Global, front: &[u8]) -> bool {
     let line = 1 + front.iter().filter(|byte| **byte == b'\n').count();
+    let is_whole = front.is_empty() || front.ends_with(b"\n");
     match reading(alloc, front) {
-        Some((0, _)) => [0, 19, 69, 119, 167].contains(&front.len()),
-        Some((30, found)) => found == line && !front.ends_with(b"\n"),
+        Some((0, _)) => is_whole,
+        Some((30, found)) => found == line && !is_whole,
         _ => false,
     }
 }
 
 #[test]
-fn beginnings(rt: HostRuntime) {
+fn beginnings(rt: HostRuntime) -> Result<(), Fail> {
+    let other = in_version_1(rt.alloc(), TWO_PATHS)?;
     for len in 0..=TWO_PATHS.len() {
         assert!(rt; is_read_rightly(rt.alloc(), &TWO_PATHS[..len]));
+        assert!(rt; is_read_rightly(rt.alloc(), &other[..len.min(other.len())]));
     }
+    Ok(())
 }
 
-// Whether the journal of two paths with another byte at a place is refused, or else written as it
-// was read.
-fn is_kept(alloc: Global, place: usize, byte: u8) -> Result<bool, Fail> {
-    let mut text = TWO_PATHS.to_vec(alloc)?;
+/// Whether a text with another byte at a place is refused, or else written as it was read.
+pub(crate) fn is_refused_or_kept(
+    alloc: Global,
+    text: &[u8],
+    place: usize,
+    byte: u8,
+) -> Result<bool, AllocError> {
+    let mut text = text.to_vec(alloc)?;
     if let Some(at) = text.get_mut(place) {
         *at = byte;
     }
@@ -302,9 +346,11 @@ fn is_kept(alloc: Global, place: usize, byte: u8) -> Result<bool, Fail> {
 
 #[test]
 fn one_byte_changed(rt: HostRuntime) -> Result<(), Fail> {
+    let other = in_version_1(rt.alloc(), TWO_PATHS)?;
     for place in 0..TWO_PATHS.len() {
-        for byte in b"\n -/1ADORz" {
-            assert!(rt; is_kept(rt.alloc(), place, *byte)?);
+        for byte in b"\n -/12ADORz" {
+            assert!(rt; is_refused_or_kept(rt.alloc(), TWO_PATHS, place, *byte)?);
+            assert!(rt; is_refused_or_kept(rt.alloc(), &other, place, *byte)?);
         }
     }
     Ok(())

@@ -4,6 +4,7 @@
 //! | Module | What is tried |
 //! |---|---|
 //! | `journal_texts` | which texts are journals, and where the others are wrong |
+//! | `journal_digests` | digests in both versions of a journal's text |
 //! | `journals` | journals, their copies and their tables |
 //! | `registering` | entries taken into a table, or added where there is room |
 //! | `closures` | closures of small tables |
@@ -19,6 +20,8 @@
 mod closures;
 #[cfg(test)]
 mod fault_words;
+#[cfg(test)]
+mod journal_digests;
 #[cfg(test)]
 mod journal_texts;
 #[cfg(test)]

@@ -29,7 +29,7 @@ fn text(alloc: Global, n: usize) -> Result<String, AllocError> {
 // The text of a journal of many paths, each but the first with the one before it as its reference.
 fn chain_text(alloc: Global) -> Result<String, AllocError> {
     let mut text = String::new(alloc);
-    text.push_str("realiser-journal 1\nA /nix/store/00000000000000000000000000000000-x -\n")?;
+    text.push_str("realiser-journal 2\nA /nix/store/00000000000000000000000000000000-x -\n")?;
     for n in 1..MANY {
         let before = n - 1;
         let lines = format!(in alloc; "A /nix/store/{n:032}-x -\nR /nix/store/{before:032}-x\n")?;
@@ -123,7 +123,7 @@ fn many_roots_and_permitted_paths(rt: HostRuntime) -> Result<(), Fail> {
 // The text of a journal with the outputs of one derivation, each of which refers to itself.
 fn outputs_text(alloc: Global) -> Result<String, AllocError> {
     let mut text = String::new(alloc);
-    text.push_str("realiser-journal 1\nD /nix/store/00000000000000000000000000000000-x.drv\n")?;
+    text.push_str("realiser-journal 2\nD /nix/store/00000000000000000000000000000000-x.drv\n")?;
     for n in 0..OUTPUTS {
         let lines = format!(in alloc; "O /nix/store/{n:032}-x -\nR /nix/store/{n:032}-x\n")?;
         text.push_str(&lines)?;

@@ -9,7 +9,7 @@ use valid_table::{Entry, Journal, Obstacle, Outputs, Table, TableFault};
 const DERIVER: &[u8] = b"/nix/store/dddddddddddddddddddddddddddddddd-p.drv";
 
 // Paths 0 and 3, which refer to 0.
-const TWO_PATHS: &[u8] = b"realiser-journal 1
+const TWO_PATHS: &[u8] = b"realiser-journal 2
 A /nix/store/00000000000000000000000000000000-x -
 R /nix/store/00000000000000000000000000000000-x
 A /nix/store/00000000000000000000000000000003-x -

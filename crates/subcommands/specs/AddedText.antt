@@ -10,8 +10,8 @@ use Rattle.nix_drv.specs.OwnPath.{text_path}
 use Rattle.valid_table.specs.Entries.{registered}
 use Rattle.valid_table.specs.Reading.{IsReading}
 use Rattle.valid_table.specs.Tables.{JournalValue}
-use Rattle.valid_table.specs.Texts.{text as journal_text}
 use Rattle.valid_table.specs.Valid.{IsValid}
+use Rattle.valid_table.specs.Written.{written_text}
 use Rattle.valid_table.specs.declared.entry.Entry.{Entry}
 use Rattle.valid_table.specs.declared.fault.TableFault.{TableFault}
 use Rattle.valid_table.specs.declared.fault.TableFault.TheVariants as table
@@ -47,13 +47,13 @@ IsTextOf path gave (Err (TooLong blamed)) =
 IsTextOf path gave (Err NoMemory) = gave ≡ Err file.NoMemory
 IsTextOf path gave (Err stop) = ⊥
 
--- The journal's new bytes: none where the path is valid by the journal's entries, else the text of
--- these entries and, behind them, the one of the path.
+-- The journal's new bytes: none where the path is valid by the journal's entries, else the text, in
+-- version 2, of these entries and, behind them, the one of the path.
 abbrev pub IsNewText : List Entry → (path digest : List ℕ) → Option (Vec ℕ) → Type 0
 IsNewText entries path digest None = IsValid (registered entries) path
 IsNewText entries path digest (Some bytes) =
     ¬ (IsValid (registered entries) path)
-    × (bytes.items ≡ journal_text (entries ++ text_entry path digest ∷ []))
+    × (bytes.items ≡ written_text (entries ++ text_entry path digest ∷ []))
 
 -- The journal file gave the text of some entries, and these are the new bytes.
 pub record IsRenewed (dir : List ℕ) (gave : FileBytes) (path digest : List ℕ) (new : Option (Vec ℕ))

@@ -12,8 +12,8 @@ use crate::options::AddTextRequest;
 use crate::stop::Stop;
 use crate::store_dir::store_dir;
 use nix_drv::MAX_LEN;
-use nix_names::{NameFault, StoreDir, StorePath, make_path};
-use sha2::{Digest, Sha256};
+use nix_names::{Digest, NameFault, StoreDir, StorePath, make_path};
+use sha2::{Digest as _, Sha256};
 use std::alloc::Global;
 use valid_table::{Journal, Record, TableFault};
 
@@ -37,8 +37,8 @@ pub struct AddedText {
 /// `JournalUnreadable`, `BadJournal` with the fault of `Journal::read`. `NoMemory` may come in the
 /// place of all but the first.
 ///
-/// Costs one SHA-256 over the text's bytes, and one reading of the journal, which is written once
-/// where the path is new.
+/// Costs one SHA-256 over the text's bytes, and one reading of the journal, which is written once,
+/// in version 2, where the path is new.
 pub fn added_text<'a>(
     alloc: Global,
     request: &AddTextRequest<'a>,
@@ -125,9 +125,8 @@ pub fn journal_of<'a>(
     }
 }
 
-// Registers a text without references under its path, with the digest of its bytes, and says
-// whether it did: a path that is valid stays as it is. `NoMemory` is the only fault, and changes
-// nothing.
+// Registers a text without references under its path, with SHA-256 of its bytes, and says whether
+// it did: a path that is valid stays as it is. `NoMemory` is the only fault, and changes nothing.
 fn register_text(
     alloc: Global,
     journal: &mut Journal,
@@ -140,7 +139,7 @@ fn register_text(
         return Ok(false);
     }
     let path = path.copy(alloc)?;
-    let info = Record::new(Vec::new(alloc), Some(digest))?;
+    let info = Record::new(Vec::new(alloc), Some(Digest::Sha256(digest)))?;
     journal.add(path, info)?;
     Ok(true)
 }

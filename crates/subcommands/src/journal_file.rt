@@ -12,7 +12,7 @@ use std::alloc::{AllocError, Global};
 use std::rt::Files;
 
 // How many bytes of a journal file are read: one more than a journal may have.
-const MAX_READ: u64 = 67_108_865;
+const MAX_READ: u64 = 134_217_729;
 
 /// The one journal file of a run.
 #[derive(Drop)]
@@ -39,7 +39,7 @@ impl JournalFile {
 
     /// The bytes of the file, one more than a journal may have at most; none where it is not found.
     pub fn read<R: Files + AllocGlobal>(&self, rt: &R) -> Result<Vec<u8>, FileFault>
-        ensures { IfOk result (λ bytes. length bytes.items ≤ 67108865) }
+        ensures { IfOk result (λ bytes. length bytes.items ≤ 134217729) }
     {
         let alloc = rt.alloc();
         given_bytes(alloc, read_regular(alloc, rt, self.path.as_str(), MAX_READ))

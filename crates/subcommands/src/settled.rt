@@ -1,6 +1,6 @@
 //! What the book of a run says at its end: the status, the journal's bytes and the report.
 ghost use Rattle.std.specs.Prelude.{◌≡◌, IfErr, IfOk};
-ghost use Rattle.valid_table.specs.Texts.{text as journal_text};
+ghost use Rattle.valid_table.specs.Written.{written_text};
 ghost use Rattle.sched_core.specs.Books.{IsRunSettled};
 ghost use Rattle.sched_core.specs.Reports.{IsReportIn};
 ghost use Rattle.sched_core.specs.States.{is_good};
@@ -36,9 +36,9 @@ fn is_realised(state: State) -> bool
     matches!(state, State::Done | State::Reused)
 }
 
-/// The text of the journal of a book.
+/// The text of the journal of a book, in version 2.
 pub fn journal_bytes<'a, O: Outlet>(alloc: Global, book: &Book<O>) -> Result<Vec<u8>, Stop<'a>>
-    ensures ok { IfOk result (λ bytes. bytes.items ≡ journal_text book.now.history.entries) }
+    ensures ok { IfOk result (λ bytes. bytes.items ≡ written_text book.now.history.entries) }
     ensures err { IfErr result (λ stop. stop ≡ Stop.NoMemory) }
 {
     Ok(book.journal().write(alloc)?)
@@ -47,7 +47,7 @@ pub fn journal_bytes<'a, O: Outlet>(alloc: Global, book: &Book<O>) -> Result<Vec
 /// The report of a book that is settled, whose journal was written.
 pub fn report_of<'a, O: Outlet>(book: &Book<O>, journal: Written<'_>) -> Result<Vec<u8>, Stop<'a>>
     requires settled { IsRunSettled book.now.run book.now.history }
-    requires written { journal.bytes.now ≡ journal_text book.now.history.entries }
+    requires written { journal.bytes.now ≡ written_text book.now.history.entries }
     ensures ok { IfOk result (λ text. IsReportIn book.now.run book.now.history text.items) }
     ensures err { IfErr result (λ stop. stop ≡ Stop.NoMemory) }
 {

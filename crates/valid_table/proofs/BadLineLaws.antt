@@ -2,7 +2,7 @@
 use Rattle.std.proofs.Common.{◌≡◌, ◌≢◌, ◌<◌, ◌≤◌, ◌+◌, ◌-◌, ℕ, zero, suc, List, [], ◌∷◌, ◌++◌, ◌⊎◌, inl, inr, length, take, drop, refl, ap, sym, subst, ◌∙◌, arith, None, count_by, replicate, Bool, false, cond, All, rules}
 use Rattle.std.specs.Prelude.{codes}
 use Rattle.std.proofs.lemmas.Bool.{cases_lt, ne_eqb}
-use Rattle.std.proofs.lemmas.List.{append-nil, append_assoc, length-append, length-take-le, take-append-drop, take_at}
+use Rattle.std.proofs.lemmas.List.{append-nil, append_assoc, length-append, length-take-le, nil_from_length, take-append-drop, take_at}
 use Rattle.std.proofs.lemmas.List.Concat.{flat_map-append}
 use Rattle.std.proofs.lemmas.List.Elements.{All-head, All-tail}
 use Rattle.std.proofs.lemmas.List.Sums.{sum_by-cons}
@@ -12,19 +12,24 @@ use Rattle.nix_names.specs.Names.{IsStoreDir, is_dotted, is_name, is_name_char}
 use Rattle.nix_names.specs.StorePaths.{IsPathOf, is_hash_part, path_text}
 use Rattle.valid_table.specs.BadLines.{AreLines, BadLineIsOne, BeginsOutput, IsBadLine, Stands, TextsHaveNoBadLine}
 use Rattle.valid_table.specs.LineTexts.{lines_text}
+use Rattle.valid_table.specs.Readers.{BeginsNoVersion}
+use Rattle.valid_table.specs.Reading.{BeginsVersion}
 use Rattle.valid_table.specs.Steps.{Place, Start, Begun, Opened, Within, Ahead, IsStuck, LeadsTo, Stops}
-use Rattle.valid_table.specs.Texts.{IsText, Line, Output, line_text}
+use Rattle.valid_table.specs.Texts.{IsTextIn, Line, First, Output, line_text, lines, text, version_line}
 use Rattle.valid_table.specs.declared.entry.Entry.{Entry}
+use Rattle.valid_table.specs.declared.version.Version.{Version}
+use Rattle.valid_table.specs.declared.version.Version.TheVariants.{One}
 use Rattle.valid_table.proofs.Leading.{GoesOn, ahead_of, go_on, leads_end, leads_front, leads_joined, leads_some, leads_weaker, lines_of, one_more, text_and, text_push}
-use Rattle.valid_table.proofs.LineLists.{Ends, MayEnd, end_ahead, lines_of_text, text_of_lines}
+use Rattle.valid_table.proofs.LineLists.{Ends, MayEnd, end_ahead, lines_end, lines_of_text, text_of_lines}
 use Rattle.valid_table.proofs.LineTexts.{IsLineOf, body, body_lacks, line_and, texts_are_lines}
 use Rattle.valid_table.proofs.Separators.{Lacks, dir_lacks, newline, same_cut}
+use Rattle.valid_table.proofs.Versions.{one_version, text_begins}
 
 -- Lines that lead from the start of some bytes to the rest.
-pub record Led (dir bytes rest : List ℕ) : Type 0 where
+pub record Led (version : Version) (dir bytes rest : List ℕ) : Type 0 where
   pub lines : List Line
-  pub leads : LeadsTo dir (λ to. Ahead to rest) Start lines
-  pub parts : bytes ≡ lines_text lines ++ rest
+  pub leads : LeadsTo version dir (λ to. Ahead to rest) Start lines
+  pub parts : bytes ≡ lines_text version lines ++ rest
 
 -- ---- so many lines have so many newlines
 
@@ -44,16 +49,16 @@ lines_newlines (suc n) bytes (line, rest, clear, parts, more) =
     search (rules, line_newlines, (lines_newlines n rest more))
 
 -- the texts of lines that lead on are so many lines
-leads_are_lines : (dir : List ℕ) (Is : Place → Type 0) (lines : List Line) → IsStoreDir dir
-    → LeadsTo dir Is Start lines → AreLines (length lines) (lines_text lines)
-leads_are_lines dir Is lines is_dir leads = texts_are_lines dir (dir_lacks 10 newline dir is_dir)
-    lines (lines_of dir Is Start lines leads)
+leads_are_lines : (version : Version) (dir : List ℕ) (Is : Place → Type 0) (lines : List Line) → IsStoreDir dir
+    → LeadsTo version dir Is Start lines → AreLines (length lines) (lines_text version lines)
+leads_are_lines version dir Is lines is_dir leads = texts_are_lines version dir (dir_lacks 10 newline dir is_dir)
+    lines (lines_of version dir Is Start lines leads)
 
 -- the number of newlines before the place where lines stop
-pub stops_count : (dir bytes : List ℕ) (left : ℕ) → IsStoreDir dir
-    → (h : Stops dir Start bytes left) → length
+pub stops_count : (version : Version) (dir bytes : List ℕ) (left : ℕ) → IsStoreDir dir
+    → (h : Stops version dir Start bytes left) → length
     (places (is_byte 10) (take (length bytes - left) bytes)) ≡ length h.lines
-stops_count dir bytes left is_dir h =
+stops_count version dir bytes left is_dir h =
     search (rules, take_at, length-append, length-places, lines_newlines, leads_are_lines)
 
 -- ---- lines that lead on stand
@@ -78,70 +83,70 @@ abbrev EndsAs : List ℕ → List ℕ → Type 0
 EndsAs after rest = (after ≡ []) ⊎ (BeginsOutput after × BeginsOutput rest)
 
 -- lines end a journal from a place, and their text ends or goes on so
-abbrev EndsIn : List ℕ → List ℕ → List Line → Place → Type 0
-EndsIn dir rest come place = Ends dir place come × EndsAs (lines_text come) rest
+abbrev EndsIn : Version → List ℕ → List ℕ → List Line → Place → Type 0
+EndsIn version dir rest come place = Ends version dir place come × EndsAs (lines_text version come) rest
 
 -- there are such lines: an output behind a deriver, else none
-ending : (dir : List ℕ) (place : Place) (rest : List ℕ) → Ahead place rest → (come : List Line)
-    × EndsIn dir rest come place
-ending dir Opened rest ahead =
+ending : (version : Version) (dir : List ℕ) (place : Place) (rest : List ℕ) → Ahead place rest → (come : List Line)
+    × EndsIn version dir rest come place
+ending version dir Opened rest ahead =
     let come : List Line = Output (sample dir) None ∷ [] in
-    (come, (((sample_is_path dir, tt, tt), tt), inr ((drop 2 (lines_text come), refl), ahead)))
-ending dir Start rest ahead = ([], (tt, inl refl))
-ending dir Begun rest ahead = ([], (tt, inl refl))
-ending dir (Within output last) rest ahead = ([], (tt, inl refl))
+    (come, (((sample_is_path dir, tt, tt), tt), inr ((drop 2 (lines_text version come), refl), ahead)))
+ending version dir Start rest ahead = ([], (tt, inl refl))
+ending version dir Begun rest ahead = ([], (tt, inl refl))
+ending version dir (Within output last) rest ahead = ([], (tt, inl refl))
 
-pub led_stands : (dir bytes rest : List ℕ) → IsStoreDir dir → (led : Led dir bytes rest)
+pub led_stands : (version : Version) (dir bytes rest : List ℕ) → IsStoreDir dir → (led : Led version dir bytes rest)
     → Stands dir (length led.lines) bytes rest
-led_stands dir bytes rest is_dir led =
-    let end = leads_some dir (List Line) (EndsIn dir rest) Start led.lines
-    (leads_weaker dir (λ to. Ahead to rest) (λ to. (come : List Line) × EndsIn dir rest come to)
-    (λ to ahead. ending dir to rest ahead) Start led.lines led.leads) in
+led_stands version dir bytes rest is_dir led =
+    let end = leads_some version dir (List Line) (EndsIn version dir rest) Start led.lines
+    (leads_weaker version dir (λ to. Ahead to rest) (λ to. (come : List Line) × EndsIn version dir rest come to)
+    (λ to ahead. ending version dir to rest ahead) Start led.lines led.leads) in
     let whole : List Line = led.lines ++ end.0 in
-    let text = text_of_lines dir whole
-    (leads_joined dir MayEnd Start led.lines end.0
-    (leads_weaker dir (EndsIn dir rest end.0) (λ to. Ends dir to end.0) (λ to both. both.0)
+    let text = text_of_lines version dir whole
+    (leads_joined version dir MayEnd Start led.lines end.0
+    (leads_weaker version dir (EndsIn version dir rest end.0) (λ to. Ends version dir to end.0) (λ to both. both.0)
     Start led.lines end.1)) in
     record {
-      front = lines_text led.lines;
+      front = lines_text version led.lines;
       parts = led.parts;
-      counted = leads_are_lines dir (λ to. Ahead to rest) led.lines is_dir led.leads;
+      counted = leads_are_lines version dir (λ to. Ahead to rest) led.lines is_dir led.leads;
       entries = text.0;
-      whole = lines_text whole;
+      whole = lines_text version whole;
       is_text = text.1;
-      after = lines_text end.0;
-      begins = flat_map-append line_text led.lines end.0;
-      next = (leads_end dir (EndsIn dir rest end.0) Start led.lines end.1).1.1;
+      after = lines_text version end.0;
+      begins = flat_map-append (line_text version) led.lines end.0;
+      next = (leads_end version dir (EndsIn version dir rest end.0) Start led.lines end.1).1.1;
     }
 
 -- ---- lines that stand lead on
 
 -- the first lines of a text, so many, are the first of its lines
-cut_lines : (dir : List ℕ) → Lacks 10 dir → (n : ℕ) (come : List Line) (front after : List ℕ)
-    → All (IsLineOf dir) come → AreLines n front → lines_text come ≡ front ++ after
-    → (a : List Line) × (b : List Line) × (come ≡ a ++ b) × (length a ≡ n) × (front ≡ lines_text a)
-    × (after ≡ lines_text b)
-cut_lines dir clear zero come front after each none parts = search rules
-cut_lines dir clear (suc n) [] front after each (first, more, plain, is, lines) parts =
+cut_lines : (version : Version) (dir : List ℕ) → Lacks 10 dir → (n : ℕ) (come : List Line) (front after : List ℕ)
+    → All (IsLineOf version dir) come → AreLines n front → lines_text version come ≡ front ++ after
+    → (a : List Line) × (b : List Line) × (come ≡ a ++ b) × (length a ≡ n) × (front ≡ lines_text version a)
+    × (after ≡ lines_text version b)
+cut_lines version dir clear zero come front after each none parts = search rules
+cut_lines version dir clear (suc n) [] front after each (first, more, plain, is, lines) parts =
     absurd (omega (
       arith,
       ap length (parts ∙ ap (λ (bytes : List ℕ). bytes ++ after) is),
       length-append (first ++ 10 ∷ more) after,
       length-append first (10 ∷ more),
     ))
-cut_lines dir clear (suc n) (line ∷ come) front after each (first, more, plain, is, lines) parts =
-    let split = same_cut 10 (body line) first (lines_text come) (more ++ after)
-    (body_lacks dir line clear (All-head (IsLineOf dir) line come each)) plain
-    (sym (line_and line (lines_text come)) ∙ parts ∙ ap (λ (bytes : List ℕ). bytes ++ after) is
+cut_lines version dir clear (suc n) (line ∷ come) front after each (first, more, plain, is, lines) parts =
+    let split = same_cut 10 (body version line) first (lines_text version come) (more ++ after)
+    (body_lacks version dir line clear (All-head (IsLineOf version dir) line come each)) plain
+    (sym (line_and version line (lines_text version come)) ∙ parts ∙ ap (λ (bytes : List ℕ). bytes ++ after) is
     ∙ append_assoc first (10 ∷ more) after) in
-    let later = cut_lines dir clear n come more after (All-tail (IsLineOf dir) line come each) lines
+    let later = cut_lines version dir clear n come more after (All-tail (IsLineOf version dir) line come each) lines
     split.1 in (
       line ∷ later.0,
       later.1,
       ap (λ (ls : List Line). line ∷ ls) later.2,
       ap suc later.3,
-      is ∙ ap (λ (bytes : List ℕ). bytes ++ 10 ∷ more) (sym split.0) ∙ sym (line_and line more)
-          ∙ ap (λ (bytes : List ℕ). line_text line ++ bytes) later.4,
+      is ∙ ap (λ (bytes : List ℕ). bytes ++ 10 ∷ more) (sym split.0) ∙ sym (line_and version line more)
+          ∙ ap (λ (bytes : List ℕ). line_text version line ++ bytes) later.4,
       later.5,
     )
 
@@ -152,19 +157,25 @@ ahead_as Opened after rest ahead (inl none) = search rules
 ahead_as Opened after rest ahead (inr both) = both.1
 ahead_as place after rest ahead next = tt
 
+-- lines that stand lead on, in a version
 pub stands_led : (dir bytes rest : List ℕ) (n : ℕ) → IsStoreDir dir → Stands dir n bytes rest
-    → (led : Led dir bytes rest) × (length led.lines ≡ n)
+    → (version : Version) × (led : Led version dir bytes rest) × (length led.lines ≡ n)
 stands_led dir bytes rest n is_dir stands =
-    let come = lines_of_text dir stands.whole stands.entries stands.is_text in
-    let cut = cut_lines dir (dir_lacks 10 newline dir is_dir) n come.0 stands.front stands.after
-    (lines_of dir MayEnd Start come.0 come.1) stands.counted (sym come.2 ∙ stands.begins) in
-    let after_is : lines_text cut.1 ++ [] ≡ stands.after = append-nil (lines_text cut.1) ∙ sym cut.5
-    in
-    let leads = leads_weaker dir (λ to. Ends dir to cut.1) (λ to. Ahead to rest)
+    let text = lines_of_text dir stands.whole stands.entries stands.is_text in
+    let version = text.0 in
+    let come = text.1 in
+    let cut = cut_lines version dir (dir_lacks 10 newline dir is_dir) n come stands.front
+    stands.after (lines_of version dir MayEnd Start come text.2) stands.counted
+    (sym text.3 ∙ stands.begins) in
+    let after_is : lines_text version cut.1 ++ [] ≡ stands.after =
+    append-nil (lines_text version cut.1) ∙ sym cut.5 in
+    let leads = leads_weaker version dir (λ to. Ends version dir to cut.1) (λ to. Ahead to rest)
     (λ to ends. ahead_as to stands.after rest
-    (subst (Ahead to) after_is (ahead_of dir MayEnd to cut.1 [] end_ahead ends)) stands.next)
-    Start cut.0
-    (leads_front dir MayEnd Start cut.0 cut.1 (subst (Ends dir Start) cut.2 come.1)) in (
+    (subst (Ahead to) after_is (ahead_of version dir MayEnd to cut.1 [] end_ahead ends))
+    stands.next) Start cut.0
+    (leads_front version dir MayEnd Start cut.0 cut.1
+    (subst (Ends version dir Start) cut.2 text.2)) in (
+      version,
       record {
         lines = cut.0;
         leads = leads;
@@ -174,86 +185,154 @@ stands_led dir bytes rest n is_dir stands =
       cut.3,
     )
 
+-- where a line leads on, the bytes begin with the version's line
+led_begins : (version : Version) (dir bytes rest : List ℕ) (n : ℕ) (led : Led version dir bytes rest)
+    → length led.lines ≡ suc n → BeginsVersion version bytes
+led_begins version dir bytes rest n led long = begins led.lines led.leads led.parts long
+  where
+    begins : (lines : List Line) → LeadsTo version dir (λ to. Ahead to rest) Start lines
+        → bytes ≡ lines_text version lines ++ rest → length lines ≡ suc n
+        → BeginsVersion version bytes
+    begins [] leads parts long = absurd (omega (arith, long))
+    begins (First ∷ more) leads parts long = (
+      lines_text version more ++ rest,
+      parts ∙ append_assoc (version_line version) (lines_text version more) rest,
+    )
+    begins (line ∷ more) leads parts long = absurd leads.0
+
+-- lines that stand lead on in the version with whose line the bytes begin
+led_in : (version : Version) (dir bytes rest : List ℕ) (n : ℕ) → IsStoreDir dir
+    → BeginsVersion version bytes → Stands dir n bytes rest
+    → (led : Led version dir bytes rest) × (length led.lines ≡ n)
+led_in version dir bytes rest zero is_dir begins stands =
+    let some = stands_led dir bytes rest zero is_dir stands in
+    let none : some.1.lines ≡ [] = nil_from_length some.1.lines some.2 in (
+      record {
+        lines = [];
+        leads = tt;
+        parts = some.1.parts ∙ ap (λ (ls : List Line). lines_text some.0 ls ++ rest) none;
+      },
+      refl,
+    )
+led_in version dir bytes rest (suc n) is_dir begins stands =
+    let some = stands_led dir bytes rest (suc n) is_dir stands in
+    let same = one_version some.0 version bytes
+    (led_begins some.0 dir bytes rest n some.1 some.2) begins in
+    subst (λ v. (led : Led v dir bytes rest) × (length led.lines ≡ suc n)) same
+    (some.1, some.2)
+
 -- ---- the laws
 
 -- where lines stop, the next one is the first bad one
-pub bad_line : (dir bytes : List ℕ) (left : ℕ) → IsStoreDir dir → (h : Stops dir Start bytes left)
+pub bad_line : (version : Version) (dir bytes : List ℕ) (left : ℕ) → IsStoreDir dir
+    → BeginsVersion version bytes → (h : Stops version dir Start bytes left)
     → IsBadLine dir bytes (suc (length h.lines))
-bad_line dir bytes left is_dir h = record {
+bad_line version dir bytes left is_dir begins h = record {
   before = length h.lines;
   is_next = refl;
   rest = h.bad;
   some = h.some;
-  stands = led_stands dir bytes h.bad is_dir
+  stands = led_stands version dir bytes h.bad is_dir
       (record {
         lines = h.lines;
-        leads = leads_weaker dir (IsStuck dir h.bad) (λ to. Ahead to h.bad)
+        leads = leads_weaker version dir (IsStuck version dir h.bad) (λ to. Ahead to h.bad)
             (λ to stuck. stuck.ahead) Start h.lines h.leads;
         parts = h.parts;
       });
   falls = λ more stands.
-      let led = stands_led dir bytes more (suc (length h.lines)) is_dir stands in
-      let next = one_more dir (IsStuck dir h.bad) (λ to. Ahead to more) Start h.lines led.0.lines
-      h.bad more (λ to ahead. ahead) h.leads led.0.leads led.1 (sym h.parts ∙ led.0.parts) in
-      let end = leads_end dir _ Start h.lines next.2 in
+      let led = led_in version dir bytes more (suc (length h.lines)) is_dir begins stands in
+      let next = one_more version dir (IsStuck version dir h.bad) (λ to. Ahead to more) Start
+      h.lines led.0.lines h.bad more (λ to ahead. ahead) h.leads led.0.leads led.1
+      (sym h.parts ∙ led.0.parts) in
+      let end = leads_end version dir _ Start h.lines next.2 in
       end.1.0.stuck next.0 next.1 end.1.1;
 }
 
--- lines that lead into a journal's text lead to its end, or one more does
-next_line : (dir bytes rest : List ℕ) (entries : List Entry) (Is : Place → Type 0)
-    (lines : List Line) → IsText dir entries bytes → LeadsTo dir Is Start lines → bytes
-    ≡ lines_text lines ++ rest → (rest ≡ []) ⊎ GoesOn dir Is Start lines rest
-next_line dir bytes rest entries Is lines is leads parts =
-    let come = lines_of_text dir bytes entries is in
-    go_on dir Is MayEnd Start lines come.0 rest end_ahead leads come.1 (sym parts ∙ come.2)
+-- where no version's line begins the bytes, their first line is bad
+pub bad_first : (dir bytes : List ℕ) → IsStoreDir dir → BeginsNoVersion bytes → bytes ≢ []
+    → IsBadLine dir bytes 1
+bad_first dir bytes is_dir none some = record {
+  before = zero;
+  is_next = refl;
+  rest = bytes;
+  some = some;
+  stands = led_stands One dir bytes bytes is_dir (record { lines = []; leads = tt; parts = refl });
+  falls = λ more stands.
+      let led = stands_led dir bytes more 1 is_dir stands in
+      none led.0 (led_begins led.0 dir bytes more zero led.1 led.2);
+}
 
--- a text of a journal has no bad line
-pub texts_have_no_bad_line : TextsHaveNoBadLine
-texts_have_no_bad_line dir bytes entries n is_dir is bad =
-    let led = stands_led dir bytes bad.rest bad.before is_dir bad.stands in
-    elim (next_line dir bytes bad.rest entries (λ to. Ahead to bad.rest) led.0.lines is led.0.leads
-    led.0.parts) [
+-- lines that lead into a journal's text lead to its end, or one more does
+next_line : (version : Version) (dir bytes rest : List ℕ) (entries : List Entry)
+    (Is : Place → Type 0) (lines : List Line) → IsTextIn version dir entries bytes
+    → LeadsTo version dir Is Start lines → bytes ≡ lines_text version lines ++ rest
+    → (rest ≡ []) ⊎ GoesOn version dir Is Start lines rest
+unfolding text
+next_line version dir bytes rest entries Is some is leads parts =
+    go_on version dir Is MayEnd Start some (lines entries) rest end_ahead leads
+    (lines_end version dir entries is.of_dir) (sym parts ∙ is.bytes_are)
+
+-- a text of a version has no bad line
+none_bad : (version : Version) (dir bytes : List ℕ) (entries : List Entry) (n : ℕ) → IsStoreDir dir
+    → IsTextIn version dir entries bytes → IsBadLine dir bytes n → ⊥
+none_bad version dir bytes entries n is_dir is bad =
+    let led = led_in version dir bytes bad.rest bad.before is_dir
+    (text_begins version dir bytes entries is) bad.stands in
+    elim (next_line version dir bytes bad.rest entries (λ to. Ahead to bad.rest) led.0.lines is
+    led.0.leads led.0.parts) [
       | inl none ↦ bad.some none
       | inr next ↦
           let line = next.0 in
           let more = next.1 in
-          let goes = (leads_end dir _ Start led.0.lines next.2).1.1 in
-          let longer : Led dir bytes more = record {
+          let goes = (leads_end version dir _ Start led.0.lines next.2).1.1 in
+          let longer : Led version dir bytes more = record {
             lines = led.0.lines ++ line ∷ [];
-            leads = leads_joined dir (λ to. Ahead to more) Start led.0.lines (line ∷ [])
-                (leads_weaker dir _ (λ to. LeadsTo dir (λ at. Ahead at more) to (line ∷ []))
+            leads = leads_joined version dir (λ to. Ahead to more) Start led.0.lines (line ∷ [])
+                (leads_weaker version dir _
+                (λ to. LeadsTo version dir (λ at. Ahead at more) to (line ∷ []))
                 (λ to both. (both.1.may, both.1.ahead)) Start led.0.lines next.2);
-            parts = led.0.parts ∙ ap (λ (t : List ℕ). lines_text led.0.lines ++ t) goes.parts
-                ∙ text_push led.0.lines line more;
+            parts = led.0.parts ∙ ap (λ (t : List ℕ). lines_text version led.0.lines ++ t) goes.parts
+                ∙ text_push version led.0.lines line more;
           } in
           let long : length (led.0.lines ++ line ∷ [])
           ≡ n = omega (arith, length-append led.0.lines (line ∷ []), led.1, bad.is_next) in
           bad.falls more
           (subst (λ (k : ℕ). Stands dir k bytes more) long
-          (led_stands dir bytes more is_dir longer))
+          (led_stands version dir bytes more is_dir longer))
     ]
 
+-- a text of a journal has no bad line
+pub texts_have_no_bad_line : TextsHaveNoBadLine
+texts_have_no_bad_line dir bytes entries n is_dir (inl (version, is)) bad =
+    none_bad version dir bytes entries n is_dir is bad
+texts_have_no_bad_line dir bytes entries n is_dir (inr none) bad =
+    nothing_left bad.stands.front bad.rest bad.some (sym none.1 ∙ bad.stands.parts)
+  where
+    nothing_left : (front rest : List ℕ) → rest ≢ [] → [] ≡ front ++ rest → ⊥
+    nothing_left [] rest some e = some (sym e)
+    nothing_left (b ∷ front) rest some e = cc e
+
 -- the first of lines that stand do so
-first_stand : (dir bytes rest : List ℕ) (m : ℕ) → IsStoreDir dir → (led : Led dir bytes rest) → m
+first_stand : (version : Version) (dir bytes rest : List ℕ) (m : ℕ) → IsStoreDir dir → (led : Led version dir bytes rest) → m
     ≤ length led.lines → (more : List ℕ) × Stands dir m bytes more
-first_stand dir bytes rest m is_dir led few =
+first_stand version dir bytes rest m is_dir led few =
     let a = take m led.lines in
     let b = drop m led.lines in
-    let more = lines_text b ++ rest in
+    let more = lines_text version b ++ rest in
     let whole : led.lines ≡ a ++ b = sym (take-append-drop m led.lines) in
-    let first : Led dir bytes more = record {
+    let first : Led version dir bytes more = record {
       lines = a;
-      leads = leads_weaker dir (λ to. LeadsTo dir (λ at. Ahead at rest) to b) (λ to. Ahead to more)
-          (λ to leads. ahead_of dir (λ at. Ahead at rest) to b rest (λ at ahead. ahead) leads) Start
+      leads = leads_weaker version dir (λ to. LeadsTo version dir (λ at. Ahead at rest) to b) (λ to. Ahead to more)
+          (λ to leads. ahead_of version dir (λ at. Ahead at rest) to b rest (λ at ahead. ahead) leads) Start
           a
-          (leads_front dir (λ at. Ahead at rest) Start a b
-          (subst (LeadsTo dir (λ at. Ahead at rest) Start) whole led.leads));
-      parts = led.parts ∙ ap (λ (ls : List Line). lines_text ls ++ rest) whole
-          ∙ sym (text_and a b rest);
+          (leads_front version dir (λ at. Ahead at rest) Start a b
+          (subst (LeadsTo version dir (λ at. Ahead at rest) Start) whole led.leads));
+      parts = led.parts ∙ ap (λ (ls : List Line). lines_text version ls ++ rest) whole
+          ∙ sym (text_and version a b rest);
     } in (
       more,
       subst (λ (k : ℕ). Stands dir k bytes more) (length-take-le m led.lines few)
-          (led_stands dir bytes more is_dir first),
+          (led_stands version dir bytes more is_dir first),
     )
 
 -- no bad line stands before another
@@ -261,7 +340,8 @@ none_before : (dir bytes : List ℕ) (m n : ℕ) → IsStoreDir dir → IsBadLin
     → IsBadLine dir bytes n → m < n → ⊥
 none_before dir bytes m n is_dir one two less =
     let led = stands_led dir bytes two.rest two.before is_dir two.stands in
-    let first = first_stand dir bytes two.rest m is_dir led.0 (omega (arith, two.is_next, led.1)) in
+    let first = first_stand led.0 dir bytes two.rest m is_dir led.1
+    (omega (arith, two.is_next, led.2)) in
     one.falls first.0 first.1
 
 -- the first bad line is one

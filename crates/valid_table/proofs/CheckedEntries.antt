@@ -5,6 +5,7 @@ use Rattle.std.proofs.lemmas.List.{append-nil, append_assoc, length-map, map-app
 use Rattle.std.proofs.lemmas.List.Concat.{flat_map-append, length-flat_map}
 use Rattle.std.proofs.lemmas.List.Elements.{All-append, All-cons, All-head, All-map, All-nil, All-tail, All-take}
 use Rattle.std.proofs.lemmas.Option.{MatchOption-at_some}
+use Rattle.nix_names.specs.declared.digest.Digest.{Digest}
 use Rattle.valid_table.specs.Checking.{IsEntryCheck, IsLineCheck, IsRight, RegistersKnown, header}
 use Rattle.valid_table.specs.Entering.{AreUnknown, IsNewFront, IsUnknown}
 use Rattle.valid_table.specs.Entries.{paths_of, registered_by}
@@ -23,7 +24,7 @@ use Rattle.nix_names.proofs.Lists.{All-left, element_at, get_mapped, split_get}
 use Rattle.valid_table.proofs.PathLists.{All-right}
 
 -- which line begins a registration of an entry
-abbrev pub starts : Entry → List ℕ → Option (List ℕ) → Line
+abbrev pub starts : Entry → List ℕ → Option Digest → Line
 starts (Add r) = Added
 starts (Done deriver outputs) = Output
 
@@ -56,7 +57,7 @@ split_lines entry before r after parts =
     search (rules, entry_lines_are, flat_map-append, append_assoc)
 
 -- the line of a known path registers it
-start_known : (known : List (List ℕ)) (entry : Entry) (path : List ℕ) (digest : Option (List ℕ))
+start_known : (known : List (List ℕ)) (entry : Entry) (path : List ℕ) (digest : Option Digest)
     → Contains known path → RegistersKnown known (starts entry path digest)
 start_known known (Add r) path digest there = there
 start_known known (Done deriver outputs) path digest there = there
@@ -86,7 +87,7 @@ module _ (known all : List (List ℕ)) where
   header_right (Done deriver outputs) = All-cons Right (Deriver deriver) [] tt (All-nil Right)
 
   -- the line of a new path is right
-  start_right : (entry : Entry) (path : List ℕ) (digest : Option (List ℕ)) → IsUnknown known path
+  start_right : (entry : Entry) (path : List ℕ) (digest : Option Digest) → IsUnknown known path
       → Right (starts entry path digest)
   start_right (Add r) path digest new = new
   start_right (Done deriver outputs) path digest new = new

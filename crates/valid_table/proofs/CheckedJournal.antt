@@ -8,7 +8,7 @@ use Rattle.valid_table.specs.Checking.{IsEntryCheck, IsRight, IsRightUpTo, Refer
 use Rattle.valid_table.specs.Entries.{paths_of, registered, registered_by}
 use Rattle.valid_table.specs.LineFaults.{IsLeastFault, IsNotClosedAt, IsTwiceAt, StandsAt}
 use Rattle.valid_table.specs.Reading.{IsChecking}
-use Rattle.valid_table.specs.Texts.{Line, Version, Added, Output, Reference, entry_lines, lines}
+use Rattle.valid_table.specs.Texts.{Line, First, Added, Output, Reference, entry_lines, lines}
 use Rattle.valid_table.specs.Valid.{IsClosed, IsClosedBehind, references_of}
 use Rattle.valid_table.specs.declared.entry.Entry.{Entry}
 use Rattle.valid_table.specs.declared.entry.Registration.{Registration}
@@ -321,7 +321,7 @@ module _ (entries : List Entry) (i : ℕ) (entry : Entry) (lt : i < length entri
       + length (entry_lines entry)
   lines_more =
       ap (λ es. length (lines es)) (taken_more entries i entry lt is)
-      ∙ ap (λ ls. length (Version ∷ ls)) (sym (flat_map_more entry_lines [] (take i entries) entry))
+      ∙ ap (λ ls. length (First ∷ ls)) (sym (flat_map_more entry_lines [] (take i entries) entry))
       ∙ length-append (lines (take i entries)) (entry_lines entry)
 
   -- and what it registers is known

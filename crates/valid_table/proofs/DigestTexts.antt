@@ -1,20 +1,28 @@
--- Which bytes are a digest's text: they decode, and what they decode to encodes to them again.
-use Rattle.std.proofs.Common.{◌≡◌, ◌≢◌, ℕ, List, Option, Some, None, Ok, Err, codes, rules}
-use Rattle.hex.specs.Hex.{decode_sized, encode_lower}
-use Rattle.hex.specs.declared.error.FromHexError.{FromHexError}
-use Rattle.valid_table.specs.Texts.{IsDigest, digest_text}
-use Rattle.nix_names.proofs.HexDigits.{digits_decode}
+-- Which bytes are a digest's text in a version.
+use Rattle.std.proofs.Common.{◌≡◌, ◌≢◌, ℕ, List, Option, Some, None}
+use Rattle.std.specs.Prelude.{MatchOption, codes}
+use Rattle.nix_names.specs.Digests.{IsDigest, algorithm_of, digits_of}
+use Rattle.nix_names.specs.declared.digest.Algorithm.TheVariants.{Sha256}
+use Rattle.nix_names.specs.declared.digest.Digest.{Digest}
+use Rattle.valid_table.specs.Texts.{IsDigestOf, digest_text}
+use Rattle.valid_table.specs.declared.version.Version.{Version}
+use Rattle.valid_table.specs.declared.version.Version.TheVariants.{One}
 
--- bytes that are no dash and don't decode are no digest's text
-pub no_digits : (text : List ℕ) (e : FromHexError) → text ≢ codes "-" → decode_sized text 32 ≡ Err e
-    → (digest : Option (List ℕ)) → IsDigest digest → text ≢ digest_text digest
-no_digits text e no_dash err None is same = no_dash same
-no_digits text e no_dash err (Some digest) is same =
-    let ok = rw (← same) at (digits_decode digest is) in cc
+-- bytes that are neither a dash nor a digest's text are no text of one that may be none
+pub no_digest : (version : Version) (text : List ℕ) → text ≢ codes "-"
+    → ((digest : Digest) → IsDigestOf version (Some digest)
+    → text ≢ digest_text version (Some digest))
+    → (digest : Option Digest) → IsDigestOf version digest → text ≢ digest_text version digest
+no_digest version text dash none None is = dash
+no_digest version text dash none (Some digest) is = none digest is
 
--- nor are bytes that decode to another text's digest
-pub other_digits : (text found : List ℕ) → text ≢ codes "-" → decode_sized text 32 ≡ Ok found
-    → text ≢ encode_lower found → (digest : Option (List ℕ)) → IsDigest digest
-    → text ≢ digest_text digest
-other_digits text found no_dash ok other None is same = no_dash same
-other_digits text found no_dash ok other (Some digest) is same = search (rules, digits_decode)
+-- a digest's text in version 1 is the digits of a SHA-256
+pub in_one : (text : List ℕ) (found : Option Digest)
+    → MatchOption found
+    ((digest : Digest) → IsDigest digest → algorithm_of digest ≡ Sha256 → text ≢ digits_of digest)
+    (λ digest. IsDigest digest × (algorithm_of digest ≡ Sha256) × (text ≡ digits_of digest))
+    → MatchOption found
+    ((digest : Digest) → IsDigestOf One (Some digest) → text ≢ digest_text One (Some digest))
+    (λ digest. IsDigestOf One (Some digest) × (text ≡ digest_text One (Some digest)))
+in_one text None none = λ digest is. none digest is.1 is.0
+in_one text (Some digest) found = ((found.1, found.0), found.2)

@@ -1,49 +1,86 @@
 -- The entries of a journal, read one after another.
-use Rattle.std.proofs.lemmas.Grind.{common_steps}
-use Rattle.std.proofs.Common.{◌≡◌, true, ℕ, List, [], ◌∷◌, ◌++◌, length, ◌==◌, inl, ap, ◌∙◌, codes, rules, arith}
+use Rattle.std.proofs.Common.{◌≡◌, true, ℕ, List, [], ◌∷◌, ◌++◌, length, ◌==◌, inl, ap, sym, ◌∙◌, rules}
+use Rattle.std.specs.List.{flat_map}
 use Rattle.std.proofs.lemmas.Bool.{eqb-true}
-use Rattle.std.proofs.lemmas.List.{append-nil, nil_from_length}
+use Rattle.std.proofs.lemmas.List.{append-nil, append_assoc, nil_from_length}
 use Rattle.std.proofs.lemmas.List.Concat.{flat_map-append}
 use Rattle.std.proofs.lemmas.List.Elements.{All-nil, All-push}
 use Rattle.valid_table.specs.LineTexts.{lines_text}
-use Rattle.valid_table.specs.Readers.{HasEntry, SoFarEntries}
-use Rattle.valid_table.specs.Steps.{Start, Begun}
-use Rattle.valid_table.specs.Texts.{IsEntryOf, IsText, Version, entry_lines, lines, text}
+use Rattle.valid_table.specs.Readers.{HasEntry, HasToBegin, SoFarEntries, StopsInText}
+use Rattle.valid_table.specs.Reading.{BeginsVersion}
+use Rattle.valid_table.specs.Steps.{Place, Start, Begun, Stops}
+use Rattle.valid_table.specs.Texts.{IsEntryOf, IsText, First, entry_lines, lines, text, version_line}
 use Rattle.valid_table.specs.declared.entry.Entry.{Entry}
+use Rattle.valid_table.specs.declared.version.Version.{Version}
 use Rattle.valid_table.proofs.EntryLines.{lead}
 use Rattle.valid_table.proofs.Leading.{text_and}
 use Rattle.valid_table.proofs.LineSteps.{stop_behind}
 
 -- before the first entry the first line was read
-pub version_read : (dir bytes : List ℕ) (entries : List Entry) (rest : List ℕ) → bytes
-    ≡ codes "realiser-journal 1\n" ++ rest → entries ≡ [] → SoFarEntries dir bytes entries rest
-version_read dir bytes entries rest begins none = rw none (record {
-  parts = begins;
-  of_dir = All-nil (IsEntryOf dir);
-  leads = λ left goes_on. stop_behind dir Start bytes Version rest left begins tt
+pub version_read : (version : Version) (dir bytes : List ℕ) (entries : List Entry) (rest : List ℕ) → bytes
+    ≡ version_line version ++ rest → entries ≡ [] → SoFarEntries version dir bytes entries rest
+version_read version dir bytes entries rest begins none = rw none (record {
+  parts = begins ∙ ap (λ (t : List ℕ). t ++ rest) (sym (append-nil (version_line version)));
+  of_dir = All-nil (IsEntryOf version dir);
+  leads = λ left goes_on. stop_behind version dir Start bytes First rest left begins tt
       (goes_on Begun tt);
 })
 
+-- the lines of entries, and of one more
+lines_more : (entries : List Entry) (entry : Entry)
+    → lines entries ++ entry_lines entry ≡ lines (entries ++ entry ∷ [])
+lines_more entries entry = search (rules, flat_map-append, append-nil)
+
 -- the text of entries, and of one more
-text_more : (entries : List Entry) (entry : Entry) (rest : List ℕ) → lines_text (lines entries)
-    ++ (lines_text (entry_lines entry) ++ rest) ≡ lines_text (lines (entries ++ entry ∷ [])) ++ rest
-text_more entries entry rest = search (rules, text_and, flat_map-append, append-nil)
+text_more : (version : Version) (entries : List Entry) (entry : Entry) (rest : List ℕ)
+    → lines_text version (lines entries) ++ (lines_text version (entry_lines entry) ++ rest)
+    ≡ lines_text version (lines (entries ++ entry ∷ [])) ++ rest
+text_more version entries entry rest =
+    text_and version (lines entries) (entry_lines entry) rest
+    ∙ ap (λ some. lines_text version some ++ rest) (lines_more entries entry)
 
 -- one more entry
-pub entries_more : (dir bytes : List ℕ) (entries more : List Entry) (rest behind : List ℕ)
-    (entry : Entry) → SoFarEntries dir bytes entries rest → HasEntry dir rest entry behind → more
-    ≡ entries ++ entry ∷ [] → SoFarEntries dir bytes more behind
-entries_more dir bytes entries more rest behind entry so_far h pushed =
-    grind (arith, common_steps, text_more, All-push, lead)
+pub entries_more : (version : Version) (dir bytes : List ℕ) (entries more : List Entry) (rest behind : List ℕ)
+    (entry : Entry) → SoFarEntries version dir bytes entries rest → HasEntry version dir rest entry behind → more
+    ≡ entries ++ entry ∷ [] → SoFarEntries version dir bytes more behind
+entries_more version dir bytes entries more rest behind entry so_far h pushed =
+    rw pushed (record {
+      parts = so_far.parts ∙ ap (λ t. lines_text version (lines entries) ++ t) h.parts
+          ∙ text_more version entries entry behind;
+      of_dir = All-push (IsEntryOf version dir) entries entry so_far.of_dir h.of_dir;
+      leads = λ left goes_on.
+          so_far.leads left
+          (λ from begins. lead version dir rest entry behind from left h begins goes_on);
+    })
 
 -- where nothing is left, the bytes are the entries' text
-pub text_read : (dir bytes : List ℕ) (entries : List Entry) (rest : List ℕ)
-    → SoFarEntries dir bytes entries rest → (length rest == 0) ≡ true → IsText dir entries bytes
+pub text_read : (version : Version) (dir bytes : List ℕ) (entries : List Entry) (rest : List ℕ)
+    → SoFarEntries version dir bytes entries rest → (length rest == 0) ≡ true → IsText dir entries bytes
 unfolding text
-text_read dir bytes entries rest so_far empty =
+text_read version dir bytes entries rest so_far empty =
     let none = nil_from_length rest (eqb-true (length rest) 0 empty) in
-    record {
-      of_dir = so_far.of_dir;
-      bytes_are = inl (so_far.parts ∙ ap (λ r. lines_text (lines entries) ++ r) none
-          ∙ append-nil (lines_text (lines entries)));
-    }
+    inl (
+      version,
+      record {
+        of_dir = so_far.of_dir;
+        bytes_are = so_far.parts ∙ ap (λ r. lines_text version (lines entries) ++ r) none
+            ∙ append-nil (lines_text version (lines entries));
+      },
+    )
+
+-- the bytes begin with the line of their version
+pub version_begins : (version : Version) (dir bytes : List ℕ) (entries : List Entry)
+    (rest : List ℕ) → SoFarEntries version dir bytes entries rest → BeginsVersion version bytes
+version_begins version dir bytes entries rest so_far = (
+  lines_text version (flat_map entry_lines entries) ++ rest,
+  so_far.parts
+      ∙ append_assoc (version_line version) (lines_text version (flat_map entry_lines entries)) rest,
+)
+
+-- where the lines of an entry stop, so do those of the text
+pub text_stops : (version : Version) (dir bytes : List ℕ) (entries : List Entry) (rest : List ℕ)
+    (left : ℕ) → SoFarEntries version dir bytes entries rest
+    → ((from : Place) → HasToBegin from rest → Stops version dir from rest left)
+    → StopsInText dir bytes left
+text_stops version dir bytes entries rest left so_far stops =
+    inl (version, version_begins version dir bytes entries rest so_far, so_far.leads left stops)

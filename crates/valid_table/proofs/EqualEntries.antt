@@ -1,27 +1,42 @@
 -- Entries and their parts that are equal by `==` are the same.
-use Rattle.std.proofs.Common.{◌≡◌, Decides, List, ℕ, refl, sym, ap, nat_eq, true≢false, rules}
+use Rattle.std.proofs.Common.{◌≡◌, Decides, refl, sym, ap, nat_eq, true≢false, rules}
 use Rattle.std.specs.Prelude.{None, Option, Some}
 use Rattle.std.specs.Cmp.Lexicographic.{bytes_decides, pointwise, pointwise_decides}
 use Rattle.std.specs.Option.{option_eq}
+use Rattle.nix_names.specs.Digests.{bytes_of}
+use Rattle.nix_names.specs.declared.digest.Digest.{Digest}
+use Rattle.nix_names.specs.declared.digest.Digest.TheVariants.{Md5 as OfMd5, Sha1 as OfSha1, Sha256 as OfSha256, Sha512 as OfSha512}
 use Rattle.nix_names.proofs.Tests.{both_parts}
-use Rattle.valid_table.specs.Equality.{EqualEntriesAreSame, same_entry, same_record, same_registration}
+use Rattle.valid_table.specs.Equality.{EqualEntriesAreSame, same_digest, same_entry, same_record, same_registration}
 use Rattle.valid_table.specs.PathInfos.{PathInfo}
 use Rattle.valid_table.specs.declared.entry.Entry.{Entry}
 use Rattle.valid_table.specs.declared.entry.Entry.TheVariants.{Add, Done}
 use Rattle.valid_table.specs.declared.entry.Registration.{Registration}
 
--- digests
-digests_decide : (a b : Option (List ℕ)) → Decides (option_eq (pointwise nat_eq) a b) (a ≡ b)
+-- digests that are equal by `==` are the same, and the other way
+digest_decides : (a b : Digest) → Decides (same_digest a b) (a ≡ b)
+digest_decides (OfMd5 x) (OfMd5 y) =
+    (λ h. ap OfMd5 ((bytes_decides x y).0 h), λ e. (bytes_decides x y).1 (ap bytes_of e))
+digest_decides (OfSha1 x) (OfSha1 y) =
+    (λ h. ap OfSha1 ((bytes_decides x y).0 h), λ e. (bytes_decides x y).1 (ap bytes_of e))
+digest_decides (OfSha256 x) (OfSha256 y) =
+    (λ h. ap OfSha256 ((bytes_decides x y).0 h), λ e. (bytes_decides x y).1 (ap bytes_of e))
+digest_decides (OfSha512 x) (OfSha512 y) =
+    (λ h. ap OfSha512 ((bytes_decides x y).0 h), λ e. (bytes_decides x y).1 (ap bytes_of e))
+digest_decides a b = (λ h. absurd (true≢false (sym h)), λ e. cc)
+
+-- so are digests that may be none
+digests_decide : (a b : Option Digest) → Decides (option_eq same_digest a b) (a ≡ b)
 digests_decide None None = (λ h. refl, λ e. refl)
 digests_decide None (Some y) = (λ h. absurd (true≢false (sym h)), λ e. cc)
 digests_decide (Some x) None = (λ h. absurd (true≢false (sym h)), λ e. cc)
-digests_decide (Some x) (Some y) = search rules
+digests_decide (Some x) (Some y) = search (rules, digest_decides)
 
--- records that are equal by `==` are the same, and the other way
+-- so are records
 records_decide : (a b : PathInfo) → Decides (same_record a b) (a ≡ b)
 records_decide a b =
     both_parts (pointwise (pointwise nat_eq) a.references b.references)
-    (option_eq (pointwise nat_eq) a.digest b.digest)
+    (option_eq same_digest a.digest b.digest)
     (pointwise_decides bytes_decides a.references b.references) (digests_decide a.digest b.digest)
     (λ p q j. record { references = p j; digest = q j })
     (λ e. ap (λ (r : PathInfo). r.references) e)

@@ -5,110 +5,111 @@ use Rattle.std.proofs.lemmas.List.Concat.{flat_map-append}
 use Rattle.std.proofs.lemmas.List.Elements.{All-cons, All-nil, All-head, All-tail}
 use Rattle.valid_table.specs.LineTexts.{lines_text}
 use Rattle.valid_table.specs.Steps.{Place, Start, Begun, Opened, Within, Ahead, Goes, LeadsTo, MayStand, behind}
-use Rattle.valid_table.specs.Texts.{Line, Version, Added, Deriver, Output, Reference, line_text}
+use Rattle.valid_table.specs.Texts.{Line, First, Added, Deriver, Output, Reference, line_text}
+use Rattle.valid_table.specs.declared.version.Version.{Version}
 use Rattle.valid_table.proofs.LineTexts.{IsLineOf, same_lines}
 
 -- ---- to where lines lead
 
 -- the first of some lines lead to where the others lead on
-pub leads_front : (dir : List ℕ) (Is : Place → Type 0) (from : Place) (a b : List Line)
-    → LeadsTo dir Is from (a ++ b) → LeadsTo dir (λ to. LeadsTo dir Is to b) from a
-leads_front dir Is from [] b leads = leads
-leads_front dir Is from (line ∷ a) b leads =
-    (leads.0, leads_front dir Is (behind from line) a b leads.1)
+pub leads_front : (version : Version) (dir : List ℕ) (Is : Place → Type 0) (from : Place) (a b : List Line)
+    → LeadsTo version dir Is from (a ++ b) → LeadsTo version dir (λ to. LeadsTo version dir Is to b) from a
+leads_front version dir Is from [] b leads = leads
+leads_front version dir Is from (line ∷ a) b leads =
+    (leads.0, leads_front version dir Is (behind from line) a b leads.1)
 
 -- and back
-pub leads_joined : (dir : List ℕ) (Is : Place → Type 0) (from : Place) (a b : List Line)
-    → LeadsTo dir (λ to. LeadsTo dir Is to b) from a → LeadsTo dir Is from (a ++ b)
-leads_joined dir Is from [] b leads = leads
-leads_joined dir Is from (line ∷ a) b leads =
-    (leads.0, leads_joined dir Is (behind from line) a b leads.1)
+pub leads_joined : (version : Version) (dir : List ℕ) (Is : Place → Type 0) (from : Place) (a b : List Line)
+    → LeadsTo version dir (λ to. LeadsTo version dir Is to b) from a → LeadsTo version dir Is from (a ++ b)
+leads_joined version dir Is from [] b leads = leads
+leads_joined version dir Is from (line ∷ a) b leads =
+    (leads.0, leads_joined version dir Is (behind from line) a b leads.1)
 
 -- what holds of the place to which lines lead
-pub leads_weaker : (dir : List ℕ) (Is Also : Place → Type 0) → ((to : Place) → Is to → Also to)
-    → (from : Place) (a : List Line) → LeadsTo dir Is from a → LeadsTo dir Also from a
-leads_weaker dir Is Also weaker from [] leads = weaker from leads
-leads_weaker dir Is Also weaker from (line ∷ a) leads =
-    (leads.0, leads_weaker dir Is Also weaker (behind from line) a leads.1)
+pub leads_weaker : (version : Version) (dir : List ℕ) (Is Also : Place → Type 0) → ((to : Place) → Is to → Also to)
+    → (from : Place) (a : List Line) → LeadsTo version dir Is from a → LeadsTo version dir Also from a
+leads_weaker version dir Is Also weaker from [] leads = weaker from leads
+leads_weaker version dir Is Also weaker from (line ∷ a) leads =
+    (leads.0, leads_weaker version dir Is Also weaker (behind from line) a leads.1)
 
-pub leads_both : (dir : List ℕ) (Is Also : Place → Type 0) (from : Place) (a : List Line)
-    → LeadsTo dir Is from a → LeadsTo dir Also from a → LeadsTo dir (λ to. Is to × Also to) from a
-leads_both dir Is Also from [] one two = (one, two)
-leads_both dir Is Also from (line ∷ a) one two =
-    (one.0, leads_both dir Is Also (behind from line) a one.1 two.1)
+pub leads_both : (version : Version) (dir : List ℕ) (Is Also : Place → Type 0) (from : Place) (a : List Line)
+    → LeadsTo version dir Is from a → LeadsTo version dir Also from a → LeadsTo version dir (λ to. Is to × Also to) from a
+leads_both version dir Is Also from [] one two = (one, two)
+leads_both version dir Is Also from (line ∷ a) one two =
+    (one.0, leads_both version dir Is Also (behind from line) a one.1 two.1)
 
-pub leads_some : (dir : List ℕ) (X : Type 0) (Is : X → Place → Type 0) (from : Place)
-    (a : List Line) → LeadsTo dir (λ to. (x : X) × Is x to) from a → (x : X)
-    × LeadsTo dir (Is x) from a
-leads_some dir X Is from [] leads = leads
-leads_some dir X Is from (line ∷ a) leads =
-    let later = leads_some dir X Is (behind from line) a leads.1 in
+pub leads_some : (version : Version) (dir : List ℕ) (X : Type 0) (Is : X → Place → Type 0) (from : Place)
+    (a : List Line) → LeadsTo version dir (λ to. (x : X) × Is x to) from a → (x : X)
+    × LeadsTo version dir (Is x) from a
+leads_some version dir X Is from [] leads = leads
+leads_some version dir X Is from (line ∷ a) leads =
+    let later = leads_some version dir X Is (behind from line) a leads.1 in
     (later.0, (leads.0, later.1))
 
-pub leads_end : (dir : List ℕ) (Is : Place → Type 0) (from : Place) (a : List Line)
-    → LeadsTo dir Is from a → (to : Place) × Is to
-leads_end dir Is from [] leads = (from, leads)
-leads_end dir Is from (line ∷ a) leads = leads_end dir Is (behind from line) a leads.1
+pub leads_end : (version : Version) (dir : List ℕ) (Is : Place → Type 0) (from : Place) (a : List Line)
+    → LeadsTo version dir Is from a → (to : Place) × Is to
+leads_end version dir Is from [] leads = (from, leads)
+leads_end version dir Is from (line ∷ a) leads = leads_end version dir Is (behind from line) a leads.1
 
 -- behind a deriver the lines go on with an output
-pub ahead_of : (dir : List ℕ) (Is : Place → Type 0) (place : Place) (lines : List Line)
-    (rest : List ℕ) → ((to : Place) → Is to → Ahead to rest) → LeadsTo dir Is place lines
-    → Ahead place (lines_text lines ++ rest)
-ahead_of dir Is place [] rest weaker leads = weaker place leads
-ahead_of dir Is Opened (Output path digest ∷ lines) rest weaker leads = search rules
-ahead_of dir Is Opened (line ∷ lines) rest weaker leads = absurd leads.0
-ahead_of dir Is place (line ∷ lines) rest weaker leads = tt
+pub ahead_of : (version : Version) (dir : List ℕ) (Is : Place → Type 0) (place : Place) (lines : List Line)
+    (rest : List ℕ) → ((to : Place) → Is to → Ahead to rest) → LeadsTo version dir Is place lines
+    → Ahead place (lines_text version lines ++ rest)
+ahead_of version dir Is place [] rest weaker leads = weaker place leads
+ahead_of version dir Is Opened (Output path digest ∷ lines) rest weaker leads = search rules
+ahead_of version dir Is Opened (line ∷ lines) rest weaker leads = absurd leads.0
+ahead_of version dir Is place (line ∷ lines) rest weaker leads = tt
 
 -- ---- lines have their forms
 
 -- a line that may stand somewhere has its form
-pub line_of : (dir : List ℕ) (place : Place) (line : Line) → MayStand dir place line
-    → IsLineOf dir line
-line_of dir Start Version may = tt
-line_of dir Begun (Added path digest) may = may
-line_of dir Begun (Deriver path) may = may
-line_of dir Opened (Output path digest) may = (may.0, may.1)
-line_of dir (Within output last) (Added path digest) may = may
-line_of dir (Within output last) (Deriver path) may = may
-line_of dir (Within (Some before) last) (Output path digest) may = (may.0, may.1)
-line_of dir (Within output last) (Reference path) may = may.0
-line_of dir place line may = absurd may
+pub line_of : (version : Version) (dir : List ℕ) (place : Place) (line : Line) → MayStand version dir place line
+    → IsLineOf version dir line
+line_of version dir Start First may = tt
+line_of version dir Begun (Added path digest) may = may
+line_of version dir Begun (Deriver path) may = may
+line_of version dir Opened (Output path digest) may = (may.0, may.1)
+line_of version dir (Within output last) (Added path digest) may = may
+line_of version dir (Within output last) (Deriver path) may = may
+line_of version dir (Within (Some before) last) (Output path digest) may = (may.0, may.1)
+line_of version dir (Within output last) (Reference path) may = may.0
+line_of version dir place line may = absurd may
 
 -- and so has each of some lines that lead on
-pub lines_of : (dir : List ℕ) (Is : Place → Type 0) (from : Place) (lines : List Line)
-    → LeadsTo dir Is from lines → All (IsLineOf dir) lines
-lines_of dir Is from [] leads = All-nil (IsLineOf dir)
-lines_of dir Is from (line ∷ more) leads =
-    All-cons (IsLineOf dir) line more (line_of dir from line leads.0)
-    (lines_of dir Is (behind from line) more leads.1)
+pub lines_of : (version : Version) (dir : List ℕ) (Is : Place → Type 0) (from : Place) (lines : List Line)
+    → LeadsTo version dir Is from lines → All (IsLineOf version dir) lines
+lines_of version dir Is from [] leads = All-nil (IsLineOf version dir)
+lines_of version dir Is from (line ∷ more) leads =
+    All-cons (IsLineOf version dir) line more (line_of version dir from line leads.0)
+    (lines_of version dir Is (behind from line) more leads.1)
 
 -- ---- bytes tell lines
 
 -- lines, their bytes and others are the lines with one more, and theirs
-pub text_push : (a : List Line) (line : Line) (rest : List ℕ) → lines_text a
-    ++ (line_text line ++ rest) ≡ lines_text (a ++ line ∷ []) ++ rest
-text_push a line rest = search (rules, append_assoc, flat_map-append, append-nil)
+pub text_push : (version : Version) (a : List Line) (line : Line) (rest : List ℕ) → lines_text version a
+    ++ (line_text version line ++ rest) ≡ lines_text version (a ++ line ∷ []) ++ rest
+text_push version a line rest = search (rules, append_assoc, flat_map-append, append-nil)
 
 -- lines with what stands behind them, and those before others
-pub text_and : (a b : List Line) (rest : List ℕ) → lines_text a ++ (lines_text b ++ rest)
-    ≡ lines_text (a ++ b) ++ rest
-text_and a b rest = search (rules, append_assoc, flat_map-append)
+pub text_and : (version : Version) (a b : List Line) (rest : List ℕ) → lines_text version a ++ (lines_text version b ++ rest)
+    ≡ lines_text version (a ++ b) ++ rest
+text_and version a b rest = search (rules, append_assoc, flat_map-append)
 
 -- some lines, with bytes behind them, are others with more lines
-abbrev pub GoOn : List Line → List Line → List ℕ → List ℕ → Type 0
-GoOn a b x y = (c : List Line) × (b ≡ a ++ c) × (x ≡ lines_text c ++ y)
+abbrev pub GoOn : Version → List Line → List Line → List ℕ → List ℕ → Type 0
+GoOn version a b x y = (c : List Line) × (b ≡ a ++ c) × (x ≡ lines_text version c ++ y)
 
 -- of two lists of lines in the same bytes one begins the other
-pub aligned : (dir : List ℕ) (a b : List Line) (x y : List ℕ) → All (IsLineOf dir) a
-    → All (IsLineOf dir) b → lines_text a ++ x ≡ lines_text b ++ y → GoOn a b x y ⊎ GoOn b a y x
-aligned dir [] b x y one two e = inl (b, refl, e)
-aligned dir (l ∷ a) [] x y one two e = inr (l ∷ a, refl, sym e)
-aligned dir (l ∷ a) (m ∷ b) x y one two e =
-    let same = same_lines dir l m (lines_text a ++ x) (lines_text b ++ y)
-    (All-head (IsLineOf dir) l a one) (All-head (IsLineOf dir) m b two)
-    (sym (append_assoc (line_text l) (lines_text a) x) ∙ e
-    ∙ append_assoc (line_text m) (lines_text b) y) in
-    elim (aligned dir a b x y (All-tail (IsLineOf dir) l a one) (All-tail (IsLineOf dir) m b two)
+pub aligned : (version : Version) (dir : List ℕ) (a b : List Line) (x y : List ℕ) → All (IsLineOf version dir) a
+    → All (IsLineOf version dir) b → lines_text version a ++ x ≡ lines_text version b ++ y → GoOn version a b x y ⊎ GoOn version b a y x
+aligned version dir [] b x y one two e = inl (b, refl, e)
+aligned version dir (l ∷ a) [] x y one two e = inr (l ∷ a, refl, sym e)
+aligned version dir (l ∷ a) (m ∷ b) x y one two e =
+    let same = same_lines version dir l m (lines_text version a ++ x) (lines_text version b ++ y)
+    (All-head (IsLineOf version dir) l a one) (All-head (IsLineOf version dir) m b two)
+    (sym (append_assoc (line_text version l) (lines_text version a) x) ∙ e
+    ∙ append_assoc (line_text version m) (lines_text version b) y) in
+    elim (aligned version dir a b x y (All-tail (IsLineOf version dir) l a one) (All-tail (IsLineOf version dir) m b two)
     same.1) [
       | inl d ↦ inl (
         d.0,
@@ -119,65 +120,65 @@ aligned dir (l ∷ a) (m ∷ b) x y one two e =
     ]
 
 -- where a line stands behind the first ones, it goes on from where these lead
-goes_behind : (dir : List ℕ) (Is Also : Place → Type 0) (from : Place) (a b : List Line)
+goes_behind : (version : Version) (dir : List ℕ) (Is Also : Place → Type 0) (from : Place) (a b : List Line)
     (line : Line) (c : List Line) (x y : List ℕ) → ((to : Place) → Also to → Ahead to y)
-    → LeadsTo dir Is from a → LeadsTo dir Also from b
-    → b ≡ a ++ line ∷ c → x ≡ lines_text (line ∷ c) ++ y
-    → LeadsTo dir (λ to. Is to × Goes dir to x line (lines_text c ++ y)) from a
-goes_behind dir Is Also from a b line c x y weaker one two is rest =
-    leads_both dir Is (λ to. Goes dir to x line (lines_text c ++ y)) from a one
-    (leads_weaker dir (λ to. LeadsTo dir Also to (line ∷ c))
-    (λ to. Goes dir to x line (lines_text c ++ y))
+    → LeadsTo version dir Is from a → LeadsTo version dir Also from b
+    → b ≡ a ++ line ∷ c → x ≡ lines_text version (line ∷ c) ++ y
+    → LeadsTo version dir (λ to. Is to × Goes version dir to x line (lines_text version c ++ y)) from a
+goes_behind version dir Is Also from a b line c x y weaker one two is rest =
+    leads_both version dir Is (λ to. Goes version dir to x line (lines_text version c ++ y)) from a one
+    (leads_weaker version dir (λ to. LeadsTo version dir Also to (line ∷ c))
+    (λ to. Goes version dir to x line (lines_text version c ++ y))
     (λ to leads. record {
-      parts = rest ∙ append_assoc (line_text line) (lines_text c) y;
+      parts = rest ∙ append_assoc (line_text version line) (lines_text version c) y;
       may = leads.0;
-      ahead = ahead_of dir Also (behind to line) c y weaker leads.1;
-    }) from a (leads_front dir Also from a (line ∷ c) (subst (LeadsTo dir Also from) is two)))
+      ahead = ahead_of version dir Also (behind to line) c y weaker leads.1;
+    }) from a (leads_front version dir Also from a (line ∷ c) (subst (LeadsTo version dir Also from) is two)))
 
 -- Some lines lead into bytes, in which a line goes on from there.
-abbrev pub GoesOn : List ℕ → (Place → Type 0) → Place → List Line → List ℕ → Type 0
-GoesOn dir Is from a x = (line : Line) × (more : List ℕ)
-    × LeadsTo dir (λ to. Is to × Goes dir to x line more) from a
+abbrev pub GoesOn : Version → List ℕ → (Place → Type 0) → Place → List Line → List ℕ → Type 0
+GoesOn version dir Is from a x = (line : Line) × (more : List ℕ)
+    × LeadsTo version dir (λ to. Is to × Goes version dir to x line more) from a
 
 nothing_behind : (a x : List ℕ) → [] ≡ a ++ x → x ≡ []
 nothing_behind [] x e = sym e
 nothing_behind (b ∷ a) x e = cc e
 
 -- lines in the bytes of others lead to their end, or one goes on
-pub go_on : (dir : List ℕ) (Is Also : Place → Type 0) (from : Place) (a b : List Line) (x : List ℕ)
-    → ((to : Place) → Also to → Ahead to []) → LeadsTo dir Is from a → LeadsTo dir Also from b
-    → lines_text a ++ x ≡ lines_text b
-    → (x ≡ []) ⊎ GoesOn dir Is from a x
-go_on dir Is Also from a b x weaker one two e =
-    elim (aligned dir a b x [] (lines_of dir Is from a one) (lines_of dir Also from b two)
-    (e ∙ sym (append-nil (lines_text b)))) [
+pub go_on : (version : Version) (dir : List ℕ) (Is Also : Place → Type 0) (from : Place) (a b : List Line) (x : List ℕ)
+    → ((to : Place) → Also to → Ahead to []) → LeadsTo version dir Is from a → LeadsTo version dir Also from b
+    → lines_text version a ++ x ≡ lines_text version b
+    → (x ≡ []) ⊎ GoesOn version dir Is from a x
+go_on version dir Is Also from a b x weaker one two e =
+    elim (aligned version dir a b x [] (lines_of version dir Is from a one) (lines_of version dir Also from b two)
+    (e ∙ sym (append-nil (lines_text version b)))) [
       | inl d ↦ on d.0 d.1 d.2
-      | inr d ↦ inl (nothing_behind (lines_text d.0) x d.2)
+      | inr d ↦ inl (nothing_behind (lines_text version d.0) x d.2)
     ]
   where
-    on : (c : List Line) → b ≡ a ++ c → x ≡ lines_text c ++ [] → (x ≡ []) ⊎ GoesOn dir Is from a x
+    on : (c : List Line) → b ≡ a ++ c → x ≡ lines_text version c ++ [] → (x ≡ []) ⊎ GoesOn version dir Is from a x
     on [] is rest = inl rest
     on (line ∷ c) is rest = inr (
       line,
-      lines_text c ++ [],
-      goes_behind dir Is Also from a b line c x [] weaker one two is rest,
+      lines_text version c ++ [],
+      goes_behind version dir Is Also from a b line c x [] weaker one two is rest,
     )
 
 -- where one line more leads on in the same bytes, it goes on
-pub one_more : (dir : List ℕ) (Is Also : Place → Type 0) (from : Place) (a b : List Line)
-    (x y : List ℕ) → ((to : Place) → Also to → Ahead to y) → LeadsTo dir Is from a
-    → LeadsTo dir Also from b → length b ≡ suc (length a)
-    → lines_text a ++ x ≡ lines_text b ++ y → GoesOn dir Is from a x
-one_more dir Is Also from a b x y weaker one two long e =
-    elim (aligned dir a b x y (lines_of dir Is from a one) (lines_of dir Also from b two) e) [
+pub one_more : (version : Version) (dir : List ℕ) (Is Also : Place → Type 0) (from : Place) (a b : List Line)
+    (x y : List ℕ) → ((to : Place) → Also to → Ahead to y) → LeadsTo version dir Is from a
+    → LeadsTo version dir Also from b → length b ≡ suc (length a)
+    → lines_text version a ++ x ≡ lines_text version b ++ y → GoesOn version dir Is from a x
+one_more version dir Is Also from a b x y weaker one two long e =
+    elim (aligned version dir a b x y (lines_of version dir Is from a one) (lines_of version dir Also from b two) e) [
       | inl d ↦ on d.0 d.1 d.2
       | inr d ↦ absurd (omega (arith, ap length d.1, length-append b d.0))
     ]
   where
-    on : (c : List Line) → b ≡ a ++ c → x ≡ lines_text c ++ y → GoesOn dir Is from a x
+    on : (c : List Line) → b ≡ a ++ c → x ≡ lines_text version c ++ y → GoesOn version dir Is from a x
     on [] is rest = absurd (omega (arith, ap length (is ∙ append-nil a)))
     on (line ∷ c) is rest = (
       line,
-      lines_text c ++ y,
-      goes_behind dir Is Also from a b line c x y weaker one two is rest,
+      lines_text version c ++ y,
+      goes_behind version dir Is Also from a b line c x y weaker one two is rest,
     )

@@ -37,4 +37,5 @@ pub mod Sorting
 pub mod TableRows
 pub mod TakenIn
 pub mod TextsRead
+pub mod VersionLaws
 pub mod Versions

@@ -3,12 +3,14 @@ use Rattle.std.proofs.Common.{false, ◌≡◌, ◌≢◌, ◌⊎◌, ℕ, List,
 use Rattle.std.proofs.lemmas.Bool.{false≢true}
 use Rattle.nix_names.specs.Names.{IsStoreDir, is_drv_name}
 use Rattle.nix_names.specs.StorePaths.{IsPathOf, name_of, path_fault}
+use Rattle.nix_names.specs.declared.digest.Digest.{Digest}
 use Rattle.nix_names.specs.declared.fault.NameFault.{NameFault}
 use Rattle.nix_names.specs.declared.fault.NameFault.TheVariants.{NoMemory}
 use Rattle.nix_names.proofs.PathFaults.{no_fault_of_path}
 use Rattle.valid_table.specs.Readers.{HasNoFields, IsDeriverLine, IsFieldsLine, IsNoLine, IsPathLine}
 use Rattle.valid_table.specs.Steps.{IsAbove}
-use Rattle.valid_table.specs.Texts.{IsDigest, digest_text}
+use Rattle.valid_table.specs.Texts.{IsDigestOf, digest_text}
+use Rattle.valid_table.specs.declared.version.Version.{Version}
 use Rattle.valid_table.proofs.LineTexts.{fields_apart, two_fields, two_path_lines}
 use Rattle.valid_table.proofs.Separators.{Lacks, digest_lacks, dir_lacks, lacks_not, newline, path_lacks, same_cut, space}
 
@@ -34,32 +36,32 @@ other_path_line dir bytes line behind path rest of_dir none parts other is =
     other (subst (IsPathOf dir) same.0 is.of_dir)
 
 -- without a space there are no fields
-pub no_space : (dir bytes path : List ℕ) (digest : Option (List ℕ)) (rest : List ℕ) → Lacks 32 bytes
-    → IsFieldsLine dir bytes path digest rest → ⊥
-no_space dir bytes path digest rest none is = search (rules, lacks_not, fields_apart)
+pub no_space : (version : Version) (dir bytes path : List ℕ) (digest : Option Digest) (rest : List ℕ) → Lacks 32 bytes
+    → IsFieldsLine version dir bytes path digest rest → ⊥
+no_space version dir bytes path digest rest none is = search (rules, lacks_not, fields_apart)
 
 -- fields, and what stands before the first space and behind it
-module _ (dir bytes text fields : List ℕ) (of_dir : IsStoreDir dir) (none : Lacks 32 text)
-    (parts : bytes ≡ text ++ 32 ∷ fields) (path : List ℕ) (digest : Option (List ℕ))
-    (rest : List ℕ) (is : IsFieldsLine dir bytes path digest rest) where
+module _ (version : Version) (dir bytes text fields : List ℕ) (of_dir : IsStoreDir dir) (none : Lacks 32 text)
+    (parts : bytes ≡ text ++ 32 ∷ fields) (path : List ℕ) (digest : Option Digest)
+    (rest : List ℕ) (is : IsFieldsLine version dir bytes path digest rest) where
   -- the path of the fields is what stands before the space
-  behind_space : (path ≡ text) × (digest_text digest ++ (10 ∷ rest) ≡ fields)
+  behind_space : (path ≡ text) × (digest_text version digest ++ (10 ∷ rest) ≡ fields)
   behind_space =
-      same_cut 32 path text (digest_text digest ++ (10 ∷ rest)) fields
+      same_cut 32 path text (digest_text version digest ++ (10 ∷ rest)) fields
       (path_lacks 32 space dir path (dir_lacks 32 space dir of_dir) is.of_dir) none
-      (sym (fields_apart path digest rest) ∙ sym is.parts ∙ parts)
+      (sym (fields_apart version path digest rest) ∙ sym is.parts ∙ parts)
 
   -- a newline stands behind the space
   pub no_newline : Lacks 10 fields → ⊥
-  no_newline lacks = lacks_not 10 (digest_text digest) rest
+  no_newline lacks = lacks_not 10 (digest_text version digest) rest
       (subst (Lacks 10) (sym behind_space.1) lacks)
 
   -- a digest's text stands up to that newline
   pub other_digest : (line behind : List ℕ) → Lacks 10 line → fields ≡ line ++ 10 ∷ behind
-      → ((d : Option (List ℕ)) → IsDigest d → line ≢ digest_text d) → ⊥
+      → ((d : Option Digest) → IsDigestOf version d → line ≢ digest_text version d) → ⊥
   other_digest line behind lacks ends other =
       other digest is.is_digest
-      (sym (same_cut 10 (digest_text digest) line rest behind (digest_lacks digest is.is_digest)
+      (sym (same_cut 10 (digest_text version digest) line rest behind (digest_lacks version digest is.is_digest)
       lacks (behind_space.1 ∙ ends)).0)
 
   -- and a path before the space
@@ -81,10 +83,10 @@ not_ahead dir bytes path behind other rest line none is =
     none is.ahead.0 (sym same.1 ∙ is.ahead.1)
 
 -- a path that isn't above the one before it is not the one of a line that is wanted
-pub low_fields : (dir : List ℕ) (before : Option (List ℕ)) (fields path : List ℕ)
-    (digest : Option (List ℕ)) (rest : List ℕ)
-    → IsFieldsLine dir fields path digest rest → (IsAbove before path → ⊥)
-    → HasNoFields dir before fields
-low_fields dir before fields path digest rest line low = λ other sum more above is.
-    low (subst (IsAbove before) (two_fields dir fields other sum more path digest rest is line).0
+pub low_fields : (version : Version) (dir : List ℕ) (before : Option (List ℕ)) (fields path : List ℕ)
+    (digest : Option Digest) (rest : List ℕ)
+    → IsFieldsLine version dir fields path digest rest → (IsAbove before path → ⊥)
+    → HasNoFields version dir before fields
+low_fields version dir before fields path digest rest line low = λ other sum more above is.
+    low (subst (IsAbove before) (two_fields version dir fields other sum more path digest rest is line).0
     above)

@@ -7,6 +7,7 @@ use Rattle.valid_table.specs.declared.reading.Stop.{Stop}
 use Rattle.valid_table.specs.declared.reading.Stop.TheVariants.{NoMemory, Left}
 use Rattle.valid_table.specs.Steps.{Place, Ahead, Goes, MayStand, Stops, behind}
 use Rattle.valid_table.specs.Texts.{Line, line_text}
+use Rattle.valid_table.specs.declared.version.Version.{Version}
 use Rattle.valid_table.proofs.LineLists.{IsBackward}
 
 -- the first byte
@@ -14,38 +15,38 @@ abbrev pub first : List ℕ → ℕ
 first bytes = get_or bytes 0 0
 
 -- where no line goes on with bytes that begin with something, the lines stop
-pub stop_here : (dir : List ℕ) (place : Place) (bad : List ℕ) (c : ℕ) (more : List ℕ) → bad ≡ c
-    ∷ more → Ahead place bad → ((line : Line) (rest : List ℕ) → Goes dir place bad line rest → ⊥)
-    → Stops dir place bad (length bad)
-stop_here dir place bad c more begins ahead stuck = search rules
+pub stop_here : (version : Version) (dir : List ℕ) (place : Place) (bad : List ℕ) (c : ℕ) (more : List ℕ) → bad ≡ c
+    ∷ more → Ahead place bad → ((line : Line) (rest : List ℕ) → Goes version dir place bad line rest → ⊥)
+    → Stops version dir place bad (length bad)
+stop_here version dir place bad c more begins ahead stuck = search rules
 
 -- one line, and where the lines behind it stop
-pub stop_behind : (dir : List ℕ) (from : Place) (bytes : List ℕ) (line : Line) (more : List ℕ)
-    (left : ℕ) → bytes ≡ line_text line ++ more → MayStand dir from line
-    → Stops dir (behind from line) more left → Stops dir from bytes left
-stop_behind dir from bytes line more left parts may h = record {
+pub stop_behind : (version : Version) (dir : List ℕ) (from : Place) (bytes : List ℕ) (line : Line) (more : List ℕ)
+    (left : ℕ) → bytes ≡ line_text version line ++ more → MayStand version dir from line
+    → Stops version dir (behind from line) more left → Stops version dir from bytes left
+stop_behind version dir from bytes line more left parts may h = record {
   lines = line ∷ h.lines;
   bad = h.bad;
-  parts = parts ∙ ap (λ (t : List ℕ). line_text line ++ t) h.parts
-      ∙ sym (append_assoc (line_text line) (lines_text h.lines) h.bad);
+  parts = parts ∙ ap (λ (t : List ℕ). line_text version line ++ t) h.parts
+      ∙ sym (append_assoc (line_text version line) (lines_text version h.lines) h.bad);
   leads = (may, h.leads);
   is_left = h.is_left;
   some = h.some;
 }
 
 -- in lines and the rest, the lines stop with so many bytes left
-abbrev pub StopsIn : List ℕ → List ℕ → ℕ → Place → List Line → Type 0
-StopsIn dir rest left from lines = Stops dir from (lines_text lines ++ rest) left
+abbrev pub StopsIn : Version → List ℕ → List ℕ → ℕ → Place → List Line → Type 0
+StopsIn version dir rest left from lines = Stops version dir from (lines_text version lines ++ rest) left
 
 -- they stop where those behind the first one do
-pub stops_back : (dir rest : List ℕ) (left : ℕ) → IsBackward dir (StopsIn dir rest left)
-stops_back dir rest left from line more may h = search (rules, stop_behind, append_assoc)
+pub stops_back : (version : Version) (dir rest : List ℕ) (left : ℕ) → IsBackward version dir (StopsIn version dir rest left)
+stops_back version dir rest left from line more may h = search (rules, stop_behind, append_assoc)
 
 -- the same bytes stop with the same left
-pub stops_in : (dir : List ℕ) (from : Place) (lines : List Line) (bytes rest : List ℕ) (left : ℕ)
-    → bytes ≡ lines_text lines ++ rest → StopsIn dir rest left from (lines ++ [])
-    → Stops dir from bytes left
-stops_in dir from lines bytes rest left parts h = search (rules, append-nil)
+pub stops_in : (version : Version) (dir : List ℕ) (from : Place) (lines : List Line) (bytes rest : List ℕ) (left : ℕ)
+    → bytes ≡ lines_text version lines ++ rest → StopsIn version dir rest left from (lines ++ [])
+    → Stops version dir from bytes left
+stops_in version dir from lines bytes rest left parts h = search (rules, append-nil)
 
 -- what follows from where a reader stopped
 pub stops_where : (P Q : ℕ → Type 0) → ((left : ℕ) → P left → Q left) → (stop : Stop)

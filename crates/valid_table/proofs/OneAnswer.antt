@@ -1,14 +1,14 @@
 -- Reading the same bytes gives one answer, want of memory apart.
-use Rattle.std.proofs.Common.{◌≡◌, ◌<◌, ◌≤◌, ◌⊎◌, ℕ, suc, List, ◌∷◌, ◌++◌, length, get_or, inl, inr, refl, ap, sym, subst, ◌∙◌, arith, Result, Ok, Err, rules}
+use Rattle.std.proofs.Common.{◌≡◌, ◌⊎◌, ℕ, suc, List, ◌∷◌, ◌++◌, length, get_or, inl, inr, refl, ap, sym, subst, ◌∙◌, arith, Result, Ok, Err, rules}
 use Rattle.std.specs.List.{flat_map}
 use Rattle.std.proofs.lemmas.List.{append_assoc, get_or_at, length-append}
 use Rattle.std.proofs.lemmas.List.Concat.{flat_map-append}
 use Rattle.nix_names.specs.Names.{IsStoreDir}
 use Rattle.valid_table.specs.BadLines.{IsBadLine, IsOtherVersion}
 use Rattle.valid_table.specs.LineFaults.{IsLeastFault, IsNotClosedAt, IsTwiceAt, StandsAt}
-use Rattle.valid_table.specs.Reading.{IsChecking, IsReadAs, IsReading, max_len}
+use Rattle.valid_table.specs.Reading.{IsChecking, IsReadAs, IsReading, IsTooLong}
 use Rattle.valid_table.specs.ReadingLaws.{AnswerIsOne, JournalTextsAreRead}
-use Rattle.valid_table.specs.Texts.{Line, Version, Added, Output, Reference, entry_lines, lines}
+use Rattle.valid_table.specs.Texts.{Line, First, Added, Output, Reference, entry_lines, lines}
 use Rattle.valid_table.specs.declared.entry.Entry.{Entry}
 use Rattle.valid_table.specs.declared.fault.TableFault.{TableFault}
 use Rattle.valid_table.specs.declared.fault.TableFault.TheVariants.{NoMemory, BadLine, NotClosed, Twice, WrongVersion, TooLong}
@@ -26,7 +26,7 @@ in_lines entries before entry line n s =
     let behind = flat_map entry_lines s.after in
     let parts : lines entries ≡ (lines before ++ s.first) ++ line ∷ (s.last ++ behind) =
     ap lines s.parts
-    ∙ ap (λ (ls : List Line). Version ∷ ls) (flat_map-append entry_lines before (entry ∷ s.after))
+    ∙ ap (λ (ls : List Line). First ∷ ls) (flat_map-append entry_lines before (entry ∷ s.after))
     ∙ ap (λ (ls : List Line). lines before ++ (ls ++ behind)) s.is_line
     ∙ ap (λ (ls : List Line). lines before ++ ls) (append_assoc s.first (line ∷ s.last) behind)
     ∙ sym (append_assoc (lines before) s.first (line ∷ (s.last ++ behind))) in (
@@ -43,9 +43,9 @@ one_line entries before other entry another a b n one two =
     let here = in_lines entries before entry a n one in
     let there = in_lines entries other another b n two in
     let place : length here.0 ≡ length there.0 = omega (arith, here.3, there.3) in
-    sym (get_or_at here.0 a here.1 Version (length here.0) refl)
-    ∙ ap (λ (ls : List Line). get_or ls (length here.0) Version) (sym here.2 ∙ there.2)
-    ∙ get_or_at there.0 b there.1 Version (length here.0) (sym place)
+    sym (get_or_at here.0 a here.1 First (length here.0) refl)
+    ∙ ap (λ (ls : List Line). get_or ls (length here.0) First) (sym here.2 ∙ there.2)
+    ∙ get_or_at there.0 b there.1 First (length here.0) (sym place)
 
 -- so no line refers to a path and registers one
 one_fault : (entries : List Entry) (n : ℕ) → IsNotClosedAt entries n → IsTwiceAt entries n → ⊥
@@ -97,18 +97,18 @@ one_check entries (Err (Twice m)) (Err b) one two = absurd two
 one_check entries a b one two = absurd one
 
 -- bytes past the limit
-too_long : (dir bytes : List ℕ) (b : Result (List Entry) TableFault) → max_len < length bytes
+too_long : (dir bytes : List ℕ) (b : Result (List Entry) TableFault) → IsTooLong bytes
     → IsReading dir bytes b → Err TooLong ≡ b
 too_long dir bytes (Err TooLong) long h = refl
-too_long dir bytes (Err WrongVersion) long h = absurd (omega (arith, h.0))
-too_long dir bytes (Err (BadLine n)) long h = absurd (omega (arith, h.0))
-too_long dir bytes (Err NoMemory) long h = absurd (omega (arith, h.0))
-too_long dir bytes b long h = absurd (omega (arith, h.within))
+too_long dir bytes (Err WrongVersion) long h = absurd (h.0 long)
+too_long dir bytes (Err (BadLine n)) long h = absurd (h.0 long)
+too_long dir bytes (Err NoMemory) long h = absurd (h.0 long)
+too_long dir bytes b long h = absurd (h.within long)
 
 -- bytes of another version
-wrong_version : (dir bytes : List ℕ) (b : Result (List Entry) TableFault) → length bytes ≤ max_len
+wrong_version : (dir bytes : List ℕ) (b : Result (List Entry) TableFault) → (IsTooLong bytes → ⊥)
     → IsOtherVersion bytes → IsReading dir bytes b → Err WrongVersion ≡ b
-wrong_version dir bytes (Err TooLong) within other h = absurd (omega arith)
+wrong_version dir bytes (Err TooLong) within other h = absurd (within h)
 wrong_version dir bytes (Err WrongVersion) within other h = refl
 wrong_version dir bytes (Err (BadLine n)) within other h = absurd (h.1 other)
 wrong_version dir bytes (Err NoMemory) within other h = absurd (h.1 other)
@@ -117,9 +117,9 @@ wrong_version dir bytes b within other h = absurd
 
 -- bytes with a bad line
 wrong_line : (dir bytes : List ℕ) (n : ℕ) (b : Result (List Entry) TableFault) → IsStoreDir dir
-    → length bytes ≤ max_len → (IsOtherVersion bytes → ⊥) → IsBadLine dir bytes n
+    → (IsTooLong bytes → ⊥) → (IsOtherVersion bytes → ⊥) → IsBadLine dir bytes n
     → IsReading dir bytes b → AreOne (Err (BadLine n)) b
-wrong_line dir bytes n (Err TooLong) is_dir within one bad h = absurd (omega arith)
+wrong_line dir bytes n (Err TooLong) is_dir within one bad h = absurd (within h)
 wrong_line dir bytes n (Err WrongVersion) is_dir within one bad h = absurd (one h.1)
 wrong_line dir bytes n (Err (BadLine m)) is_dir within one bad h =
     inl (ap (λ (k : ℕ). Err (BadLine k)) (bad_line_is_one dir bytes n m is_dir bad h.2))
@@ -129,7 +129,7 @@ wrong_line dir bytes n b is_dir within one bad h = search (rules, texts_have_no_
 -- the text of entries
 read_as : (dir bytes : List ℕ) (a b : Result (List Entry) TableFault) → IsStoreDir dir
     → IsReadAs dir bytes a → IsReading dir bytes b → AreOne a b
-read_as dir bytes a (Err TooLong) is_dir is h = absurd (omega (arith, is.within))
+read_as dir bytes a (Err TooLong) is_dir is h = absurd (is.within h)
 read_as dir bytes a (Err WrongVersion) is_dir is h =
     absurd (not_other_version dir bytes is.entries is.is_text h.1)
 read_as dir bytes a (Err (BadLine n)) is_dir is h = search (rules, texts_have_no_bad_line)

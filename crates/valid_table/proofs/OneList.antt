@@ -1,40 +1,45 @@
 -- The bytes of a journal's text tell its lines, and these tell its entries.
-use Rattle.std.proofs.Common.{◌≡◌, ℕ, List, [], ◌∷◌, ◌++◌, inl, inr, length, map, refl, ap, sym, ◌∙◌, arith, Option}
+use Rattle.std.proofs.Common.{◌≡◌, ℕ, List, [], ◌∷◌, ◌++◌, inl, inr, length, map, refl, ap, sym, subst, ◌∙◌, arith, Option, ◌≢◌}
 use Rattle.std.specs.List.{flat_map}
 use Rattle.std.proofs.lemmas.List.{append-nil, append_assoc, length-append}
-use Rattle.valid_table.specs.ReadingLaws.{TextHasOneList}
+use Rattle.nix_names.specs.declared.digest.Digest.{Digest}
 use Rattle.valid_table.specs.LineTexts.{lines_text}
-use Rattle.valid_table.specs.Steps.{Place, Start, Begun}
-use Rattle.valid_table.specs.Texts.{Line, Version, Added, Deriver, Output, Reference, entry_lines, lines, output_lines, text}
+use Rattle.valid_table.specs.Reading.{BeginsVersion}
+use Rattle.valid_table.specs.ReadingLaws.{TextHasOneList}
+use Rattle.valid_table.specs.Steps.{Place, Start}
+use Rattle.valid_table.specs.Texts.{IsTextIn, Line, First, Added, Deriver, Output, Reference, entry_lines, lines, output_lines, text}
 use Rattle.valid_table.specs.declared.entry.Entry.{Entry}
 use Rattle.valid_table.specs.declared.entry.Entry.TheVariants.{Add, Done}
 use Rattle.valid_table.specs.declared.entry.Registration.{Registration}
+use Rattle.valid_table.specs.declared.version.Version.{Version}
+use Rattle.valid_table.specs.declared.version.Version.TheVariants.{One, Two}
 use Rattle.valid_table.proofs.Leading.{aligned, lines_of}
-use Rattle.valid_table.proofs.LineLists.{Ends, MayEnd, entries_end}
+use Rattle.valid_table.proofs.LineLists.{Ends, MayEnd, lines_end}
 use Rattle.valid_table.proofs.LineTexts.{body, line_and}
+use Rattle.valid_table.proofs.Versions.{one_version, text_begins}
 
 -- ---- bytes tell lines
 
 -- lines that end a journal from one place are the same where their bytes are
-lines_told : (dir : List ℕ) (from : Place) (a b : List Line) → Ends dir from a → Ends dir from b
-    → lines_text a ≡ lines_text b → a ≡ b
-lines_told dir from a b one two e =
-    elim (aligned dir a b [] [] (lines_of dir MayEnd from a one) (lines_of dir MayEnd from b two)
+lines_told : (version : Version) (dir : List ℕ) (from : Place) (a b : List Line) → Ends version dir from a → Ends version dir from b
+    → lines_text version a ≡ lines_text version b → a ≡ b
+lines_told version dir from a b one two e =
+    elim (aligned version dir a b [] [] (lines_of version dir MayEnd from a one) (lines_of version dir MayEnd from b two)
     (ap (λ (t : List ℕ). t ++ []) e)) [
       | inl d ↦ sym
-          (d.1 ∙ ap (λ (c : List Line). a ++ c) (none d.0 (d.2 ∙ append-nil (lines_text d.0)))
+          (d.1 ∙ ap (λ (c : List Line). a ++ c) (none d.0 (d.2 ∙ append-nil (lines_text version d.0)))
           ∙ append-nil a)
-      | inr d ↦ d.1 ∙ ap (λ (c : List Line). b ++ c) (none d.0 (d.2 ∙ append-nil (lines_text d.0)))
+      | inr d ↦ d.1 ∙ ap (λ (c : List Line). b ++ c) (none d.0 (d.2 ∙ append-nil (lines_text version d.0)))
           ∙ append-nil b
     ]
   where
-    none : (c : List Line) → [] ≡ lines_text c → c ≡ []
+    none : (c : List Line) → [] ≡ lines_text version c → c ≡ []
     none [] e = refl
     none (line ∷ c) e =
         absurd (omega (
           arith,
-          ap length (e ∙ line_and line (lines_text c)),
-          length-append (body line) (10 ∷ lines_text c),
+          ap length (e ∙ line_and version line (lines_text version c)),
+          length-append (body version line) (10 ∷ lines_text version c),
         ))
 
 -- ---- lines tell entries
@@ -47,13 +52,13 @@ record Told : Type 0 where
   pub entries : List Entry
 
 -- what a path registers with a digest and the references behind it
-abbrev registration : List ℕ → Option (List ℕ) → Told → Registration
+abbrev registration : List ℕ → Option Digest → Told → Registration
 registration path digest later =
     record { path = path; info = record { references = later.references; digest = digest } }
 
 -- what a line tells with what those behind it tell
 abbrev with_line : Line → Told → Told
-with_line Version later = later
+with_line First later = later
 with_line (Added path digest) later =
     record {
       references = [];
@@ -135,21 +140,28 @@ same_entries a b e =
 
 -- ---- the law
 
+-- in a version one text is that of one list of entries
+one_in : (version : Version) (dir bytes : List ℕ) (a b : List Entry)
+    → IsTextIn version dir a bytes → IsTextIn version dir b bytes → a ≡ b
+unfolding text
+one_in version dir bytes a b one two =
+    same_entries a b
+    (lines_told version dir Start (lines a) (lines b) (lines_end version dir a one.of_dir)
+    (lines_end version dir b two.of_dir) (sym one.bytes_are ∙ two.bytes_are))
+
+-- a text with a version's line isn't empty
+not_empty : (version : Version) (bytes : List ℕ) → BeginsVersion version bytes → bytes ≢ []
+not_empty One bytes (rest, begins) none = absurd (omega (arith, ap length (sym none ∙ begins)))
+not_empty Two bytes (rest, begins) none = absurd (omega (arith, ap length (sym none ∙ begins)))
+
 -- one text is that of one list of entries
 pub text_has_one_list : TextHasOneList
-unfolding text
-text_has_one_list dir bytes a b one two =
-    elim one.bytes_are [
-      | inl first ↦ elim two.bytes_are [
-        | inl second ↦ same_entries a b
-            (lines_told dir Start (lines a) (lines b)
-            (tt, entries_end dir Begun a (λ line may. may, tt) one.of_dir)
-            (tt, entries_end dir Begun b (λ line may. may, tt) two.of_dir)
-            (sym first ∙ second))
-        | inr none ↦ absurd (omega (arith, ap length (sym none.1 ∙ first)))
-      ]
-      | inr none ↦ elim two.bytes_are [
-        | inl second ↦ absurd (omega (arith, ap length (sym none.1 ∙ second)))
-        | inr also ↦ none.0 ∙ sym also.0
-      ]
-    ]
+text_has_one_list dir bytes a b (inl (version, one)) (inl (other, two)) =
+    let same = one_version other version bytes (text_begins other dir bytes b two)
+    (text_begins version dir bytes a one) in
+    one_in version dir bytes a b one (subst (λ v. IsTextIn v dir b bytes) same two)
+text_has_one_list dir bytes a b (inl (version, one)) (inr none) =
+    absurd (not_empty version bytes (text_begins version dir bytes a one) none.1)
+text_has_one_list dir bytes a b (inr none) (inl (version, two)) =
+    absurd (not_empty version bytes (text_begins version dir bytes b two) none.1)
+text_has_one_list dir bytes a b (inr none) (inr also) = none.0 ∙ sym also.0

@@ -5,30 +5,40 @@ use Rattle.std.proofs.lemmas.List.{append-nil, map-append}
 use Rattle.std.proofs.lemmas.List.Concat.{flat_map-append}
 use Rattle.std.proofs.lemmas.List.Elements.{All-push}
 use Rattle.nix_names.specs.Rising.{IsRising}
+use Rattle.nix_names.specs.declared.digest.Digest.{Digest}
 use Rattle.valid_table.specs.Entries.{paths_of}
 use Rattle.valid_table.specs.LineTexts.{lines_text, registration_text}
 use Rattle.valid_table.specs.Readers.{HasRegistration, IsBadFields, SoFarOutputs, StopsInRegistration}
 use Rattle.valid_table.specs.Steps.{Ahead, IsAbove, Opened, Goes, MayFollow, MayStand, Stops}
 use Rattle.valid_table.specs.Texts.{IsOf, Line, Output, output_lines}
 use Rattle.valid_table.specs.declared.entry.Registration.{Registration}
+use Rattle.valid_table.specs.declared.version.Version.{Version}
 use Rattle.valid_table.proofs.Leading.{text_and}
 use Rattle.valid_table.proofs.LineLists.{may_stand, outputs_back, place_at}
 use Rattle.valid_table.proofs.LineSteps.{StopsIn, first, stop_behind, stop_here, stops_back, stops_in}
 use Rattle.valid_table.proofs.RisingPaths.{above_of_rising, rising_more}
 
--- outputs' lines, and those of one more
-text_more : (outputs : List Registration) (o : Registration) (behind : List ℕ)
-    → lines_text (flat_map output_lines outputs) ++ (registration_text 79 o ++ behind)
-    ≡ lines_text (flat_map output_lines (outputs ++ o ∷ [])) ++ behind
-text_more outputs o behind = search (rules, text_and, flat_map-append, append-nil)
+-- the lines of outputs, and of one more
+lines_more : (outputs : List Registration) (o : Registration)
+    → flat_map output_lines outputs ++ output_lines o
+    ≡ flat_map output_lines (outputs ++ o ∷ [])
+lines_more outputs o = search (rules, flat_map-append, append-nil)
+
+-- the text of outputs, and of one more
+text_more : (version : Version) (outputs : List Registration) (o : Registration) (behind : List ℕ)
+    → lines_text version (flat_map output_lines outputs) ++ (registration_text version 79 o ++ behind)
+    ≡ lines_text version (flat_map output_lines (outputs ++ o ∷ [])) ++ behind
+text_more version outputs o behind =
+    text_and version (flat_map output_lines outputs) (output_lines o) behind
+    ∙ ap (λ some. lines_text version some ++ behind) (lines_more outputs o)
 
 -- ---- where an output stops
 
-may_follow : (dir : List ℕ) (before last : Option (List ℕ)) (path : List ℕ)
-    (digest : Option (List ℕ)) → MayStand dir (place_at before last) (Output path digest)
-    → MayFollow dir before path digest
-may_follow dir None last path digest may = may
-may_follow dir (Some output) last path digest may = may
+may_follow : (version : Version) (dir : List ℕ) (before last : Option (List ℕ)) (path : List ℕ)
+    (digest : Option Digest) → MayStand version dir (place_at before last) (Output path digest)
+    → MayFollow version dir before path digest
+may_follow version dir None last path digest may = may
+may_follow version dir (Some output) last path digest may = may
 
 -- there an output's letter comes
 letter_ahead : (before last : Option (List ℕ)) (bytes fields : List ℕ) → bytes ≡ 79 ∷ 32 ∷ fields
@@ -37,47 +47,47 @@ letter_ahead None last bytes fields begins = (fields, begins)
 letter_ahead (Some output) last bytes fields begins = tt
 
 -- with an output's letter only an output's line goes on
-stuck : (dir : List ℕ) (before last : Option (List ℕ)) (bytes : List ℕ) (left : ℕ)
-    → (h : IsBadFields dir 79 before bytes left) → (line : Line) (rest : List ℕ)
-    → Goes dir (place_at before last) bytes line rest → ⊥
-stuck dir before last bytes left h (Output path digest) rest go = search (rules, may_follow)
-stuck dir before last bytes left h line rest go = search (rules, first)
+stuck : (version : Version) (dir : List ℕ) (before last : Option (List ℕ)) (bytes : List ℕ) (left : ℕ)
+    → (h : IsBadFields version dir 79 before bytes left) → (line : Line) (rest : List ℕ)
+    → Goes version dir (place_at before last) bytes line rest → ⊥
+stuck version dir before last bytes left h (Output path digest) rest go = search (rules, may_follow)
+stuck version dir before last bytes left h line rest go = search (rules, first)
 
 -- reading an output stops where its line, or one of its references, is bad
-output_stops : (dir : List ℕ) (before last : Option (List ℕ)) (bytes : List ℕ) (left : ℕ)
-    → StopsInRegistration dir 79 before bytes left → Stops dir (place_at before last) bytes left
-output_stops dir before last bytes left (inl h) =
+output_stops : (version : Version) (dir : List ℕ) (before last : Option (List ℕ)) (bytes : List ℕ) (left : ℕ)
+    → StopsInRegistration version dir 79 before bytes left → Stops version dir (place_at before last) bytes left
+output_stops version dir before last bytes left (inl h) =
     search (rules, place_at, stop_here, letter_ahead, stuck)
-output_stops dir before last bytes left (inr h) =
-    stop_behind dir (place_at before last) bytes (Output h.path h.digest) h.rest left
+output_stops version dir before last bytes left (inr h) =
+    stop_behind version dir (place_at before last) bytes (Output h.path h.digest) h.rest left
     (h.begins ∙ ap (λ (f : List ℕ). 79 ∷ 32 ∷ f) h.line.parts)
-    (may_stand dir before last h.path h.digest (h.line.of_dir, h.line.is_digest, h.above))
-    (h.stops (Some h.path))
+    (may_stand version dir before last h.path h.digest (h.line.of_dir, h.line.is_digest, h.above))
+    (h.stops version (Some h.path))
 
-pub outputs_stop : (dir bytes : List ℕ) (outputs : List Registration) (rest : List ℕ)
-    (before : Option (List ℕ)) (left : ℕ) → SoFarOutputs dir bytes outputs rest → before
+pub outputs_stop : (version : Version) (dir bytes : List ℕ) (outputs : List Registration) (rest : List ℕ)
+    (before : Option (List ℕ)) (left : ℕ) → SoFarOutputs version dir bytes outputs rest → before
     ≡ last_or None (paths_of outputs)
-    → StopsInRegistration dir 79 before rest left → Stops dir Opened bytes left
-outputs_stop dir bytes outputs rest before left so_far is h =
-    stops_in dir Opened (flat_map output_lines outputs) bytes rest left so_far.parts
-    (outputs_back dir (StopsIn dir rest left) (stops_back dir rest left) outputs None None []
+    → StopsInRegistration version dir 79 before rest left → Stops version dir Opened bytes left
+outputs_stop version dir bytes outputs rest before left so_far is h =
+    stops_in version dir Opened (flat_map output_lines outputs) bytes rest left so_far.parts
+    (outputs_back version dir (StopsIn version dir rest left) (stops_back version dir rest left) outputs None None []
     so_far.of_dir (above_of_rising (paths_of outputs) so_far.rising)
-    (λ reference. output_stops dir _ reference rest left
-    (subst (λ o. StopsInRegistration dir 79 o rest left) is h)))
+    (λ reference. output_stops version dir _ reference rest left
+    (subst (λ o. StopsInRegistration version dir 79 o rest left) is h)))
 
 -- ---- outputs that were read
 
 -- one more output
-pub outputs_more : (dir bytes : List ℕ) (outputs more : List Registration) (rest behind : List ℕ)
-    (before : Option (List ℕ)) (o : Registration) → SoFarOutputs dir bytes outputs rest → before
+pub outputs_more : (version : Version) (dir bytes : List ℕ) (outputs more : List Registration) (rest behind : List ℕ)
+    (before : Option (List ℕ)) (o : Registration) → SoFarOutputs version dir bytes outputs rest → before
     ≡ last_or None (paths_of outputs)
-    → HasRegistration dir 79 before rest o behind → more ≡ outputs ++ o ∷ []
-    → SoFarOutputs dir bytes more behind
-outputs_more dir bytes outputs more rest behind before o so_far is h pushed =
+    → HasRegistration version dir 79 before rest o behind → more ≡ outputs ++ o ∷ []
+    → SoFarOutputs version dir bytes more behind
+outputs_more version dir bytes outputs more rest behind before o so_far is h pushed =
     rw pushed (record {
-      parts = so_far.parts ∙ ap (λ t. lines_text (flat_map output_lines outputs) ++ t) h.parts
-          ∙ text_more outputs o behind;
-      of_dir = All-push (IsOf dir) outputs o so_far.of_dir h.of_dir;
+      parts = so_far.parts ∙ ap (λ t. lines_text version (flat_map output_lines outputs) ++ t) h.parts
+          ∙ text_more version outputs o behind;
+      of_dir = All-push (IsOf version dir) outputs o so_far.of_dir h.of_dir;
       rising = subst IsRising (sym (map-append (λ (r : Registration). r.path) outputs (o ∷ [])))
           (rising_more (paths_of outputs) o.path so_far.rising
           (subst (λ b. IsAbove b o.path) is h.above));

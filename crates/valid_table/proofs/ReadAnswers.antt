@@ -1,59 +1,81 @@
 -- What reading a journal answers.
-use Rattle.std.proofs.Common.{◌≡◌, ◌≢◌, ◌+◌, ◌-◌, ◌≤◌, ℕ, suc, List, [], ◌∷◌, length, take, subst, arith, rules, inl, inr, Result, Ok, Err}
-use Rattle.std.specs.List.{flat_map}
+use Rattle.std.proofs.Common.{◌≡◌, ◌≢◌, ◌+◌, ◌-◌, ◌≤◌, ℕ, suc, List, [], ◌∷◌, length, take, ap, subst, arith, rules, inl, inr, Result, Ok, Err}
+use Rattle.std.proofs.lemmas.Bool.{cases_lt}
 use Rattle.std.proofs.lemmas.List.{length-append}
 use Rattle.memchr.specs.Find.{is_byte, places}
+use Rattle.memchr.proofs.lemmas.CallerLemmas.{length-places-le}
 use Rattle.nix_names.specs.Names.{IsStoreDir}
 use Rattle.valid_table.specs.BadLines.{IsBadLine, IsOtherVersion}
 use Rattle.valid_table.specs.LineTexts.{lines_text}
-use Rattle.valid_table.specs.Reading.{BeginsVersion, IsChecking, IsReading, max_len}
-use Rattle.valid_table.specs.Steps.{Start, Stops}
-use Rattle.valid_table.specs.Texts.{IsText, Line, entry_lines, line_text, lines, text}
+use Rattle.valid_table.specs.Readers.{StopsInText}
+use Rattle.valid_table.specs.Reading.{BeginsVersion, IsChecking, IsReading, IsTooLong, max_len}
+use Rattle.valid_table.specs.Texts.{IsText, Line, line_text, lines, text}
 use Rattle.valid_table.specs.declared.entry.Entry.{Entry}
 use Rattle.valid_table.specs.declared.fault.TableFault.{TableFault}
 use Rattle.valid_table.specs.declared.fault.TableFault.TheVariants.{NoMemory, NotClosed, Twice}
-use Rattle.valid_table.proofs.BadLineLaws.{bad_line, stops_count}
+use Rattle.valid_table.specs.declared.version.Version.{Version}
+use Rattle.valid_table.specs.declared.version.Version.TheVariants.{Two}
+use Rattle.valid_table.proofs.BadLineLaws.{bad_first, bad_line, stops_count}
 use Rattle.valid_table.proofs.LineTexts.{body, line_and}
+use Rattle.valid_table.proofs.Versions.{text_begins}
 
 -- a line has a byte
-line_some : (line : Line) → 1 ≤ length (line_text line)
-line_some line = search (rules, line_and, length-append, body)
+line_some : (version : Version) (line : Line) → 1 ≤ length (line_text version line)
+line_some version line = search (rules, line_and, length-append, body)
 
 -- lines are at most as many as their bytes
-lines_fit : (some : List Line) → length some ≤ length (lines_text some)
-lines_fit [] = omega arith
-lines_fit (line ∷ some) = omega (
+lines_fit : (version : Version) (some : List Line) → length some ≤ length (lines_text version some)
+lines_fit version [] = omega arith
+lines_fit version (line ∷ some) = omega (
   arith,
-  line_some line,
-  lines_fit some,
-  length-append (line_text line) (lines_text some),
+  line_some version line,
+  lines_fit version some,
+  length-append (line_text version line) (lines_text version some),
 )
 
-pub few_lines : (dir bytes : List ℕ) (entries : List Entry) → length bytes ≤ max_len
-    → IsText dir entries bytes → length (lines entries) ≤ 67108865
+-- a text that isn't too long has few lines
+pub few_lines : (dir bytes : List ℕ) (entries : List Entry) → (IsTooLong bytes → ⊥)
+    → IsText dir entries bytes → length (lines entries) ≤ 134217729
 unfolding text
-few_lines dir bytes entries within is = search (rules, lines_fit)
+few_lines dir bytes entries within (inl (version, is)) =
+    elim (cases_lt (max_len Two) (length bytes)) [
+      | inl long ↦ absurd (within (inl long))
+      | inr short ↦
+          let whole : length bytes ≡ length (lines_text version (lines entries)) =
+          ap length is.bytes_are in
+          omega (arith, short, whole, lines_fit version (lines entries))
+    ]
+few_lines dir bytes entries within (inr none) =
+    omega (arith, ap (λ (es : List Entry). length (lines es)) none.0)
 
 -- the line behind the newlines before the place where lines stop is the first bad one
 pub bad_line_number : (dir bytes : List ℕ) (left n : ℕ) → IsStoreDir dir
-    → Stops dir Start bytes left → n ≡ 1 + length
+    → StopsInText dir bytes left → n ≡ 1 + length
     (places (is_byte 10) (take (length bytes - left) bytes)) → IsBadLine dir bytes n
-bad_line_number dir bytes left n of_dir h number =
-    let same : suc (length h.lines) ≡ n = omega (arith, stops_count dir bytes left of_dir h) in
-    subst (IsBadLine dir bytes) same (bad_line dir bytes left of_dir h)
+bad_line_number dir bytes left n of_dir (inl (version, begins, h)) number =
+    let same : suc (length h.lines) ≡ n =
+    omega (arith, number, stops_count version dir bytes left of_dir h) in
+    subst (IsBadLine dir bytes) same (bad_line version dir bytes left of_dir begins h)
+bad_line_number dir bytes left n of_dir (inr (none, some, all)) number =
+    let nothing : length bytes - left ≡ 0 = omega (arith, all) in
+    let one : 1 ≡ n = omega (
+      arith,
+      number,
+      ap (λ k. length (places (is_byte 10) (take k bytes))) nothing,
+      length-places-le (is_byte 10) [],
+    ) in
+    subst (IsBadLine dir bytes) one (bad_first dir bytes of_dir none some)
 
--- the text of some entries begins with the line of version 1
-text_begins : (dir bytes : List ℕ) (entries : List Entry) → IsText dir entries bytes
-    → entries ≢ [] → BeginsVersion bytes
-unfolding text
-text_begins dir bytes entries is some = elim is.bytes_are [
-  | inl same ↦ (lines_text (flat_map entry_lines entries), same)
-  | inr none ↦ absurd (some none.0)
-]
+-- the text of some entries begins with the line of its version
+some_begin : (dir bytes : List ℕ) (entries : List Entry) → IsText dir entries bytes
+    → entries ≢ [] → (version : Version) × BeginsVersion version bytes
+some_begin dir bytes entries (inl (version, is)) some =
+    (version, text_begins version dir bytes entries is)
+some_begin dir bytes entries (inr none) some = absurd (some none.0)
 
 -- what is answered for the entries whose text the bytes are
 pub read_as : (dir bytes : List ℕ) (entries : List Entry) (answer : Result (List Entry) TableFault)
-    → length bytes ≤ max_len → (IsOtherVersion bytes → ⊥) → IsText dir entries bytes
+    → (IsTooLong bytes → ⊥) → (IsOtherVersion bytes → ⊥) → IsText dir entries bytes
     → IsChecking entries answer → IsReading dir bytes answer
 read_as dir bytes entries (Ok journal) within other is checked =
     record { within = within; entries = entries; is_text = is; checked = checked }
@@ -62,5 +84,5 @@ read_as dir bytes entries (Err (NotClosed n)) within other is checked =
 read_as dir bytes entries (Err (Twice n)) within other is checked =
     record { within = within; entries = entries; is_text = is; checked = checked }
 read_as dir bytes entries (Err NoMemory) within other is checked =
-    (within, other, text_begins dir bytes entries is checked)
+    (within, other, some_begin dir bytes entries is checked)
 read_as dir bytes entries (Err fault) within other is checked = absurd checked

@@ -1,61 +1,65 @@
 -- The lines of references: where they lead, and where they stop.
-use Rattle.std.proofs.Common.{◌≡◌, ℕ, List, [], ◌∷◌, ◌++◌, length, map, Option, None, ◌-◌, ap, ◌∙◌, rules}
+use Rattle.std.proofs.Common.{◌≡◌, ℕ, List, [], ◌∷◌, ◌++◌, length, map, Option, None, ◌-◌, ap, sym, ◌∙◌, subst, rules}
 use Rattle.std.specs.List.{last_or, slice_get}
-use Rattle.std.proofs.lemmas.List.{append_assoc, map-append}
+use Rattle.std.proofs.lemmas.List.{append-nil, append_assoc}
+use Rattle.std.proofs.lemmas.List.Concat.{flat_map-append}
 use Rattle.std.proofs.lemmas.List.Elements.{All-push}
 use Rattle.nix_names.specs.StorePaths.{IsPathOf}
-use Rattle.valid_table.specs.LineTexts.{references_text}
-use Rattle.valid_table.specs.Readers.{IsPathLine, SoFarReferences}
+use Rattle.nix_names.specs.declared.digest.Digest.{Digest}
+use Rattle.valid_table.specs.LineTexts.{fields_text, lines_text, references_text}
+use Rattle.valid_table.specs.PathInfos.{PathInfo}
+use Rattle.valid_table.specs.Readers.{HasReferences, HasRegistration, IsFieldsLine, IsPathLine, SoFarReferences}
 use Rattle.valid_table.specs.Steps.{IsAbove, Goes, Stops, Within}
-use Rattle.valid_table.specs.Texts.{Line, Reference}
-use Rattle.valid_table.proofs.LineTexts.{two_path_lines}
-use Rattle.valid_table.proofs.Leading.{text_push}
+use Rattle.valid_table.specs.Texts.{IsDigestOf, Line, Reference}
+use Rattle.valid_table.specs.declared.version.Version.{Version}
+use Rattle.valid_table.proofs.LineTexts.{references_are, two_path_lines}
 use Rattle.valid_table.proofs.LineLists.{references_back}
 use Rattle.valid_table.proofs.LineSteps.{StopsIn, first, stop_here, stops_back, stops_in}
 use Rattle.valid_table.proofs.RisingPaths.{above_of_rising, last_is, rising_more}
 
 -- behind references the lines stop where they do behind the last one
-pub references_lead : (dir : List ℕ) (output : Option (List ℕ)) (bytes : List ℕ)
+pub references_lead : (version : Version) (dir : List ℕ) (output : Option (List ℕ)) (bytes : List ℕ)
     (references : List (List ℕ)) (rest : List ℕ) (left : ℕ)
     → SoFarReferences dir bytes references rest
-    → Stops dir (Within output (last_or None references)) rest left
-    → Stops dir (Within output None) bytes left
-references_lead dir output bytes references rest left so_far h =
-    stops_in dir (Within output None) (map Reference references) bytes rest left so_far.parts
-    (references_back dir (StopsIn dir rest left) (stops_back dir rest left) output None references
+    → Stops version dir (Within output (last_or None references)) rest left
+    → Stops version dir (Within output None) bytes left
+references_lead version dir output bytes references rest left so_far h =
+    stops_in version dir (Within output None) (map Reference references) bytes rest left
+    (so_far.parts ∙ ap (λ (t : List ℕ). t ++ rest) (sym (references_are version references)))
+    (references_back version dir (StopsIn version dir rest left) (stops_back version dir rest left) output None references
     [] so_far.of_dir (above_of_rising references so_far.rising) h)
 
 -- from within an entry no line but a reference's goes on with a reference's letter
-stuck : (dir : List ℕ) (output before : Option (List ℕ)) (bytes fields : List ℕ) → bytes ≡ 82 ∷ 32
+stuck : (version : Version) (dir : List ℕ) (output before : Option (List ℕ)) (bytes fields : List ℕ) → bytes ≡ 82 ∷ 32
     ∷ fields
     → ((path rest : List ℕ) → IsAbove before path → IsPathLine dir fields path rest → ⊥)
-    → (line : Line) (rest : List ℕ) → Goes dir (Within output before) bytes line rest → ⊥
-stuck dir output before bytes fields begins none (Reference path) rest goes =
+    → (line : Line) (rest : List ℕ) → Goes version dir (Within output before) bytes line rest → ⊥
+stuck version dir output before bytes fields begins none (Reference path) rest goes =
     search (rules, append_assoc)
-stuck dir output before bytes fields begins none line rest goes = search (rules, first)
+stuck version dir output before bytes fields begins none line rest goes = search (rules, first)
 
 -- a reference's line without a path stops
-pub bad_reference : (dir : List ℕ) (output before : Option (List ℕ)) (bytes fields : List ℕ) → bytes
+pub bad_reference : (version : Version) (dir : List ℕ) (output before : Option (List ℕ)) (bytes fields : List ℕ) → bytes
     ≡ 82 ∷ 32 ∷ fields
     → ((path rest : List ℕ) → IsPathLine dir fields path rest → ⊥)
-    → Stops dir (Within output before) bytes (length bytes)
-bad_reference dir output before bytes fields begins none = search (rules, stop_here, stuck)
+    → Stops version dir (Within output before) bytes (length bytes)
+bad_reference version dir output before bytes fields begins none = search (rules, stop_here, stuck)
 
 -- a reference's line with a path that isn't above the one before it stops
-pub low_reference : (dir : List ℕ) (output before : Option (List ℕ))
+pub low_reference : (version : Version) (dir : List ℕ) (output before : Option (List ℕ))
     (bytes fields path rest : List ℕ) → bytes ≡ 82 ∷ 32 ∷ fields
     → IsPathLine dir fields path rest → (IsAbove before path → ⊥)
-    → Stops dir (Within output before) bytes (length bytes)
-low_reference dir output before bytes fields path rest begins line low =
-    stop_here dir (Within output before) bytes 82 (32 ∷ fields) begins tt
-    (stuck dir output before bytes fields begins (λ other more above is.
+    → Stops version dir (Within output before) bytes (length bytes)
+low_reference version dir output before bytes fields path rest begins line low =
+    stop_here version dir (Within output before) bytes 82 (32 ∷ fields) begins tt
+    (stuck version dir output before bytes fields begins (λ other more above is.
     let same = two_path_lines dir fields other more path rest is line in
     low (rw same.0 at above)))
 
 -- the text of references, and one more line
 text_more : (references : List (List ℕ)) (path behind : List ℕ) → references_text references
     ++ (82 ∷ 32 ∷ (path ++ 10 ∷ behind)) ≡ references_text (references ++ path ∷ []) ++ behind
-text_more references path behind = search (rules, append_assoc, text_push, map-append)
+text_more references path behind = search (rules, append_assoc, flat_map-append, append-nil)
 
 -- one more reference
 pub references_more : (dir bytes : List ℕ) (references more : List (List ℕ))
@@ -81,3 +85,32 @@ pub above_looked_up : (paths shown : List (List ℕ)) (last : Option (List ℕ))
     ≡ paths → last ≡ slice_get shown (length shown - 1) → IsAbove (last_or None paths) path
     → IsAbove last path
 above_looked_up paths shown last path same at above = search (rules, last_is)
+
+-- a registration that was read: its line and those of its references
+pub registration_found : (version : Version) (dir : List ℕ) (letter : ℕ) (before : Option (List ℕ))
+    (bytes fields path : List ℕ) (digest : Option Digest) (behind : List ℕ) (info : PathInfo)
+    (rest : List ℕ) → bytes ≡ letter ∷ 32 ∷ fields
+    → IsFieldsLine version dir fields path digest behind → IsAbove before path
+    → HasReferences dir behind info.references rest → info.digest ≡ digest
+    → HasRegistration version dir letter before bytes (record { path = path; info = info }) rest
+registration_found version dir letter before bytes fields path digest behind info rest begins line
+    above has same =
+    let front = fields_text version path info.digest in
+    let lines = lines_text version (map Reference info.references) in
+    let is : fields ≡ (front ++ lines) ++ rest = line.parts
+    ∙ ap (λ d. fields_text version path d ++ behind) (sym same)
+    ∙ ap (λ (t : List ℕ). front ++ t)
+    (has.so_far.parts
+    ∙ ap (λ (t : List ℕ). t ++ rest) (sym (references_are version info.references)))
+    ∙ sym (append_assoc front lines rest) in
+    record {
+      parts = begins ∙ ap (λ (f : List ℕ). letter ∷ 32 ∷ f) is;
+      of_dir = record {
+        path = line.of_dir;
+        digest = subst (IsDigestOf version) (sym same) line.is_digest;
+        references = has.so_far.of_dir;
+        rising = has.so_far.rising;
+      };
+      above = above;
+      ends = has.ends;
+    }

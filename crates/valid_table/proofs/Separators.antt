@@ -1,18 +1,24 @@
 -- Newlines and spaces part a text in one way only, where what stands before them has none; paths
 -- and digests have none.
-use Rattle.std.proofs.Common.{◌≡◌, ◌≢◌, ℕ, Bool, true, false, List, [], ◌∷◌, ◌++◌, Option, Some, None, refl, sym, ap, ◌∙◌, subst, IsTrue, rules}
+use Rattle.std.proofs.Common.{◌≡◌, ◌≢◌, ℕ, Bool, true, false, List, [], ◌∷◌, ◌++◌, Option, Some, None, refl, sym, ap, ◌∙◌, subst, IsTrue, arith, rules}
 use Rattle.std.specs.List.{All, AllPass, flat_map, list_all}
 use Rattle.std.proofs.lemmas.Bool.{and_parts, false≢true}
 use Rattle.std.proofs.lemmas.List.{append_assoc, append_cancel_left}
 use Rattle.std.proofs.lemmas.List.Elements.{All-append, All-cons, All-head, All-nil, All-tail, All-weaker}
 use Rattle.std.proofs.lemmas.List.Sums.{AllPass-from_list_all}
-use Rattle.hex.specs.Hex.{encode_lower, is_hex_digit}
+use Rattle.hex.specs.Hex.{is_hex_digit}
 use Rattle.hex.proofs.HexLemmas.{decode_of-encode_lower, decode_of-ok}
 use Rattle.nix_names.specs.Base32.{is_digit}
+use Rattle.nix_names.specs.Digests.{IsDigest, algorithm_of, bytes_of, digits_of, name_of}
 use Rattle.nix_names.specs.Names.{IsStoreDir, is_component, is_name, is_name_char}
 use Rattle.nix_names.specs.StorePaths.{IsPathOf, is_hash_part}
-use Rattle.nix_names.proofs.HexDigits.{bytes_everywhere}
-use Rattle.valid_table.specs.Texts.{IsDigest, digest_text}
+use Rattle.nix_names.specs.declared.digest.Algorithm.{Algorithm}
+use Rattle.nix_names.specs.declared.digest.Algorithm.TheVariants.{Md5, Sha1, Sha256, Sha512}
+use Rattle.nix_names.specs.declared.digest.Digest.{Digest}
+use Rattle.nix_names.proofs.DigestTexts.{bytes_everywhere}
+use Rattle.valid_table.specs.Texts.{IsDigestOf, digest_text}
+use Rattle.valid_table.specs.declared.version.Version.{Version}
+use Rattle.valid_table.specs.declared.version.Version.TheVariants.{One, Two}
 
 -- a list has no element that equals this one
 abbrev pub Lacks : ℕ → List ℕ → Type 0
@@ -114,10 +120,27 @@ same_path b is dir p q x y one two e =
 
 -- ---- digests
 
--- a digest's text has no newline
-pub digest_lacks : (digest : Option (List ℕ)) → IsDigest digest → Lacks 10 (digest_text digest)
-digest_lacks None is = search (rules, All-cons, All-nil)
-digest_lacks (Some digest) is =
-    apart is_hex_digit 10 (encode_lower digest) refl
-    (decode_of-ok (encode_lower digest) digest
-    (decode_of-encode_lower digest (bytes_everywhere digest is.1))).1
+-- a digest's digits have no newline
+digits_lack : (digest : Digest) → IsDigest digest → Lacks 10 (digits_of digest)
+digits_lack digest is =
+    apart is_hex_digit 10 (digits_of digest) refl
+    (decode_of-ok (digits_of digest) (bytes_of digest)
+    (decode_of-encode_lower (bytes_of digest) (bytes_everywhere (bytes_of digest) is.1))).1
+
+-- nor has an algorithm's name
+name_lacks : (algorithm : Algorithm) → Lacks 10 (name_of algorithm)
+name_lacks Md5 = search (rules, All-cons, All-nil)
+name_lacks Sha1 = search (rules, All-cons, All-nil)
+name_lacks Sha256 = search (rules, All-cons, All-nil)
+name_lacks Sha512 = search (rules, All-cons, All-nil)
+
+-- nor has a digest's text
+pub digest_lacks : (version : Version) (digest : Option Digest) → IsDigestOf version digest
+    → Lacks 10 (digest_text version digest)
+digest_lacks version None is = search (rules, All-cons, All-nil)
+digest_lacks One (Some digest) is = digits_lack digest is.1
+digest_lacks Two (Some digest) is =
+    All-append (λ b. b ≢ 10) (name_of (algorithm_of digest)) (58 ∷ digits_of digest)
+    (name_lacks (algorithm_of digest))
+    (All-cons (λ b. b ≢ 10) 58 (digits_of digest) (λ e. absurd (omega arith))
+    (digits_lack digest is))

@@ -1,15 +1,15 @@
 -- The text of a journal has no wrong version, and no wrong line.
-use Rattle.std.proofs.Common.{◌≢◌, ◌+◌, ◌++◌, ℕ, List, [], ◌∷◌, length, take, drop, get_or, inl, inr, refl, ap, sym, subst, ◌∙◌, arith, codes, nat_eq}
+use Rattle.std.proofs.Common.{◌+◌, ◌++◌, ℕ, List, [], ◌∷◌, length, take, drop, get_or, inl, inr, ap, sym, subst, ◌∙◌, arith, nat_eq}
 use Rattle.std.specs.Prelude.{◌⊎◌, All}
 use Rattle.std.specs.Cmp.Lexicographic.{pointwise}
-use Rattle.std.specs.List.{IsDistinct, flat_map}
+use Rattle.std.specs.List.{IsDistinct}
 use Rattle.std.proofs.lemmas.List.{append_assoc, get_or_default}
-use Rattle.std.proofs.lemmas.List.Elements.{All-cons, All-nil, Contains-append_left}
+use Rattle.std.proofs.lemmas.List.Elements.{Contains-append_left}
 use Rattle.valid_table.specs.BadLines.{IsOtherVersion}
 use Rattle.valid_table.specs.Entering.{AreUnknown}
 use Rattle.valid_table.specs.Entries.{paths_of, registered, registered_by}
 use Rattle.valid_table.specs.LineFaults.{IsNotClosedAt, IsTwiceAt}
-use Rattle.valid_table.specs.Texts.{IsText, entry_lines, line_text, text}
+use Rattle.valid_table.specs.Texts.{IsText}
 use Rattle.valid_table.specs.Valid.{IsClosedBehind, IsJournal, IsOnce}
 use Rattle.valid_table.specs.declared.entry.Entry.{Entry}
 use Rattle.valid_table.specs.declared.entry.Registration.{Registration}
@@ -17,8 +17,7 @@ use Rattle.valid_table.proofs.CheckedEntries.{entry_lines_are, up_to}
 use Rattle.valid_table.proofs.CheckedJournal.{AreRight, IsRightBehind, none_wrong, wrong_line}
 use Rattle.valid_table.proofs.JournalLists.{paths_of-append}
 use Rattle.valid_table.proofs.PathLists.{once_apart, once_front}
-use Rattle.valid_table.proofs.Separators.{Lacks}
-use Rattle.valid_table.proofs.Versions.{by_number}
+use Rattle.valid_table.proofs.Versions.{not_other, text_begins}
 use Rattle.nix_names.proofs.Lists.{parts_at}
 
 -- ---- the version
@@ -26,17 +25,10 @@ use Rattle.nix_names.proofs.Lists.{parts_at}
 -- a journal's text isn't that of another version
 pub not_other_version : (dir bytes : List ℕ) (entries : List Entry) → IsText dir entries bytes
     → IsOtherVersion bytes → ⊥
-unfolding text
-not_other_version dir bytes entries is other =
-    elim is.bytes_are [
-      | inl whole ↦
-          let rest = flat_map line_text (flat_map entry_lines entries) in
-          let one : Lacks 10 (codes "1") = All-cons (λ b. b ≢ 10) 49 [] (λ e. absurd (omega arith))
-          (All-nil (λ b. b ≢ 10)) in
-          ((by_number bytes (codes "1" ++ 10 ∷ rest) (codes "1") rest whole refl one).1 other).2
-          refl
-      | inr none ↦ absurd (omega (arith, ap length (sym none.1 ∙ other.parts)))
-    ]
+not_other_version dir bytes entries (inl (version, is)) other =
+    not_other version bytes (text_begins version dir bytes entries is) other
+not_other_version dir bytes entries (inr none) other =
+    absurd (omega (arith, ap length (sym none.1 ∙ other.parts)))
 
 -- ---- journals have no wrong line
 

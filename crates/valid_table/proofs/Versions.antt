@@ -1,16 +1,25 @@
--- Whether the first line is that of another version.
-use Rattle.std.proofs.Common.{◌≡◌, ◌≢◌, ℕ, List, [], ◌∷◌, ◌++◌, refl, sym, ap, ◌∙◌, subst, codes, IsTrue, rules}
-use Rattle.std.specs.Prelude.{◌↔◌}
+-- What the first line of a text tells: its version, or that it is another one's.
+use Rattle.std.proofs.Common.{◌≡◌, ◌≢◌, ◌<◌, ◌≤◌, ℕ, Bor, List, [], ◌∷◌, ◌++◌, inl, inr, refl, sym, ap, ◌∙◌, subst, arith, codes, get_or, length, IsTrue, rules}
+use Rattle.std.specs.Prelude.{◌↔◌, MatchOption, Option}
 use Rattle.std.specs.Char.{is_ascii_digit}
-use Rattle.std.specs.List.{All}
+use Rattle.std.specs.List.{All, flat_map}
 use Rattle.std.proofs.lemmas.List.{append_cancel_left}
+use Rattle.std.proofs.lemmas.List.Elements.{All-cons, All-nil}
 use Rattle.valid_table.specs.BadLines.{IsOtherVersion}
+use Rattle.valid_table.specs.LineTexts.{lines_text}
+use Rattle.valid_table.specs.Reading.{BeginsVersion, IsTooLong, max_len}
+use Rattle.valid_table.specs.Texts.{IsTextIn, entry_lines, text, version_line}
+use Rattle.valid_table.specs.declared.entry.Entry.{Entry}
+use Rattle.valid_table.specs.declared.version.Version.{Version}
+use Rattle.valid_table.specs.declared.version.Version.TheVariants.{One, Two}
 use Rattle.valid_table.proofs.Separators.{Lacks, apart, lacks_not, same_cut}
 
--- bytes are decimal digits, and not `1` alone
+-- ---- another version
+
+-- bytes are decimal digits, and neither `1` nor `2` alone
 abbrev pub IsOtherNumber : List ℕ → Type 0
 IsOtherNumber bytes = (bytes ≢ []) × All (λ b. IsTrue (is_ascii_digit b)) bytes
-    × (bytes ≢ codes "1")
+    × (bytes ≢ codes "1") × (bytes ≢ codes "2")
 
 -- decimal digits have no newline
 digits_lack : (digits : List ℕ) → All (λ b. IsTrue (is_ascii_digit b)) digits → Lacks 10 digits
@@ -26,7 +35,8 @@ by_number bytes version number rest begins line one = (
     rest = rest;
     some = is.0;
     decimal = is.1;
-    other = is.2;
+    not_one = is.2;
+    not_two = is.3;
     parts = begins ∙ ap (λ more. codes "realiser-journal " ++ more) line;
   },
   λ is.
@@ -36,7 +46,8 @@ by_number bytes version number rest begins line one = (
       (sym behind ∙ line)).0 in (
         λ none. is.some (same ∙ none),
         subst (All (λ b. IsTrue (is_ascii_digit b))) same is.decimal,
-        λ alone. is.other (same ∙ alone),
+        λ alone. is.not_one (same ∙ alone),
+        λ alone. is.not_two (same ∙ alone),
       ),
 )
 
@@ -44,3 +55,82 @@ by_number bytes version number rest begins line one = (
 pub no_line : (bytes version : List ℕ) → bytes ≡ codes "realiser-journal " ++ version
     → Lacks 10 version → IsOtherVersion bytes → ⊥
 no_line bytes version begins none is = search (rules, append_cancel_left, lacks_not)
+
+-- ---- a version
+
+-- a digit is no newline
+digit_lacks : (digit : ℕ) → digit ≢ 10 → Lacks 10 (digit ∷ [])
+digit_lacks digit other = All-cons (λ b. b ≢ 10) digit [] other (All-nil (λ b. b ≢ 10))
+
+-- bytes that begin with a version's line don't begin with that of another
+pub not_other : (version : Version) (bytes : List ℕ) → BeginsVersion version bytes
+    → IsOtherVersion bytes → ⊥
+not_other One bytes (rest, whole) other =
+    ((by_number bytes (codes "1" ++ 10 ∷ rest) (codes "1") rest whole refl
+    (digit_lacks 49 (λ e. absurd (omega (arith, e))))).1 other).2 refl
+not_other Two bytes (rest, whole) other =
+    ((by_number bytes (codes "2" ++ 10 ∷ rest) (codes "2") rest whole refl
+    (digit_lacks 50 (λ e. absurd (omega (arith, e))))).1 other).3 refl
+
+-- the byte that tells a version
+abbrev digit_in : List ℕ → ℕ
+digit_in bytes = get_or bytes 17 0
+
+-- bytes begin with the line of one version
+pub one_version : (a b : Version) (bytes : List ℕ) → BeginsVersion a bytes → BeginsVersion b bytes
+    → a ≡ b
+one_version One One bytes first second = refl
+one_version One Two bytes (rest, one) (more, two) =
+    absurd (omega (arith, ap digit_in (sym one ∙ two)))
+one_version Two One bytes (rest, one) (more, two) =
+    absurd (omega (arith, ap digit_in (sym one ∙ two)))
+one_version Two Two bytes first second = refl
+
+-- what is behind a prefix, which is this line
+pub stripped : (bytes line prefix : List ℕ) (found : Option (Bor (List ℕ))) → prefix ≡ line
+    → MatchOption found ((rest : List ℕ) → bytes ≢ prefix ++ rest) (λ x. bytes ≡ prefix ++ x.now)
+    → MatchOption found ((rest : List ℕ) → bytes ≢ line ++ rest) (λ x. bytes ≡ line ++ x.now)
+stripped bytes line prefix found same is =
+    subst (λ (l : List ℕ). MatchOption found ((rest : List ℕ) → bytes ≢ l ++ rest)
+    (λ x. bytes ≡ l ++ x.now)) same is
+
+-- bytes that begin neither with the line of version 1 nor with that of version 2 begin with no version's
+pub no_version : (bytes : List ℕ) → ((rest : List ℕ) → bytes ≢ version_line One ++ rest)
+    → ((rest : List ℕ) → bytes ≢ version_line Two ++ rest)
+    → (version : Version) → BeginsVersion version bytes → ⊥
+no_version bytes one two One (rest, begins) = one rest begins
+no_version bytes one two Two (rest, begins) = two rest begins
+
+-- a text begins with the line of its version
+pub text_begins : (version : Version) (dir bytes : List ℕ) (entries : List Entry)
+    → IsTextIn version dir entries bytes → BeginsVersion version bytes
+unfolding text
+text_begins version dir bytes entries is =
+    (lines_text version (flat_map entry_lines entries), is.bytes_are)
+
+-- ---- the limits
+
+-- no version has a greater limit than version 2
+most : (version : Version) → max_len version ≤ max_len Two
+most One = omega arith
+most Two = omega arith
+
+-- bytes that begin with a version's line are too long where they are past its limit
+pub too_long_in : (version : Version) (bytes : List ℕ) → BeginsVersion version bytes
+    → (max_len version < length bytes) ↔ IsTooLong bytes
+too_long_in version bytes begins = (λ long. inr (version, begins, long), back)
+  where
+    back : IsTooLong bytes → max_len version < length bytes
+    back (inl long) = omega (arith, most version, long)
+    back (inr (other, also, long)) =
+        subst (λ v. max_len v < length bytes) (one_version other version bytes also begins) long
+
+-- bytes that begin with no version's line are too long where they are past all limits
+pub too_long_without : (bytes : List ℕ)
+    → ((version : Version) → BeginsVersion version bytes → ⊥)
+    → (max_len Two < length bytes) ↔ IsTooLong bytes
+too_long_without bytes none = (λ long. inl long, back)
+  where
+    back : IsTooLong bytes → max_len Two < length bytes
+    back (inl long) = long
+    back (inr (version, begins, long)) = absurd (none version begins)

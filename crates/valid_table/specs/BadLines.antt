@@ -40,13 +40,14 @@ pub record IsBadLine (dir : List ℕ) (bytes : List ℕ) (n : ℕ) : Type 0 wher
   pub stands : Stands dir before bytes rest
   pub falls : (more : List ℕ) → Stands dir n bytes more → ⊥
 
--- Line 1 is that of a journal's version other than 1.
+-- Line 1 is that of a journal's version other than 1 and 2.
 pub record IsOtherVersion (bytes : List ℕ) : Type 0 where
   pub digits : List ℕ
   pub rest : List ℕ
   pub some : digits ≢ []
   pub decimal : All (λ b. IsTrue (is_ascii_digit b)) digits
-  pub other : digits ≢ codes "1"
+  pub not_one : digits ≢ codes "1"
+  pub not_two : digits ≢ codes "2"
   pub parts : bytes ≡ codes "realiser-journal " ++ (digits ++ (10 ∷ rest))
 
 -- a text of a journal has no bad line

@@ -2,7 +2,7 @@
 -- register.
 use Rattle.std.specs.Prelude.{◌≡◌, ◌+◌, ◌<◌, ◌≤◌, ℕ, List, [], ◌∷◌, ◌++◌, All, Contains, Result, Ok, Err, flat_map, length, take}
 use Rattle.valid_table.specs.Entering.{IsFirstUnknownAt}
-use Rattle.valid_table.specs.Texts.{Line, Version, Added, Deriver, Output, Reference, output_lines}
+use Rattle.valid_table.specs.Texts.{Line, First, Added, Deriver, Output, Reference, output_lines}
 use Rattle.valid_table.specs.Valid.{references_of}
 use Rattle.valid_table.specs.declared.entry.Entry.{Entry}
 use Rattle.valid_table.specs.declared.entry.Entry.TheVariants.{Add, Done}
@@ -17,7 +17,7 @@ header (Done deriver outputs) = Deriver deriver ∷ []
 
 -- a line registers no known path, and refers to none but these paths
 abbrev pub IsRight : (known all : List (List ℕ)) → Line → Type 0
-IsRight known all Version = Unit {0}
+IsRight known all First = Unit {0}
 IsRight known all (Added path digest) = Contains known path → ⊥
 IsRight known all (Deriver path) = Unit {0}
 IsRight known all (Output path digest) = Contains known path → ⊥
@@ -25,7 +25,7 @@ IsRight known all (Reference path) = Contains all path
 
 -- a line registers a known path
 abbrev pub RegistersKnown : (known : List (List ℕ)) → Line → Type 0
-RegistersKnown known Version = ⊥
+RegistersKnown known First = ⊥
 RegistersKnown known (Added path digest) = Contains known path
 RegistersKnown known (Deriver path) = ⊥
 RegistersKnown known (Output path digest) = Contains known path
@@ -33,7 +33,7 @@ RegistersKnown known (Reference path) = ⊥
 
 -- a line refers to a path other than these
 abbrev pub RefersToOther : (all : List (List ℕ)) → Line → Type 0
-RefersToOther all Version = ⊥
+RefersToOther all First = ⊥
 RefersToOther all (Added path digest) = ⊥
 RefersToOther all (Deriver path) = ⊥
 RefersToOther all (Output path digest) = ⊥

@@ -1,19 +1,27 @@
 -- What `==` answers of entries and of their parts.
 use Rattle.std.specs.Prelude.{◌≡◌, ◌&&◌, ◌↔◌, ℕ, List, Bool, true, false, IsTrue, nat_eq, refl}
-use Rattle.std.specs.Cmp.{IsEquivalence, and_equiv, on_equiv}
+use Rattle.std.specs.Cmp.{IsEquivalence, and_equiv, nat_eq_equiv, on_equiv}
 use Rattle.std.specs.Cmp.Lexicographic.{lists_equiv, nat_list_eq_equiv, options_equiv, pointwise}
 use Rattle.std.specs.Option.{option_eq}
 use Rattle.std.proofs.Common.{sym, true≢false}
+use Rattle.nix_names.specs.Digests.{algorithm_of, bytes_of, size_of}
+use Rattle.nix_names.specs.declared.digest.Digest.{Digest}
 use Rattle.valid_table.specs.PathInfos.{PathInfo}
 use Rattle.valid_table.specs.declared.entry.Entry.{Entry}
 use Rattle.valid_table.specs.declared.entry.Entry.TheVariants.{Add, Done}
 use Rattle.valid_table.specs.declared.entry.Registration.{Registration}
 
+-- of digests: their algorithms, which differ in size, and their bytes
+abbrev pub same_digest : Digest → Digest → Bool
+same_digest a b =
+    nat_eq (size_of (algorithm_of a)) (size_of (algorithm_of b))
+    && pointwise nat_eq (bytes_of a) (bytes_of b)
+
 -- of records
 abbrev pub same_record : PathInfo → PathInfo → Bool
 same_record a b =
     pointwise (pointwise nat_eq) a.references b.references
-    && option_eq (pointwise nat_eq) a.digest b.digest
+    && option_eq same_digest a.digest b.digest
 
 -- of registrations
 abbrev pub same_registration : Registration → Registration → Bool
@@ -27,11 +35,17 @@ same_entry (Done deriver outputs) (Add b) = false
 same_entry (Done deriver outputs) (Done other others) =
     pointwise nat_eq deriver other && pointwise same_registration outputs others
 
--- equality of records is an equivalence
+-- equality of digests is an equivalence
+pub same_digest_laws : IsEquivalence same_digest
+same_digest_laws =
+    and_equiv (on_equiv (λ (d : Digest). size_of (algorithm_of d)) nat_eq_equiv)
+    (on_equiv bytes_of nat_list_eq_equiv)
+
+-- that of records is one
 pub same_record_laws : IsEquivalence same_record
 same_record_laws =
     and_equiv (on_equiv (λ (r : PathInfo). r.references) (lists_equiv nat_list_eq_equiv))
-    (on_equiv (λ (r : PathInfo). r.digest) (options_equiv nat_list_eq_equiv))
+    (on_equiv (λ (r : PathInfo). r.digest) (options_equiv same_digest_laws))
 
 -- that of registrations is one
 pub same_registration_laws : IsEquivalence same_registration

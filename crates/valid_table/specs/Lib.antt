@@ -21,3 +21,4 @@ pub mod Tables
 pub mod Texts
 pub mod Unions
 pub mod Valid
+pub mod Written

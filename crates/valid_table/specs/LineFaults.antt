@@ -1,5 +1,6 @@
 -- Which lines of a journal refer to paths that are not registered, or register paths again.
 use Rattle.std.specs.Prelude.{◌≡◌, ◌⊎◌, ◌+◌, ◌≤◌, ℕ, List, ◌∷◌, ◌++◌, Option, length}
+use Rattle.nix_names.specs.declared.digest.Digest.{Digest}
 use Rattle.valid_table.specs.Entries.{registered, registered_by}
 use Rattle.valid_table.specs.Texts.{Line, Added, Output, Reference, lines, entry_lines}
 use Rattle.valid_table.specs.Valid.{IsValid}
@@ -26,7 +27,7 @@ IsNotClosedAt entries n =
 -- line n registers a path that an earlier entry registered
 abbrev pub IsTwiceAt : List Entry → ℕ → Type 0
 IsTwiceAt entries n =
-    (before : List Entry) × (entry : Entry) × (path : List ℕ) × (digest : Option (List ℕ))
+    (before : List Entry) × (entry : Entry) × (path : List ℕ) × (digest : Option Digest)
     × (StandsAt entries before entry (Added path digest) n
     ⊎ StandsAt entries before entry (Output path digest) n)
     × IsValid (registered before) path

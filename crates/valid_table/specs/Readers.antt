@@ -2,16 +2,19 @@
 use Rattle.std.specs.Prelude.{◌≡◌, ◌≢◌, ◌⊎◌, ℕ, List, [], ◌∷◌, ◌++◌, All, Option, Some, None, flat_map, length}
 use Rattle.nix_names.specs.Rising.{IsRising}
 use Rattle.nix_names.specs.StorePaths.{IsDrvPath, IsPathOf}
+use Rattle.nix_names.specs.declared.digest.Digest.{Digest}
 use Rattle.valid_table.specs.BadLines.{BeginsOutput}
 use Rattle.valid_table.specs.Entries.{paths_of}
 use Rattle.valid_table.specs.LineTexts.{fields_text, lines_text, references_text, registration_text}
+use Rattle.valid_table.specs.Reading.{BeginsVersion}
 use Rattle.valid_table.specs.Steps.{IsAbove, Place, Start, Begun, Within, Stops}
-use Rattle.valid_table.specs.Texts.{IsDigest, IsEntryOf, IsOf, entry_lines, lines, output_lines}
+use Rattle.valid_table.specs.Texts.{IsDigestOf, IsEntryOf, IsOf, entry_lines, lines, output_lines}
 use Rattle.valid_table.specs.declared.entry.Entry.{Entry}
 use Rattle.valid_table.specs.declared.entry.Entry.TheVariants.{Add, Done}
 use Rattle.valid_table.specs.declared.entry.Registration.{Registration}
 use Rattle.valid_table.specs.declared.reading.Stop.{Stop}
 use Rattle.valid_table.specs.declared.reading.Stop.TheVariants.{NoMemory, Left}
+use Rattle.valid_table.specs.declared.version.Version.{Version}
 
 -- no line with this letter begins there
 abbrev pub IsNoLine : ℕ → List ℕ → Type 0
@@ -35,11 +38,11 @@ pub record IsDeriverLine (dir bytes path rest : List ℕ) : Type 0 where
   pub ahead : BeginsOutput rest
 
 -- The bytes are a path of the store folder, a space, a digest's text, a newline and the rest.
-pub record IsFieldsLine (dir bytes path : List ℕ) (digest : Option (List ℕ)) (rest : List ℕ)
-    : Type 0 where
+pub record IsFieldsLine (version : Version) (dir bytes path : List ℕ) (digest : Option Digest)
+    (rest : List ℕ) : Type 0 where
   pub of_dir : IsPathOf dir path
-  pub is_digest : IsDigest digest
-  pub parts : bytes ≡ fields_text path digest ++ rest
+  pub is_digest : IsDigestOf version digest
+  pub parts : bytes ≡ fields_text version path digest ++ rest
 
 -- The bytes are the lines of these references and the rest.
 pub record SoFarReferences (dir bytes : List ℕ) (references : List (List ℕ)) (rest : List ℕ)
@@ -56,56 +59,62 @@ pub record HasReferences (dir bytes : List ℕ) (references : List (List ℕ)) (
 
 -- The bytes are the lines of a registration, above the path before it, and the rest, at which no
 -- reference begins.
-pub record HasRegistration (dir : List ℕ) (letter : ℕ) (before : Option (List ℕ)) (bytes : List ℕ)
-    (r : Registration) (rest : List ℕ) : Type 0 where
-  pub parts : bytes ≡ registration_text letter r ++ rest
-  pub of_dir : IsOf dir r
+pub record HasRegistration (version : Version) (dir : List ℕ) (letter : ℕ)
+    (before : Option (List ℕ)) (bytes : List ℕ) (r : Registration) (rest : List ℕ) : Type 0 where
+  pub parts : bytes ≡ registration_text version letter r ++ rest
+  pub of_dir : IsOf version dir r
   pub above : IsAbove before r.path
   pub ends : IsNoLine 82 rest
 
 -- no line with a path above the one before it and a digest stands there
-abbrev pub HasNoFields : List ℕ → Option (List ℕ) → List ℕ → Type 0
-HasNoFields dir before bytes = (path : List ℕ) (digest : Option (List ℕ)) (rest : List ℕ)
-    → IsAbove before path → IsFieldsLine dir bytes path digest rest → ⊥
+abbrev pub HasNoFields : Version → List ℕ → Option (List ℕ) → List ℕ → Type 0
+HasNoFields version dir before bytes = (path : List ℕ) (digest : Option Digest) (rest : List ℕ)
+    → IsAbove before path → IsFieldsLine version dir bytes path digest rest → ⊥
+
+-- the lines of references stop there, in each version and whatever registers them
+abbrev pub StopsInReferences : (dir bytes : List ℕ) → ℕ → Type 0
+StopsInReferences dir bytes left = (version : Version) (output : Option (List ℕ))
+    → Stops version dir (Within output None) bytes left
 
 -- a line with this letter is bad
-pub record IsBadFields (dir : List ℕ) (letter : ℕ) (before : Option (List ℕ)) (bytes : List ℕ)
-    (left : ℕ) : Type 0 where
+pub record IsBadFields (version : Version) (dir : List ℕ) (letter : ℕ) (before : Option (List ℕ))
+    (bytes : List ℕ) (left : ℕ) : Type 0 where
   pub fields : List ℕ
   pub begins : bytes ≡ letter ∷ 32 ∷ fields
   pub is_left : length bytes ≡ left
-  pub bad : HasNoFields dir before fields
+  pub bad : HasNoFields version dir before fields
 
 -- a line with this letter is good, and one behind it, of its references, is bad
-pub record HasBadReference (dir : List ℕ) (letter : ℕ) (before : Option (List ℕ)) (bytes : List ℕ)
-    (left : ℕ) : Type 0 where
+pub record HasBadReference (version : Version) (dir : List ℕ) (letter : ℕ)
+    (before : Option (List ℕ)) (bytes : List ℕ) (left : ℕ) : Type 0 where
   pub fields : List ℕ
   pub begins : bytes ≡ letter ∷ 32 ∷ fields
   pub path : List ℕ
-  pub digest : Option (List ℕ)
+  pub digest : Option Digest
   pub rest : List ℕ
   pub above : IsAbove before path
-  pub line : IsFieldsLine dir fields path digest rest
-  pub stops : (output : Option (List ℕ)) → Stops dir (Within output None) rest left
+  pub line : IsFieldsLine version dir fields path digest rest
+  pub stops : StopsInReferences dir rest left
 
 -- reading a registration stops
-abbrev pub StopsInRegistration : List ℕ → ℕ → Option (List ℕ) → List ℕ → ℕ → Type 0
-StopsInRegistration dir letter before bytes left = IsBadFields dir letter before bytes left
-    ⊎ HasBadReference dir letter before bytes left
+abbrev pub StopsInRegistration : Version → List ℕ → ℕ → Option (List ℕ) → List ℕ → ℕ → Type 0
+StopsInRegistration version dir letter before bytes left =
+    IsBadFields version dir letter before bytes left
+    ⊎ HasBadReference version dir letter before bytes left
 
 -- The bytes are the lines of these outputs and the rest, at which no reference begins, if there is
 -- an output.
-pub record SoFarOutputs (dir bytes : List ℕ) (outputs : List Registration) (rest : List ℕ)
-    : Type 0 where
-  pub parts : bytes ≡ lines_text (flat_map output_lines outputs) ++ rest
-  pub of_dir : All (IsOf dir) outputs
+pub record SoFarOutputs (version : Version) (dir bytes : List ℕ) (outputs : List Registration)
+    (rest : List ℕ) : Type 0 where
+  pub parts : bytes ≡ lines_text version (flat_map output_lines outputs) ++ rest
+  pub of_dir : All (IsOf version dir) outputs
   pub rising : IsRising (paths_of outputs)
   pub ended : (outputs ≡ []) ⊎ IsNoLine 82 rest
 
 -- The same of at least one output, where neither an output nor a reference begins at the rest.
-pub record HasOutputs (dir bytes : List ℕ) (outputs : List Registration) (rest : List ℕ)
-    : Type 0 where
-  pub so_far : SoFarOutputs dir bytes outputs rest
+pub record HasOutputs (version : Version) (dir bytes : List ℕ) (outputs : List Registration)
+    (rest : List ℕ) : Type 0 where
+  pub so_far : SoFarOutputs version dir bytes outputs rest
   pub some : outputs ≢ []
   pub no_output : IsNoLine 79 rest
   pub no_reference : IsNoLine 82 rest
@@ -116,9 +125,10 @@ IsEnd (Add r) rest = IsNoLine 82 rest
 IsEnd (Done deriver outputs) rest = IsNoLine 79 rest × IsNoLine 82 rest
 
 -- The bytes are the lines of an entry and the rest, at which no further line of it begins.
-pub record HasEntry (dir bytes : List ℕ) (entry : Entry) (rest : List ℕ) : Type 0 where
-  pub parts : bytes ≡ lines_text (entry_lines entry) ++ rest
-  pub of_dir : IsEntryOf dir entry
+pub record HasEntry (version : Version) (dir bytes : List ℕ) (entry : Entry) (rest : List ℕ)
+    : Type 0 where
+  pub parts : bytes ≡ lines_text version (entry_lines entry) ++ rest
+  pub of_dir : IsEntryOf version dir entry
   pub ends : IsEnd entry rest
 
 -- an entry has to begin at a place, with these bytes
@@ -130,8 +140,21 @@ HasToBegin place bytes = ⊥
 
 -- The bytes are the lines of a journal with these entries, and the rest, where an entry has to
 -- begin.
-pub record SoFarEntries (dir bytes : List ℕ) (entries : List Entry) (rest : List ℕ) : Type 0 where
-  pub parts : bytes ≡ lines_text (lines entries) ++ rest
-  pub of_dir : All (IsEntryOf dir) entries
-  pub leads : (left : ℕ) → ((from : Place) → HasToBegin from rest → Stops dir from rest left)
-      → Stops dir Start bytes left
+pub record SoFarEntries (version : Version) (dir bytes : List ℕ) (entries : List Entry)
+    (rest : List ℕ) : Type 0 where
+  pub parts : bytes ≡ lines_text version (lines entries) ++ rest
+  pub of_dir : All (IsEntryOf version dir) entries
+  pub leads : (left : ℕ)
+      → ((from : Place) → HasToBegin from rest → Stops version dir from rest left)
+      → Stops version dir Start bytes left
+
+-- no version's line begins the bytes
+abbrev pub BeginsNoVersion : List ℕ → Type 0
+BeginsNoVersion bytes = (version : Version) → BeginsVersion version bytes → ⊥
+
+-- The lines of a text stop, with so many bytes left: those of the version with whose line it begins,
+-- or the first one, where no version's line begins it.
+abbrev pub StopsInText : (dir bytes : List ℕ) → ℕ → Type 0
+StopsInText dir bytes left =
+    ((version : Version) × BeginsVersion version bytes × Stops version dir Start bytes left)
+    ⊎ (BeginsNoVersion bytes × (bytes ≢ []) × (left ≡ length bytes))

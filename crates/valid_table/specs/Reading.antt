@@ -1,22 +1,31 @@
 -- What `Journal::read` answers for the bytes of a file, case by case. The cases exclude one
 -- another, want of memory apart.
-use Rattle.std.specs.Prelude.{◌≡◌, ◌≢◌, ◌≤◌, ◌<◌, ℕ, List, [], ◌++◌, codes, length, Result, Ok, Err}
+use Rattle.std.specs.Prelude.{◌≡◌, ◌≢◌, ◌⊎◌, ◌<◌, ℕ, List, [], ◌++◌, length, Result, Ok, Err}
 use Rattle.valid_table.specs.BadLines.{IsBadLine, IsOtherVersion}
 use Rattle.valid_table.specs.LineFaults.{IsLeastFault, IsNotClosedAt, IsTwiceAt}
 use Rattle.valid_table.specs.Tables.{JournalValue}
-use Rattle.valid_table.specs.Texts.{IsText}
+use Rattle.valid_table.specs.Texts.{IsText, version_line}
 use Rattle.valid_table.specs.Valid.{IsJournal}
 use Rattle.valid_table.specs.declared.entry.Entry.{Entry}
 use Rattle.valid_table.specs.declared.fault.TableFault.{TableFault}
+use Rattle.valid_table.specs.declared.version.Version.{Version}
+use Rattle.valid_table.specs.declared.version.Version.TheVariants.{One, Two}
 use Rattle.valid_table.specs.declared.fault.TableFault.TheVariants.{NoMemory, BadLine, NotClosed, Twice, WrongVersion, TooLong}
 
--- the greatest length of a journal's text
-abbrev pub max_len : ℕ
-max_len = 67108864
+-- the greatest length of a journal's text in a version
+abbrev pub max_len : Version → ℕ
+max_len One = 67108864
+max_len Two = 134217728
 
--- the bytes begin with the line of version 1
-abbrev pub BeginsVersion : List ℕ → Type 0
-BeginsVersion bytes = (rest : List ℕ) × (bytes ≡ codes "realiser-journal 1\n" ++ rest)
+-- the bytes begin with the line of a version
+abbrev pub BeginsVersion : Version → List ℕ → Type 0
+BeginsVersion version bytes = (rest : List ℕ) × (bytes ≡ version_line version ++ rest)
+
+-- the bytes are more than a journal of any version may have, or begin with the line of a version and
+-- are more than a journal of it may have
+abbrev pub IsTooLong : List ℕ → Type 0
+IsTooLong bytes = (max_len Two < length bytes)
+    ⊎ ((version : Version) × BeginsVersion version bytes × (max_len version < length bytes))
 
 -- what is answered for entries whose text was read
 abbrev pub IsChecking : List Entry → Result (List Entry) TableFault → Type 0
@@ -28,7 +37,7 @@ IsChecking entries (Err fault) = ⊥
 
 -- The bytes are the text of some entries, and what is answered is what these say.
 pub record IsReadAs (dir bytes : List ℕ) (answer : Result (List Entry) TableFault) : Type 0 where
-  pub within : length bytes ≤ max_len
+  pub within : IsTooLong bytes → ⊥
   pub entries : List Entry
   pub is_text : IsText dir entries bytes
   pub checked : IsChecking entries answer
@@ -39,12 +48,12 @@ answered (Ok journal) = Ok journal.entries
 answered (Err fault) = Err fault
 
 -- What is answered for bytes. Memory is refused only where they are within the limit and begin with
--- the line of version 1.
+-- the line of a version.
 abbrev pub IsReading : (dir bytes : List ℕ) → Result (List Entry) TableFault → Type 0
-IsReading dir bytes (Err TooLong) = max_len < length bytes
-IsReading dir bytes (Err WrongVersion) = (length bytes ≤ max_len) × IsOtherVersion bytes
-IsReading dir bytes (Err (BadLine n)) = (length bytes ≤ max_len) × (IsOtherVersion bytes → ⊥)
+IsReading dir bytes (Err TooLong) = IsTooLong bytes
+IsReading dir bytes (Err WrongVersion) = (IsTooLong bytes → ⊥) × IsOtherVersion bytes
+IsReading dir bytes (Err (BadLine n)) = (IsTooLong bytes → ⊥) × (IsOtherVersion bytes → ⊥)
     × IsBadLine dir bytes n
-IsReading dir bytes (Err NoMemory) = (length bytes ≤ max_len) × (IsOtherVersion bytes → ⊥)
-    × BeginsVersion bytes
+IsReading dir bytes (Err NoMemory) = (IsTooLong bytes → ⊥) × (IsOtherVersion bytes → ⊥)
+    × ((version : Version) × BeginsVersion version bytes)
 IsReading dir bytes answer = IsReadAs dir bytes answer

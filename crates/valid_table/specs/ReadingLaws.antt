@@ -1,12 +1,13 @@
 -- That the text of a journal is read as just that journal, and that bytes have one answer.
-use Rattle.std.specs.Prelude.{◌≡◌, ◌⊎◌, ◌≤◌, ℕ, List, length, Result, Ok, Err}
+use Rattle.std.specs.Prelude.{◌≡◌, ◌⊎◌, ◌≤◌, ◌*◌, ℕ, List, length, Result, Ok, Err}
 use Rattle.nix_names.specs.Names.{IsStoreDir}
-use Rattle.valid_table.specs.Reading.{IsReading, max_len}
-use Rattle.valid_table.specs.Texts.{IsText}
+use Rattle.valid_table.specs.Reading.{IsReading, IsTooLong}
+use Rattle.valid_table.specs.Texts.{IsText, IsTextIn, text}
 use Rattle.valid_table.specs.Valid.{IsJournal}
 use Rattle.valid_table.specs.declared.entry.Entry.{Entry}
 use Rattle.valid_table.specs.declared.fault.TableFault.{TableFault}
 use Rattle.valid_table.specs.declared.fault.TableFault.TheVariants.{NoMemory}
+use Rattle.valid_table.specs.declared.version.Version.TheVariants.{One, Two}
 
 -- one text is that of one list of entries
 abbrev pub TextHasOneList : Type 0
@@ -17,7 +18,7 @@ TextHasOneList = (dir bytes : List ℕ) (a b : List Entry) → IsText dir a byte
 abbrev pub JournalTextsAreRead : Type 0
 JournalTextsAreRead =
     (dir bytes : List ℕ) (entries : List Entry) (answer : Result (List Entry) TableFault)
-    → IsStoreDir dir → length bytes ≤ max_len
+    → IsStoreDir dir → (IsTooLong bytes → ⊥)
     → IsText dir entries bytes → IsJournal entries → IsReading dir bytes answer
     → (answer ≡ Ok entries) ⊎ (answer ≡ Err NoMemory)
 
@@ -27,3 +28,19 @@ AnswerIsOne =
     (dir bytes : List ℕ) (a b : Result (List Entry) TableFault) → IsStoreDir dir
     → IsReading dir bytes a → IsReading dir bytes b
     → (a ≡ b) ⊎ (a ≡ Err NoMemory) ⊎ (b ≡ Err NoMemory)
+
+-- a version 1 text and the version 2 text of its entries have the same entries; the second has at most
+-- twice the length, so it is within its limit where the first is within its own
+abbrev pub VersionsHaveTheSameEntries : Type 0
+VersionsHaveTheSameEntries =
+    (dir bytes : List ℕ) (entries : List Entry) → IsTextIn One dir entries bytes
+    → IsTextIn Two dir entries (text Two entries)
+    × (length (text Two entries) ≤ 2 * length bytes)
+
+-- what is read of a version 1 text is read of the version 2 text of it, want of memory apart
+abbrev pub WrittenJournalsAreReadAgain : Type 0
+WrittenJournalsAreReadAgain =
+    (dir bytes : List ℕ) (entries : List Entry) (answer : Result (List Entry) TableFault)
+    → IsStoreDir dir → IsTextIn One dir entries bytes → IsReading dir bytes (Ok entries)
+    → IsReading dir (text Two entries) answer
+    → (answer ≡ Ok entries) ⊎ (answer ≡ Err NoMemory)

@@ -5,9 +5,11 @@ use Rattle.std.specs.Cmp.Lexicographic.{slice_cmp}
 use Rattle.std.specs.Ordering.{nat_cmp}
 use Rattle.std.specs.declared.cmp.Ordering.TheVariants.{Less}
 use Rattle.nix_names.specs.StorePaths.{IsDrvPath, IsPathOf}
+use Rattle.nix_names.specs.declared.digest.Digest.{Digest}
 use Rattle.valid_table.specs.BadLines.{BeginsOutput}
 use Rattle.valid_table.specs.LineTexts.{lines_text}
-use Rattle.valid_table.specs.Texts.{IsDigest, Line, Version, Added, Deriver, Output, Reference, line_text}
+use Rattle.valid_table.specs.Texts.{IsDigestOf, Line, First, Added, Deriver, Output, Reference, line_text}
+use Rattle.valid_table.specs.declared.version.Version.{Version}
 
 -- A place between lines: before line 1, behind it, behind a deriver, or within the lines of an
 -- output, or of an added path, behind its last reference, if any.
@@ -23,29 +25,29 @@ IsAbove None path = Unit {0}
 IsAbove (Some before) path = slice_cmp nat_cmp before path ≡ Less
 
 -- a line may stand where an entry may begin
-abbrev pub MayBegin : List ℕ → Line → Type 0
-MayBegin dir (Added path digest) = IsPathOf dir path × IsDigest digest
-MayBegin dir (Deriver path) = IsPathOf dir path × IsDrvPath path
-MayBegin dir line = ⊥
+abbrev pub MayBegin : Version → List ℕ → Line → Type 0
+MayBegin version dir (Added path digest) = IsPathOf dir path × IsDigestOf version digest
+MayBegin version dir (Deriver path) = IsPathOf dir path × IsDrvPath path
+MayBegin version dir line = ⊥
 
 -- an output may stand behind a deriver, or behind an output with a lesser path
-abbrev pub MayFollow : List ℕ → Option (List ℕ) → List ℕ → Option (List ℕ) → Type 0
-MayFollow dir before path digest = IsPathOf dir path × IsDigest digest × IsAbove before path
+abbrev pub MayFollow : Version → List ℕ → Option (List ℕ) → List ℕ → Option Digest → Type 0
+MayFollow version dir before path digest = IsPathOf dir path × IsDigestOf version digest × IsAbove before path
 
 -- a line may stand at a place
-abbrev pub MayStand : List ℕ → Place → Line → Type 0
-MayStand dir Start Version = Unit {0}
-MayStand dir Begun line = MayBegin dir line
-MayStand dir (Within output last) (Reference path) = IsPathOf dir path × IsAbove last path
-MayStand dir (Within (Some before) last) (Output path digest) =
-    MayFollow dir (Some before) path digest
-MayStand dir (Within output last) line = MayBegin dir line
-MayStand dir Opened (Output path digest) = MayFollow dir None path digest
-MayStand dir place line = ⊥
+abbrev pub MayStand : Version → List ℕ → Place → Line → Type 0
+MayStand version dir Start First = Unit {0}
+MayStand version dir Begun line = MayBegin version dir line
+MayStand version dir (Within output last) (Reference path) = IsPathOf dir path × IsAbove last path
+MayStand version dir (Within (Some before) last) (Output path digest) =
+    MayFollow version dir (Some before) path digest
+MayStand version dir (Within output last) line = MayBegin version dir line
+MayStand version dir Opened (Output path digest) = MayFollow version dir None path digest
+MayStand version dir place line = ⊥
 
 -- the place behind a line
 abbrev pub behind : Place → Line → Place
-behind place Version = Begun
+behind place First = Begun
 behind place (Added path digest) = Within None None
 behind place (Deriver path) = Opened
 behind place (Output path digest) = Within (Some path) None
@@ -58,28 +60,28 @@ Ahead Opened rest = BeginsOutput rest
 Ahead place rest = Unit {0}
 
 -- lines lead from a place on, each to the place behind it, and the last to one of which this holds
-abbrev pub LeadsTo : List ℕ → (Place → Type 0) → Place → List Line → Type 0
-LeadsTo dir Is from [] = Is from
-LeadsTo dir Is from (line ∷ more) = MayStand dir from line × LeadsTo dir Is (behind from line) more
+abbrev pub LeadsTo : Version → List ℕ → (Place → Type 0) → Place → List Line → Type 0
+LeadsTo version dir Is from [] = Is from
+LeadsTo version dir Is from (line ∷ more) = MayStand version dir from line × LeadsTo version dir Is (behind from line) more
 
 -- From a place the bytes go on with a line that may stand there, and then with the rest.
-pub record Goes (dir : List ℕ) (from : Place) (bytes : List ℕ) (line : Line) (rest : List ℕ)
+pub record Goes (version : Version) (dir : List ℕ) (from : Place) (bytes : List ℕ) (line : Line) (rest : List ℕ)
     : Type 0 where
-  pub parts : bytes ≡ line_text line ++ rest
-  pub may : MayStand dir from line
+  pub parts : bytes ≡ line_text version line ++ rest
+  pub may : MayStand version dir from line
   pub ahead : Ahead (behind from line) rest
 
 -- With these bytes no line goes on from a place.
-pub record IsStuck (dir bytes : List ℕ) (place : Place) : Type 0 where
+pub record IsStuck (version : Version) (dir bytes : List ℕ) (place : Place) : Type 0 where
   pub ahead : Ahead place bytes
-  pub stuck : (line : Line) (rest : List ℕ) → Goes dir place bytes line rest → ⊥
+  pub stuck : (line : Line) (rest : List ℕ) → Goes version dir place bytes line rest → ⊥
 
 -- The lines from a place stop, with so many bytes left, of which no line can be made that may stand
 -- there.
-pub record Stops (dir : List ℕ) (from : Place) (bytes : List ℕ) (left : ℕ) : Type 0 where
+pub record Stops (version : Version) (dir : List ℕ) (from : Place) (bytes : List ℕ) (left : ℕ) : Type 0 where
   pub lines : List Line
   pub bad : List ℕ
-  pub parts : bytes ≡ lines_text lines ++ bad
-  pub leads : LeadsTo dir (IsStuck dir bad) from lines
+  pub parts : bytes ≡ lines_text version lines ++ bad
+  pub leads : LeadsTo version dir (IsStuck version dir bad) from lines
   pub is_left : length bad ≡ left
   pub some : bad ≢ []

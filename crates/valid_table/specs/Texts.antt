@@ -1,34 +1,48 @@
--- The text of a journal, version 1, line by line.
-use Rattle.std.specs.Prelude.{◌≡◌, ◌≢◌, ◌⊎◌, ◌<◌, ℕ, List, [], ◌∷◌, ◌++◌, All, Option, Some, None, codes, flat_map, length, map}
-use Rattle.hex.specs.Hex.{encode_lower}
+-- The text of a journal, line by line, in version 1 and in version 2. They differ in the first line, and
+-- in how a digest is written (this product's own).
+use Rattle.std.specs.Prelude.{◌≡◌, ◌≢◌, ◌⊎◌, ℕ, List, [], ◌∷◌, ◌++◌, All, Option, Some, None, codes, flat_map, map}
+use Rattle.nix_names.specs.Digests.{IsDigest, algorithm_of, digits_of, text_of}
+use Rattle.nix_names.specs.declared.digest.Algorithm.TheVariants.{Sha256}
+use Rattle.nix_names.specs.declared.digest.Digest.{Digest}
 use Rattle.nix_names.specs.Rising.{IsRising}
 use Rattle.nix_names.specs.StorePaths.{IsDrvPath, IsPathOf}
 use Rattle.valid_table.specs.Entries.{paths_of}
 use Rattle.valid_table.specs.declared.entry.Entry.{Entry}
 use Rattle.valid_table.specs.declared.entry.Entry.TheVariants.{Add, Done}
 use Rattle.valid_table.specs.declared.entry.Registration.{Registration}
+use Rattle.valid_table.specs.declared.version.Version.{Version}
+use Rattle.valid_table.specs.declared.version.Version.TheVariants.{One, Two}
 
--- One line: the version, an added path, a deriver, an output, or a reference of the added path or
+-- One line: the first one, an added path, a deriver, an output, or a reference of the added path or
 -- output before it.
 pub data Line : Type 0 where
-  Version : Line
-  Added : (path : List ℕ) (digest : Option (List ℕ)) → Line
+  First : Line
+  Added : (path : List ℕ) (digest : Option Digest) → Line
   Deriver : (path : List ℕ) → Line
-  Output : (path : List ℕ) (digest : Option (List ℕ)) → Line
+  Output : (path : List ℕ) (digest : Option Digest) → Line
   Reference : (path : List ℕ) → Line
 
--- a digest in lower-case hexadecimal digits, or a dash for none
-abbrev pub digest_text : Option (List ℕ) → List ℕ
-digest_text None = codes "-"
-digest_text (Some digest) = encode_lower digest
+-- the first line of a version, with its newline
+abbrev pub version_line : Version → List ℕ
+version_line One = codes "realiser-journal 1\n"
+version_line Two = codes "realiser-journal 2\n"
+
+-- a digest: a dash for none, in version 1 the digits alone, and in version 2 the algorithm's name, a
+-- colon and the digits
+abbrev pub digest_text : Version → Option Digest → List ℕ
+digest_text version None = codes "-"
+digest_text One (Some digest) = digits_of digest
+digest_text Two (Some digest) = text_of digest
 
 -- a line's bytes, with its newline
-abbrev pub line_text : Line → List ℕ
-line_text Version = codes "realiser-journal 1\n"
-line_text (Added path digest) = codes "A " ++ (path ++ (32 ∷ (digest_text digest ++ (10 ∷ []))))
-line_text (Deriver path) = codes "D " ++ (path ++ (10 ∷ []))
-line_text (Output path digest) = codes "O " ++ (path ++ (32 ∷ (digest_text digest ++ (10 ∷ []))))
-line_text (Reference path) = codes "R " ++ (path ++ (10 ∷ []))
+abbrev pub line_text : Version → Line → List ℕ
+line_text version First = version_line version
+line_text version (Added path digest) =
+    codes "A " ++ (path ++ (32 ∷ (digest_text version digest ++ (10 ∷ []))))
+line_text version (Deriver path) = codes "D " ++ (path ++ (10 ∷ []))
+line_text version (Output path digest) =
+    codes "O " ++ (path ++ (32 ∷ (digest_text version digest ++ (10 ∷ []))))
+line_text version (Reference path) = codes "R " ++ (path ++ (10 ∷ []))
 
 -- the lines of an output
 abbrev pub output_lines : Registration → List Line
@@ -41,34 +55,41 @@ entry_lines (Done deriver outputs) = Deriver deriver ∷ flat_map output_lines o
 
 -- the lines of a journal
 abbrev pub lines : List Entry → List Line
-lines entries = Version ∷ flat_map entry_lines entries
+lines entries = First ∷ flat_map entry_lines entries
 
 -- the text of a journal
-unfoldable pub text : List Entry → List ℕ
-text entries = flat_map line_text (lines entries)
+unfoldable pub text : Version → List Entry → List ℕ
+text version entries = flat_map (line_text version) (lines entries)
 
--- a digest has 32 bytes, where there is one
-abbrev pub IsDigest : Option (List ℕ) → Type 0
-IsDigest None = Unit {0}
-IsDigest (Some digest) = (length digest ≡ 32) × All (λ b. b < 256) digest
+-- a digest, where there is one, can be written in a version: version 1 has SHA-256 alone
+abbrev pub IsDigestOf : Version → Option Digest → Type 0
+IsDigestOf version None = Unit {0}
+IsDigestOf One (Some digest) = (algorithm_of digest ≡ Sha256) × IsDigest digest
+IsDigestOf Two (Some digest) = IsDigest digest
 
--- What is registered is of the store folder, with references that rise strictly.
-pub record IsOf (dir : List ℕ) (r : Registration) : Type 0 where
+-- What is registered is of the store folder, with references that rise strictly, and with a digest
+-- that the version has.
+pub record IsOf (version : Version) (dir : List ℕ) (r : Registration) : Type 0 where
   pub path : IsPathOf dir r.path
-  pub digest : IsDigest r.info.digest
+  pub digest : IsDigestOf version r.info.digest
   pub references : All (IsPathOf dir) r.info.references
   pub rising : IsRising r.info.references
 
 -- an entry is of the store folder: a `.drv` path with its outputs, at least one and strictly
 -- rising, or an added path
-abbrev pub IsEntryOf : List ℕ → Entry → Type 0
-IsEntryOf dir (Add r) = IsOf dir r
-IsEntryOf dir (Done deriver outputs) =
+abbrev pub IsEntryOf : Version → List ℕ → Entry → Type 0
+IsEntryOf version dir (Add r) = IsOf version dir r
+IsEntryOf version dir (Done deriver outputs) =
     IsPathOf dir deriver × IsDrvPath deriver × (outputs ≢ []) × IsRising (paths_of outputs)
-    × All (IsOf dir) outputs
+    × All (IsOf version dir) outputs
 
--- The bytes are the text of these entries, which are of the store folder; no bytes at all are the
--- text of none.
-pub record IsText (dir : List ℕ) (entries : List Entry) (bytes : List ℕ) : Type 0 where
-  pub of_dir : All (IsEntryOf dir) entries
-  pub bytes_are : (bytes ≡ text entries) ⊎ ((entries ≡ []) × (bytes ≡ []))
+-- The bytes are the text of these entries, which are of the store folder, in a version.
+pub record IsTextIn (version : Version) (dir : List ℕ) (entries : List Entry) (bytes : List ℕ)
+    : Type 0 where
+  pub of_dir : All (IsEntryOf version dir) entries
+  pub bytes_are : bytes ≡ text version entries
+
+-- the bytes are the text of these entries in some version; no bytes at all are the text of none
+abbrev pub IsText : (dir : List ℕ) → List Entry → (bytes : List ℕ) → Type 0
+IsText dir entries bytes = ((version : Version) × IsTextIn version dir entries bytes)
+    ⊎ ((entries ≡ []) × (bytes ≡ []))

@@ -20,7 +20,7 @@ use std::alloc::Global;
 // The table of what entries register. `Twice` and `NotClosed` have the first line with one of these
 // faults; the lines are counted from 1, the version's.
 pub(crate) fn check_entries(alloc: Global, entries: &[Entry]) -> Result<Table, TableFault>
-    requires few { length (lines entries.now) ≤ 67108865 }
+    requires few { length (lines entries.now) ≤ 134217729 }
     ensures closed { OnOk result (IsClosed entries.now) }
     ensures once { OnOk result (IsOnce (registered entries.now)) }
     ensures table { IfOk result (λ table. table.registrations ≡ registered entries.now) }

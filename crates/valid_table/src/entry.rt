@@ -6,7 +6,7 @@ ghost use Rattle.nix_names.specs.Rising.{IsRising};
 ghost use Rattle.valid_table.specs.Entries.{IsSortedOf, paths_of, registered_by};
 ghost use Rattle.valid_table.specs.Valid.{IsOnce};
 
-use nix_names::StorePath;
+use nix_names::{Digest, StorePath};
 use std::alloc::{AllocError, Global};
 use std::marker::Model;
 use std::slice;
@@ -17,7 +17,7 @@ use std::sync::ArcSlice;
 #[derive(Debug, Drop)]
 pub struct Record {
     references: Option<ArcSlice<StorePath>>,
-    digest: Option<[u8; 32]>,
+    digest: Option<Digest>,
 }
 
 impl Model for Record {
@@ -38,7 +38,7 @@ impl Model for Record {
 impl Record {
     /// The record of a path with these references, and with the digest of its bytes where it is a
     /// file. Takes memory only where there are references.
-    pub fn new(references: Vec<StorePath>, digest: Option<[u8; 32]>) -> Result<Record, AllocError>
+    pub fn new(references: Vec<StorePath>, digest: Option<Digest>) -> Result<Record, AllocError>
         requires rising { IsRising references.items }
         ensures references { IfOk result (λ r. r.references ≡ references.items) }
         ensures digest { IfOk result (λ r. r.digest ≡ digest) }
@@ -59,8 +59,8 @@ impl Record {
         }
     }
 
-    /// SHA-256 of the path's bytes where it is a file, else none.
-    pub fn digest(&self) -> Option<[u8; 32]>
+    /// The digest of the path's bytes where it is a file, else none.
+    pub fn digest(&self) -> Option<Digest>
         ensures { result ≡ self.now.digest }
     {
         self.digest

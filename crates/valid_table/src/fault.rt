@@ -22,14 +22,14 @@ pub enum TableFault {
     /// This line registers a path that an earlier entry registered.
     #[error("line {0} registers a path again")]
     Twice(usize),
-    /// The text is a journal's of another version.
+    /// The text is a journal's of another version than 1 and 2.
     #[error("the journal has another version")]
     WrongVersion,
     /// This path, of which the closure was asked, is not valid.
     #[error("a path is not valid")]
     NotValid(StorePath),
-    /// The text has more than 67,108,864 bytes.
-    #[error("the journal has more than 67,108,864 bytes")]
+    /// The text has more than 134,217,728 bytes, or is of version 1 and has more than 67,108,864.
+    #[error("the journal has more bytes than its version may have")]
     TooLong,
     /// This path, to which an entry refers, is neither valid nor registered by the entry.
     #[error("a reference is not valid")]

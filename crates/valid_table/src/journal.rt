@@ -153,7 +153,7 @@ impl Journal {
     // reference.
     pub(crate) fn checked(alloc: Global, entries: Vec<Entry>) -> Result<Journal, TableFault>
         requires derived { All HasDrvPath entries.items }
-        requires few { length (lines entries.items) ≤ 67108865 }
+        requires few { length (lines entries.items) ≤ 134217729 }
         ensures { IsChecking entries.items (answered result) }
     {
         let table = check_entries(alloc, &entries)?;

@@ -3,7 +3,7 @@
 ghost use Rattle.valid_table.specs.BadLines.{BadLineIsOne, TextsHaveNoBadLine};
 ghost use Rattle.valid_table.specs.Closure.{ClosureIsOne, ClosureStays};
 ghost use Rattle.valid_table.specs.Equality.{EqualEntriesAreSame};
-ghost use Rattle.valid_table.specs.ReadingLaws.{AnswerIsOne, JournalTextsAreRead, TextHasOneList};
+ghost use Rattle.valid_table.specs.ReadingLaws.{AnswerIsOne, JournalTextsAreRead, TextHasOneList, VersionsHaveTheSameEntries, WrittenJournalsAreReadAgain};
 
 /// The closure of paths that are valid in a closed list of entries stays the same in each list of
 /// entries that begins with it.
@@ -31,8 +31,8 @@ pub fn text_has_one_list()
     ensures { TextHasOneList }
 {}
 
-/// The text of a journal of a store folder, of at most 67108864 bytes, is read as just that
-/// journal, want of memory apart.
+/// The text of a journal of a store folder, of at most 134,217,728 bytes in version 2 or 67,108,864
+/// in version 1, is read as just that journal, want of memory apart.
 pub fn journal_texts_are_read()
     ensures { JournalTextsAreRead }
 {}
@@ -41,6 +41,18 @@ pub fn journal_texts_are_read()
 /// folder may give are the same, or one of them is `NoMemory`.
 pub fn answer_is_one()
     ensures { AnswerIsOne }
+{}
+
+/// A version 1 text and the version 2 text of its entries have the same entries; the second is at
+/// most twice as long.
+pub fn versions_have_the_same_entries()
+    ensures { VersionsHaveTheSameEntries }
+{}
+
+/// What is read of a version 1 text of a store folder is read again of the version 2 text of it, want
+/// of memory apart.
+pub fn written_journals_are_read_again()
+    ensures { WrittenJournalsAreReadAgain }
 {}
 
 /// Two entries are equal by `==` exactly where they are the same.

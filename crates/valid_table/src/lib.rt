@@ -5,6 +5,7 @@
 //! | `entry`, `entry_eq` | entries of a journal, and when they are equal |
 //! | `reference` | one reference of a record |
 //! | `journal` | journals: their entries, one more |
+//! | `version` | the versions of a journal's text, and the first line of each |
 //! | `lines`, `reading`, `writing` | a journal's text: one line, all of it read, all written |
 //! | `entering`, `obstacle` | what stands against an entry |
 //! | `checking` | entries whose text was read, line by line |
@@ -33,6 +34,7 @@ mod reading;
 mod reference;
 mod rows;
 mod table;
+mod version;
 mod writing;
 
 pub use entry::{Entry, Outputs, Record, Registration};

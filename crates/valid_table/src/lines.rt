@@ -1,21 +1,18 @@
 //! One line of a journal's text.
-ghost use Rattle.std.specs.Prelude.{◌≡◌, ◌≢◌, ◌↔◌, ◌+◌, ◌-◌, ◌≤◌, ◌++◌, ◌∷◌, [], All, IfOk, IsTrue, List, MatchOption, Option, ℕ, codes, length, take};
+ghost use Rattle.std.specs.Prelude.{◌≡◌, ◌≢◌, ◌↔◌, ◌+◌, ◌-◌, ◌≤◌, ◌++◌, ◌∷◌, [], All, IfOk, IsTrue, List, MatchOption, Option, Some, ℕ, codes, length, take};
 ghost use Rattle.std.specs.Char.{is_ascii_digit};
-ghost use Rattle.hex.specs.Hex.{encode_lower};
 ghost use Rattle.memchr.specs.Find.{is_byte, places};
 ghost use Rattle.nix_names.specs.StorePaths.{IsPathOf};
 ghost use Rattle.nix_names.specs.Names.{IsStoreDir};
+ghost use Rattle.nix_names.specs.declared.digest.Digest.{Digest as ADigest};
 ghost use Rattle.valid_table.specs.BadLines.{IsOtherVersion};
 ghost use Rattle.valid_table.specs.Readers.{IsDeriverLine, IsFieldsLine, IsNoLine, IsPathLine};
-ghost use Rattle.valid_table.specs.Texts.{IsDigest, digest_text};
+ghost use Rattle.valid_table.specs.Texts.{IsDigestOf, digest_text};
 
-use hex::FromHex;
+use crate::version::Version;
 use memchr::{memchr, memchr_iter};
-use nix_names::{NameFault, StoreDir, StorePath, is_drv_name, parse_path};
+use nix_names::{Algorithm, Digest, NameFault, StoreDir, StorePath, is_drv_name, parse_path};
 use std::alloc::{AllocError, Global};
-
-/// The first line of a journal.
-pub(crate) const VERSION_LINE: &[u8] = b"realiser-journal 1\n";
 
 /// What the first line of each version begins with.
 const JOURNAL: &[u8] = b"realiser-journal ";
@@ -62,33 +59,37 @@ pub(crate) fn path_of(
     }
 }
 
-/// The digest whose text the bytes are, if they are one's: a dash for none, or 64 lower-case
-/// hexadecimal digits.
-pub(crate) fn digest_of(text: &[u8]) -> Option<Option<[u8; 32]>>
+/// What a version has for a digest, where the bytes are its text: a dash for none, or a digest's
+/// text.
+pub(crate) fn digest_of(version: Version, text: &[u8]) -> Option<Option<Digest>>
     ensures { MatchOption result
-        ((digest : Option (List ℕ)) → IsDigest digest → text.now ≢ digest_text digest)
-        (λ digest. IsDigest digest × (text.now ≡ digest_text digest)) }
+        ((digest : Option ADigest) → IsDigestOf version digest
+        → text.now ≢ digest_text version digest)
+        (λ digest. IsDigestOf version digest × (text.now ≡ digest_text version digest)) }
 {
     if text == b"-".as_slice() {
         return Some(None);
     }
-    let Ok(digest) = <[u8; 32] as FromHex>::from_hex(text) else {
-        return None;
-    };
-    if text == digits_of(&digest).as_slice() {
-        Some(Some(digest))
-    } else {
-        None
+    match some_digest_of(version, text) {
+        Some(digest) => Some(Some(digest)),
+        None => None,
     }
 }
 
-/// A digest's 64 lower-case hexadecimal digits.
-pub(crate) fn digits_of(digest: &[u8; 32]) -> [u8; 64]
-    ensures { result ≡ encode_lower digest.now }
+/// The digest whose text in a version the bytes are: the 64 lower-case hexadecimal digits of SHA-256
+/// in version 1, and an algorithm's name, a colon and its digits in version 2.
+#[tactic(auto, using(crate::proofs::DigestTexts::in_one))]
+fn some_digest_of(version: Version, text: &[u8]) -> Option<Digest>
+    ensures { MatchOption result
+        ((digest : ADigest) → IsDigestOf version (Some digest)
+        → text.now ≢ digest_text version (Some digest))
+        (λ digest. IsDigestOf version (Some digest)
+        × (text.now ≡ digest_text version (Some digest))) }
 {
-    let mut digits = [0; 64];
-    let _ = hex::encode_to_slice(digest, &mut digits);
-    digits
+    match version {
+        Version::One => Digest::of_digits(Algorithm::Sha256, text),
+        Version::Two => Digest::of_text(text),
+    }
 }
 
 /// The path and the newline at the head of the bytes, and what is behind them.
@@ -134,18 +135,19 @@ pub(crate) fn deriver_line<'a>(
     }
 }
 
-/// The path, the space, the digest and the newline at the head of the bytes, and what is behind
-/// them.
+/// The path, the space, the digest in a version and the newline at the head of the bytes, and what
+/// is behind them.
 pub(crate) fn fields_line<'a>(
     alloc: Global,
     dir: &StoreDir,
+    version: Version,
     bytes: &'a [u8],
-) -> Result<Option<(StorePath, Option<[u8; 32]>, &'a [u8])>, AllocError>
+) -> Result<Option<(StorePath, Option<Digest>, &'a [u8])>, AllocError>
     ensures { IfOk result
         (λ found. MatchOption found
-        ((path : List ℕ) (digest : Option (List ℕ)) (rest : List ℕ)
-        → IsFieldsLine dir.now bytes.now path digest rest → ⊥)
-        (λ x. IsFieldsLine dir.now bytes.now x.0 x.1 x.2.now)) }
+        ((path : List ℕ) (digest : Option ADigest) (rest : List ℕ)
+        → IsFieldsLine version dir.now bytes.now path digest rest → ⊥)
+        (λ x. IsFieldsLine version dir.now bytes.now x.0 x.1 x.2.now)) }
 {
     let Some((text, fields)) = cut(b' ', bytes) else {
         return Ok(None);
@@ -156,7 +158,7 @@ pub(crate) fn fields_line<'a>(
     let Some((digest, rest)) = cut(b'\n', fields) else {
         return Ok(None);
     };
-    match digest_of(digest) {
+    match digest_of(version, digest) {
         Some(digest) => Ok(Some((path, digest, rest))),
         None => Ok(None),
     }
@@ -184,11 +186,14 @@ pub(crate) fn is_other_version(bytes: &[u8]) -> bool
     is_other_number(number)
 }
 
-/// Whether the bytes are decimal digits, and not `1` alone.
+/// Whether the bytes are decimal digits, and neither `1` nor `2` alone.
 fn is_other_number(bytes: &[u8]) -> bool
     ensures { IsTrue result
         ↔ ((bytes.now ≢ []) × All (λ b. IsTrue (is_ascii_digit b)) bytes.now
-        × (bytes.now ≢ codes "1")) }
+        × (bytes.now ≢ codes "1") × (bytes.now ≢ codes "2")) }
 {
-    !bytes.is_empty() && bytes != b"1".as_slice() && bytes.iter().all(|b| b.is_ascii_digit())
+    !bytes.is_empty()
+        && bytes != b"1".as_slice()
+        && bytes != b"2".as_slice()
+        && bytes.iter().all(|b| b.is_ascii_digit())
 }

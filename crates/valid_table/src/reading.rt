@@ -1,38 +1,38 @@
 //! Reading a journal's text.
-ghost use Rattle.std.specs.Prelude.{◌≡◌, ◌≢◌, ◌↔◌, [], IfErr, IfOk, IsErrOf, IsTrue, MatchOption, None, Option, List, ℕ};
+ghost use Rattle.std.specs.Prelude.{◌≡◌, ◌≢◌, ◌↔◌, [], IfErr, IfOk, IsErrOf, IsTrue, MatchOption, None, ℕ};
 ghost use Rattle.std.specs.List.{last_or};
 ghost use Rattle.std.specs.Option.{option_copied};
 ghost use Rattle.nix_names.specs.Names.{IsStoreDir};
 ghost use Rattle.valid_table.specs.BadLines.{BeginsOutput};
 ghost use Rattle.valid_table.specs.Entries.{paths_of};
-ghost use Rattle.valid_table.specs.Readers.{HasEntry, HasNoFields, HasOutputs, HasReferences, HasRegistration, HasToBegin, IsFieldsLine, IsNoLine, StopsInRegistration, StopsWhere};
+ghost use Rattle.valid_table.specs.Readers.{HasEntry, HasNoFields, HasOutputs, HasReferences, HasRegistration, HasToBegin, IsFieldsLine, IsNoLine, StopsInReferences, StopsInRegistration, StopsInText, StopsWhere};
 ghost use Rattle.valid_table.specs.Reading.{BeginsVersion, IsReading, answered};
-ghost use Rattle.valid_table.specs.Steps.{IsAbove, Place, Opened, Start, Stops, Within};
+ghost use Rattle.valid_table.specs.Steps.{IsAbove, Place, Opened, Stops};
 ghost use Rattle.valid_table.specs.Texts.{IsText};
+ghost use Rattle.valid_table.specs.declared.version.Version.{Version as AVersion};
 
 use crate::entry::{Entry, Outputs, Record, Registration};
 use crate::fault::TableFault;
 use crate::journal::Journal;
 use crate::lines::{
-    VERSION_LINE, behind_letter, deriver_line, fields_line, is_other_version, line_number,
-    path_line,
+    behind_letter, deriver_line, fields_line, is_other_version, line_number, path_line,
 };
-use nix_names::{StoreDir, StorePath};
+use crate::version::{Version, is_too_long, version_of};
+use nix_names::{Digest, StoreDir, StorePath};
 use std::alloc::{AllocError, AllocFailed, Global};
 
-/// How many bytes a journal's text may have.
-const MAX_LEN: usize = 67_108_864;
-
 impl Journal {
-    /// The journal whose text the bytes are; of no bytes, the journal without entries.
+    /// The journal whose text the bytes are, in version 1 or in version 2; of no bytes, the journal
+    /// without entries.
     ///
-    /// Answers the first of these that holds: `TooLong` for more than 67,108,864 bytes,
-    /// `WrongVersion` where the first line is that of another version, `BadLine` with the first
-    /// line that has no line's form, stands where it may not, breaks an order or lacks its newline,
-    /// and then the least line of `NotClosed`, which refers to a path that neither an earlier entry
-    /// nor its own registers, and `Twice`, which registers a path that an earlier entry registered.
-    /// `NoMemory` may come in place of the last three, for bytes that begin with the line of version
-    /// 1 and for no others. Lines are counted from 1.
+    /// Answers the first of these that holds: `TooLong` for more than 134,217,728 bytes, and for
+    /// more than 67,108,864 that begin with the line of version 1, `WrongVersion` where the first
+    /// line is that of another version, `BadLine` with the first line that has no line's form,
+    /// stands where it may not, breaks an order or lacks its newline, and then the least line of
+    /// `NotClosed`, which refers to a path that neither an earlier entry nor its own registers, and
+    /// `Twice`, which registers a path that an earlier entry registered. `NoMemory` may come in
+    /// place of the last three, for bytes that begin with the line of a version and for no others.
+    /// Lines are counted from 1.
     ///
     /// Passes over the bytes once, and once more over their newlines where a line is bad. Costs a
     /// copy of each path, one more of each that is registered, and one look-up by hash for each
@@ -40,7 +40,7 @@ impl Journal {
     pub fn read(alloc: Global, dir: &StoreDir, bytes: &[u8]) -> Result<Journal, TableFault>
         ensures { IsReading dir.now bytes.now (answered result) }
     {
-        if bytes.len() > MAX_LEN {
+        if is_too_long(bytes) {
             return Err(TableFault::TooLong);
         }
         if is_other_version(bytes) {
@@ -100,9 +100,7 @@ fn references_of<'a>(
     bytes: &'a [u8],
 ) -> Result<(Vec<StorePath>, &'a [u8]), Stop>
     ensures ok { IfOk result (λ x. HasReferences dir.now bytes.now x.0.items x.1.now) }
-    ensures left { IfErr result
-        (StopsWhere
-        (λ left. (output : Option (List ℕ)) → Stops dir.now (Within output None) bytes.now left)) }
+    ensures left { IfErr result (StopsWhere (StopsInReferences dir.now bytes.now)) }
 {
     let mut references = Vec::new(alloc);
     let mut rest = bytes;
@@ -124,15 +122,13 @@ fn references_of<'a>(
 fn record_of<'a>(
     alloc: Global,
     dir: &StoreDir,
-    digest: Option<[u8; 32]>,
+    digest: Option<Digest>,
     bytes: &'a [u8],
 ) -> Result<(Record, &'a [u8]), Stop>
     ensures references { IfOk result
         (λ x. HasReferences dir.now bytes.now x.0.references x.1.now) }
     ensures digest { IfOk result (λ x. x.0.digest ≡ digest) }
-    ensures left { IfErr result
-        (StopsWhere
-        (λ left. (output : Option (List ℕ)) → Stops dir.now (Within output None) bytes.now left)) }
+    ensures left { IfErr result (StopsWhere (StopsInReferences dir.now bytes.now)) }
 {
     let (references, rest) = references_of(alloc, dir, bytes)?;
     let info = Record::new(references, digest)?;
@@ -144,15 +140,17 @@ fn record_of<'a>(
 fn fields_above<'a>(
     alloc: Global,
     dir: &StoreDir,
+    version: Version,
     before: Option<&StorePath>,
     bytes: &'a [u8],
-) -> Result<Option<(StorePath, Option<[u8; 32]>, &'a [u8])>, AllocError>
+) -> Result<Option<(StorePath, Option<Digest>, &'a [u8])>, AllocError>
     ensures { IfOk result
-        (λ found. MatchOption found (HasNoFields dir.now (option_copied before.entry) bytes.now)
+        (λ found. MatchOption found
+        (HasNoFields version dir.now (option_copied before.entry) bytes.now)
         (λ x. IsAbove (option_copied before.entry) x.0
-        × IsFieldsLine dir.now bytes.now x.0 x.1 x.2.now)) }
+        × IsFieldsLine version dir.now bytes.now x.0 x.1 x.2.now)) }
 {
-    let Some((path, digest, rest)) = fields_line(alloc, dir, bytes)? else {
+    let Some((path, digest, rest)) = fields_line(alloc, dir, version, bytes)? else {
         return Ok(None);
     };
     if is_above(before, &path) {
@@ -168,20 +166,23 @@ fn fields_above<'a>(
 fn registration_of<'a>(
     alloc: Global,
     dir: &StoreDir,
+    version: Version,
     letter: u8,
     before: Option<&StorePath>,
     bytes: &'a [u8],
 ) -> Result<Option<(Registration, &'a [u8])>, Stop>
     ensures ok { IfOk result
         (λ found. MatchOption found (IsNoLine letter bytes.now)
-        (λ x. HasRegistration dir.now letter (option_copied before.entry) bytes.now x.0 x.1.now)) }
+        (λ x. HasRegistration version dir.now letter (option_copied before.entry) bytes.now x.0
+        x.1.now)) }
     ensures left { IfErr result
-        (StopsWhere (StopsInRegistration dir.now letter (option_copied before.entry) bytes.now)) }
+        (StopsWhere
+        (StopsInRegistration version dir.now letter (option_copied before.entry) bytes.now)) }
 {
     let Some(fields) = behind_letter(letter, bytes) else {
         return Ok(None);
     };
-    let Some((path, digest, rest)) = fields_above(alloc, dir, before, fields)? else {
+    let Some((path, digest, rest)) = fields_above(alloc, dir, version, before, fields)? else {
         return Err(Stop::Left(bytes.len()));
     };
     let (info, rest) = record_of(alloc, dir, digest, rest)?;
@@ -202,17 +203,19 @@ fn last_path(registrations: &[Registration]) -> Option<&StorePath>
 fn outputs_of<'a>(
     alloc: Global,
     dir: &StoreDir,
+    version: Version,
     bytes: &'a [u8],
 ) -> Result<(Vec<Registration>, &'a [u8]), Stop>
     requires { BeginsOutput bytes.now }
-    ensures ok { IfOk result (λ x. HasOutputs dir.now bytes.now x.0.items x.1.now) }
-    ensures left { IfErr result (StopsWhere (Stops dir.now Opened bytes.now)) }
+    ensures ok { IfOk result (λ x. HasOutputs version dir.now bytes.now x.0.items x.1.now) }
+    ensures left { IfErr result (StopsWhere (Stops version dir.now Opened bytes.now)) }
 {
     let mut outputs: Vec<Registration> = Vec::new(alloc);
     let mut rest = bytes;
     'outputs: loop {
         let before = last_path(&outputs);
-        let Some((output, behind)) = registration_of(alloc, dir, b'O', before, rest)? else {
+        let Some((output, behind)) = registration_of(alloc, dir, version, b'O', before, rest)?
+        else {
             return Ok((outputs, rest));
         };
         outputs.push(output)?;
@@ -225,14 +228,16 @@ fn outputs_of<'a>(
 fn done_of<'a>(
     alloc: Global,
     dir: &StoreDir,
+    version: Version,
     bytes: &'a [u8],
 ) -> Result<Option<(Entry, &'a [u8])>, Stop>
     ensures ok { IfOk result
         (λ found. MatchOption found (IsNoLine 68 bytes.now)
-        (λ x. HasEntry dir.now bytes.now x.0 x.1.now)) }
+        (λ x. HasEntry version dir.now bytes.now x.0 x.1.now)) }
     ensures left { IfErr result
         (StopsWhere
-        (λ left. (from : Place) → HasToBegin from bytes.now → Stops dir.now from bytes.now left)) }
+        (λ left. (from : Place) → HasToBegin from bytes.now
+        → Stops version dir.now from bytes.now left)) }
 {
     let Some(fields) = behind_letter(b'D', bytes) else {
         return Ok(None);
@@ -240,22 +245,28 @@ fn done_of<'a>(
     let Some((deriver, rest)) = deriver_line(alloc, dir, fields)? else {
         return Err(Stop::Left(bytes.len()));
     };
-    let (outputs, rest) = outputs_of(alloc, dir, rest)?;
+    let (outputs, rest) = outputs_of(alloc, dir, version, rest)?;
     Ok(Some((Entry::Done(deriver, Outputs::new(outputs)), rest)))
 }
 
 /// The entry at the head of the bytes, and what is behind its lines.
-fn entry_of<'a>(alloc: Global, dir: &StoreDir, bytes: &'a [u8]) -> Result<(Entry, &'a [u8]), Stop>
+fn entry_of<'a>(
+    alloc: Global,
+    dir: &StoreDir,
+    version: Version,
+    bytes: &'a [u8],
+) -> Result<(Entry, &'a [u8]), Stop>
     requires { bytes.now ≢ [] }
-    ensures ok { IfOk result (λ x. HasEntry dir.now bytes.now x.0 x.1.now) }
+    ensures ok { IfOk result (λ x. HasEntry version dir.now bytes.now x.0 x.1.now) }
     ensures left { IfErr result
         (StopsWhere
-        (λ left. (from : Place) → HasToBegin from bytes.now → Stops dir.now from bytes.now left)) }
+        (λ left. (from : Place) → HasToBegin from bytes.now
+        → Stops version dir.now from bytes.now left)) }
 {
-    if let Some((added, rest)) = registration_of(alloc, dir, b'A', None, bytes)? {
+    if let Some((added, rest)) = registration_of(alloc, dir, version, b'A', None, bytes)? {
         return Ok((Entry::Add(added), rest));
     }
-    match done_of(alloc, dir, bytes)? {
+    match done_of(alloc, dir, version, bytes)? {
         Some(done) => Ok(done),
         None => Err(Stop::Left(bytes.len())),
     }
@@ -265,8 +276,9 @@ fn entry_of<'a>(alloc: Global, dir: &StoreDir, bytes: &'a [u8]) -> Result<(Entry
 pub(crate) fn entries_of(alloc: Global, dir: &StoreDir, bytes: &[u8]) -> Result<Vec<Entry>, Stop>
     ensures is_dir { IsStoreDir dir.now }
     ensures ok { IfOk result (λ entries. IsText dir.now entries.items bytes.now) }
-    ensures left { IfErr result (StopsWhere (Stops dir.now Start bytes.now)) }
-    ensures memory { IsErrOf result Stop.NoMemory → BeginsVersion bytes.now }
+    ensures left { IfErr result (StopsWhere (StopsInText dir.now bytes.now)) }
+    ensures memory { IsErrOf result Stop.NoMemory
+        → (version : AVersion) × BeginsVersion version bytes.now }
 {
     // Its contract says that the text is a folder's: without spaces and newlines.
     let _ = dir.text();
@@ -274,11 +286,11 @@ pub(crate) fn entries_of(alloc: Global, dir: &StoreDir, bytes: &[u8]) -> Result<
     if bytes.is_empty() {
         return Ok(entries);
     }
-    let Some(mut rest) = bytes.strip_prefix(VERSION_LINE) else {
+    let Some((version, mut rest)) = version_of(bytes) else {
         return Err(Stop::Left(bytes.len()));
     };
     'entries: while !rest.is_empty() {
-        let (entry, behind) = entry_of(alloc, dir, rest)?;
+        let (entry, behind) = entry_of(alloc, dir, version, rest)?;
         entries.push(entry)?;
         rest = behind;
     }

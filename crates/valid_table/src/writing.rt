@@ -2,20 +2,21 @@
 ghost use Rattle.std.specs.Prelude.{◌≡◌, ◌++◌, ◌∷◌, IfOk, IfErr, OnOk};
 ghost use Rattle.valid_table.specs.LineTexts.{fields_text, lines_text, path_line, registration_text};
 ghost use Rattle.valid_table.specs.Texts.{digest_text, entry_lines, text};
+ghost use Rattle.valid_table.specs.Written.{written_text};
 
 use crate::entry::{Entry, Outputs, Record, Registration};
 use crate::fault::TableFault;
 use crate::journal::Journal;
-use crate::lines::{VERSION_LINE, digits_of};
-use nix_names::StorePath;
+use crate::version::Version;
+use nix_names::{Digest, StorePath};
 use std::alloc::{AllocError, Global};
 
 impl Journal {
-    /// The journal's text: the line of version 1 and each entry's lines, each with its newline.
+    /// The journal's text, in version 2: its line and each entry's lines, each with its newline.
     /// Answers `NoMemory` where memory is refused, and no other fault. Costs one pass over the
     /// entries, and memory for the text alone.
     pub fn write(&self, alloc: Global) -> Result<Vec<u8>, TableFault>
-        ensures ok { IfOk result (λ bytes. bytes.items ≡ text self.now.entries) }
+        ensures ok { IfOk result (λ bytes. bytes.items ≡ written_text self.now.entries) }
         ensures err { IfErr result (λ e. e ≡ TableFault.NoMemory) }
     {
         write_text(alloc, self.entries())
@@ -25,10 +26,10 @@ impl Journal {
 /// The text of the entries.
 #[tactic(auto, unfolding(crate::specs::Texts::text))]
 pub(crate) fn write_text(alloc: Global, entries: &[Entry]) -> Result<Vec<u8>, TableFault>
-    ensures ok { IfOk result (λ bytes. bytes.items ≡ text entries.now) }
+    ensures ok { IfOk result (λ bytes. bytes.items ≡ text Version.Two entries.now) }
     ensures err { IfErr result (λ e. e ≡ TableFault.NoMemory) }
 {
-    let mut out = Vec::from_slice(alloc, VERSION_LINE)?;
+    let mut out = Vec::from_slice(alloc, Version::Two.line())?;
     'entries: for entry in entries {
         write_entry(entry, &mut out)?;
     }
@@ -37,7 +38,7 @@ pub(crate) fn write_text(alloc: Global, entries: &[Entry]) -> Result<Vec<u8>, Ta
 
 /// Adds an entry's lines.
 fn write_entry(entry: &Entry, out: &mut Vec<u8>) -> Result<(), AllocError>
-    ensures { OnOk result (out.new.items ≡ out.old.items ++ lines_text (entry_lines entry.now)) }
+    ensures { OnOk result (out.new.items ≡ out.old.items ++ lines_text Version.Two (entry_lines entry.now)) }
 {
     match entry {
         Entry::Add(registration) => write_registration(b'A', registration, out),
@@ -58,7 +59,7 @@ fn write_registration(
     out: &mut Vec<u8>,
 ) -> Result<(), AllocError>
     ensures { OnOk result
-        (out.new.items ≡ out.old.items ++ registration_text letter registration.now) }
+        (out.new.items ≡ out.old.items ++ registration_text Version.Two letter registration.now) }
 {
     write_fields(letter, registration, out)?;
     'references: for reference in registration.info.references() {
@@ -76,7 +77,8 @@ fn write_fields(
     ensures { OnOk result
         (out.new.items
         ≡ out.old.items
-        ++ letter ∷ 32 ∷ fields_text registration.now.path registration.now.info.digest) }
+        ++ letter ∷ 32
+        ∷ fields_text Version.Two registration.now.path registration.now.info.digest) }
 {
     out.extend_from_slice(&[letter, b' '])?;
     out.extend_from_slice(registration.path.text())?;
@@ -95,11 +97,11 @@ fn write_path(letter: u8, path: &StorePath, out: &mut Vec<u8>) -> Result<(), All
 }
 
 /// Adds a digest's text.
-fn write_digest(digest: Option<[u8; 32]>, out: &mut Vec<u8>) -> Result<(), AllocError>
-    ensures { OnOk result (out.new.items ≡ out.old.items ++ digest_text digest) }
+fn write_digest(digest: Option<Digest>, out: &mut Vec<u8>) -> Result<(), AllocError>
+    ensures { OnOk result (out.new.items ≡ out.old.items ++ digest_text Version.Two digest) }
 {
     match digest {
         None => out.extend_from_slice(b"-"),
-        Some(digest) => out.extend_from_slice(&digits_of(&digest)),
+        Some(digest) => digest.push_text(out),
     }
 }

@@ -23,7 +23,7 @@ const NEXT: &[u8] = b"/nix/store/00000000000000000000000000200000-x";
 // The journal of many paths, each but the first with the one before it as its reference.
 fn chain(alloc: Global) -> Result<Journal, Fail> {
     let mut text = String::new(alloc);
-    text.push_str("realiser-journal 1\nA /nix/store/00000000000000000000000000000000-x -\n")?;
+    text.push_str("realiser-journal 2\nA /nix/store/00000000000000000000000000000000-x -\n")?;
     for n in 1..MANY {
         let before = n - 1;
         let lines = format!(in alloc; "A /nix/store/{n:032}-x -\nR /nix/store/{before:032}-x\n")?;

@@ -16,7 +16,7 @@ const X: &[u8] = b"/nix/store/aaaaaaaaaaaaaaaaaaaaaaaaaaaaaaaa-x";
 
 const Y: &[u8] = b"/nix/store/cccccccccccccccccccccccccccccccc-y";
 
-const JOURNAL: &[u8] = b"realiser-journal 1
+const JOURNAL: &[u8] = b"realiser-journal 2
 A /nix/store/aaaaaaaaaaaaaaaaaaaaaaaaaaaaaaaa-x -
 ";
 

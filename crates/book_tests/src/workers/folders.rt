@@ -9,7 +9,7 @@ use std::test::*;
 
 // A journal in which the source and the input are folders.
 const FOLDERS: Pieces = &[
-    b"realiser-journal 1\n",
+    b"realiser-journal 2\n",
     b"A ",
     SRC,
     b" -\n",

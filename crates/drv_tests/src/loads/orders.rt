@@ -42,7 +42,7 @@ static PAIR_ROWS: [PairRow; 5] = [
     PairRow {
         label: "a method before a name",
         name: b"..drv",
-        text: b"Derive([(\"out\",\"/nix/store/r123a5k0knwphqj2cp79ija7kwj69did-some\",\"md5\",\"d41d8cd98f00b204e9800998ecf8427e\")],[],[],\"s\",\"b\",[],[])",
+        text: b"Derive([(\"out\",\"/nix/store/r123a5k0knwphqj2cp79ija7kwj69did-some\",\"sha384\",\"d41d8cd98f00b204e9800998ecf8427e\")],[],[],\"s\",\"b\",[],[])",
         number: 28,
         at: b"",
     },

@@ -5,11 +5,24 @@ use super::files::File;
 /// Its output is fixed by `r:sha256`, with the digest of nothing.
 pub(crate) const TREE: &[u8] = b"/nix/store/77xb0y9fbq2s9ivfa01c84mhyh4rb55d-src.drv";
 
-/// Its output is fixed by `sha256`, with the digest of nothing.
+/// Its output is fixed by `sha256`, with the digest of nothing: its path is made of a text of 82
+/// bytes.
 pub(crate) const FLAT: &[u8] = b"/nix/store/zvimv3qk155jiygmk76mxvfx0793jrkb-flat.drv";
 
-/// Its output is fixed by `md5`.
+/// The same by `md5`: its path is made of a text of 47 bytes.
+pub(crate) const FLAT_MD5: &[u8] = b"/nix/store/prknrxy4l0apgs9y369r4xsxgs4vv0y1-flat.drv";
+
+/// The same by `sha1`, of a text of 56 bytes.
+pub(crate) const FLAT_SHA1: &[u8] = b"/nix/store/q53gd041i4j1jg853dhgc4hjywwwxwm4-flat.drv";
+
+/// The same by `sha512`, of a text of 146 bytes.
+pub(crate) const FLAT_SHA512: &[u8] = b"/nix/store/l9na428wjj62qpl13kljyb3i6fs3vs41-flat.drv";
+
+/// Its output is fixed by `md5`, and has another path.
 pub(crate) const MD5: &[u8] = b"/nix/store/0drnw1pi5mvl43iq1c3rr69yfyx8k4x1-some.drv";
+
+/// Its output is fixed by `md5`, with 40 digits.
+pub(crate) const MD5_OF_40: &[u8] = b"/nix/store/gnxh1i6h5sl3lwvbgn7yp23q8v4yhgrd-some.drv";
 
 /// Its output's hash has an upper-case digit.
 pub(crate) const UPPER: &[u8] = b"/nix/store/3ardv7p2s461fq8s456jac8vp9z7qml5-some.drv";
@@ -32,7 +45,7 @@ pub(crate) const TWO_FIXED: &[u8] = b"/nix/store/yqnsq9914awzdf2d7vfknxsbiq8345w
 /// Its output is fixed, and isn't named `out`.
 pub(crate) const NOT_OUT: &[u8] = b"/nix/store/1wz3zqbjkdqf414rqr8asz1whmnd62sa-some.drv";
 
-/// One of its outputs is fixed, by `md5`.
+/// One of its outputs is fixed, by `md5` with 64 digits.
 pub(crate) const MIXED_MD5: &[u8] = b"/nix/store/6vy9xgxb2ch59mnz7rnxh838ag44xf8q-some.drv";
 
 /// Two outputs, with an entry for each.
@@ -71,7 +84,7 @@ pub(crate) const LONG_DEVS: &[u8] =
 /// The name of its output is none.
 pub(crate) const NO_NAME: &[u8] = b"/nix/store/dsc5fwzb2zm0hylr5k61vff9dig9dxny-some.drv";
 
-/// Its output is fixed by `md5`, and `LEAF` has no output `doc`.
+/// Its output is fixed by `md5` with 64 digits, and `LEAF` has no output `doc`.
 pub(crate) const MD5_ASKING: &[u8] = b"/nix/store/rql2j4khlwwm6f21cdsr014pg74yb478-some.drv";
 
 /// Its output has another path, and `LEAF` has no output `doc`.
@@ -80,7 +93,7 @@ pub(crate) const PATH_ASKING: &[u8] = b"/nix/store/wsspl2c8n9j2lxglvj5lk6pb4hihy
 /// Neither `RIGHT` nor `LEAF` has the output `doc`.
 pub(crate) const ASKING_TWO: &[u8] = b"/nix/store/lyx00bfv52y5i4a8iyp6zwxdncnqaf5c-some.drv";
 
-static OUTPUT_FILES: [File; 25] = [
+static OUTPUT_FILES: [File; 29] = [
     File {
         path: TREE,
         text: b"Derive([(\"out\",\"/nix/store/brxav88rzrya6bhi20qbzdb13b9f9sj5-src\",\"r:sha256\",\"e3b0c44298fc1c149afbf4c8996fb92427ae41e4649b934ca495991b7852b855\")],[],[],\"s\",\"b\",[],[])",
@@ -90,8 +103,24 @@ static OUTPUT_FILES: [File; 25] = [
         text: b"Derive([(\"out\",\"/nix/store/jafr3l9gcgc9kss6avik01b7k153scmh-flat\",\"sha256\",\"e3b0c44298fc1c149afbf4c8996fb92427ae41e4649b934ca495991b7852b855\")],[],[],\"s\",\"b\",[],[])",
     },
     File {
+        path: FLAT_MD5,
+        text: b"Derive([(\"out\",\"/nix/store/yv95lf35glhaw0ld7jdd2blqsfrxm6a7-flat\",\"md5\",\"d41d8cd98f00b204e9800998ecf8427e\")],[],[],\"s\",\"b\",[],[])",
+    },
+    File {
+        path: FLAT_SHA1,
+        text: b"Derive([(\"out\",\"/nix/store/knr9pkc78p85ayh3cifq4shvx7dnf275-flat\",\"sha1\",\"da39a3ee5e6b4b0d3255bfef95601890afd80709\")],[],[],\"s\",\"b\",[],[])",
+    },
+    File {
+        path: FLAT_SHA512,
+        text: b"Derive([(\"out\",\"/nix/store/4kl63dy76yiq091sgfl4xlas50xk8adk-flat\",\"sha512\",\"cf83e1357eefb8bdf1542850d66d8007d620e4050b5715dc83f4a921d36ce9ce47d0d13c5d85f2b0ff8318d2877eec2f63b931bd47417a81a538327af927da3e\")],[],[],\"s\",\"b\",[],[])",
+    },
+    File {
         path: MD5,
         text: b"Derive([(\"out\",\"/nix/store/r123a5k0knwphqj2cp79ija7kwj69did-some\",\"md5\",\"d41d8cd98f00b204e9800998ecf8427e\")],[],[],\"s\",\"b\",[],[])",
+    },
+    File {
+        path: MD5_OF_40,
+        text: b"Derive([(\"out\",\"/nix/store/r123a5k0knwphqj2cp79ija7kwj69did-some\",\"md5\",\"da39a3ee5e6b4b0d3255bfef95601890afd80709\")],[],[],\"s\",\"b\",[],[])",
     },
     File {
         path: UPPER,

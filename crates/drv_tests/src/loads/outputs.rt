@@ -4,15 +4,31 @@ use super::nix_files::*;
 use super::output_files::*;
 use super::{is_blamed, load_all, plan_of};
 use drv_graph::{GraphFault, Kind, Method, NodeFault, OutputFault, Plan};
-use nix_names::StorePath;
+use nix_names::{Digest, StorePath};
 use std::alloc::Global;
 use std::test::*;
 
-// The SHA-256 of no bytes.
-const NOTHING_DIGEST: [u8; 32] = [
+// The digests of no bytes.
+const MD5_OF_NOTHING: Digest = Digest::Md5([
+    0xd4, 0x1d, 0x8c, 0xd9, 0x8f, 0x00, 0xb2, 0x04, 0xe9, 0x80, 0x09, 0x98, 0xec, 0xf8, 0x42, 0x7e,
+]);
+
+const SHA1_OF_NOTHING: Digest = Digest::Sha1([
+    0xda, 0x39, 0xa3, 0xee, 0x5e, 0x6b, 0x4b, 0x0d, 0x32, 0x55, 0xbf, 0xef, 0x95, 0x60, 0x18, 0x90,
+    0xaf, 0xd8, 0x07, 0x09,
+]);
+
+const SHA256_OF_NOTHING: Digest = Digest::Sha256([
     0xe3, 0xb0, 0xc4, 0x42, 0x98, 0xfc, 0x1c, 0x14, 0x9a, 0xfb, 0xf4, 0xc8, 0x99, 0x6f, 0xb9, 0x24,
     0x27, 0xae, 0x41, 0xe4, 0x64, 0x9b, 0x93, 0x4c, 0xa4, 0x95, 0x99, 0x1b, 0x78, 0x52, 0xb8, 0x55,
-];
+]);
+
+const SHA512_OF_NOTHING: Digest = Digest::Sha512([
+    0xcf, 0x83, 0xe1, 0x35, 0x7e, 0xef, 0xb8, 0xbd, 0xf1, 0x54, 0x28, 0x50, 0xd6, 0x6d, 0x80, 0x07,
+    0xd6, 0x20, 0xe4, 0x05, 0x0b, 0x57, 0x15, 0xdc, 0x83, 0xf4, 0xa9, 0x21, 0xd3, 0x6c, 0xe9, 0xce,
+    0x47, 0xd0, 0xd1, 0x3c, 0x5d, 0x85, 0xf2, 0xb0, 0xff, 0x83, 0x18, 0xd2, 0x87, 0x7e, 0xec, 0x2f,
+    0x63, 0xb9, 0x31, 0xbd, 0x47, 0x41, 0x7a, 0x81, 0xa5, 0x38, 0x32, 0x7a, 0xf9, 0x27, 0xda, 0x3e,
+]);
 
 /// A root, and what its plan tells of its outputs: derivations that Nix wrote, and others whose
 /// paths were computed apart, with several outputs, fixed ones of a file and of a tree, inputs
@@ -23,7 +39,7 @@ pub(crate) struct SoundRow {
     pub outputs: &'static [&'static [u8]],
 }
 
-static SOUND_ROWS: [SoundRow; 18] = [
+static SOUND_ROWS: [SoundRow; 22] = [
     SoundRow {
         root: BOTH,
         kind: Kind::Addressed,
@@ -50,7 +66,7 @@ static SOUND_ROWS: [SoundRow; 18] = [
     },
     SoundRow {
         root: SRC,
-        kind: Kind::Fixed(Method::Flat, NOTHING_DIGEST),
+        kind: Kind::Fixed(Method::Flat, SHA256_OF_NOTHING),
         outputs: &[b"/nix/store/2qgpd47jrm1g5pyj4s1dacj3hnkrfzvw-src"],
     },
     SoundRow {
@@ -79,8 +95,13 @@ static SOUND_ROWS: [SoundRow; 18] = [
         outputs: &[b"/nix/store/bjffjz5d2scb5lykss573k6g5y3aj977-numbers"],
     },
     SoundRow {
+        root: OLD,
+        kind: Kind::Fixed(Method::Flat, MD5_OF_NOTHING),
+        outputs: &[b"/nix/store/yvgadpjb4px9my8p11ql8fvngijb3v9w-old.tar.gz"],
+    },
+    SoundRow {
         root: SRC_TREE,
-        kind: Kind::Fixed(Method::Recursive, NOTHING_DIGEST),
+        kind: Kind::Fixed(Method::Recursive, SHA256_OF_NOTHING),
         outputs: &[b"/nix/store/cj32lk1sjkasmn43z3pqbq9q8v9bjmzp-src-tree"],
     },
     SoundRow {
@@ -95,13 +116,28 @@ static SOUND_ROWS: [SoundRow; 18] = [
     },
     SoundRow {
         root: TREE,
-        kind: Kind::Fixed(Method::Recursive, NOTHING_DIGEST),
+        kind: Kind::Fixed(Method::Recursive, SHA256_OF_NOTHING),
         outputs: &[b"/nix/store/brxav88rzrya6bhi20qbzdb13b9f9sj5-src"],
     },
     SoundRow {
         root: FLAT,
-        kind: Kind::Fixed(Method::Flat, NOTHING_DIGEST),
+        kind: Kind::Fixed(Method::Flat, SHA256_OF_NOTHING),
         outputs: &[b"/nix/store/jafr3l9gcgc9kss6avik01b7k153scmh-flat"],
+    },
+    SoundRow {
+        root: FLAT_MD5,
+        kind: Kind::Fixed(Method::Flat, MD5_OF_NOTHING),
+        outputs: &[b"/nix/store/yv95lf35glhaw0ld7jdd2blqsfrxm6a7-flat"],
+    },
+    SoundRow {
+        root: FLAT_SHA1,
+        kind: Kind::Fixed(Method::Flat, SHA1_OF_NOTHING),
+        outputs: &[b"/nix/store/knr9pkc78p85ayh3cifq4shvx7dnf275-flat"],
+    },
+    SoundRow {
+        root: FLAT_SHA512,
+        kind: Kind::Fixed(Method::Flat, SHA512_OF_NOTHING),
+        outputs: &[b"/nix/store/4kl63dy76yiq091sgfl4xlas50xk8adk-flat"],
     },
     SoundRow {
         root: TWO,
@@ -180,15 +216,8 @@ struct OutputRow {
 
 static OUTPUT_ROWS: [OutputRow; 21] = [
     OutputRow {
-        label: "a method that is none",
-        at: MD5,
-        number: 28,
-        output: b"out",
-        path: b"",
-    },
-    OutputRow {
-        label: "a method of Nix that is none here",
-        at: OLD,
+        label: "40 digits of MD5",
+        at: MD5_OF_40,
         number: 28,
         output: b"out",
         path: b"",
@@ -276,6 +305,13 @@ static OUTPUT_ROWS: [OutputRow; 21] = [
         number: 23,
         output: b"dev",
         path: b"/nix/store/x4fh82gyy8cdjpa7mwnkq08bj017nvh6-two-dev",
+    },
+    OutputRow {
+        label: "another path than that of an MD5",
+        at: MD5,
+        number: 23,
+        output: b"out",
+        path: b"/nix/store/2yxsy0f1y11xvfjq8wk9hj1nhzhylfw4-some",
     },
     OutputRow {
         label: "a path before an entry",

@@ -5,6 +5,9 @@ use super::files::File;
 /// Fails, and has the output of `SRC`; its path is the lesser.
 pub(crate) const EARLY: &[u8] = b"/nix/store/10p6854hlxhkg4vjrziis6g4fxdvgxrk-src.drv";
 
+/// The same by another script; its path is the greatest of the three.
+pub(crate) const LATE: &[u8] = b"/nix/store/qq74i9r8mva3mgg6pqbpq4pm5hp0k9c2-src.drv";
+
 /// A user of `EARLY` and `SRC`, in this order.
 pub(crate) const TWINS: &[u8] = b"/nix/store/rdfwqzp2q2rinyrrrmhrvw9z07l2a6h4-u.drv";
 
@@ -17,10 +20,14 @@ pub(crate) const PAIRED: &[u8] = b"/nix/store/v279qz7ddpx1dmaqmbbx66ryq43gb10n-p
 /// A user of `out` of `PAIR` and of `dev` of `PAIRED`.
 pub(crate) const TIP: &[u8] = b"/nix/store/wbsk4rphwl9nchb0hck0mhfpf6218lff-tip.drv";
 
-static TWIN_FILES: [File; 5] = [
+static TWIN_FILES: [File; 6] = [
     File {
         path: EARLY,
         text: b"Derive([(\"out\",\"/nix/store/2qgpd47jrm1g5pyj4s1dacj3hnkrfzvw-src\",\"sha256\",\"e3b0c44298fc1c149afbf4c8996fb92427ae41e4649b934ca495991b7852b855\")],[],[],\"x86_64-linux\",\"/bin/sh\",[\"-c\",\"exit 1 # 2\"],[(\"builder\",\"/bin/sh\"),(\"name\",\"src\"),(\"out\",\"/nix/store/2qgpd47jrm1g5pyj4s1dacj3hnkrfzvw-src\"),(\"outputHash\",\"e3b0c44298fc1c149afbf4c8996fb92427ae41e4649b934ca495991b7852b855\"),(\"outputHashAlgo\",\"sha256\"),(\"outputHashMode\",\"flat\"),(\"system\",\"x86_64-linux\")])",
+    },
+    File {
+        path: LATE,
+        text: b"Derive([(\"out\",\"/nix/store/2qgpd47jrm1g5pyj4s1dacj3hnkrfzvw-src\",\"sha256\",\"e3b0c44298fc1c149afbf4c8996fb92427ae41e4649b934ca495991b7852b855\")],[],[],\"x86_64-linux\",\"/bin/sh\",[\"-c\",\"exit 1 # 3\"],[(\"builder\",\"/bin/sh\"),(\"name\",\"src\"),(\"out\",\"/nix/store/2qgpd47jrm1g5pyj4s1dacj3hnkrfzvw-src\"),(\"outputHash\",\"e3b0c44298fc1c149afbf4c8996fb92427ae41e4649b934ca495991b7852b855\"),(\"outputHashAlgo\",\"sha256\"),(\"outputHashMode\",\"flat\"),(\"system\",\"x86_64-linux\")])",
     },
     File {
         path: TWINS,

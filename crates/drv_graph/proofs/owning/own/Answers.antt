@@ -10,7 +10,7 @@ has_as_many-requires c =
 pub returns-then-not-has_as_many : goal.returns-then-not-has_as_many
 returns-then-not-has_as_many c =
     owning_clash c.args.kept.now c.args.path.now c.args.outputs.now (owned c.args.owners.now)
-    c.clash.result c.clash.ensures
+    c.in_ok-clash.field-0 c.in_ok-clash.ensures
     (clash_many c.args.kept.now (owned c.args.owners.now) c.args.outputs.now
     c.first_owner-owner.result c.has_as_many.result c.requires.kept c.requires.own_outputs
     c.requires.owners c.requires.distinct c.first_owner-owner.ensures c.has_as_many.ensures
@@ -19,7 +19,7 @@ returns-then-not-has_as_many c =
 pub returns-then-not-branch : goal.returns-then-not-branch
 returns-then-not-branch c =
     owning_clash c.args.kept.now c.args.path.now c.args.outputs.now (owned c.enter.new.owners)
-    c.clash-then-not-branch.result c.clash-then-not-branch.ensures
+    c.in_ok-clash-2.field-0 c.in_ok-clash-2.ensures
     (clash_entered c.args.kept.now (owned c.args.owners.now) (owned c.enter.new.owners)
     c.args.outputs.now c.first_owner-owner.result c.unwrap_or-first.result c.in_ok-enter.field-0
     c.requires.owners c.first_owner-owner.ensures c.in_ok-enter.ensures c.if-not-branch.true)

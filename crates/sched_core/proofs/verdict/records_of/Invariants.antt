@@ -1,6 +1,8 @@
 -- The records of the outputs so far stand there.
+use Rattle.sched_core.specs.Verdicts.{algorithm_for}
 use Rattle.sched_core.proofs.Verdicts.{RecordsSoFar}
 use Rattle.sched_core.proofs.verdict.records_of.Given as goal
 
 abbrev pub invariant-loop-n : goal.invariant-loop-n
-invariant-loop-n l = RecordsSoFar l.permitted l.answer l.records.items l.n
+invariant-loop-n l = RecordsSoFar (algorithm_for l.job.kind) l.permitted l.answer
+    l.records.items l.n

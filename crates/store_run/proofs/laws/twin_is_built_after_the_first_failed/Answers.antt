@@ -1,10 +1,20 @@
+use Rattle.std.proofs.Common.{ℕ, List, [], ◌∷◌, ap}
 use Rattle.store_run.proofs.TwinExample.{beside_first, beside_second, first_failed, second_built, second_freed, second_waits, third_built, thread, whole}
 use Rattle.store_run.proofs.TwinLoads.{loads}
-use Rattle.store_run.proofs.TwinPlans.{are_twins}
+use Rattle.store_run.proofs.TwinPlans.{are_twins, first_path, output_is, second_path}
 use Rattle.store_run.proofs.laws.twin_is_built_after_the_first_failed.Goals as goal
 
 pub returns-clause-loads : goal.returns-clause-loads
 returns-clause-loads c = loads
+
+pub returns-clause-first_path : goal.returns-clause-first_path
+returns-clause-first_path c = first_path
+
+pub returns-clause-second_path : goal.returns-clause-second_path
+returns-clause-second_path c = second_path
+
+pub returns-clause-output : goal.returns-clause-output
+returns-clause-output c = ap (λ (path : List ℕ). path ∷ []) output_is
 
 pub returns-clause-twins : goal.returns-clause-twins
 returns-clause-twins c = are_twins

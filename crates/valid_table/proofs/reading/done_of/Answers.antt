@@ -6,7 +6,7 @@ use Rattle.valid_table.proofs.reading.done_of.Goals as goal
 
 pub returns-in_default-2-clause-left : goal.returns-in_default-2-clause-left
 returns-in_default-2-clause-left c = λ from begins.
-    deriver_stops _ from _ c.in-Some.fields.now c.in-Some.ensures
+    deriver_stops _ _ from _ c.in-Some.fields.now c.in-Some.ensures
     (MatchOption-at_none _ _ c.in_default-2.is c.in_ok-deriver.ensures) begins
 
 pub returns-in_err-outputs-clause-left : goal.returns-in_err-outputs-clause-left
@@ -14,14 +14,14 @@ returns-in_err-outputs-clause-left c =
     let p = err_from_is_err_and c.from_residual-in_err-outputs.result
     c.from_residual-in_err-outputs.ensures.1 in
     rw (p.1, p.2) (stops_where _ _
-    (λ left h from begins. done_stops _ from _ c.in-Some.fields.now c.in-Some-2.deriver
+    (λ left h from begins. done_stops _ _ from _ c.in-Some.fields.now c.in-Some-2.deriver
     c.in-Some-2.rest.now left c.in-Some.ensures
     (MatchOption-at_some _ _ _ c.in-Some-2.is c.in_ok-deriver.ensures) h begins)
     c.in_err-outputs.field-0.0 c.in_err-outputs.ensures.left)
 
 pub returns-clause-ok : goal.returns-clause-ok
 returns-clause-ok c =
-    done_found _ _ c.in-Some.fields.now c.in-Some-2.deriver c.in-Some-2.rest.now _
+    done_found _ _ _ c.in-Some.fields.now c.in-Some-2.deriver c.in-Some-2.rest.now _
     c.in_ok-outputs.outputs.items c.new.result
     c.in-Some.ensures (MatchOption-at_some _ _ _ c.in-Some-2.is c.in_ok-deriver.ensures)
     c.in_ok-outputs.ensures.ok c.new.ensures

@@ -1,18 +1,33 @@
-use Rattle.std.proofs.Common.{Some, codes, sym}
-use Rattle.std.proofs.lemmas.Bool.Decides.{Decides-eqb}
-use Rattle.std.proofs.lemmas.Slice.Eq.{strip_prefix_is}
-use Rattle.valid_table.proofs.EntriesRead.{entries_more, text_read, version_read}
+use Rattle.std.proofs.Common.{sym}
+use Rattle.std.proofs.lemmas.Option.{MatchOption-at_some}
+use Rattle.std.proofs.lemmas.Result.{err_from_is_err_and}
+use Rattle.valid_table.proofs.EntriesRead.{entries_more, text_read, text_stops, version_begins, version_read}
+use Rattle.valid_table.proofs.LineSteps.{stops_where}
 use Rattle.valid_table.proofs.reading.entries_of.Goals as goal
 
 pub entries-init : goal.entries-init
 entries-init c =
-    version_read _ _ _ _
-    (strip_prefix_is Decides-eqb c.args.bytes.now (codes "realiser-journal 1\n")
-    (Some c.in-Some.rest) c.in-Some.ensures.cases) c.new-entries.ensures.items
+    version_read _ _ _ _ _
+    (MatchOption-at_some _ _ _ c.in-Some.is c.version_of.ensures) c.new-entries.ensures.items
 
 pub entries-preserved : goal.entries-preserved
-entries-preserved c = entries_more _ _ _ c.push.new.self.items _ c.in_ok-entry.behind.now
+entries-preserved c = entries_more _ _ _ _ c.push.new.self.items _ c.in_ok-entry.behind.now
     c.in_ok-entry.entry c.entries.invariant c.in_ok-entry.ensures.ok c.in_ok-push.ensures.items
 
+pub returns-in_err-entry-clause-left : goal.returns-in_err-entry-clause-left
+returns-in_err-entry-clause-left c =
+    let p = err_from_is_err_and c.from_residual.result c.from_residual.ensures.1 in
+    rw (p.1, p.2)
+    (stops_where _ _ (λ left. text_stops _ _ _ _ _ left c.entries.invariant) _
+    c.in_err-entry.ensures.left)
+
+pub returns-in_err-entry-clause-memory : goal.returns-in_err-entry-clause-memory
+returns-in_err-entry-clause-memory c = λ memory.
+    (_, version_begins _ _ _ _ _ c.entries.invariant)
+
+pub returns-in_err-push-clause-memory : goal.returns-in_err-push-clause-memory
+returns-in_err-push-clause-memory c = λ memory.
+    (_, version_begins _ _ _ _ _ c.entries.invariant)
+
 pub returns-clause-ok : goal.returns-clause-ok
-returns-clause-ok c = text_read _ _ _ _ c.entries.invariant (sym c.entries-test.ensures)
+returns-clause-ok c = text_read _ _ _ _ _ c.entries.invariant (sym c.entries-test.ensures)

@@ -4,7 +4,7 @@ use Rattle.valid_table.proofs.reading.entries_of.Given as goal
 
 -- the entries so far, and what is behind their lines
 abbrev pub invariant-entries : goal.invariant-entries
-invariant-entries l = SoFarEntries l.fn.dir l.bytes l.entries.items l.rest
+invariant-entries l = SoFarEntries l.version l.fn.dir l.bytes l.entries.items l.rest
 
 abbrev pub decreases-entries : goal.decreases-entries
 decreases-entries l = length l.rest

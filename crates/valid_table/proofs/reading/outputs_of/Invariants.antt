@@ -4,7 +4,7 @@ use Rattle.valid_table.proofs.reading.outputs_of.Given as goal
 
 -- the outputs so far, and what is behind their lines
 abbrev pub invariant-outputs : goal.invariant-outputs
-invariant-outputs l = SoFarOutputs l.fn.dir l.bytes l.outputs.items l.rest
+invariant-outputs l = SoFarOutputs l.version l.fn.dir l.bytes l.outputs.items l.rest
 
 abbrev pub decreases-outputs : goal.decreases-outputs
 decreases-outputs l = length l.rest

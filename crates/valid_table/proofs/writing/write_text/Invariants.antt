@@ -2,10 +2,11 @@ use Rattle.std.proofs.Common.{◌≡◌, ◌++◌, drop}
 use Rattle.std.specs.List.{flat_map}
 use Rattle.valid_table.specs.LineTexts.{lines_text}
 use Rattle.valid_table.specs.Texts.{entry_lines}
+use Rattle.valid_table.specs.declared.version.Version.TheVariants.{Two}
 use Rattle.valid_table.proofs.writing.write_text.Given as goal
 
 -- what is written, and the lines of the entries that are left
 abbrev pub invariant-entries : goal.invariant-entries
 invariant-entries l =
-    l.out.items ++ lines_text (flat_map entry_lines (drop l.entry-index l.entries))
-    ≡ l.initial.out.items ++ lines_text (flat_map entry_lines l.entries)
+    l.out.items ++ lines_text Two (flat_map entry_lines (drop l.entry-index l.entries))
+    ≡ l.initial.out.items ++ lines_text Two (flat_map entry_lines l.entries)

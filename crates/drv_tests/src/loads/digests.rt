@@ -1,0 +1,137 @@
+//! Tests of the methods and the hashes of fixed outputs: which are taken and which aren't, and that
+//! digests of one file by several algorithms have paths of their own.
+use super::output_files::*;
+use super::{add_text, plan_of};
+use drv_graph::Plan;
+use nix_drv::ListSource;
+use nix_names::StoreDir;
+use std::alloc::{AllocError, Global};
+use std::test::*;
+
+// A method, and a digit that the hash has so many times.
+type HashRow = (&'static [u8], u8, usize);
+
+static TAKEN_ROWS: [HashRow; 9] = [
+    (b"md5", b'0', 32),
+    (b"sha1", b'0', 40),
+    (b"sha256", b'0', 64),
+    (b"sha512", b'0', 128),
+    (b"r:sha256", b'0', 64),
+    (b"md5", b'f', 32),
+    (b"sha1", b'f', 40),
+    (b"sha256", b'f', 64),
+    (b"sha512", b'f', 128),
+];
+
+static REFUSED_ROWS: [HashRow; 39] = [
+    (b"md5", b'0', 31),
+    (b"md5", b'0', 33),
+    (b"sha1", b'0', 39),
+    (b"sha1", b'0', 41),
+    (b"sha256", b'0', 63),
+    (b"sha256", b'0', 65),
+    (b"sha512", b'0', 127),
+    (b"sha512", b'0', 129),
+    (b"r:sha256", b'0', 63),
+    (b"r:sha256", b'0', 65),
+    (b"md5", b'0', 40),
+    (b"md5", b'0', 64),
+    (b"sha1", b'0', 32),
+    (b"sha256", b'0', 40),
+    (b"sha256", b'0', 128),
+    (b"sha512", b'0', 64),
+    (b"r:sha256", b'0', 40),
+    (b"md5", b'F', 32),
+    (b"sha1", b'F', 40),
+    (b"sha256", b'F', 64),
+    (b"sha512", b'F', 128),
+    (b"r:sha256", b'F', 64),
+    (b"md5", b'g', 32),
+    (b"sha512", b'g', 128),
+    (b"md5", b'0', 0),
+    (b"md5:", b'0', 32),
+    (b"sha256:", b'0', 64),
+    (b":sha256", b'0', 64),
+    (b"sha1:0", b'0', 39),
+    (b"r:md5", b'0', 32),
+    (b"r:sha1", b'0', 40),
+    (b"r:sha512", b'0', 128),
+    (b"r:", b'0', 64),
+    (b"r:r:sha256", b'0', 64),
+    (b"sha384", b'0', 96),
+    (b"blake3", b'0', 64),
+    (b"text:sha256", b'0', 64),
+    (b"git:sha1", b'0', 40),
+    (b"SHA256", b'0', 64),
+];
+
+// The text of a derivation whose output has this method and this hash, and a path that isn't that
+// of any.
+fn fixed_text(alloc: Global, row: &HashRow) -> Result<Vec<u8>, AllocError> {
+    let hash = vec![in alloc; row.1; row.2]?;
+    let mut text = Vec::new(alloc);
+    for part in [
+        b"Derive([(\"out\",\"/nix/store/r123a5k0knwphqj2cp79ija7kwj69did-some\",\"".as_slice(),
+        row.0,
+        b"\",\"",
+        &hash,
+        b"\")],[],[],\"s\",\"b\",[],[])",
+    ] {
+        text.extend_from_slice(part)?;
+    }
+    Ok(text)
+}
+
+// The number of the fault of such a derivation: that of its path where method and hash are taken.
+fn number_of(alloc: Global, row: &HashRow) -> Result<u8, Fail> {
+    let dir = StoreDir::new(alloc, b"/nix/store")?;
+    let mut files = Vec::new(alloc);
+    let text = fixed_text(alloc, row)?;
+    let root = add_text(alloc, &dir, &mut files, b"some.drv", text)?;
+    let mut source = ListSource::new(alloc, files, Vec::new(alloc))?;
+    match Plan::load(alloc, &mut source, &dir, std::slice::from_ref(&root)) {
+        Ok(_) => Ok(0),
+        Err(fault) => Ok(fault.number()),
+    }
+}
+
+fn taken_rows() -> &'static [HashRow] {
+    &TAKEN_ROWS
+}
+
+fn refused_rows() -> &'static [HashRow] {
+    &REFUSED_ROWS
+}
+
+#[test]
+fn hashes_that_are_taken(rt: HostRuntime) -> Result<(), Fail> {
+    for (place, row) in taken_rows().iter().enumerate() {
+        assert!(rt; number_of(rt.alloc(), row)? == 23, "row {place}");
+    }
+    Ok(())
+}
+
+#[test]
+fn hashes_that_are_refused(rt: HostRuntime) -> Result<(), Fail> {
+    for (place, row) in refused_rows().iter().enumerate() {
+        assert!(rt; number_of(rt.alloc(), row)? == 28, "row {place}");
+    }
+    Ok(())
+}
+
+// Whether each derivation of a plan is the first of its twins.
+fn are_first(plan: &Plan) -> bool {
+    for number in 0..plan.len() {
+        if plan.first_twin(number) != number {
+            return false;
+        }
+    }
+    true
+}
+
+#[test]
+fn digests_of_one_file_have_paths_of_their_own(rt: HostRuntime) -> Result<(), Fail> {
+    let plan = plan_of(rt.alloc(), &[FLAT, FLAT_MD5, FLAT_SHA1, FLAT_SHA512])?;
+    assert!(rt; plan.len() == 4 && are_first(&plan));
+    Ok(())
+}

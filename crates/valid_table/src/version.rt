@@ -1,0 +1,70 @@
+//! The versions of a journal's text.
+ghost use Rattle.std.specs.Prelude.{◌≡◌, ◌≢◌, ◌++◌, ◌↔◌, IsTrue, List, MatchOption, ℕ};
+ghost use Rattle.valid_table.specs.Readers.{BeginsNoVersion};
+ghost use Rattle.valid_table.specs.Reading.{IsTooLong, max_len};
+ghost use Rattle.valid_table.specs.Texts.{version_line};
+
+/// A version of a journal's text.
+#[derive(Clone, Copy, Debug, PartialEq, Eq)]
+pub(crate) enum Version {
+    /// Version 1, in which a digest is its digits, and SHA-256 is the only algorithm.
+    One,
+    /// Version 2, in which a digest is its algorithm's name, a colon and its digits.
+    Two,
+}
+
+impl Version {
+    /// The first line of a text, with its newline.
+    pub(crate) fn line(self) -> &'static [u8]
+        ensures { result.now ≡ version_line self }
+    {
+        match self {
+            Version::One => b"realiser-journal 1\n",
+            Version::Two => b"realiser-journal 2\n",
+        }
+    }
+
+    /// How many bytes a text may have.
+    pub(crate) fn max_len(self) -> usize
+        ensures { result ≡ max_len self }
+    {
+        match self {
+            Version::One => 67_108_864,
+            Version::Two => 134_217_728,
+        }
+    }
+
+    /// What is behind the version's line, where the bytes begin with it.
+    fn behind_line(self, bytes: &[u8]) -> Option<&[u8]>
+        ensures { MatchOption result ((rest : List ℕ) → bytes.now ≢ version_line self ++ rest)
+            (λ rest. bytes.now ≡ version_line self ++ rest.now) }
+    {
+        bytes.strip_prefix(self.line())
+    }
+}
+
+/// The version with whose line the bytes begin, and what is behind it.
+pub(crate) fn version_of(bytes: &[u8]) -> Option<(Version, &[u8])>
+    ensures { MatchOption result (BeginsNoVersion bytes.now)
+        (λ x. bytes.now ≡ version_line x.0 ++ x.1.now) }
+{
+    if let Some(rest) = Version::One.behind_line(bytes) {
+        return Some((Version::One, rest));
+    }
+    if let Some(rest) = Version::Two.behind_line(bytes) {
+        return Some((Version::Two, rest));
+    }
+    None
+}
+
+/// Whether the bytes are more than a text may have of the version with whose line they begin, or of
+/// any version.
+#[tactic(auto, using(crate::proofs::Versions::too_long_in, crate::proofs::Versions::too_long_without))]
+pub(crate) fn is_too_long(bytes: &[u8]) -> bool
+    ensures { IsTrue result ↔ IsTooLong bytes.now }
+{
+    match version_of(bytes) {
+        Some((version, _)) => bytes.len() > version.max_len(),
+        None => bytes.len() > Version::Two.max_len(),
+    }
+}
