@@ -1,5 +1,5 @@
 //! Entries of a journal: paths that were added, and outputs that were built.
-ghost use Rattle.std.specs.Prelude.{◌≡◌, ◌≢◌, ◌<◌, ◌↔◌, [], List, IfOk, IfErr, IsOk, IsTrue, MatchOption, Some, length, slice_get};
+ghost use Rattle.std.specs.Prelude.{◌≡◌, ◌≢◌, ◌<◌, ◌↔◌, [], List, IfOk, IfErr, IsOk, IsTrue, MatchOption, None, Some, length, slice_get};
 ghost use Rattle.std.specs.Arc.{arc_slice_items};
 ghost use Rattle.std.specs.Option.{option_map_or};
 ghost use Rattle.nix_names.specs.Rising.{IsRising};
@@ -10,42 +10,58 @@ use nix_names::{Digest, StorePath};
 use std::alloc::{AllocError, Global};
 use std::marker::Model;
 use std::slice;
-use std::sync::ArcSlice;
+use std::sync::{Arc, ArcSlice};
 
 /// What is known of a valid path. A contract sees its references and its digest. All copies of a
-/// record share one list of references, in any threads; no references take no room.
+/// record share one block of memory, in any threads; a record that has neither takes none.
 #[derive(Debug, Drop)]
 pub struct Record {
+    known: Option<Arc<Known>>,
+}
+
+// What copies of a record share.
+#[derive(Debug, Drop)]
+struct Known {
     references: Option<ArcSlice<StorePath>>,
     digest: Option<Digest>,
 }
 
 impl Model for Record {
-    ghost use Rattle.std.specs.Prelude.{[]};
-    ghost use Rattle.std.specs.Arc.{arc_slice_items};
+    ghost use Rattle.std.specs.Prelude.{[], None};
+    ghost use Rattle.std.specs.Arc.{arc_slice_items, arc_value};
     ghost use Rattle.std.specs.Option.{option_map_or};
     ghost use Rattle.nix_names.specs.Rising.{IsRising};
     ghost use Rattle.valid_table.specs.PathInfos.{PathInfo};
+    ghost use Rattle.valid_table.specs.declared.entry.Known.{Known};
 
     ghost Value = { PathInfo };
 
-    ghost view = { λ r. record
-        { references = option_map_or arc_slice_items r.references []; digest = r.digest } };
+    ghost view = { λ r. record {
+      references = option_map_or
+          (λ a. option_map_or arc_slice_items (arc_value {X = Known} a).references []) r.known [];
+      digest = option_map_or (λ a. (arc_value {X = Known} a).digest) r.known None;
+    } };
 
-    ghost invariant = { λ r. IsRising (option_map_or arc_slice_items r.references []) };
+    ghost invariant = { λ r. IsRising (option_map_or
+        (λ a. option_map_or arc_slice_items (arc_value {X = Known} a).references []) r.known []) };
 }
 
 impl Record {
     /// The record of a path with these references, and with the digest of its bytes where it is a
-    /// file. Takes memory only where there are references.
+    /// file. Takes memory only where there are references or a digest.
     pub fn new(references: Vec<StorePath>, digest: Option<Digest>) -> Result<Record, AllocError>
         requires rising { IsRising references.items }
         ensures references { IfOk result (λ r. r.references ≡ references.items) }
         ensures digest { IfOk result (λ r. r.digest ≡ digest) }
-        ensures none { references.items ≡ [] → IsOk result }
+        ensures none { references.items ≡ [] → digest ≡ None → IsOk result }
     {
+        if references.is_empty() && digest.is_none() {
+            return Ok(Record { known: None });
+        }
+        let alloc = *references.allocator();
         let references = share(references)?;
-        Ok(Record { references, digest })
+        let known = Arc::new(alloc, Known { references, digest })?;
+        Ok(Record { known: Some(known) })
     }
 
     /// The paths that the path refers to, strictly rising.
@@ -53,9 +69,9 @@ impl Record {
         ensures value { result.now ≡ self.now.references }
         ensures rising { IsRising result.now }
     {
-        match &self.references {
+        match &self.known {
+            Some(known) => known.references(),
             None => &[],
-            Some(shared) => shared.as_slice(),
         }
     }
 
@@ -63,22 +79,33 @@ impl Record {
     pub fn digest(&self) -> Option<Digest>
         ensures { result ≡ self.now.digest }
     {
-        self.digest
+        match &self.known {
+            Some(known) => known.digest,
+            None => None,
+        }
     }
 
-    /// The same record again, with the same list of references. Fails only where the list can have
-    /// no more owners.
+    /// The same record again, which shares what is known. Fails only where that can have no more
+    /// owners.
     pub fn copy(&self, _alloc: Global) -> Result<Record, AllocError>
         ensures ok { IfOk result (λ r. r ≡ self.now) }
     {
-        let references = match &self.references {
+        let known = match &self.known {
             None => None,
-            Some(shared) => Some(shared.clone()?),
+            Some(known) => Some(known.clone()?),
         };
-        Ok(Record {
-            references,
-            digest: self.digest,
-        })
+        Ok(Record { known })
+    }
+}
+
+impl Known {
+    fn references(&self) -> &[StorePath]
+        ensures { result.now ≡ option_map_or arc_slice_items self.now.references [] }
+    {
+        match &self.references {
+            None => &[],
+            Some(shared) => shared.as_slice(),
+        }
     }
 }
 
