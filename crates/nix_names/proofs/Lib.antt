@@ -1,3 +1,4 @@
+pub mod AsciiPaths
 pub mod Base32Bits
 pub mod Base32Chars
 pub mod Base32Digits
@@ -7,7 +8,6 @@ pub mod Base32Runs
 pub mod Base32Texts
 pub mod DigestTexts
 pub mod FirstElements
-pub mod HexDigits
 pub mod Lists
 pub mod PathBytes
 pub mod PathDigests

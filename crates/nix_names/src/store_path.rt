@@ -21,6 +21,7 @@ use std::alloc::{AllocError, Global};
 use std::cmp::Ordering;
 use std::hash::{Hash, Hasher};
 use std::marker::Model;
+use std::str;
 use std::sync::ArcSlice;
 
 // The length of a hash part, in bytes.
@@ -51,6 +52,17 @@ impl StorePath {
         ensures is_path { IsStorePath self.now }
     {
         self.text.as_slice()
+    }
+
+    /// The whole path as a string, since its bytes are ASCII. Costs one pass.
+    #[tactic(auto, using(crate::proofs::AsciiPaths::path_is_text))]
+    pub fn as_str(&self) -> &str
+        ensures { result.now ≡ self.now }
+    {
+        match str::from_utf8(self.text()) {
+            Ok(text) => text,
+            Err(_) => unreachable!(),
+        }
     }
 
     /// The 32 base-32 characters that begin the base name. Costs a search for the last slash.

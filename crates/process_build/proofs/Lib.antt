@@ -1,4 +1,3 @@
-pub mod AsciiPaths
 pub mod BuilderCalls
 pub mod Callable
 pub mod Tallies

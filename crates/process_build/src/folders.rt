@@ -2,10 +2,8 @@
 ghost use Rattle.std.specs.Prelude.{◌≡◌, IfOk, map, string_bytes};
 ghost use Rattle.process_build.specs.Folders.{build_folder_of, places_of};
 
-use crate::files::file_path;
 use sched_core::Job;
 use std::alloc::{AllocError, Global};
-use std::io;
 
 /// The folder in which one builder runs.
 #[derive(Drop)]
@@ -32,13 +30,13 @@ impl BuildFolder {
 
     /// The paths that are cleared before the job's builder runs here: those of its outputs, and
     /// the folder's own.
-    pub fn places<'a>(&'a self, alloc: Global, job: &'a Job) -> io::Result<Vec<&'a str>>
+    pub fn places<'a>(&'a self, alloc: Global, job: &'a Job) -> Result<Vec<&'a str>, AllocError>
         ensures { IfOk result (λ places. map (λ p. p.now) places.items
             ≡ places_of job.entry.now (string_bytes self.entry.now.path)) }
     {
         let mut places = Vec::new(alloc);
         for output in &job.outputs {
-            places.push(file_path(&output.path)?)?;
+            places.push(output.path.as_str())?;
         }
         places.push(self.path())?;
         Ok(places)

@@ -11,7 +11,6 @@
 //! | `removal` | what lies at a path of the store folder, taken away |
 //! | `reading` | what lies at the outputs' paths, read within the limits of an output |
 //! | `failures`, `reasons` | what an error of the system means at a path, and for a build |
-//! | `files` | paths of files |
 //! | `progress` | the line of progress |
 //! | `tally` | the numbers of that line, and its text |
 //! | `laws` | what holds of these numbers, over the definitions |
@@ -21,7 +20,6 @@ mod builders;
 mod call;
 mod environment;
 mod failures;
-mod files;
 mod folders;
 pub mod laws;
 mod processes;
@@ -34,6 +32,5 @@ mod tally;
 
 pub use builders::Builders;
 pub use failures::Failure;
-pub use files::file_path;
 pub use processes::{ByProcesses, ProcessBuild};
 pub use progress::{Progress, Watching};

@@ -115,7 +115,7 @@ impl<R: Files + AllocGlobal, P: Processes> ProcessBuild<'_, R, P> {
 
     // Clears the places of the job's outputs and of the build folder, and makes the folder.
     fn make_room(&self, folder: &BuildFolder, job: &Job) -> Result<(), Reason> {
-        for place in folder.places(self.rt.alloc(), job).map_err(no_start)? {
+        for place in folder.places(self.rt.alloc(), job)? {
             clear(self.rt, self.store_dir.as_str(), place).map_err(no_room)?;
         }
         fs::create_dir(self.rt, folder.path()).map_err(no_start)

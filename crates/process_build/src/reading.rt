@@ -3,24 +3,14 @@ ghost use Rattle.std.specs.Prelude.{◌≡◌, ◌≤◌, IfErr, IfOk, length};
 ghost use Rattle.std.specs.Fs.{file_type};
 ghost use Rattle.process_build.specs.Answers.{IsNodeAt, IsNodeOf, IsNoNode};
 
-use crate::files::file_path;
 use crate::reasons::read_fault;
-use ref_scan::{Member, Tree};
+use ref_scan::{MAX_DEPTH, MAX_ENTRIES, MAX_FILE_BYTES, Member, Tree};
 use sched_core::{Job, Reason};
 use std::alloc::{AllocError, Global};
 use std::fs::Metadata;
 use std::io::{ErrorKind, Read};
 use std::rt::Files;
 use std::{fs, io, str};
-
-// The most levels of an output's tree.
-const MAX_DEPTH: usize = 32;
-
-// The most entries of an output's folders, at all depths.
-const MAX_ENTRIES: usize = 65_536;
-
-// The most bytes of an output's files together.
-const MAX_FILE_BYTES: usize = 67_108_864;
 
 // The most bytes of a piece of a file.
 const MAX_PIECE: usize = 65_536;
@@ -35,8 +25,7 @@ pub fn read_outputs<R: Files + AllocGlobal>(rt: &R, job: &Job) -> Result<Vec<Opt
 {
     let mut trees = Vec::new(rt.alloc());
     for output in &job.outputs {
-        let path = file_path(&output.path).map_err(read_fault)?;
-        trees.push(read_output(rt, path)?)?;
+        trees.push(read_output(rt, output.path.as_str())?)?;
     }
     Ok(trees)
 }

@@ -13,7 +13,7 @@ use crate::stop::Stop;
 use crate::store_dir::store_dir;
 use crate::whole_file::write_whole;
 use nix_names::StorePath;
-use process_build::{Failure, file_path};
+use process_build::Failure;
 use std::io;
 use std::io::Write;
 use std::rt::Files;
@@ -101,6 +101,6 @@ pub fn write_text<'a, R: Files + AllocGlobal>(
 
 // Writes a text at its path.
 fn write_at<R: Files + AllocGlobal>(rt: &R, path: &StorePath, bytes: &[u8]) -> Result<(), Failure> {
-    write_whole(rt, file_path(path)?, bytes)?.used();
+    write_whole(rt, path.as_str(), bytes)?.used();
     Ok(())
 }

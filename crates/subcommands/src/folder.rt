@@ -6,7 +6,7 @@ ghost use Rattle.subcommands.specs.Folders.{may_give};
 use crate::files::{MAX_READ, read_regular};
 use nix_drv::{DrvSource, SourceFault};
 use nix_names::StorePath;
-use process_build::{Failure, file_path};
+use process_build::Failure;
 use std::alloc::Global;
 use std::marker::Model;
 use std::rt::Files;
@@ -78,5 +78,5 @@ impl<R: Files> DrvSource for FolderSource<'_, R> {
 fn read_store_file<R: Files>(alloc: Global, files: &R, path: &StorePath) -> Result<Vec<u8>, Failure>
     ensures { IfOk result (λ bytes. length bytes.items ≤ 4194305) }
 {
-    read_regular(alloc, files, file_path(path)?, MAX_READ)
+    read_regular(alloc, files, path.as_str(), MAX_READ)
 }

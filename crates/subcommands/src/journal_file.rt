@@ -10,9 +10,10 @@ use crate::whole_file::{Written, try_out, write_whole};
 use process_build::Failure;
 use std::alloc::{AllocError, Global};
 use std::rt::Files;
+use valid_table::MAX_JOURNAL;
 
 // How many bytes of a journal file are read: one more than a journal may have.
-const MAX_READ: u64 = 134_217_729;
+const MAX_READ: u64 = MAX_JOURNAL as u64 + 1;
 
 /// The one journal file of a run.
 #[derive(Drop)]

@@ -46,3 +46,4 @@ pub use obstacle::Obstacle;
 pub use outlet::Outlet;
 pub use reference::Reference;
 pub use table::Table;
+pub use version::MAX_JOURNAL;

@@ -4,6 +4,9 @@ ghost use Rattle.valid_table.specs.Readers.{BeginsNoVersion};
 ghost use Rattle.valid_table.specs.Reading.{IsTooLong, max_len};
 ghost use Rattle.valid_table.specs.Texts.{version_line};
 
+/// The most bytes that a journal's text may have, in any version.
+pub const MAX_JOURNAL: usize = 134_217_728;
+
 /// A version of a journal's text.
 #[derive(Clone, Copy, Debug, PartialEq, Eq)]
 pub(crate) enum Version {
@@ -30,7 +33,7 @@ impl Version {
     {
         match self {
             Version::One => 67_108_864,
-            Version::Two => 134_217_728,
+            Version::Two => MAX_JOURNAL,
         }
     }
 
