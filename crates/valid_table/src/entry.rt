@@ -1,11 +1,11 @@
 //! Entries of a journal: paths that were added, and outputs that were built.
 ghost use Rattle.std.specs.Prelude.{◌≡◌, ◌≢◌, ◌<◌, ◌↔◌, [], List, IfOk, IfErr, IsOk, IsTrue, MatchOption, None, Some, length, slice_get};
-ghost use Rattle.std.specs.Arc.{arc_slice_items};
-ghost use Rattle.std.specs.Option.{option_map_or};
 ghost use Rattle.nix_names.specs.Rising.{IsRising};
 ghost use Rattle.valid_table.specs.Entries.{IsSortedOf, paths_of, registered_by};
+ghost use Rattle.valid_table.specs.Kept.{digest_known, references_known};
 ghost use Rattle.valid_table.specs.Valid.{IsOnce};
 
+use crate::kept::Kept;
 use nix_names::{Digest, StorePath};
 use std::alloc::{AllocError, Global};
 use std::marker::Model;
@@ -13,37 +13,41 @@ use std::slice;
 use std::sync::{Arc, ArcSlice};
 
 /// What is known of a valid path. A contract sees its references and its digest. All copies of a
-/// record share one block of memory, in any threads; a record that has neither takes none.
+/// record share the memory of what is known, in any threads; a record that has neither takes none.
 #[derive(Debug, Drop)]
 pub struct Record {
-    known: Option<Arc<Known>>,
+    known: Known,
 }
 
-// What copies of a record share.
+// What is known, which copies of a record share.
 #[derive(Debug, Drop)]
-struct Known {
-    references: Option<ArcSlice<StorePath>>,
-    digest: Option<Digest>,
+enum Known {
+    Nothing,
+    References(ArcSlice<StorePath>),
+    Digest(Arc<Kept>),
+    Both(Arc<Both>),
+}
+
+// References and a digest, in one block.
+#[derive(Debug, Drop)]
+struct Both {
+    references: ArcSlice<StorePath>,
+    digest: Kept,
 }
 
 impl Model for Record {
-    ghost use Rattle.std.specs.Prelude.{[], None};
-    ghost use Rattle.std.specs.Arc.{arc_slice_items, arc_value};
-    ghost use Rattle.std.specs.Option.{option_map_or};
     ghost use Rattle.nix_names.specs.Rising.{IsRising};
+    ghost use Rattle.valid_table.specs.Kept.{digest_known, references_known};
     ghost use Rattle.valid_table.specs.PathInfos.{PathInfo};
-    ghost use Rattle.valid_table.specs.declared.entry.Known.{Known};
 
     ghost Value = { PathInfo };
 
     ghost view = { λ r. record {
-      references = option_map_or
-          (λ a. option_map_or arc_slice_items (arc_value {X = Known} a).references []) r.known [];
-      digest = option_map_or (λ a. (arc_value {X = Known} a).digest) r.known None;
+      references = references_known r.known;
+      digest = digest_known r.known;
     } };
 
-    ghost invariant = { λ r. IsRising (option_map_or
-        (λ a. option_map_or arc_slice_items (arc_value {X = Known} a).references []) r.known []) };
+    ghost invariant = { λ r. IsRising (references_known r.known) };
 }
 
 impl Record {
@@ -55,13 +59,11 @@ impl Record {
         ensures digest { IfOk result (λ r. r.digest ≡ digest) }
         ensures none { references.items ≡ [] → digest ≡ None → IsOk result }
     {
-        if references.is_empty() && digest.is_none() {
-            return Ok(Record { known: None });
-        }
-        let alloc = *references.allocator();
-        let references = share(references)?;
-        let known = Arc::new(alloc, Known { references, digest })?;
-        Ok(Record { known: Some(known) })
+        let known = match digest {
+            None => Known::without_digest(references)?,
+            Some(digest) => Known::with_digest(references, digest)?,
+        };
+        Ok(Record { known })
     }
 
     /// The paths that the path refers to, strictly rising.
@@ -70,8 +72,9 @@ impl Record {
         ensures rising { IsRising result.now }
     {
         match &self.known {
-            Some(known) => known.references(),
-            None => &[],
+            Known::Nothing | Known::Digest(_) => &[],
+            Known::References(shared) => shared.as_slice(),
+            Known::Both(both) => both.references.as_slice(),
         }
     }
 
@@ -80,8 +83,9 @@ impl Record {
         ensures { result ≡ self.now.digest }
     {
         match &self.known {
-            Some(known) => known.digest,
-            None => None,
+            Known::Nothing | Known::References(_) => None,
+            Known::Digest(shared) => Some(shared.digest()),
+            Known::Both(both) => Some(both.digest.digest()),
         }
     }
 
@@ -91,20 +95,41 @@ impl Record {
         ensures ok { IfOk result (λ r. r ≡ self.now) }
     {
         let known = match &self.known {
-            None => None,
-            Some(known) => Some(known.clone()?),
+            Known::Nothing => Known::Nothing,
+            Known::References(shared) => Known::References(shared.clone()?),
+            Known::Digest(shared) => Known::Digest(shared.clone()?),
+            Known::Both(both) => Known::Both(both.clone()?),
         };
         Ok(Record { known })
     }
 }
 
 impl Known {
-    fn references(&self) -> &[StorePath]
-        ensures { result.now ≡ option_map_or arc_slice_items self.now.references [] }
+    // What is known where there is no digest.
+    fn without_digest(references: Vec<StorePath>) -> Result<Known, AllocError>
+        ensures references { IfOk result (λ k. references_known k ≡ references.items) }
+        ensures digest { IfOk result (λ k. digest_known k ≡ None) }
+        ensures none { references.items ≡ [] → IsOk result }
     {
-        match &self.references {
-            None => &[],
-            Some(shared) => shared.as_slice(),
+        if references.is_empty() {
+            return Ok(Known::Nothing);
+        }
+        let shared = ArcSlice::from_vec(references)?;
+        Ok(Known::References(shared))
+    }
+
+    // What is known where there is a digest.
+    fn with_digest(references: Vec<StorePath>, digest: Digest) -> Result<Known, AllocError>
+        ensures references { IfOk result (λ k. references_known k ≡ references.items) }
+        ensures digest { IfOk result (λ k. digest_known k ≡ Some digest) }
+    {
+        let alloc = *references.allocator();
+        let digest = Kept::new(alloc, digest)?;
+        if references.is_empty() {
+            Ok(Known::Digest(Arc::new(alloc, digest)?))
+        } else {
+            let references = ArcSlice::from_vec(references)?;
+            Ok(Known::Both(Arc::new(alloc, Both { references, digest })?))
         }
     }
 }
@@ -262,16 +287,4 @@ fn is_rising(registrations: &[Registration]) -> bool
         }
     }
     true
-}
-
-// Paths as a list that copies share, or none of no paths.
-fn share(paths: Vec<StorePath>) -> Result<Option<ArcSlice<StorePath>>, AllocError>
-    ensures ok { IfOk result (λ shared. option_map_or arc_slice_items shared [] ≡ paths.items) }
-    ensures none { paths.items ≡ [] → IsOk result }
-{
-    if paths.is_empty() {
-        return Ok(None);
-    }
-    let shared = ArcSlice::from_vec(paths)?;
-    Ok(Some(shared))
 }

@@ -3,6 +3,7 @@
 //! | Module | What is in it |
 //! |---|---|
 //! | `entry`, `entry_eq` | entries of a journal, and when they are equal |
+//! | `kept` | how a record keeps a digest |
 //! | `reference` | one reference of a record |
 //! | `journal` | journals: their entries, one more |
 //! | `version` | the versions of a journal's text, and the first line of each |
@@ -24,6 +25,7 @@ mod entry;
 mod entry_eq;
 mod fault;
 mod journal;
+mod kept;
 pub mod laws;
 mod lines;
 mod list_outlet;

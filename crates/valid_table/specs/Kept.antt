@@ -1,0 +1,31 @@
+-- What a record keeps of a path, and how it stands for the references and the digest.
+use Rattle.std.specs.Prelude.{ℕ, List, [], Option, None, Some}
+use Rattle.std.specs.Arc.{arc_slice_items, arc_value}
+use Rattle.nix_names.specs.declared.digest.Digest.{Digest}
+use Rattle.nix_names.specs.declared.digest.Digest.TheVariants.{Md5, Sha1, Sha256, Sha512}
+use Rattle.valid_table.specs.declared.entry.Both.{Both}
+use Rattle.valid_table.specs.declared.entry.Known.{Known}
+use Rattle.valid_table.specs.declared.entry.Known.TheVariants.{Nothing, References, Digest as OfDigest, Both as OfBoth}
+use Rattle.valid_table.specs.declared.kept.Kept.{Kept}
+use Rattle.valid_table.specs.declared.kept.Kept.TheVariants.{Md5 as KeptMd5, Sha1 as KeptSha1, Sha256 as KeptSha256, Sha512 as KeptSha512}
+
+-- the digest that is kept
+abbrev pub digest_kept : Kept → Digest
+digest_kept (KeptMd5 bytes) = Md5 bytes
+digest_kept (KeptSha1 bytes) = Sha1 bytes
+digest_kept (KeptSha256 bytes) = Sha256 bytes
+digest_kept (KeptSha512 bytes) = Sha512 bytes.value
+
+-- the references that are known
+abbrev pub references_known : Known → List (List ℕ)
+references_known Nothing = []
+references_known (References shared) = arc_slice_items shared
+references_known (OfDigest shared) = []
+references_known (OfBoth shared) = arc_slice_items (arc_value {X = Both} shared).references
+
+-- the digest that is known
+abbrev pub digest_known : Known → Option Digest
+digest_known Nothing = None
+digest_known (References shared) = None
+digest_known (OfDigest shared) = Some (digest_kept (arc_value {X = Kept} shared))
+digest_known (OfBoth shared) = Some (digest_kept (arc_value {X = Both} shared).digest)

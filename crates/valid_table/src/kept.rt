@@ -1,0 +1,40 @@
+//! How a record keeps a digest.
+ghost use Rattle.std.specs.Prelude.{◌≡◌, IfOk};
+ghost use Rattle.valid_table.specs.Kept.{digest_kept};
+
+use nix_names::Digest;
+use std::alloc::{AllocError, Global};
+
+// A digest. A SHA-512 has a block of its own, so that the others take no room for its 64 bytes.
+#[derive(Debug, Drop)]
+pub(crate) enum Kept {
+    Md5([u8; 16]),
+    Sha1([u8; 20]),
+    Sha256([u8; 32]),
+    Sha512(Box<[u8; 64]>),
+}
+
+impl Kept {
+    pub(crate) fn new(alloc: Global, digest: Digest) -> Result<Kept, AllocError>
+        ensures { IfOk result (λ kept. digest_kept kept ≡ digest) }
+    {
+        match digest {
+            Digest::Md5(bytes) => Ok(Kept::Md5(bytes)),
+            Digest::Sha1(bytes) => Ok(Kept::Sha1(bytes)),
+            Digest::Sha256(bytes) => Ok(Kept::Sha256(bytes)),
+            Digest::Sha512(bytes) => Ok(Kept::Sha512(Box::new(alloc, bytes)?)),
+        }
+    }
+
+    // The digest itself.
+    pub(crate) fn digest(&self) -> Digest
+        ensures { result ≡ digest_kept self.now }
+    {
+        match self {
+            Kept::Md5(bytes) => Digest::Md5(*bytes),
+            Kept::Sha1(bytes) => Digest::Sha1(*bytes),
+            Kept::Sha256(bytes) => Digest::Sha256(*bytes),
+            Kept::Sha512(bytes) => Digest::Sha512(**bytes),
+        }
+    }
+}
