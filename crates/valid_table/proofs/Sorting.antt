@@ -1,16 +1,19 @@
 -- The paths of rows, sorted: they rise strictly, since no path has two rows.
 use Rattle.std.proofs.lemmas.Grind.{common_steps}
-use Rattle.std.proofs.Common.{◌≡◌, ℕ, ◌+◌, ◌<◌, false, List, [], ◌∷◌, ◌++◌, length, take, get_or, nat_eq, Some, sym, ap, subst, ◌∙◌, arith}
+use Rattle.std.proofs.Common.{◌≡◌, ℕ, ◌+◌, ◌<◌, All, false, true, List, map, refl, [], ◌∷◌, ◌++◌, length, take, get_or, nat_eq, Some, sym, ap, subst, ◌∙◌, arith}
 use Rattle.std.specs.Cmp.Lexicographic.{pointwise, slice_cmp, nat_list_eq_equiv}
-use Rattle.std.specs.List.{IsDistinct, slice_get}
+use Rattle.std.specs.declared.cmp.Ordering.{Ordering}
+use Rattle.std.specs.declared.cmp.Ordering.TheVariants.{Equal, Greater, Less}
+use Rattle.std.specs.List.{AllAdjacentBelow, IsDistinct, slice_get}
 use Rattle.std.specs.List.Sorted.{IsPermutation, IsSorted}
-use Rattle.std.specs.Ordering.{nat_cmp}
+use Rattle.std.specs.Ordering.{is_le, is_some_and, is_lt, nat_cmp, ordering_reverse}
 use Rattle.std.proofs.lemmas.Bool.{false_from_ne_true, false≢true}
-use Rattle.std.proofs.lemmas.Cmp.{nat_eq_equiv}
+use Rattle.std.proofs.lemmas.Cmp.{nat_eq_equiv, nat_list_cmp_total}
 use Rattle.std.proofs.lemmas.List.{get_or-map, length-map, map-append, take_more}
 use Rattle.std.proofs.lemmas.List.Elements.{All-get_or}
-use Rattle.std.proofs.lemmas.List.Sorted.{Contains-permutation, IsPermutation-sym}
+use Rattle.std.proofs.lemmas.List.Sorted.{Contains-permutation, IsPermutation-map, IsPermutation-sym}
 use Rattle.std.proofs.lemmas.Map.Keys.{apart_from_distinct, IsDistinct-from_apart, IsDistinct-IsPermutation}
+use Rattle.std.proofs.lemmas.Map.Views.{All-map-IsPermutation}
 use Rattle.std.proofs.lemmas.Option.{get_or_from_slice_get}
 use Rattle.nix_names.specs.Rising.{IsRising}
 use Rattle.nix_names.proofs.RisingLists.{equal_from_eq, rising_sorted}
@@ -79,3 +82,38 @@ pub paths_more : (registrations : List Registration) (rows : List ℕ) (i : ℕ)
     ≡ Some path → pushed ≡ so_far ++ path ∷ [] → pushed ≡ paths_at registrations (take (i + 1) rows)
 paths_more registrations rows i path so_far pushed below before at is =
     grind (arith, common_steps, get_or_from_slice_get, take_more, map-append)
+
+-- what `is_sorted` says
+pub sorted_from_test : (texts : List (List ℕ))
+    → AllAdjacentBelow (λ x y. is_some_and is_le (Some (slice_cmp nat_cmp x y)) ≡ true) texts
+    (length texts) → IsSorted (slice_cmp nat_cmp) texts
+sorted_from_test texts tested k d low below =
+    ap is_lt (nat_list_cmp_total.antisymm (get_or texts (k + 1) d) (get_or texts k d))
+    ∙ turned (slice_cmp nat_cmp (get_or texts k d) (get_or texts (k + 1) d)) (tested k d below)
+  where
+    turned : (o : Ordering) → is_some_and is_le (Some o) ≡ true → is_lt (ordering_reverse o) ≡ false
+    turned Less e = refl
+    turned Equal e = refl
+    turned Greater e = absurd (false≢true e)
+
+-- rows that stand behind keys move with them, and their paths do
+pub paths_moved : (registrations : List Registration) (rows : List ℕ) (keyed sorted : List (ℕ × ℕ))
+    (paths : List (List ℕ)) → map (λ (k : ℕ × ℕ). k.1) keyed ≡ rows → IsPermutation keyed sorted
+    → paths ≡ paths_at registrations (map (λ (k : ℕ × ℕ). k.1) sorted)
+    → IsPermutation (paths_at registrations rows) paths
+paths_moved registrations rows keyed sorted paths is moved paths_are =
+    rw (← is, paths_are)
+    (IsPermutation-map (path_at registrations) _ _
+    (IsPermutation-map (λ (k : ℕ × ℕ). k.1) keyed sorted moved))
+
+-- and stay below a bound
+pub keyed_below : (bound : ℕ) (rows : List ℕ) (keyed sorted : List (ℕ × ℕ))
+    → map (λ (k : ℕ × ℕ). k.1) keyed ≡ rows → IsPermutation keyed sorted
+    → All (λ r. r < bound) rows → All (λ (k : ℕ × ℕ). k.1 < bound) sorted
+keyed_below bound rows keyed sorted is moved below i d within =
+    let all : All (λ r. r < bound) (map (λ (k : ℕ × ℕ). k.1) sorted) =
+    All-map-IsPermutation (λ (k : ℕ × ℕ). k.1) (λ r. r < bound) keyed sorted moved
+    (subst (All (λ r. r < bound)) (sym is) below) in
+    let same : get_or (map (λ (k : ℕ × ℕ). k.1) sorted) i 0 ≡ (get_or sorted i d).1 =
+    get_or-map (λ (k : ℕ × ℕ). k.1) sorted i d 0 within in
+    subst (λ r. r < bound) same (all i 0 (omega (arith, within, length-map sorted (λ (k : ℕ × ℕ). k.1))))

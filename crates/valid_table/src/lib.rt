@@ -11,6 +11,7 @@
 //! | `entering`, `obstacle` | what stands against an entry |
 //! | `checking` | entries whose text was read, line by line |
 //! | `rows`, `table` | the rows of valid paths, and the table of them |
+//! | `found` | rows that were found, each once |
 //! | `closing` | how a closure is found |
 //! | `merging` | rising lists of paths, put together |
 //! | `outlet`, `list_outlet` | where registrations go, and the outlet in memory |
@@ -24,6 +25,7 @@ mod entering;
 mod entry;
 mod entry_eq;
 mod fault;
+mod found;
 mod journal;
 mod kept;
 pub mod laws;

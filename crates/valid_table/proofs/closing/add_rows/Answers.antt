@@ -1,4 +1,4 @@
-use Rattle.std.proofs.Common.{take}
+use Rattle.std.proofs.Common.{◌∙◌, take}
 use Rattle.valid_table.specs.Tables.{registrations_of}
 use Rattle.valid_table.proofs.AddedRows.{adds_a_row, adds_no_row}
 use Rattle.valid_table.proofs.closing.add_rows.Goals as goal
@@ -9,15 +9,22 @@ pub loop-path-preserved : goal.loop-path-preserved
 loop-path-preserved c =
     let registrations = registrations_of c.args.rows.now.entries in
     let paths = take c.loop-path.path-index c.args.paths.now in
+    let before = c.loop-path.invariant in
     rw (taken_more c.args.paths.now c.loop-path.path-index c.path-item.result c.loop-path-test.true
     c.path-item.is)
     (elim c.match-row_of.branch [
       | in-Some+in_ok-insert w ↦
           rw w.found-is
-          (adds_a_row registrations c.args.found.now.keys paths c.path-item.result
-          c.loop-path.found.keys _ w.in-Some.row c.loop-path.invariant w.in-Some.ensures
-          w.in_ok-insert.ensures.keys w.insert.ensures.unique)
+          (record {
+            adds = adds_a_row registrations c.args.found.now.rows paths c.path-item.result
+                c.loop-path.found.rows _ w.in-Some.row before.adds w.in-Some.ensures
+                w.in_ok-insert.ensures.rows w.insert.ensures.distinct;
+            room = w.insert.ensures.room ∙ before.room;
+          })
       | in_default w ↦ rw w.found-is
-          (adds_no_row registrations c.args.found.now.keys paths c.path-item.result
-          c.loop-path.found.keys c.loop-path.invariant w.in_default.ensures)
+          (record {
+            adds = adds_no_row registrations c.args.found.now.rows paths c.path-item.result
+                c.loop-path.found.rows before.adds w.in_default.ensures;
+            room = before.room;
+          })
     ])

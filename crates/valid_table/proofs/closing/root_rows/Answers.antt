@@ -1,4 +1,4 @@
-use Rattle.std.proofs.Common.{subst, take, [], All, rules}
+use Rattle.std.proofs.Common.{arith, subst, take, [], All, rules}
 use Rattle.std.proofs.lemmas.List.{take_all}
 use Rattle.std.proofs.lemmas.List.Elements.{All-push}
 use Rattle.valid_table.specs.Tables.{registrations_of}
@@ -22,9 +22,10 @@ loop-root-preserved c =
     (record {
       valid = All-push (IsValid registrations) roots root c.loop-root.invariant.valid
           (valid_from_row registrations root c.in-Some.row c.in-Some.ensures);
-      added = adds_a_row registrations [] roots root c.loop-root.found.keys _ c.in-Some.row
-          c.loop-root.invariant.added c.in-Some.ensures c.in_ok-insert.ensures.keys
-          c.insert.ensures.unique;
+      added = adds_a_row registrations [] roots root c.loop-root.found.rows _ c.in-Some.row
+          c.loop-root.invariant.added c.in-Some.ensures c.in_ok-insert.ensures.rows
+          c.insert.ensures.distinct;
+      room = omega (arith, c.loop-root.invariant.room, c.insert.ensures.room);
     })
 
 pub returns-clause-valid : goal.returns-clause-valid

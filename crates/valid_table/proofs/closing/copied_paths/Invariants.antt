@@ -1,9 +1,9 @@
 -- The paths so far are those of the first rows.
-use Rattle.std.proofs.Common.{◌≡◌, take}
+use Rattle.std.proofs.Common.{◌≡◌, map, take, ℕ}
 use Rattle.valid_table.specs.Closing.{paths_at}
 use Rattle.valid_table.specs.Tables.{registrations_of}
-use Rattle.valid_table.proofs.closing.sorted_paths.Given as goal
+use Rattle.valid_table.proofs.closing.copied_paths.Given as goal
 
 abbrev pub invariant-loop-row : goal.invariant-loop-row
 invariant-loop-row l = l.paths.items ≡ paths_at (registrations_of l.rows.entries)
-    (take l.row-index l.row-items)
+    (take l.row-index (map (λ (k : ℕ × ℕ). k.1) l.keyed))

@@ -1,0 +1,23 @@
+use Rattle.std.proofs.Common.{◌≡◌, Some, arith, get_or, map, ℕ}
+use Rattle.std.specs.List.{slice_get}
+use Rattle.std.proofs.lemmas.List.{get_or-map, length-map}
+use Rattle.valid_table.specs.Entries.{paths_of}
+use Rattle.valid_table.specs.Tables.{registrations_of}
+use Rattle.valid_table.proofs.RowNumbers.{paths_are_keys}
+use Rattle.valid_table.proofs.Sorting.{paths_more}
+use Rattle.valid_table.proofs.closing.copied_paths.Goals as goal
+
+pub loop-row-preserved : goal.loop-row-preserved
+loop-row-preserved c =
+    let rows = c.args.rows.now.entries in
+    let registrations = registrations_of rows in
+    let i = c.loop-row.row-index in
+    let keyed = c.args.keyed.now in
+    let numbers = map (λ (k : ℕ × ℕ). k.1) keyed in
+    let at : slice_get (paths_of registrations) (get_or numbers i 0) ≡ Some c.index.result.now =
+    rw (get_or-map (λ (k : ℕ × ℕ). k.1) keyed i (0, 0) 0 c.loop-row-test.true, paths_are_keys rows, ← c.keys-texts.ensures.rest)
+    c.index.ensures in
+    paths_more registrations numbers i c.index.result.now c.loop-row.paths.items
+    c.push.new.self.items (omega (arith, c.loop-row-test.true, length-map keyed (λ (k : ℕ × ℕ). k.1)))
+    c.loop-row.invariant at
+    (rw c.in_ok-copy.ensures.same at c.in_ok-push.ensures.items)
