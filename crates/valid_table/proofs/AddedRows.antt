@@ -1,9 +1,9 @@
 -- Rows to which the rows of more paths are added.
 use Rattle.std.proofs.lemmas.Grind.{common_steps}
-use Rattle.std.proofs.Common.{◌≡◌, ℕ, ◌<◌, Bool, true, false, cond, List, [], ◌∷◌, ◌++◌, length, nat_eq, sym, ap, subst, ◌∙◌, append_assoc, All, Contains, rules, arith}
+use Rattle.std.proofs.Common.{◌≡◌, ℕ, ◌<◌, ◌+◌, take, map, get_or, refl, Bool, true, false, cond, List, [], ◌∷◌, ◌++◌, length, nat_eq, sym, ap, subst, ◌∙◌, append_assoc, All, Contains, rules, arith}
 use Rattle.std.specs.List.{IsDistinct, list_any}
 use Rattle.std.proofs.lemmas.Bool.Decides.{Decides-eqb}
-use Rattle.std.proofs.lemmas.List.{map-append}
+use Rattle.std.proofs.lemmas.List.{map-append, take_more}
 use Rattle.std.proofs.lemmas.List.Elements.{All-append, All-cons, All-map, All-nil, All-push, All-weaker, Contains-append_left, Contains-push}
 use Rattle.indexmap.specs.IndexSet.{insert_key}
 use Rattle.indexmap.proofs.CallerLemmas.{Contains-insert_key}
@@ -97,3 +97,17 @@ adds_a_row registrations old paths path before new row adds of is distinct =
           paths adds.there)
           (λ valid. here);
     }
+
+-- a row adds itself
+pub adds_this_row : (registrations : List Registration) (old numbers : List ℕ) (i : ℕ)
+    (before new : List ℕ) → AddsRows registrations old (paths_at registrations (take i numbers)) before
+    → i < length numbers → get_or numbers i 0 < length registrations
+    → new ≡ insert_key nat_eq before (get_or numbers i 0) → IsDistinct nat_eq new
+    → AddsRows registrations old (paths_at registrations (take (i + 1) numbers)) new
+adds_this_row registrations old numbers i before new adds within below is distinct =
+    subst (λ (paths : List (List ℕ)). AddsRows registrations old paths new)
+    (sym (ap (map (path_at registrations)) (take_more numbers i 0 within)
+    ∙ map-append (path_at registrations) (take i numbers) (get_or numbers i 0 ∷ [])))
+    (adds_a_row registrations old (paths_at registrations (take i numbers))
+    (path_at registrations (get_or numbers i 0)) before new (get_or numbers i 0) adds (below, refl)
+    is distinct)

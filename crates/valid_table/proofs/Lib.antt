@@ -19,6 +19,7 @@ pub mod LineLists
 pub mod LinePaths
 pub mod LineSteps
 pub mod LineTexts
+pub mod Linking
 pub mod Marks
 pub mod Merged
 pub mod OneAnswer

@@ -4,7 +4,8 @@ use Rattle.std.specs.Prelude.{◌≡◌, ◌↔◌, ◌<◌, ◌++◌, ℕ, List
 use Rattle.std.specs.List.{IsDistinct}
 use Rattle.valid_table.specs.Closure.{Reaches}
 use Rattle.valid_table.specs.Entries.{paths_of}
-use Rattle.valid_table.specs.Valid.{IsValid, RefersTo}
+use Rattle.valid_table.specs.PathInfos.{PathInfo}
+use Rattle.valid_table.specs.Valid.{IsValid, RefersTo, Registers}
 use Rattle.valid_table.specs.declared.entry.Registration.{Registration}
 
 -- the path of a row
@@ -38,6 +39,13 @@ pub record AddsRows (registrations : List Registration) (old : List ℕ) (paths 
   pub asked : All (Contains paths) (paths_at registrations added)
   pub there : All (λ path. IsValid registrations path → Contains (paths_at registrations new) path)
       paths
+
+-- Behind old rows stand the new ones of the references of a row, by the record of its path.
+pub record AddsReferences (registrations : List Registration) (old : List ℕ) (row : ℕ)
+    (new : List ℕ) : Type 0 where
+  pub info : PathInfo
+  pub registers : Registers registrations (path_at registrations row) info
+  pub adds : AddsRows registrations old info.references new
 
 -- one of some paths reaches a path
 abbrev pub IsReached : List Registration → List (List ℕ) → List ℕ → Type 0

@@ -11,6 +11,7 @@ pub mod Faults
 pub mod Kept
 pub mod LineFaults
 pub mod LineTexts
+pub mod Linking
 pub mod Marking
 pub mod Merging
 pub mod Outlets

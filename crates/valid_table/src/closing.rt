@@ -1,17 +1,20 @@
 //! How a closure is found: from the rows of the roots to the rows of their references, and on.
-ghost use Rattle.std.specs.Prelude.{◌≡◌, ◌≤◌, ◌<◌, [], All, IfErr, IfOk, MatchOption, OnOk, length, map};
+ghost use Rattle.std.specs.Prelude.{◌≡◌, ◌≤◌, ◌<◌, [], All, IfErr, IfOk, OnOk, length, map};
 ghost use Rattle.std.specs.Cmp.Lexicographic.{slice_cmp};
 ghost use Rattle.std.specs.List.Sorted.{IsPermutation, IsSorted};
 ghost use Rattle.std.specs.Ordering.{nat_cmp};
 ghost use Rattle.nix_names.specs.Rising.{IsRising};
-ghost use Rattle.valid_table.specs.Closing.{AddsRows, AreRows, HaveSame, IsFollowed, IsRowOf, paths_at};
+ghost use Rattle.valid_table.specs.Closing.{AddsReferences, AddsRows, AreRows, HaveSame, IsFollowed, paths_at};
 ghost use Rattle.valid_table.specs.Closure.{IsClosing};
+ghost use Rattle.valid_table.specs.Linking.{AreLinked};
 ghost use Rattle.valid_table.specs.Tables.{registrations_of};
 ghost use Rattle.valid_table.specs.Valid.{IsOnce, IsValid};
 
 use crate::entry::Record;
 use crate::fault::TableFault;
 use crate::found::Found;
+use crate::links::Links;
+use crate::rows::row_of;
 use indexmap::IndexMap;
 use nix_names::StorePath;
 use std::alloc::{AllocFailed, Global};
@@ -20,13 +23,16 @@ use std::alloc::{AllocFailed, Global};
 pub(crate) fn close(
     alloc: Global,
     rows: &IndexMap<StorePath, Record>,
+    links: &Links,
     roots: &[StorePath],
 ) -> Result<Vec<StorePath>, TableFault>
-    requires { IsOnce (registrations_of rows.now.entries) }
+    requires once { IsOnce (registrations_of rows.now.entries) }
+    requires linked { AreLinked (registrations_of rows.now.entries) links.now.ends.items
+        links.now.numbers.items }
     ensures { IsClosing (registrations_of rows.now.entries) roots.now result }
 {
     let mut found = root_rows(alloc, rows, roots)?;
-    follow_all(rows, &mut found)?;
+    follow_all(rows, links, &mut found)?;
     sorted_paths(alloc, rows, &found)
 }
 
@@ -56,9 +62,12 @@ fn root_rows(
 // Adds the rows of what is referred to, row by row, until each row found was followed.
 fn follow_all(
     rows: &IndexMap<StorePath, Record>,
+    links: &Links,
     found: &mut Found,
 ) -> Result<(), AllocFailed<usize>>
     requires once { IsOnce (registrations_of rows.now.entries) }
+    requires linked { AreLinked (registrations_of rows.now.entries) links.now.ends.items
+        links.now.numbers.items }
     requires rows { AreRows (registrations_of rows.now.entries) found.old.rows }
     requires room { length rows.now.entries ≤ found.old.room }
     ensures { OnOk result
@@ -68,8 +77,50 @@ fn follow_all(
     let mut next = 0;
     while next < found.rows().len() {
         let row = found.rows()[next];
-        add_rows(rows, rows[row].references(), found)?;
+        follow(rows, links, row, found)?;
         next += 1;
+    }
+    Ok(())
+}
+
+// Adds the rows of the references of a row: by their numbers where it is linked, else by look-ups.
+fn follow(
+    rows: &IndexMap<StorePath, Record>,
+    links: &Links,
+    row: usize,
+    found: &mut Found,
+) -> Result<(), AllocFailed<usize>>
+    requires linked { AreLinked (registrations_of rows.now.entries) links.now.ends.items
+        links.now.numbers.items }
+    requires within { row < length rows.now.entries }
+    requires rows { AreRows (registrations_of rows.now.entries) found.old.rows }
+    requires room { length rows.now.entries ≤ found.old.room }
+    ensures adds { OnOk result
+        (AddsReferences (registrations_of rows.now.entries) found.old.rows row found.new.rows) }
+    ensures room { found.new.room ≡ found.old.room }
+{
+    match links.of_row(rows, row) {
+        Some(numbers) => add_numbers(rows, numbers, found),
+        None => add_rows(rows, rows[row].references(), found),
+    }
+}
+
+// Adds rows by their numbers.
+fn add_numbers(
+    rows: &IndexMap<StorePath, Record>,
+    numbers: &[u32],
+    found: &mut Found,
+) -> Result<(), AllocFailed<usize>>
+    requires below { All (λ row. row < length (registrations_of rows.now.entries)) numbers.now }
+    requires rows { AreRows (registrations_of rows.now.entries) found.old.rows }
+    requires room { length rows.now.entries ≤ found.old.room }
+    ensures adds { OnOk result
+        (AddsRows (registrations_of rows.now.entries) found.old.rows
+        (paths_at (registrations_of rows.now.entries) numbers.now) found.new.rows) }
+    ensures room { found.new.room ≡ found.old.room }
+{
+    for number in numbers {
+        found.insert(*number as usize)?;
     }
     Ok(())
 }
@@ -92,14 +143,6 @@ fn add_rows(
         }
     }
     Ok(())
-}
-
-// The row of a path, if it is valid.
-fn row_of(rows: &IndexMap<StorePath, Record>, path: &StorePath) -> Option<usize>
-    ensures { MatchOption result (IsValid (registrations_of rows.now.entries) path.now → ⊥)
-        (IsRowOf (registrations_of rows.now.entries) path.now) }
-{
-    rows.get_index_of(path)
 }
 
 // The paths of the rows, in rising order.

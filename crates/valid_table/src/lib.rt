@@ -11,6 +11,7 @@
 //! | `entering`, `obstacle` | what stands against an entry |
 //! | `checking` | entries whose text was read, line by line |
 //! | `rows`, `table` | the rows of valid paths, and the table of them |
+//! | `links` | the references of rows, by the numbers of their rows |
 //! | `found` | rows that were found, each once |
 //! | `closing` | how a closure is found |
 //! | `merging` | rising lists of paths, put together |
@@ -30,6 +31,7 @@ mod journal;
 mod kept;
 pub mod laws;
 mod lines;
+mod links;
 mod list_outlet;
 mod merging;
 mod obstacle;

@@ -1,6 +1,7 @@
 //! The rows of a table: asked for, copied in, moved in.
-ghost use Rattle.std.specs.Prelude.{◌≡◌, ◌≤◌, ◌<◌, ◌+◌, ◌++◌, ◌↔◌, [], ◌∷◌, IfErr, IsTrue, OnOk, length};
+ghost use Rattle.std.specs.Prelude.{◌≡◌, ◌≤◌, ◌<◌, ◌+◌, ◌++◌, ◌↔◌, [], ◌∷◌, IfErr, IsTrue, MatchOption, OnOk, length};
 ghost use Rattle.indexmap.specs.IndexMap.{spare};
+ghost use Rattle.valid_table.specs.Closing.{IsRowOf};
 ghost use Rattle.valid_table.specs.Entries.{registered_by};
 ghost use Rattle.valid_table.specs.Tables.{registrations_of};
 ghost use Rattle.valid_table.specs.Valid.{IsNotValid, IsOnce, IsValid};
@@ -16,6 +17,14 @@ pub(crate) fn has_row(rows: &IndexMap<StorePath, Record>, path: &StorePath) -> b
     ensures { IsTrue result ↔ IsValid (registrations_of rows.now.entries) path.now }
 {
     rows.contains_key(path)
+}
+
+// The row of a path, if it is valid.
+pub(crate) fn row_of(rows: &IndexMap<StorePath, Record>, path: &StorePath) -> Option<usize>
+    ensures { MatchOption result (IsValid (registrations_of rows.now.entries) path.now → ⊥)
+        (IsRowOf (registrations_of rows.now.entries) path.now) }
+{
+    rows.get_index_of(path)
 }
 
 // Adds a row for each registration. No path of theirs has a row yet.

@@ -12,6 +12,7 @@ use crate::entering::blame;
 use crate::entry::{Entry, Record};
 use crate::fault::TableFault;
 use crate::journal::Journal;
+use crate::links::Links;
 use crate::obstacle::{Blame, Obstacle, fault_of, obstacle_of};
 use crate::rows::{add_rows, has_row, push_entry};
 use indexmap::IndexMap;
@@ -25,10 +26,13 @@ use std::marker::Model;
 #[derive(Debug, Drop)]
 pub struct Table {
     rows: IndexMap<StorePath, Record>,
+    // The references of the first rows, by number.
+    links: Links,
 }
 
 impl Model for Table {
     ghost use Rattle.indexmap.specs.IndexMap.{spare};
+    ghost use Rattle.valid_table.specs.Linking.{AreLinked};
     ghost use Rattle.valid_table.specs.Tables.{TableValue, registrations_of};
     ghost use Rattle.valid_table.specs.Valid.{AreReferencesValid, IsOnce};
 
@@ -38,7 +42,8 @@ impl Model for Table {
         { registrations = registrations_of t.rows.entries; room = spare t.rows } };
 
     ghost invariant = { λ t. IsOnce (registrations_of t.rows.entries)
-        × AreReferencesValid (registrations_of t.rows.entries) };
+        × AreReferencesValid (registrations_of t.rows.entries)
+        × AreLinked (registrations_of t.rows.entries) t.links.ends.items t.links.numbers.items };
 }
 
 impl Table {
@@ -48,6 +53,7 @@ impl Table {
     {
         Table {
             rows: IndexMap::new(alloc),
+            links: Links::new(alloc),
         }
     }
 
@@ -83,7 +89,7 @@ impl Table {
     pub fn closure(&self, alloc: Global, roots: &[StorePath]) -> Result<Vec<StorePath>, TableFault>
         ensures { IsClosing self.now.registrations roots.now result }
     {
-        close(alloc, &self.rows, roots)
+        close(alloc, &self.rows, &self.links, roots)
     }
 
     /// What stands against an entry, if anything: the first path of its registrations that is
@@ -120,6 +126,8 @@ impl Table {
         ensures succeeds { paths ≤ self.old.room → IsOk result }
         ensures kept { self.old.room ≤ self.new.room }
     {
+        let alloc = *self.rows.allocator();
+        self.links.link(alloc, &self.rows);
         self.rows.reserve(paths)?;
         Ok(())
     }
@@ -171,7 +179,7 @@ impl Table {
         for entry in entries {
             add_rows(alloc, &mut rows, entry.registrations())?;
         }
-        Ok(Table { rows })
+        Ok(Table::of_rows(rows))
     }
 
     // The table of these rows.
@@ -180,6 +188,9 @@ impl Table {
         requires closed { AreReferencesValid (registrations_of rows.entries) }
         ensures { result.registrations ≡ registrations_of rows.entries }
     {
-        Table { rows }
+        let alloc = *rows.allocator();
+        let mut links = Links::new(alloc);
+        links.link(alloc, &rows);
+        Table { rows, links }
     }
 }

@@ -1,7 +1,7 @@
-use Rattle.std.proofs.Common.{ap, arith, length, get_or, ◌<◌, rules}
+use Rattle.std.proofs.Common.{◌≡◌, ◌<◌, ◌∙◌, ap, arith, get_or, length, List, ℕ, rules, subst, sym}
 use Rattle.std.proofs.lemmas.List.{get_or_default}
 use Rattle.valid_table.specs.Tables.{registrations_of}
-use Rattle.valid_table.proofs.Following.{few_rows, followed_all, followed_more, followed_none, row_below, row_registers}
+use Rattle.valid_table.proofs.Following.{few_rows, followed_all, followed_more, followed_none, row_below}
 use Rattle.valid_table.proofs.RowNumbers.{row_count}
 use Rattle.valid_table.proofs.closing.follow_all.Goals as goal
 
@@ -11,28 +11,43 @@ loop-next-init c = search (rules, followed_none)
 pub loop-next-smaller : goal.loop-next-smaller
 loop-next-smaller c = search (rules, few_rows)
 
-pub loop-next-preserved : goal.loop-next-preserved
-loop-next-preserved c =
+pub follow-requires-clause-within : goal.follow-requires-clause-within
+follow-requires-clause-within c =
     let rows = c.args.rows.now.entries in
-    let registrations = registrations_of rows in
     let found = c.loop-next.found.rows in
     let next = c.loop-next.next in
-    let row = get_or found next 0 in
-    let within : next < length found = omega (arith, c.loop-next-test.true, ap length c.rows.ensures) in
-    let below : row
-    < length rows =
-    omega (
+    let within : next < length found = omega (
       arith,
-      row_below registrations found next c.loop-next.invariant.followed.rows within,
-      row_count rows,
+      c.loop-next-test.true,
+      ap length c.rows.ensures,
     ) in
-    let at = rw c.rows-in-loop-next.ensures at c.index.ensures in
-    let adds = rw c.references.ensures.value at c.in_ok-add_rows.ensures.adds in
+    subst (λ (numbers : List ℕ). get_or numbers next 0 < length rows)
+    (sym c.rows-in-loop-next.ensures)
+    (omega (
+      arith,
+      row_below (registrations_of rows) found next c.loop-next.invariant.followed.rows within,
+      row_count rows,
+    ))
+
+pub loop-next-preserved : goal.loop-next-preserved
+loop-next-preserved c =
+    let found = c.loop-next.found.rows in
+    let next = c.loop-next.next in
+    let row = get_or c.rows-in-loop-next.result.now next 0 in
+    let within : next < length found = omega (
+      arith,
+      c.loop-next-test.true,
+      ap length c.rows.ensures,
+    ) in
+    let at : row ≡ get_or found next row =
+    ap (λ (numbers : List ℕ). get_or numbers next 0) c.rows-in-loop-next.ensures
+    ∙ get_or_default found next 0 row within in
+    let adds = c.in_ok-follow.ensures.adds in
     record {
-      followed = followed_more registrations c.requires.once c.args.found.now.rows found _ next
-          row _ c.loop-next.invariant.followed within (get_or_default found next 0 row within)
-          (row_registers rows row _ below at) adds;
-      room = omega (arith, c.loop-next.invariant.room, c.in_ok-add_rows.ensures.room);
+      followed = followed_more (registrations_of c.args.rows.now.entries) c.requires.once
+          c.args.found.now.rows found c.follow.new.found.rows next row adds.info
+          c.loop-next.invariant.followed within at adds.registers adds.adds;
+      room = omega (arith, c.loop-next.invariant.room, c.follow.ensures.room);
     }
 
 pub returns : goal.returns

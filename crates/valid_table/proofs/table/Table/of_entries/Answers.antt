@@ -8,9 +8,9 @@ use Rattle.valid_table.proofs.table.Table.of_entries.Goals as goal
 pub add_rows-requires : goal.add_rows-requires
 add_rows-requires c = search (rules, once_so_far)
 
-pub invariant_of-result : goal.invariant_of-result
-invariant_of-result c =
+pub of_rows-requires-clause-closed : goal.of_rows-requires-clause-closed
+of_rows-requires-clause-closed c =
     let all : registrations_of c.loop-entry.rows.entries ≡ registered c.args.entries.now =
     c.loop-entry.invariant
     ∙ ap registered (take_all c.loop-entry.entry-index c.args.entries.now (omega arith)) in
-    rw all (c.requires.once, closed_references_valid c.args.entries.now c.requires.closed)
+    rw all (closed_references_valid c.args.entries.now c.requires.closed)

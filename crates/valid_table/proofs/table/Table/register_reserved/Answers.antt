@@ -3,6 +3,7 @@ use Rattle.nix_names.specs.Rising.{IsRising}
 use Rattle.valid_table.specs.Adding.{AreClosed, AreNew}
 use Rattle.valid_table.specs.Entries.{paths_of, registered_by}
 use Rattle.valid_table.specs.Tables.{TableValue, registrations_of}
+use Rattle.valid_table.proofs.Linking.{links_stay}
 use Rattle.valid_table.proofs.TakenIn.{once_more, valid_with_more}
 use Rattle.valid_table.proofs.table.Table.register_reserved.Goals as goal
 
@@ -28,4 +29,6 @@ invariant_of-self c =
     rw c.push_entry.ensures.rows (
       once_more known (registered_by c.args.entry) c.self.invariant.0 rising new,
       valid_with_more known (registered_by c.args.entry) c.self.invariant.1 closed,
+      links_stay known (registered_by c.args.entry) c.self.inside.links.ends.items
+          c.self.inside.links.numbers.items c.self.invariant.2,
     )

@@ -1,0 +1,24 @@
+use Rattle.std.proofs.Common.{◌∙◌, subst}
+use Rattle.std.proofs.lemmas.List.{take_all}
+use Rattle.valid_table.specs.Closing.{AddsRows, paths_at}
+use Rattle.valid_table.specs.Tables.{registrations_of}
+use Rattle.valid_table.proofs.AddedRows.{adds_this_row}
+use Rattle.valid_table.proofs.closing.add_numbers.Goals as goal
+
+pub loop-number-preserved : goal.loop-number-preserved
+loop-number-preserved c = record {
+  adds = adds_this_row (registrations_of c.args.rows.now.entries) c.args.found.now.rows
+      c.args.numbers.now c.loop-number.number-index c.loop-number.found.rows c.insert.new.self.rows
+      c.loop-number.invariant.adds c.loop-number-test.true
+      (c.requires.below c.loop-number.number-index 0 c.loop-number-test.true)
+      c.in_ok-insert.ensures.rows c.insert.ensures.distinct;
+  room = c.insert.ensures.room ∙ c.loop-number.invariant.room;
+}
+
+pub returns-clause-adds : goal.returns-clause-adds
+returns-clause-adds c =
+    let registrations = registrations_of c.args.rows.now.entries in
+    subst (λ numbers. AddsRows registrations c.args.found.now.rows (paths_at registrations numbers)
+    c.loop-number.found.rows)
+    (take_all c.loop-number.number-index c.args.numbers.now c.loop-number-test.false)
+    c.loop-number.invariant.adds
