@@ -100,7 +100,8 @@ adds_a_row registrations old paths path before new row adds of is distinct =
 
 -- a row adds itself
 pub adds_this_row : (registrations : List Registration) (old numbers : List ℕ) (i : ℕ)
-    (before new : List ℕ) → AddsRows registrations old (paths_at registrations (take i numbers)) before
+    (before new : List ℕ)
+    → AddsRows registrations old (paths_at registrations (take i numbers)) before
     → i < length numbers → get_or numbers i 0 < length registrations
     → new ≡ insert_key nat_eq before (get_or numbers i 0) → IsDistinct nat_eq new
     → AddsRows registrations old (paths_at registrations (take (i + 1) numbers)) new

@@ -116,7 +116,8 @@ row_kept registrations ends numbers more end row linked below =
 
 row_added : (registrations : List Registration) (ends numbers more : List ℕ) (end : ℕ)
     (info : PathInfo) → start_of ends (length ends) ≡ length numbers → end
-    ≡ length numbers + length more → Registers registrations (path_at registrations (length ends)) info
+    ≡ length numbers + length more
+    → Registers registrations (path_at registrations (length ends)) info
     → AreRowsOf registrations info.references more
     → IsLinkedRow registrations (ends ++ end ∷ []) (numbers ++ more) (length ends)
 row_added registrations ends numbers more end info whole is registers links =
@@ -146,7 +147,8 @@ linked_more registrations ends numbers more end info are below is registers link
       elim (cases_lt row (length ends)) [
         | inl before ↦ row_kept registrations ends numbers more end row (are.each row before) before
         | inr past ↦
-            let last : length ends ≡ row = omega (arith, past, within, length-append ends (end ∷ []))
+            let last : length ends ≡ row =
+            omega (arith, past, within, length-append ends (end ∷ []))
             in
             subst (IsLinkedRow registrations (ends ++ end ∷ []) (numbers ++ more)) last
             (row_added registrations ends numbers more end info are.whole is registers links)
@@ -160,7 +162,8 @@ pub part_read : (registrations : List Registration) (ends numbers read : List �
     → end ≡ get_or ends row 0 → read ≡ numbers
     → MatchOption found none (λ x. (start ≤ end) × (end ≤ length read)
     × (x.now ≡ slice_range read start end) × (length x.now + start ≡ end))
-    → IfSome found (λ x. (info : PathInfo) × Registers registrations (path_at registrations row) info
+    → IfSome found (λ x. (info : PathInfo)
+    × Registers registrations (path_at registrations row) info
     × AreRowsOf registrations info.references x.now)
 part_read registrations ends numbers read row start end none None are below first last same is = tt
 part_read registrations ends numbers read row start end none (Some x) are below first last same is =

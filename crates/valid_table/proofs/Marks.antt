@@ -69,7 +69,8 @@ insert_unmarked marks rows row are clear = rw (sym (are.marked row) ∙ clear) r
 -- one more row, with its mark
 pub marked_more : (marks rows : List ℕ) (row word : ℕ) → AreMarked marks rows → row
     < 64 * length marks → word ≡ get_or marks (row / 64) 0 → nat_eq (mark_of marks row) 1 ≡ false
-    → AreMarked (set marks (row / 64) (bit_or word (1 * 2 ^ (row % 64) % 2 ^ 64))) (rows ++ row ∷ [])
+    → AreMarked (set marks (row / 64) (bit_or word (1 * 2 ^ (row % 64) % 2 ^ 64)))
+    (rows ++ row ∷ [])
 marked_more marks rows row word are within read clear =
     let new : ℕ = bit_or word (1 * 2 ^ (row % 64) % 2 ^ 64) in
     let place : row / 64 < length marks = omega arith in
@@ -81,7 +82,8 @@ marked_more marks rows row word are within read clear =
           ≡ list_any (nat_eq r) (rows ++ row ∷ [])) [
             | inl same ↦
                 rw same
-                (ap (λ w. nat_eq (bit_at w (row % 64)) 1) (get_or-set_same marks (row / 64) new 0 place)
+                (ap (λ w. nat_eq (bit_at w (row % 64)) 1)
+                (get_or-set_same marks (row / 64) new 0 place)
                 ∙ ap (λ bit. nat_eq bit 1) (bit_at_set_same w64 word (row % 64) low)
                 ∙ sym (here row))
             | inr other ↦

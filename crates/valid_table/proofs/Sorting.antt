@@ -116,4 +116,5 @@ keyed_below bound rows keyed sorted is moved below i d within =
     (subst (All (λ r. r < bound)) (sym is) below) in
     let same : get_or (map (λ (k : ℕ × ℕ). k.1) sorted) i 0 ≡ (get_or sorted i d).1 =
     get_or-map (λ (k : ℕ × ℕ). k.1) sorted i d 0 within in
-    subst (λ r. r < bound) same (all i 0 (omega (arith, within, length-map sorted (λ (k : ℕ × ℕ). k.1))))
+    subst (λ r. r < bound) same
+    (all i 0 (omega (arith, within, length-map sorted (λ (k : ℕ × ℕ). k.1))))

@@ -82,7 +82,7 @@ impl Journal {
     }
 
     /// Makes room for entries that register so many more paths. Want of memory is its only fault;
-    /// the entries stay.
+    /// the entries stay. Costs as `Table::reserve` does.
     pub fn reserve(&mut self, paths: usize) -> Result<(), AllocError>
         ensures same { self.new.entries ≡ self.old.entries }
         ensures ok { OnOk result (paths ≤ self.new.room) }
@@ -95,7 +95,7 @@ impl Journal {
     /// Adds a path with its record. In this order: `AlreadyValid` with the path where it is valid,
     /// `Unclosed` with the first reference that is neither valid nor the path itself; `NoMemory`
     /// only where it is neither. A fault leaves the entries as they were. Costs one look-up by hash
-    /// for each reference, and two for the path.
+    /// for each reference, two for the path, and as `reserve` does.
     pub fn add(&mut self, path: StorePath, info: Record) -> Result<(), TableFault>
         ensures adding { IsAdding self.old.entries self.new.entries
             (Add (record { path = path; info = info })) result }
@@ -107,8 +107,8 @@ impl Journal {
     /// Adds the outputs of a derivation that was built; its path ends in `.drv`. In this order:
     /// `AlreadyValid` with the first output that is valid, `Unclosed` with the first reference
     /// that is neither valid nor an output; `NoMemory` only where it is neither. A fault leaves the
-    /// entries as they were. Costs one look-up by hash for each reference and two for each output,
-    /// and a binary search among the outputs for each reference that is not valid.
+    /// entries as they were. Costs one look-up by hash for each reference and two for each output, a
+    /// binary search among the outputs for each reference that is not valid, and as `reserve` does.
     pub fn append(&mut self, deriver: StorePath, outputs: Outputs) -> Result<(), TableFault>
         requires { IsDrvPath deriver }
         ensures adding { IsAdding self.old.entries self.new.entries (Done deriver outputs) result }
@@ -136,7 +136,7 @@ impl Journal {
     }
 
     /// The same journal again. Answers `NoMemory` where memory is refused, and no other fault.
-    /// Costs one look-up by hash for each registered path.
+    /// Costs one look-up by hash for each registered path and each reference.
     pub fn copy(&self, alloc: Global) -> Result<Journal, TableFault>
         ensures ok { IfOk result (λ journal. journal.entries ≡ self.now.entries) }
         ensures err { IfErr result (λ e. e ≡ TableFault.NoMemory) }
@@ -149,8 +149,7 @@ impl Journal {
     // The journal of entries whose text was read. `Twice` has the first line that registers a path
     // again and `NotClosed` the first that refers to a path which neither an earlier entry nor its
     // own registers, whichever comes first; line 1 is the version's. `NoMemory` may come in the
-    // place of either. Costs two look-ups by hash for each registered path and one for each
-    // reference.
+    // place of either. Costs two look-ups by hash for each registered path and each reference.
     pub(crate) fn checked(alloc: Global, entries: Vec<Entry>) -> Result<Journal, TableFault>
         requires derived { All HasDrvPath entries.items }
         requires few { length (lines entries.items) ≤ 134217729 }

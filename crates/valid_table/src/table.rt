@@ -59,7 +59,7 @@ impl Table {
 
     /// The table of a journal: each path that an entry registers, with its record. Answers
     /// `NoMemory` where memory is refused, and no other fault. Costs one look-up by hash for each
-    /// path.
+    /// path and each reference.
     pub fn replay(alloc: Global, journal: &Journal) -> Result<Table, TableFault>
         ensures ok { IfOk result (λ table. table.registrations ≡ registered journal.now.entries) }
         ensures err { IfErr result (λ e. e ≡ TableFault.NoMemory) }
@@ -84,8 +84,10 @@ impl Table {
 
     /// All that the roots lead to by references, the roots among them, in strictly rising order; no
     /// roots lead to nothing. `NotValid` with the first root that is not valid, `NoMemory` where
-    /// memory is refused; no other fault. Costs one look-up by hash for each root and for each
-    /// reference of what is reached, one sort of the paths and one copy of each. Does not recurse.
+    /// memory is refused; no other fault. Costs a bit for each row of the table, one look-up by hash
+    /// for each root, a step for each reference of what is reached, one sort of numbers, and a copy
+    /// and a comparison for each path. A path that was registered behind the last call that made
+    /// room costs one look-up by hash for each of its references instead. Does not recurse.
     pub fn closure(&self, alloc: Global, roots: &[StorePath]) -> Result<Vec<StorePath>, TableFault>
         ensures { IsClosing self.now.registrations roots.now result }
     {
@@ -119,7 +121,9 @@ impl Table {
     }
 
     /// Makes room for so many more paths. Want of memory is its only fault; what is registered
-    /// stays.
+    /// stays. Costs one look-up by hash for each reference of what was registered behind the last
+    /// call that made room, so that closures need none for it. Where memory is refused for that,
+    /// nothing is told: closures cost the look-ups.
     pub fn reserve(&mut self, paths: usize) -> Result<(), AllocError>
         ensures same { self.new.registrations ≡ self.old.registrations }
         ensures ok { OnOk result (paths ≤ self.new.room) }

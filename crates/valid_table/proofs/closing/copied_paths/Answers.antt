@@ -15,9 +15,14 @@ loop-row-preserved c =
     let keyed = c.args.keyed.now in
     let numbers = map (λ (k : ℕ × ℕ). k.1) keyed in
     let at : slice_get (paths_of registrations) (get_or numbers i 0) ≡ Some c.index.result.now =
-    rw (get_or-map (λ (k : ℕ × ℕ). k.1) keyed i (0, 0) 0 c.loop-row-test.true, paths_are_keys rows, ← c.keys-texts.ensures.rest)
+    rw (
+      get_or-map (λ (k : ℕ × ℕ). k.1) keyed i (0, 0) 0 c.loop-row-test.true,
+      paths_are_keys rows,
+      ← c.keys-texts.ensures.rest,
+    )
     c.index.ensures in
     paths_more registrations numbers i c.index.result.now c.loop-row.paths.items
-    c.push.new.self.items (omega (arith, c.loop-row-test.true, length-map keyed (λ (k : ℕ × ℕ). k.1)))
+    c.push.new.self.items
+    (omega (arith, c.loop-row-test.true, length-map keyed (λ (k : ℕ × ℕ). k.1)))
     c.loop-row.invariant at
     (rw c.in_ok-copy.ensures.same at c.in_ok-push.ensures.items)

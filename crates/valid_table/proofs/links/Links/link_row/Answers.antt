@@ -30,8 +30,16 @@ returns-clause-linked c =
     rw (pushed, added)
     (linked_more registrations ends numbers more c.in_ok-end.end c.index.result.now
     c.requires.linked (omega (arith, c.requires.within, c.requires.next, row_count rows))
-    (omega (arith, taken, c.len.ensures, c.len-2.ensures, c.in_ok-numbers.numbers.ok.0, c.args.self.now.numbers.ok.0))
+    (omega (
+      arith,
+      taken,
+      c.len.ensures,
+      c.len-2.ensures,
+      c.in_ok-numbers.numbers.ok.0,
+      c.args.self.now.numbers.ok.0,
+    ))
     (subst (λ row. Registers registrations (path_at registrations row) c.index.result.now)
     c.requires.next
     (row_registers rows c.args.row c.index.result.now c.requires.within c.index.ensures))
-    (subst (λ (paths : List (List ℕ)). AreRowsOf registrations paths more) c.references.ensures.value c.in_ok-numbers.ensures))
+    (subst (λ (paths : List (List ℕ)). AreRowsOf registrations paths more)
+    c.references.ensures.value c.in_ok-numbers.ensures))
