@@ -1,6 +1,4 @@
 //! What is permitted beside a closure.
-ghost use Rattle.std.specs.Prelude.{IfOk};
-ghost use Rattle.nix_names.specs.Rising.{IsRising};
 
 use crate::books::{journal, paths};
 use crate::files::*;
@@ -63,9 +61,7 @@ const REGISTERED: [&[u8]; 10] = [
 ];
 
 // What these paths lead to, which are all registered.
-fn reached(alloc: Global, texts: &[&[u8]]) -> Result<Vec<StorePath>, Fail>
-    ensures { IfOk result (λ paths. IsRising paths.items) }
-{
+fn reached(alloc: Global, texts: &[&[u8]]) -> Result<Vec<StorePath>, Fail> {
     let table = Table::replay(alloc, &journal(alloc, &REGISTERED)?)?;
     Ok(table.closure(alloc, &paths(alloc, texts)?)?)
 }
@@ -91,7 +87,7 @@ fn job(alloc: Global, texts: &[&[u8]]) -> Result<Job, Fail> {
 // Whether just this is permitted.
 fn is_permitted(alloc: Global, beside: &Beside) -> Result<bool, Fail> {
     let reached = reached(alloc, beside.reached)?;
-    let permitted = permitted_beside(alloc, &reached, &job(alloc, beside.outputs)?)?;
+    let permitted = permitted_beside(alloc, reached, &job(alloc, beside.outputs)?)?;
     Ok(permitted == paths(alloc, beside.permitted)?)
 }
 

@@ -331,7 +331,7 @@ fn large_job(alloc: Global) -> Result<Job, Fail> {
 // The verdict on many outputs: each holds the path of the next one, the last one these bytes.
 fn verdict_on_many(alloc: Global, last: &[u8]) -> Result<Result<Checked, Reason>, Fail> {
     let job = large_job(alloc)?;
-    let permitted = permitted_beside(alloc, &[], &job)?;
+    let permitted = permitted_beside(alloc, Vec::new(alloc), &job)?;
     let mut trees = Vec::new(alloc);
     for number in 1..MANY {
         trees.push(Some(file(alloc, &numbered(number))?))?;

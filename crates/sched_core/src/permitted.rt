@@ -1,7 +1,5 @@
 //! The paths to which outputs may refer.
 ghost use Rattle.std.specs.Prelude.{◌≡◌, All, IfErr, IfOk};
-ghost use Rattle.nix_names.specs.Rising.{IsRising};
-ghost use Rattle.valid_table.specs.Closing.{HaveSame};
 ghost use Rattle.valid_table.specs.Closure.{IsClosure};
 ghost use Rattle.valid_table.specs.Entries.{registered};
 ghost use Rattle.valid_table.specs.Unions.{IsUnion};
@@ -12,23 +10,27 @@ ghost use Rattle.sched_core.specs.declared.fault.BookFault.TheVariants.{NoMemory
 use crate::fault::BookFault;
 use crate::job::Job;
 use nix_names::StorePath;
-use std::alloc::{AllocError, Global};
-use valid_table::{Journal, TableFault, union};
+use std::alloc::Global;
+use valid_table::{Journal, TableFault};
 
 /// The paths to which the outputs of a job may refer, strictly rising: what its seeds lead to,
-/// which is given so, and its own outputs. Answers `NoMemory` where memory is refused, and no other
-/// fault. Costs a copy of each path.
+/// which is given away, and its own outputs. Answers `NoMemory` where memory is refused, and no
+/// other fault. Costs one pass over what is given where it rises; no path of it is copied.
 pub fn permitted_beside(
     alloc: Global,
-    reached: &[StorePath],
+    reached: Vec<StorePath>,
     job: &Job,
 ) -> Result<Vec<StorePath>, BookFault>
-    requires { IsRising reached.now }
-    ensures ok { IfOk result (λ paths. IsUnion reached.now (outputs_of job.now) paths.items) }
+    ensures ok { IfOk result (λ paths. IsUnion reached.items (outputs_of job.now) paths.items) }
     ensures err { IfErr result (λ fault. fault ≡ NoMemory) }
 {
-    let own = sorted_outputs(alloc, job)?;
-    Ok(union(alloc, reached, &own)?)
+    let mut paths = reached;
+    for output in &job.outputs {
+        paths.push(output.path.copy(alloc)?)?;
+    }
+    paths.sort()?;
+    paths.dedup();
+    Ok(paths)
 }
 
 // What some paths lead to that are valid by a journal.
@@ -49,18 +51,4 @@ pub(crate) fn closure_of(
             _ => unreachable!(),
         },
     }
-}
-
-// The paths of a job's outputs, in strictly rising order.
-fn sorted_outputs(alloc: Global, job: &Job) -> Result<Vec<StorePath>, AllocError>
-    ensures rising { IfOk result (λ sorted. IsRising sorted.items) }
-    ensures same { IfOk result (λ sorted. HaveSame sorted.items (outputs_of job.now)) }
-{
-    let mut sorted = Vec::with_capacity(alloc, job.outputs.len())?;
-    for output in &job.outputs {
-        sorted.push(output.path.copy(alloc)?)?;
-    }
-    sorted.sort_unstable();
-    sorted.dedup();
-    Ok(sorted)
 }

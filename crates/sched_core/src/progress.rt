@@ -204,7 +204,7 @@ impl Progress {
     {
         let alloc = *self.events.allocator();
         let reached = closure_of(alloc, &self.journal, &job.seeds)?;
-        permitted_beside(alloc, &reached, job)
+        permitted_beside(alloc, reached, job)
     }
 
     // Whether a lease with this job and this number was given and not ended. Costs a comparison of

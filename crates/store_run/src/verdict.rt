@@ -67,7 +67,7 @@ fn permitted<J: Naming>(
         Err(ViewFault::NoMemory) => return Err(Found::NoMemory),
         Err(ViewFault::NoView) => return Err(Found::NoView),
     };
-    match permitted_beside(alloc, &reached, job) {
+    match permitted_beside(alloc, reached, job) {
         Ok(paths) => Ok(paths),
         Err(BookFault::NoMemory) => Err(Found::NoMemory),
         Err(_) => unreachable!(),

@@ -1,10 +1,8 @@
 use Rattle.std.proofs.Common.{All, subst}
 use Rattle.valid_table.specs.Closure.{IsClosure}
 use Rattle.valid_table.specs.Entries.{registered}
-use Rattle.valid_table.specs.Unions.{IsUnion}
 use Rattle.valid_table.specs.Valid.{IsNotValid, IsValid}
 use Rattle.nix_names.specs.Firsts.{IsFirst}
-use Rattle.sched_core.specs.Verdicts.{outputs_of}
 use Rattle.sched_core.proofs.Permitting.{all_are_valid}
 use Rattle.store_run.proofs.Permits.{closure_and_outputs, seeds_stay}
 use Rattle.store_run.proofs.verdict.permitted.Goals as goal
@@ -35,5 +33,4 @@ returns-in-Ok-permitted_beside-clause-permitted g c =
     c.in-Ok-permitted_beside.paths.items
     (subst (λ roots. IsClosure (registered c.closure.new.self.seen) roots c.in-Ok.reached.items)
     c.deref.ensures.value c.in-Ok.ensures.answer.1)
-    (subst (λ reached. IsUnion reached (outputs_of c.args.job.now)
-    c.in-Ok-permitted_beside.paths.items) c.deref-2.ensures.value c.in-Ok-permitted_beside.ensures.ok)
+    c.in-Ok-permitted_beside.ensures.ok

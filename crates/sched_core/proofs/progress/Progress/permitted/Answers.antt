@@ -23,6 +23,5 @@ returns-clause-ok c =
     rw (← c.self.view_is)
     (IfOk-weaker c.permitted_beside.result _ _
     (λ paths union. are_permitted _ _ _ _ paths.items
-    (rw c.deref.ensures.value at c.in_ok-reached.ensures.ok)
-    (rw c.deref-2.ensures.value at union))
+    (rw c.deref.ensures.value at c.in_ok-reached.ensures.ok) union)
     c.permitted_beside.ensures.ok)
