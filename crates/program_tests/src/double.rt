@@ -26,6 +26,9 @@ pub enum Event {
     Removed(usize, String),
     /// Right before the call with this number another process makes a folder at this path.
     Made(usize, String),
+    /// Right before the call with this number another process moves what lies at the second path, if
+    /// anything does, and makes a link to the first path there.
+    Linked(usize, String, String),
 }
 
 impl Event {
@@ -38,9 +41,19 @@ impl Event {
             }
             Event::Removed(number, path) if *number == count => fs::remove_file(rt, path.as_str()),
             Event::Made(number, path) if *number == count => fs::create_dir(rt, path.as_str()),
+            Event::Linked(number, to, at) if *number == count => swap(rt, to, at),
             _ => Ok(()),
         }
     }
+}
+
+// Puts a link to a path in the place of what lies at another, which gets a name with `-moved`.
+fn swap<R: Plain>(rt: &R, to: &str, at: &str) -> io::Result<()> {
+    let moved = format!(in rt.alloc(); "{at}-moved")?;
+    if fs::symlink_metadata(rt, at).is_ok() {
+        fs::rename(rt, at, moved.as_str())?;
+    }
+    rt.symlink(to, at)
 }
 
 /// The calls so far, and what happens beside them.

@@ -20,6 +20,8 @@ enum Way {
     Removes(usize, &'static str),
     // It makes a folder.
     MakesFolder(usize, &'static str),
+    // It moves what lies at the second path and makes a link to the first path there.
+    Links(usize, &'static str, &'static str),
 }
 
 // What stands before a run, its command line, what gets in its way, what it writes to standard
@@ -39,6 +41,12 @@ const FILE: Step = Step::Write("<dir>/file", "hello\n");
 
 const TEXT: Step = Step::TextPath("text", "greeting", "hello\n");
 
+const KEPT: Step = Step::Folder("<dir>/kept");
+
+const KEPT_FILE: Step = Step::Write("<dir>/kept/file", "hello\n");
+
+const STILL_KEPT: Step = Step::Holds("<dir>/kept/file", "hello\n");
+
 const JOURNAL: &str = "<dir>/realiser-journal";
 
 const TEMPORARY: &str = "<dir>/.nix_realise-0";
@@ -57,6 +65,9 @@ const ANOTHER: &str = "realiser-journal 2\nA <dir>/aaaaaaaaaaaaaaaaaaaaaaaaaaaaa
 
 const WITH_BOTH: &str = "realiser-journal 2\nA <dir>/aaaaaaaaaaaaaaaaaaaaaaaaaaaaaaaa-x -\nA \
     <text> sha256:5891b5b522d5df086d0ff0b110fbd9d21bb4fc7163af34d08286a2e846f6be03\n";
+
+const WITH_LINKED_OUTPUT: &str = "realiser-journal 2\nD <any>\nO <any.out> \
+    sha256:5891b5b522d5df086d0ff0b110fbd9d21bb4fc7163af34d08286a2e846f6be03\n";
 
 const WITH_OUTPUT: &str = "realiser-journal 2\nD <any>\nO <any.out> \
     sha256:9ccbd3f1b19a1cdfd8d7c6ae48e9e822e2345f5be1a6187b19e41486c6941004\n";
@@ -252,8 +263,61 @@ static RUN: [Row; 4] = [
     },
 ];
 
-fn tables() -> [&'static [Row]; 4] {
-    [&SHORT, &READ, &WRITTEN, &RUN]
+// A path becomes a link between two calls: what the link leads to is never changed.
+static LINKED: [Row; 5] = [
+    Row {
+        name: "old-output-linked",
+        before: &[PUT, KEPT, KEPT_FILE, Step::Folder("<any.out>")],
+        line: REALISE,
+        way: Way::Links(10, "<dir>/kept", "<any.out>"),
+        told: BUILT,
+        after: &[STILL_KEPT, Step::Holds("<any.out>", "made\n")],
+    },
+    Row {
+        name: "build-folder-linked",
+        before: &[PUT, KEPT, KEPT_FILE],
+        line: REALISE,
+        way: Way::Links(19, "<dir>/kept", "<dir>/.build-0"),
+        told: BUILT,
+        after: &[
+            STILL_KEPT,
+            Step::Stands("<dir>/.build-0", false),
+            Step::Holds(JOURNAL, WITH_OUTPUT),
+        ],
+    },
+    // What is read is what is registered.
+    Row {
+        name: "output-linked-unread",
+        before: &[PUT, KEPT, KEPT_FILE],
+        line: REALISE,
+        way: Way::Links(15, "<dir>/kept/file", "<any.out>"),
+        told: BUILT,
+        after: &[STILL_KEPT, Step::Holds(JOURNAL, WITH_LINKED_OUTPUT)],
+    },
+    Row {
+        name: "journal-linked",
+        before: &[PUT, KEPT, KEPT_FILE],
+        line: REALISE,
+        way: Way::Links(24, "<dir>/kept/file", JOURNAL),
+        told: BUILT,
+        after: &[STILL_KEPT, Step::Holds(JOURNAL, WITH_OUTPUT)],
+    },
+    Row {
+        name: "text-linked",
+        before: &[FILE, TEXT, KEPT, Step::Write("<dir>/kept/file", "kept")],
+        line: ADD,
+        way: Way::Links(9, "<dir>/kept/file", "<text>"),
+        told: GREETED,
+        after: &[
+            Step::Holds("<dir>/kept/file", "kept"),
+            Step::Holds("<text>", "hello\n"),
+            Step::Holds(JOURNAL, WITH_TEXT),
+        ],
+    },
+];
+
+fn tables() -> [&'static [Row]; 5] {
+    [&SHORT, &READ, &WRITTEN, &RUN, &LINKED]
 }
 
 // What gets in the way, in a scene.
@@ -266,6 +330,10 @@ fn event_of(alloc: Global, scene: &Scene, way: &Way) -> Result<Event, Fail> {
         }
         Way::Removes(number, file) => Ok(Event::Removed(*number, scene.said(alloc, file)?)),
         Way::MakesFolder(number, path) => Ok(Event::Made(*number, scene.said(alloc, path)?)),
+        Way::Links(number, to, at) => {
+            let to = scene.said(alloc, to)?;
+            Ok(Event::Linked(*number, to, scene.said(alloc, at)?))
+        }
     }
 }
 
