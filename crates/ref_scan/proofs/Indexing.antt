@@ -1,22 +1,172 @@
--- The index of hash parts with one path more, and a mark set by it.
-use Rattle.std.proofs.Common.{◌≡◌, ◌∙◌, ℕ, ◌+◌, ◌-◌, ◌*◌, ◌<◌, Bool, true, false, cond, List, [], ◌∷◌, ◌++◌, inl, inr, ⊎_elim, length, get_or, set, refl, sym, ap, subst, arith, length-append, Some, nat_eq, get_or-set_same, get_or-set_other}
-use Rattle.std.specs.Prelude.{IsTrue, IsSome, Result, Ok, Err, IsOk, OnOk, slice_index}
-use Rattle.std.specs.Cmp.Lexicographic.{pointwise, bytes_decides}
-use Rattle.std.proofs.lemmas.Bool.{false≢true, cases_Bool, cases_eq}
-use Rattle.std.proofs.lemmas.List.{length-set, get_or_append_left, get_or_push}
-use Rattle.std.proofs.lemmas.List.Elements.{Contains-push_cases}
-use Rattle.std.proofs.lemmas.Nat.{and_le_r}
+-- The index of hash parts: what its sieve and a search in it tell, and a mark set by it.
+use Rattle.std.proofs.Common.{◌≡◌, ◌≢◌, ◌∙◌, ℕ, ◌+◌, ◌<◌, Bool, true, false, List, [], ◌∷◌, ◌++◌, inl, inr, ⊎_elim, length, get_or, get_or-set_same, get_or-set_other, map, nat_eq, set, refl, sym, ap, subst, arith, Some}
+use Rattle.std.specs.Prelude.{All, Contains, IsTrue, Result, Ok, Err, IsOk, OnOk, slice_index}
+use Rattle.std.specs.Cmp.Lexicographic.{pointwise, slice_cmp, texts_ties}
+use Rattle.std.specs.List.{IsAllAdjacentAnswer, dedup}
+use Rattle.std.specs.List.Sorted.{IsBinarySearchResult, IsPermutation, IsSearchInRange, IsSorted}
+use Rattle.std.specs.Ordering.{is_eq, is_lt, nat_cmp, ordering_reverse}
+use Rattle.std.specs.Result.{result_ok}
+use Rattle.std.specs.declared.cmp.Ordering.TheVariants.{Less, Equal, Greater}
+use Rattle.std.proofs.lemmas.Bool.{false≢true, cases_eq, cases_lt}
+use Rattle.std.proofs.lemmas.Cmp.{nat_list_cmp_total, tied_itself}
+use Rattle.std.proofs.lemmas.List.{length-set}
+use Rattle.std.proofs.lemmas.List.Elements.{All-push, Contains-get_or}
+use Rattle.std.proofs.lemmas.List.Sorted.{searchable_from_sorted}
+use Rattle.std.proofs.lemmas.Map.Keys.{Less-from_sorted, sorted_from_all_adjacent}
+use Rattle.nix_names.specs.Base32.{is_digit}
+use Rattle.nix_names.specs.Rising.{IsRising}
 use Rattle.nix_names.specs.StorePaths.{hash_part_of, is_hash_part}
-use Rattle.ref_scan.specs.Places.{Indexes, IsIndex, Places, place_at, slot_of}
+use Rattle.nix_names.proofs.Lists.{Contains-map}
+use Rattle.nix_names.proofs.RisingLists.{IsBelow, below_from_lt, equal_from_eq, members_of_dedup, not_below_itself, rising_dedup, rising_from_sorted, sorted_from_rising}
+use Rattle.ref_scan.specs.Places.{ArePartsOf, IsPlaceOf, IsSieve, LetsThrough, part_at, slot_of}
 use Rattle.ref_scan.specs.Marks.{IsMet, Marked}
-
-abbrev same : List ℕ → List ℕ → Bool
-same x y = pointwise nat_eq x y
+use Rattle.ref_scan.proofs.HashParts.{hash_part_digit}
 
 -- what a call promised at Ok, where it was Ok
 pub on_ok : {T E : Type 0} (r : Result T E) (P : Type 0) → IsOk r → OnOk r P → P
 on_ok (Ok x) P is h = h
 on_ok (Err e) P is h = absurd (false≢true is)
+
+-- ---- parts that rise
+
+pub rising_told : (parts : List (List ℕ)) (answer : Bool)
+    → IsAllAdjacentAnswer (λ x y b. b ≡ is_lt (slice_cmp nat_cmp x y)) parts answer
+    → IsTrue answer → IsRising parts
+rising_told parts true each is =
+    rising_from_sorted parts (sorted_from_all_adjacent nat_list_cmp_total parts []
+    (λ k lt. below_from_lt (get_or parts k []) (get_or parts (k + 1) []) (sym (each k [] lt))))
+rising_told parts false each is = absurd (false≢true is)
+
+-- an earlier part is below a later one
+below_later : (parts : List (List ℕ)) (i j : ℕ) (d : List ℕ) → IsRising parts → i < j
+    → j < length parts → IsBelow (get_or parts i d) (get_or parts j d)
+below_later parts i j d rises = Less-from_sorted (slice_cmp nat_cmp) parts i j d
+    (sorted_from_rising parts rises)
+
+-- no part stands twice
+one_place : (parts : List (List ℕ)) (i j : ℕ) → IsRising parts → i < length parts
+    → j < length parts → part_at parts i ≡ part_at parts j → i ≡ j
+one_place parts i j rises lt lt' same =
+    ⊎_elim
+    (λ (e : i ≡ j). e)
+    (λ (ne : i ≡ j → ⊥). absurd (⊎_elim
+    (λ (before : i < j). not_below_itself (part_at parts j)
+    (subst (λ p. IsBelow p (part_at parts j)) same (below_later parts i j [] rises before lt')))
+    (λ le. not_below_itself (part_at parts j)
+    (subst (IsBelow (part_at parts j)) same (below_later parts j i [] rises (omega (arith, ne, le)) lt)))
+    (cases_lt i j)))
+    (cases_eq i j)
+
+-- what a search for a window tells
+pub place_told :
+    (parts : List (List ℕ)) (window : List ℕ) (found : Result ℕ ℕ) →
+    IsRising parts →
+    IsSearchInRange found (length parts) →
+    IsBinarySearchResult (λ y. slice_cmp nat_cmp y window) parts found →
+    IsPlaceOf parts window (result_ok found)
+place_told parts window (Ok k) rises within here = (
+  within,
+  equal_from_eq (part_at parts k) window
+      (texts_ties (part_at parts k) window ∙ ap is_eq (here [])),
+)
+place_told parts window (Err i) rises within apart = λ has.
+    let k = has.0 in
+    let sides = apart
+    (searchable_from_sorted nat_list_cmp_total (λ (p : List ℕ). p) parts window
+    (λ j d low lt. ap is_lt
+    (nat_list_cmp_total.antisymm (get_or parts (j + 1) d) (get_or parts j d)
+    ∙ ap ordering_reverse (below_later parts j (j + 1) d rises (omega arith) lt)))) in
+    let same : slice_cmp nat_cmp (get_or parts k window) window
+    ≡ Equal = ap (λ p. slice_cmp nat_cmp p window) has.2 ∙ tied_itself nat_list_cmp_total window in
+    ⊎_elim
+    (λ before. let less : slice_cmp nat_cmp (get_or parts k window) window
+    ≡ Less = sides.0 k window (omega arith) before in cc)
+    (λ behind. let more : slice_cmp nat_cmp (get_or parts k window) window
+    ≡ Greater = sides.1 k window behind has.1 in cc)
+    (cases_lt k i)
+
+-- ---- the parts of paths
+
+pub parts_as_paths :
+    (paths parts : List (List ℕ)) →
+    parts ≡ map hash_part_of paths →
+    All (λ part. IsTrue (is_hash_part part)) parts →
+    IsRising parts →
+    ArePartsOf paths parts true
+parts_as_paths paths parts value each rises = record {
+  are_parts = record { rising = rises; each = each };
+  known = λ path has. subst (λ ps. Contains ps (hash_part_of path)) (sym value)
+      (Contains-map hash_part_of paths path has);
+  as_paths = λ _. value;
+}
+
+pub parts_sorted :
+    (paths parts sorted : List (List ℕ)) →
+    parts ≡ map hash_part_of paths →
+    All (λ part. IsTrue (is_hash_part part)) parts →
+    IsPermutation parts sorted →
+    IsSorted (slice_cmp nat_cmp) sorted →
+    ArePartsOf paths (dedup (pointwise nat_eq) sorted) false
+parts_sorted paths parts sorted value each moved ordered =
+    let same = members_of_dedup parts sorted moved in
+    let kept = dedup (pointwise nat_eq) sorted in
+    record {
+      are_parts = record {
+        rising = rising_dedup sorted ordered;
+        each = λ k d lt.
+            let has = (same (get_or kept k d)).0 (Contains-get_or kept k d lt) in
+            subst (λ p. IsTrue (is_hash_part p)) has.2 (each has.0 (get_or kept k d) has.1);
+      };
+      known = λ path has. (same (hash_part_of path)).1
+          (subst (λ ps. Contains ps (hash_part_of path)) (sym value)
+          (Contains-map hash_part_of paths path has));
+      as_paths = λ no. absurd (false≢true no);
+    }
+
+-- ---- the sieve
+
+-- a sieve of so many slots lets a part through
+abbrev pub Sieves : ℕ → List ℕ → List ℕ → Type 0
+Sieves slots sieve part = LetsThrough (get_or sieve (slot_of slots part) 0) (slice_index part 27)
+
+pub stopped : (parts : List (List ℕ)) (sieve window : List ℕ) → IsSieve parts sieve
+    → ¬ Sieves (length sieve) sieve window → Contains parts window → ⊥
+stopped parts sieve window sieved none has =
+    none (subst (Sieves (length sieve) sieve) has.2 (sieved.each has.0 window has.1))
+
+tag_some : (part : List ℕ) → IsTrue (is_hash_part part) → slice_index part 27 ≢ 0
+tag_some part is zero =
+    let digit : is_digit (slice_index part 27) ≡ true = hash_part_digit part is 27 (omega arith) in
+    false≢true (subst (λ b. is_digit b ≡ true) zero digit)
+
+pub sieve_more :
+    (parts : List (List ℕ)) (sieve part : List ℕ) (slots slot new : ℕ) →
+    slot ≡ slot_of slots part →
+    slot < length sieve →
+    All (λ p. IsTrue (is_hash_part p)) parts →
+    LetsThrough new (slice_index part 27) →
+    ((other : ℕ) → other ≢ 0 → LetsThrough (get_or sieve slot 0) other → LetsThrough new other) →
+    All (Sieves slots sieve) parts →
+    All (Sieves slots (set sieve slot new)) (parts ++ part ∷ [])
+sieve_more parts sieve part slots slot new is fits are here stays before =
+    let set_here = get_or-set_same sieve slot new 0 fits in
+    All-push (Sieves slots (set sieve slot new)) parts part
+    (λ k d lt.
+    let q = get_or parts k d in
+    ⊎_elim
+    (λ (e : slot_of slots q ≡ slot).
+    subst (λ n. LetsThrough (get_or (set sieve slot new) n 0) (slice_index q 27)) (sym e)
+    (subst (λ v. LetsThrough v (slice_index q 27)) (sym set_here)
+    (stays (slice_index q 27) (tag_some q (are k d lt))
+    (subst (λ n. LetsThrough (get_or sieve n 0) (slice_index q 27)) e (before k d lt)))))
+    (λ (ne : slot_of slots q ≡ slot → ⊥).
+    subst (λ v. LetsThrough v (slice_index q 27))
+    (sym (get_or-set_other sieve slot (slot_of slots q) new 0 ne)) (before k d lt))
+    (cases_eq (slot_of slots q) slot))
+    (subst (λ n. LetsThrough (get_or (set sieve slot new) n 0) (slice_index part 27)) is
+    (subst (λ v. LetsThrough v (slice_index part 27)) (sym set_here) here))
+
+-- ---- a mark
 
 -- a mark stays where one more is set
 mark_stays : (met : List Bool) (i k : ℕ) → i < length met → IsMet met k → IsMet (set met i true) k
@@ -27,118 +177,43 @@ mark_stays met i k lt h =
     (λ (ne : k ≡ i → ⊥). get_or-set_other met i k true false ne ∙ h)
     (cases_eq k i)
 
-slot_fits : (slots : ℕ) (window : List ℕ) → 0 < slots → slot_of slots window < slots
-slot_fits slots window some =
-    let least = and_le_r (slice_index window 28 + 37 * slice_index window 29
-    + 1369 * slice_index window 30 + 50653 * slice_index window 31) (slots - 1) in omega arith
-
--- the place of a part once this part has the place k
-module _ (old new : Places) (part : List ℕ) (k : ℕ)
-    (after : (q : List ℕ) → place_at new q ≡ cond (same part q) (Some k) (place_at old q)) where
-  place_new : (q : List ℕ) → part ≡ q → place_at new q ≡ Some k
-  place_new q e = after q ∙ ap (λ b. cond b (Some k) (place_at old q)) ((bytes_decides part q).1 e)
-
-  place_old : (q : List ℕ) → same part q ≡ false → place_at new q ≡ place_at old q
-  place_old q e = after q ∙ ap (λ b. cond b (Some k) (place_at old q)) e
-
-  some_stays : (q : List ℕ) → IsSome (place_at old q) → IsSome (place_at new q)
-  some_stays q some =
-      ⊎_elim
-      (λ e. subst IsSome (sym (place_new q ((bytes_decides part q).0 e))) refl)
-      (λ e. subst IsSome (sym (place_old q e)) some)
-      (cases_Bool (same part q))
-
-pub indexes_more :
-    (paths : List (List ℕ)) (old new : Places) (sieve : List Bool) (path part : List ℕ) (k : ℕ) →
-    k ≡ length paths →
-    part ≡ hash_part_of path →
-    IsTrue (is_hash_part part) →
-    Indexes paths old sieve →
-    ((q : List ℕ) → place_at new q ≡ cond (same part q) (Some k) (place_at old q)) →
-    Indexes (paths ++ path ∷ []) new (set sieve (slot_of (length sieve) part) true)
-indexes_more paths old new sieve path part k last is is_part before after =
-    let slots : length (set sieve (slot_of (length sieve) part) true)
-    ≡ length sieve = length-set sieve (slot_of (length sieve) part) true in
-    let fits = slot_fits (length sieve) part before.some in
-    let at : get_or (paths ++ path ∷ []) k [] ≡ path = get_or_push paths path [] k (sym last) in
-    let long : length (paths ++ path ∷ []) ≡ length paths + 1 = length-append paths (path ∷ []) in
-    record {
-      placed = λ q j found.
-          ⊎_elim
-          (λ e.
-          let q_is = (bytes_decides part q).0 e in
-          let found_k : Some k ≡ Some j = sym (place_new old new part k after q q_is) ∙ found in
-          let j_is : k ≡ j = cc
-          in (
-            omega arith,
-            subst (λ i. hash_part_of (get_or (paths ++ path ∷ []) i []) ≡ q) j_is
-                (ap hash_part_of at ∙ sym is ∙ q_is),
-          ))
-          (λ e.
-          let earlier = before.placed q j (sym (place_old old new part k after q e) ∙ found) in (
-            omega (arith, earlier.0),
-            ap hash_part_of
-                (get_or_append_left paths (path ∷ []) [] j earlier.0) ∙ earlier.1,
-          ))
-          (cases_Bool (same part q));
-      known = λ p has.
-          ⊎_elim
-          (λ earlier. some_stays old new part k after (hash_part_of p) (before.known p earlier))
-          (λ (e : path ≡ p).
-          subst IsSome
-          (sym (place_new old new part k after (hash_part_of p) (is ∙ ap hash_part_of e))) refl)
-          (Contains-push_cases paths path p has);
-      are_parts = λ p has.
-          ⊎_elim
-          (before.are_parts p)
-          (λ (e : path ≡ p). subst (λ w. IsTrue (is_hash_part w)) (is ∙ ap hash_part_of e) is_part)
-          (Contains-push_cases paths path p has);
-      sieved = λ q some.
-          subst (λ n. get_or (set sieve (slot_of (length sieve) part) true) (slot_of n q) false
-          ≡ true) (sym slots)
-          (⊎_elim
-          (λ e. subst (λ w. get_or (set sieve (slot_of (length sieve) part) true)
-          (slot_of (length sieve) w) false ≡ true) ((bytes_decides part q).0 e)
-          (get_or-set_same sieve (slot_of (length sieve) part) true false fits))
-          (λ e. mark_stays sieve (slot_of (length sieve) part) (slot_of (length sieve) q) fits
-          (before.sieved q (subst IsSome (place_old old new part k after q e) some)))
-          (cases_Bool (same part q)));
-      some = omega arith;
-    }
-
--- no two parts have one place
-one_place : (paths : List (List ℕ)) (places : Places) (sieve : List Bool) (p q : List ℕ) (k : ℕ)
-    → Indexes paths places sieve → place_at places p ≡ Some k → place_at places q ≡ Some k → p ≡ q
-one_place paths places sieve p q k indexes at at' = sym (indexes.placed p k at).1
-    ∙ (indexes.placed q k at').1
-
 pub marked_one :
-    (places : Places) (sieve met : List Bool) (window : List ℕ) (place : ℕ) →
-    IsIndex places sieve (length met) →
-    place_at places window ≡ Some place →
-    Marked places met (set met place true) window
-marked_one places sieve met window place index found =
-    let lt : place < length met = omega (
-      arith,
-      (index.indexes.placed window place found).0,
-      index.counted,
-    ) in
+    (parts : List (List ℕ)) (met : List Bool) (window : List ℕ) (place : ℕ) →
+    IsRising parts →
+    length met ≡ length parts →
+    IsPlaceOf parts window (Some place) →
+    Marked parts met (set met place true) window
+marked_one parts met window place rises count at =
+    let lt : place < length met = omega (arith, at.0, count) in
     record {
       count = length-set met place true;
-      each = λ part k is_part at. (
+      each = λ k within. (
         λ h. ⊎_elim
-            (λ (e : k ≡ place).
-            inr (one_place index.paths places sieve window part place index.indexes found
-            (at ∙ ap Some e)))
+            (λ (e : k ≡ place). inr (sym at.1 ∙ ap (part_at parts) (sym e)))
             (λ (ne : k ≡ place → ⊥). inl (sym (get_or-set_other met place k true false ne) ∙ h))
             (cases_eq k place),
         λ h. ⊎_elim
             (mark_stays met place k lt)
-            (λ (e : window ≡ part).
-            let both : Some place ≡ Some k = sym found ∙ ap (place_at places) e ∙ at in
-            let same_place : place ≡ k = cc in
-            subst (λ j. get_or (set met place true) j false ≡ true) same_place
+            (λ (e : window ≡ part_at parts k).
+            subst (λ j. get_or (set met place true) j false ≡ true)
+            (one_place parts place k rises at.0 within (at.1 ∙ e))
             (get_or-set_same met place true false lt))
             h,
       );
     }
+
+pub marked_none :
+    (parts : List (List ℕ)) (met : List Bool) (window : List ℕ) →
+    (Contains parts window → ⊥) →
+    Marked parts met met window
+marked_none parts met window none = record {
+  count = refl;
+  each = λ k within. (
+    inl,
+    λ h. ⊎_elim
+        (λ m. m)
+        (λ (e : window ≡ part_at parts k).
+        absurd (none (subst (Contains parts) (sym e) (Contains-get_or parts k [] within))))
+        h,
+  );
+}

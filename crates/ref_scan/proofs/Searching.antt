@@ -1,87 +1,94 @@
 -- A search over windows, up to one of them.
-use Rattle.std.proofs.Common.{◌≡◌, ◌∙◌, ℕ, ◌+◌, ◌-◌, ◌<◌, Bool, false, List, ◌⊎◌, inl, inr, ⊎_elim, length, take, drop, get_or, sym, ap, subst, Some}
-use Rattle.std.specs.Prelude.{IsTrue}
+use Rattle.std.proofs.Common.{◌≡◌, ◌∙◌, ℕ, ◌+◌, ◌-◌, ◌<◌, Bool, false, List, [], ◌⊎◌, inl, inr, ⊎_elim, length, take, drop, get_or, sym, ap, subst}
+use Rattle.std.specs.Prelude.{All, IsTrue}
 use Rattle.std.proofs.lemmas.List.{drop-drop, take_rest, get_or-take}
 use Rattle.nix_names.specs.Base32.{is_digit}
 use Rattle.nix_names.specs.StorePaths.{is_hash_part}
 use Rattle.ref_scan.specs.Marks.{IsMet, Marked, Searched}
-use Rattle.ref_scan.specs.Places.{Places, place_at}
+use Rattle.ref_scan.specs.Places.{part_at}
 use Rattle.ref_scan.specs.Scan.{Within}
 use Rattle.ref_scan.proofs.Windows.{within_past, within_next, within_window, within_few, within_of_drop}
 
 -- The marks are those of before and of parts within the bytes; a part within them is marked or
 -- stands behind the start.
-pub record Searching (places : Places) (old met : List Bool) (bytes : List ℕ) (start : ℕ)
+pub record Searching (parts : List (List ℕ)) (old met : List Bool) (bytes : List ℕ) (start : ℕ)
     : Type 0 where
   pub count : length met ≡ length old
-  pub stays : (part : List ℕ) (k : ℕ) → IsTrue (is_hash_part part) → place_at places part ≡ Some k
-      → IsMet old k → IsMet met k
-  pub sound : (part : List ℕ) (k : ℕ) → IsTrue (is_hash_part part) → place_at places part ≡ Some k
-      → IsMet met k → IsMet old k ⊎ Within part bytes
-  pub rest : (part : List ℕ) (k : ℕ) → IsTrue (is_hash_part part) → place_at places part ≡ Some k
-      → Within part bytes → IsMet met k ⊎ Within part (drop start bytes)
+  pub stays : (k : ℕ) → k < length parts → IsMet old k → IsMet met k
+  pub sound : (k : ℕ) → k < length parts → IsMet met k → IsMet old k ⊎ Within (part_at parts k) bytes
+  pub rest : (k : ℕ) → k < length parts → Within (part_at parts k) bytes
+      → IsMet met k ⊎ Within (part_at parts k) (drop start bytes)
+
+abbrev AreParts : List (List ℕ) → Type 0
+AreParts parts = All (λ part. IsTrue (is_hash_part part)) parts
 
 pub searching_past :
-    (places : Places) (old met : List Bool) (bytes : List ℕ) (start place : ℕ) →
-    Searching places old met bytes start →
+    (parts : List (List ℕ)) (old met : List Bool) (bytes : List ℕ) (start place : ℕ) →
+    AreParts parts →
+    Searching parts old met bytes start →
     place < 32 →
     is_digit (get_or (drop start bytes) place 0) ≡ false →
-    Searching places old met bytes (start + (place + 1))
-searching_past places old met bytes start place before lt foreign =
+    Searching parts old met bytes (start + (place + 1))
+searching_past parts old met bytes start place are before lt foreign =
     record {
       count = before.count;
       stays = before.stays;
       sound = before.sound;
-      rest = λ part k is at h.
+      rest = λ k at h.
+          let part = part_at parts k in
           ⊎_elim
           inl
           (λ behind. inr
           (subst (Within part) (drop-drop (place + 1) start bytes)
-          (within_past part (drop start bytes) place is lt foreign behind)))
-          (before.rest part k is at h);
+          (within_past part (drop start bytes) place (are k [] at) lt foreign behind)))
+          (before.rest k at h);
     }
 
 pub searching_next :
-    (places : Places) (old met new : List Bool) (bytes : List ℕ) (start : ℕ) →
-    Searching places old met bytes start →
-    Marked places met new (take 32 (drop start bytes)) →
-    Searching places old new bytes (start + 1)
-searching_next places old met new bytes start before marked =
+    (parts : List (List ℕ)) (old met new : List Bool) (bytes : List ℕ) (start : ℕ) →
+    AreParts parts →
+    Searching parts old met bytes start →
+    Marked parts met new (take 32 (drop start bytes)) →
+    Searching parts old new bytes (start + 1)
+searching_next parts old met new bytes start are before marked =
     record {
       count = marked.count ∙ before.count;
-      stays = λ part k is at h. (marked.each part k is at).1 (inl (before.stays part k is at h));
-      sound = λ part k is at h.
+      stays = λ k at h. (marked.each k at).1 (inl (before.stays k at h));
+      sound = λ k at h.
+          let part = part_at parts k in
           ⊎_elim
-          (before.sound part k is at)
+          (before.sound k at)
           (λ window. inr
           (within_of_drop part bytes start (within_window part (drop start bytes) window)))
-          ((marked.each part k is at).0 h);
-      rest = λ part k is at h.
+          ((marked.each k at).0 h);
+      rest = λ k at h.
+          let part = part_at parts k in
           ⊎_elim
-          (λ m. inl ((marked.each part k is at).1 (inl m)))
+          (λ m. inl ((marked.each k at).1 (inl m)))
           (λ behind.
           ⊎_elim
-          (λ window. inl ((marked.each part k is at).1 (inr window)))
+          (λ window. inl ((marked.each k at).1 (inr window)))
           (λ later. inr (subst (Within part) (drop-drop 1 start bytes) later))
-          (within_next part (drop start bytes) is behind))
-          (before.rest part k is at h);
+          (within_next part (drop start bytes) (are k [] at) behind))
+          (before.rest k at h);
     }
 
 pub searching_end :
-    (places : Places) (old met : List Bool) (bytes : List ℕ) (start : ℕ) →
-    Searching places old met bytes start →
+    (parts : List (List ℕ)) (old met : List Bool) (bytes : List ℕ) (start : ℕ) →
+    AreParts parts →
+    Searching parts old met bytes start →
     length (drop start bytes) < 32 →
-    Searched places old met bytes
-searching_end places old met bytes start before few =
+    Searched parts old met bytes
+searching_end parts old met bytes start are before few =
     record {
       count = before.count;
-      each = λ part k is at. (
-        before.sound part k is at,
+      each = λ k at. (
+        before.sound k at,
         λ h. ⊎_elim
-            (before.stays part k is at)
+            (before.stays k at)
             (λ within. ⊎_elim (λ m. m)
-            (λ behind. absurd (within_few part (drop start bytes) is few behind))
-            (before.rest part k is at within))
+            (λ behind. absurd (within_few (part_at parts k) (drop start bytes) (are k [] at) few behind))
+            (before.rest k at within))
             h,
       );
     }

@@ -1,20 +1,25 @@
--- What a scanner keeps is to the bytes that it was fed.
-use Rattle.std.specs.Prelude.{◌≡◌, ◌↔◌, ℕ, Bool, List, length, Some, IsTrue}
-use Rattle.nix_names.specs.Rising.{IsRising}
-use Rattle.nix_names.specs.StorePaths.{is_hash_part}
-use Rattle.ref_scan.specs.Feed.{Feed, lists_of}
+-- What is kept of the bytes that were fed.
+use Rattle.std.specs.Prelude.{◌≡◌, ◌↔◌, ◌<◌, ℕ, Bool, List, [], ◌∷◌, ◌++◌, length}
 use Rattle.ref_scan.specs.Kept.{last_bytes}
 use Rattle.ref_scan.specs.Marks.{IsMet}
-use Rattle.ref_scan.specs.Places.{Indexes, Places, place_at}
+use Rattle.ref_scan.specs.Places.{AreHashParts, IsSieve, part_at}
 use Rattle.ref_scan.specs.Scan.{OccursIn}
 
--- Each part that stands within a list has its mark, and no other; the last bytes of the present
--- list are kept.
-pub record Scanned (feed : Feed) (places : Places) (sieve met : List Bool) (tail : List ℕ)
+-- The hash parts that are sought, whether they stand as their paths do, the lists of bytes that a
+-- cut ended, and the list that goes on.
+pub record Sought : Type 0 where
+  pub parts : List (List ℕ)
+  pub in_order : Bool
+  pub ended : List (List ℕ)
+  pub present : List ℕ
+
+-- Just those parts have a mark that stand within a list; the last bytes of the present list are
+-- kept.
+pub record Scanned (sought : Sought) (sieve : List ℕ) (met : List Bool) (tail : List ℕ)
     : Type 0 where
-  pub rising : IsRising feed.permitted
-  pub indexes : Indexes feed.permitted places sieve
-  pub count : length met ≡ length feed.permitted
-  pub marks : (part : List ℕ) (k : ℕ) → IsTrue (is_hash_part part) → place_at places part ≡ Some k
-      → IsMet met k ↔ OccursIn part (lists_of feed)
-  pub kept : tail ≡ last_bytes feed.present
+  pub are_parts : AreHashParts sought.parts
+  pub sieved : IsSieve sought.parts sieve
+  pub count : length met ≡ length sought.parts
+  pub marks : (k : ℕ) → k < length sought.parts
+      → IsMet met k ↔ OccursIn (part_at sought.parts k) (sought.ended ++ sought.present ∷ [])
+  pub kept : tail ≡ last_bytes sought.present

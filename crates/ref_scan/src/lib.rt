@@ -5,6 +5,7 @@
 //! | `tree` | trees of files and folders, and the limits of an output |
 //! | `references` | the permitted store paths that a tree refers to |
 //! | `scanner` | the same of bytes that come in pieces |
+//! | `marks` | which hash parts stand within the bytes that were fed |
 //! | `search`, `index`, `alphabet` | some bytes searched for all hash parts at once |
 //! | `seam`, `fed` | what is kept of a piece, and what was fed |
 //! | `fault` | why a scan gave up |
@@ -16,6 +17,7 @@ mod fault;
 mod fed;
 mod index;
 pub mod laws;
+mod marks;
 mod references;
 mod scanner;
 mod seam;
@@ -25,4 +27,4 @@ mod tree;
 pub use fault::ScanFault;
 pub use references::scan;
 pub use scanner::Scanner;
-pub use tree::{Member, Tree};
+pub use tree::{MAX_DEPTH, MAX_ENTRIES, MAX_FILE_BYTES, Member, Tree};

@@ -5,7 +5,7 @@ ghost use Rattle.ref_scan.specs.Scan.{IsFound};
 ghost use Rattle.ref_scan.specs.Trees.{Fits, joined, pieces};
 
 use crate::fault::ScanFault;
-use crate::scanner::Scanner;
+use crate::marks::Marks;
 use crate::tree::{Member, Tree};
 use nix_names::StorePath;
 use std::alloc::Global;
@@ -15,7 +15,7 @@ use std::alloc::Global;
 /// same hash part are both found. `NoMemory`, the only fault, where memory was refused.
 ///
 /// The tree is walked once, whatever the number of paths; no file is copied. Takes memory for the
-/// permitted paths, for a table of their hash parts and for what is found. The walk recurses as
+/// table of the hash parts of the permitted paths and for what is found. The walk recurses as
 /// deep as the tree is, which is why the tree has to fit (`Tree::fits` tells).
 pub fn scan(
     alloc: Global,
@@ -26,50 +26,50 @@ pub fn scan(
     requires rising { IsRising permitted.now }
     ensures { IfOk result (λ found. IsFound tree.now permitted.now found.items) }
 {
-    let mut scanner = Scanner::new(alloc, permitted)?;
-    feed_tree(&mut scanner, tree);
-    scanner.finish()
+    let mut marks = Marks::new(alloc, permitted)?;
+    feed_tree(&mut marks, tree);
+    marks.found_among(permitted)
 }
 
 // Feeds each file and each entry's name as a list of its own.
-fn feed_tree(scanner: &mut Scanner, tree: &Tree)
-    requires { scanner.old.present ≡ [] }
-    ensures { scanner.new
-        ≡ record scanner.old { ended = scanner.old.ended ++ pieces tree.now; present = [] } }
+fn feed_tree(marks: &mut Marks, tree: &Tree)
+    requires { marks.old.present ≡ [] }
+    ensures { marks.new
+        ≡ record marks.old { ended = marks.old.ended ++ pieces tree.now; present = [] } }
 {
     match tree {
-        Tree::File(bytes) => feed_list(scanner, bytes),
+        Tree::File(bytes) => feed_list(marks, bytes),
         Tree::Pieces(pieces) => {
-            feed_pieces(scanner, pieces);
-            scanner.cut();
+            feed_pieces(marks, pieces);
+            marks.cut();
         }
         Tree::Dir(members) => {
             for Member { name, tree } in members {
-                feed_list(scanner, name);
-                feed_tree(scanner, tree);
+                feed_list(marks, name);
+                feed_tree(marks, tree);
             }
         }
     }
 }
 
 // Feeds a list of its own.
-fn feed_list(scanner: &mut Scanner, bytes: &[u8])
-    ensures { scanner.new
-        ≡ record scanner.old {
-          ended = scanner.old.ended ++ (scanner.old.present ++ bytes.now) ∷ [];
+fn feed_list(marks: &mut Marks, bytes: &[u8])
+    ensures { marks.new
+        ≡ record marks.old {
+          ended = marks.old.ended ++ (marks.old.present ++ bytes.now) ∷ [];
           present = [];
         } }
 {
-    scanner.feed(bytes);
-    scanner.cut();
+    marks.feed(bytes);
+    marks.cut();
 }
 
 // Feeds the pieces of one file.
-fn feed_pieces(scanner: &mut Scanner, pieces: &[Vec<u8>])
-    ensures { scanner.new
-        ≡ record scanner.old { present = scanner.old.present ++ joined pieces.now } }
+fn feed_pieces(marks: &mut Marks, pieces: &[Vec<u8>])
+    ensures { marks.new
+        ≡ record marks.old { present = marks.old.present ++ joined pieces.now } }
 {
     for piece in pieces {
-        scanner.feed(piece);
+        marks.feed(piece);
     }
 }

@@ -1,18 +1,12 @@
 //! The scan of bytes that come in pieces.
-ghost use Rattle.std.specs.Prelude.{◌≡◌, ◌↔◌, ◌++◌, ◌∷◌, [], IfOk, IsTrue, ℕ, List, Contains, None, Some, false, length};
+ghost use Rattle.std.specs.Prelude.{◌≡◌, ◌++◌, ◌∷◌, [], IfOk, IsTrue, ℕ, List, Contains};
 ghost use Rattle.nix_names.specs.Rising.{IsRising};
 ghost use Rattle.nix_names.specs.StorePaths.{hash_part_of, is_hash_part};
 ghost use Rattle.ref_scan.specs.Feed.{lists_of};
-ghost use Rattle.ref_scan.specs.Marks.{IsMet};
-ghost use Rattle.ref_scan.specs.Places.{IsIndex, place_at};
 ghost use Rattle.ref_scan.specs.Scan.{IsFoundIn};
 
 use crate::fault::ScanFault;
-use crate::fed::{Fed, Piece};
-use crate::index::{Index, part_of};
-use crate::seam::{KEPT, seam, tail_behind};
-use crate::search::search;
-use arrayvec::ArrayVec;
+use crate::marks::Marks;
 use nix_names::StorePath;
 use std::alloc::Global;
 use std::marker::Model;
@@ -26,27 +20,24 @@ use std::marker::Model;
 #[derive(Drop)]
 pub struct Scanner {
     permitted: Vec<StorePath>,
-    index: Index,
-    met: Vec<bool>,
-    tail: ArrayVec<u8, KEPT>,
-    fed: Fed,
+    marks: Marks,
 }
 
 impl Model for Scanner {
+    ghost use Rattle.nix_names.specs.Rising.{IsRising};
     ghost use Rattle.ref_scan.specs.Feed.{Feed};
-    ghost use Rattle.ref_scan.specs.Scanned.{Scanned};
+    ghost use Rattle.ref_scan.specs.Places.{ArePartsOf};
 
     ghost Value = { Feed };
 
     ghost view = { λ s. record {
       permitted = s.permitted.items;
-      ended = s.fed.ended;
-      present = s.fed.present;
+      ended = s.marks.ended;
+      present = s.marks.present;
     } };
 
-    ghost invariant = { λ s. Scanned
-        (record { permitted = s.permitted.items; ended = s.fed.ended; present = s.fed.present })
-        s.index.places s.index.sieve.items s.met.items s.tail.items };
+    ghost invariant = { λ s. IsRising s.permitted.items
+        × ArePartsOf s.permitted.items s.marks.parts s.marks.in_order };
 }
 
 impl Scanner {
@@ -60,10 +51,7 @@ impl Scanner {
     {
         Ok(Scanner {
             permitted: copies(alloc, permitted)?,
-            index: Index::new(alloc, permitted)?,
-            met: vec![in alloc; false; permitted.len()]?,
-            tail: ArrayVec::new(),
-            fed: Fed::new(),
+            marks: Marks::new(alloc, permitted)?,
         })
     }
 
@@ -71,11 +59,7 @@ impl Scanner {
     pub fn feed(&mut self, piece: &[u8])
         ensures { self.new ≡ record self.old { present = self.old.present ++ piece.now } }
     {
-        let seam = seam(self.tail.as_slice(), piece);
-        search(&self.index, &mut self.met, seam.as_slice());
-        search(&self.index, &mut self.met, piece);
-        self.tail = tail_behind(seam.as_slice(), piece);
-        self.fed = self.fed.and(&Piece { bytes: piece });
+        self.marks.feed(piece);
     }
 
     /// The present list ends, and an empty one begins: no hash part is found across a cut. Takes no
@@ -84,8 +68,7 @@ impl Scanner {
         ensures { self.new
             ≡ record self.old { ended = self.old.ended ++ self.old.present ∷ []; present = [] } }
     {
-        self.tail.clear();
-        self.fed = self.fed.cut();
+        self.marks.cut();
     }
 
     /// The permitted paths whose hash part occurs within one of the lists, in their order, however
@@ -97,35 +80,7 @@ impl Scanner {
         ensures are_parts { (path : List ℕ) → Contains self.permitted path
             → IsTrue (is_hash_part (hash_part_of path)) }
     {
-        let Scanner {
-            permitted,
-            index,
-            met,
-            tail: _,
-            fed: _,
-        } = self;
-        let alloc = *permitted.allocator();
-        let mut found = Vec::new(alloc);
-        for path in &permitted {
-            if is_met(&index, &met, path) {
-                found.push(path.copy(alloc)?)?;
-            }
-        }
-        Ok(found)
-    }
-}
-
-// Whether a path's hash part has its mark.
-fn is_met(index: &Index, met: &[bool], path: &StorePath) -> bool
-    requires { IsIndex index.now.places index.now.sieve.items (length met.now) }
-    ensures met { (k : ℕ) → place_at index.now.places (hash_part_of path.now) ≡ Some k
-        → IsTrue result ↔ IsMet met.now k }
-    ensures absent { place_at index.now.places (hash_part_of path.now) ≡ None
-        → result ≡ false }
-{
-    match index.place_of(&part_of(path)) {
-        Some(place) => met[place],
-        None => false,
+        self.marks.found_among(&self.permitted)
     }
 }
 

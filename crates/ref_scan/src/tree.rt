@@ -3,14 +3,14 @@ ghost use Rattle.std.specs.Prelude.{◌≡◌, ◌<◌, ◌+◌, ◌↔◌, leng
 ghost use Rattle.ref_scan.specs.Room.{FitsIn, Fills};
 ghost use Rattle.ref_scan.specs.Trees.{Fits, joined};
 
-// The most levels of an output's tree.
-const MAX_DEPTH: usize = 32;
+/// The most levels of an output's tree: a file and an empty folder have one.
+pub const MAX_DEPTH: usize = 32;
 
-// The most entries of an output's folders, at all depths.
-const MAX_ENTRIES: usize = 65_536;
+/// The most entries of an output's folders, at all depths, without the root.
+pub const MAX_ENTRIES: usize = 65_536;
 
-// The most bytes of an output's files together.
-const MAX_FILE_BYTES: usize = 67_108_864;
+/// The most bytes of an output's files together.
+pub const MAX_FILE_BYTES: usize = 67_108_864;
 
 /// A file, or a folder with all that is in it.
 #[derive(Debug, Drop)]

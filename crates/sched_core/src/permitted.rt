@@ -11,9 +11,10 @@ ghost use Rattle.sched_core.specs.declared.fault.BookFault.TheVariants.{NoMemory
 
 use crate::fault::BookFault;
 use crate::job::Job;
+use crate::uniting::united;
 use nix_names::StorePath;
 use std::alloc::{AllocError, Global};
-use valid_table::{Journal, TableFault, union};
+use valid_table::{Journal, TableFault};
 
 /// The paths to which the outputs of a job may refer, strictly rising: what its seeds lead to,
 /// which is given so, and its own outputs. Answers `NoMemory` where memory is refused, and no other
@@ -27,8 +28,18 @@ pub fn permitted_beside(
     ensures ok { IfOk result (λ paths. IsUnion reached.now (outputs_of job.now) paths.items) }
     ensures err { IfErr result (λ fault. fault ≡ NoMemory) }
 {
-    let own = sorted_outputs(alloc, job)?;
-    Ok(union(alloc, reached, &own)?)
+    permitted_with(copies(alloc, reached)?, job)
+}
+
+/// The same of a list that is given away, whose paths are moved: only the job's own outputs are
+/// copied. Costs a binary search of the list for each of them.
+pub fn permitted_with(reached: Vec<StorePath>, job: &Job) -> Result<Vec<StorePath>, BookFault>
+    requires { IsRising reached.items }
+    ensures ok { IfOk result (λ paths. IsUnion reached.items (outputs_of job.now) paths.items) }
+    ensures err { IfErr result (λ fault. fault ≡ NoMemory) }
+{
+    let own = sorted_outputs(*reached.allocator(), job)?;
+    Ok(united(reached, own)?)
 }
 
 // What some paths lead to that are valid by a journal.
@@ -63,4 +74,15 @@ fn sorted_outputs(alloc: Global, job: &Job) -> Result<Vec<StorePath>, AllocError
     sorted.sort_unstable();
     sorted.dedup();
     Ok(sorted)
+}
+
+// The same paths once more.
+fn copies(alloc: Global, paths: &[StorePath]) -> Result<Vec<StorePath>, AllocError>
+    ensures { IfOk result (λ copies. copies.items ≡ paths.now) }
+{
+    let mut copies = Vec::with_capacity(alloc, paths.len())?;
+    for path in paths {
+        copies.push(path.copy(alloc)?)?;
+    }
+    Ok(copies)
 }

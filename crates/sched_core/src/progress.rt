@@ -21,7 +21,7 @@ use crate::fault::BookFault;
 use crate::is_job::is_job;
 use crate::job::Job;
 use crate::job_of::job_of;
-use crate::permitted::{closure_of, permitted_beside};
+use crate::permitted::{closure_of, permitted_with};
 use crate::reason::{Event, Reason, State};
 use crate::report::report_of;
 use crate::standings::standings_of;
@@ -204,7 +204,7 @@ impl Progress {
     {
         let alloc = *self.events.allocator();
         let reached = closure_of(alloc, &self.journal, &job.seeds)?;
-        permitted_beside(alloc, &reached, job)
+        permitted_with(reached, job)
     }
 
     // Whether a lease with this job and this number was given and not ended. Costs a comparison of

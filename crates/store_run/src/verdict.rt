@@ -6,7 +6,7 @@ ghost use Rattle.store_run.specs.Finding.{IsFoundBy, IsTold, IsUnseen};
 
 use crate::found::Found;
 use nix_names::StorePath;
-use sched_core::{Answer, BookFault, Job, Lease, Reason, examine, permitted_beside};
+use sched_core::{Answer, BookFault, Job, Lease, Reason, examine, permitted_with};
 use std::alloc::Global;
 use valid_view::{Naming, Tells, ViewFault, ViewReader};
 
@@ -67,7 +67,7 @@ fn permitted<J: Naming>(
         Err(ViewFault::NoMemory) => return Err(Found::NoMemory),
         Err(ViewFault::NoView) => return Err(Found::NoView),
     };
-    match permitted_beside(alloc, &reached, job) {
+    match permitted_with(reached, job) {
         Ok(paths) => Ok(paths),
         Err(BookFault::NoMemory) => Err(Found::NoMemory),
         Err(_) => unreachable!(),

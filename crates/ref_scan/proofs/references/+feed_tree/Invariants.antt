@@ -8,8 +8,9 @@ decreases-feed_tree l = goal.size-feed_tree l
 
 abbrev pub invariant-loop-name : goal.invariant-loop-name
 invariant-loop-name l = record {
-  permitted : l.scanner.permitted ≡ l.initial.scanner.permitted;
-  ended : l.scanner.ended ++ pieces_below (drop l.name-index l.name-items) ≡ l.initial.scanner.ended
+  parts : l.marks.parts ≡ l.initial.marks.parts;
+  in_order : l.marks.in_order ≡ l.initial.marks.in_order;
+  ended : l.marks.ended ++ pieces_below (drop l.name-index l.name-items) ≡ l.initial.marks.ended
       ++ pieces l.fn.tree;
-  present : l.scanner.present ≡ [];
+  present : l.marks.present ≡ [];
 }

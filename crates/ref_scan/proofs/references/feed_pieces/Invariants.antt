@@ -4,8 +4,9 @@ use Rattle.ref_scan.proofs.references.feed_pieces.Given as goal
 
 abbrev pub invariant-loop-piece : goal.invariant-loop-piece
 invariant-loop-piece l = record {
-  permitted : l.scanner.permitted ≡ l.initial.scanner.permitted;
-  ended : l.scanner.ended ≡ l.initial.scanner.ended;
-  present : l.scanner.present ++ joined (drop l.piece-index l.pieces) ≡ l.initial.scanner.present
+  parts : l.marks.parts ≡ l.initial.marks.parts;
+  in_order : l.marks.in_order ≡ l.initial.marks.in_order;
+  ended : l.marks.ended ≡ l.initial.marks.ended;
+  present : l.marks.present ++ joined (drop l.piece-index l.pieces) ≡ l.initial.marks.present
       ++ joined l.pieces;
 }

@@ -1,10 +1,8 @@
 use Rattle.std.proofs.Common.{All, subst}
 use Rattle.valid_table.specs.Closure.{IsClosure}
 use Rattle.valid_table.specs.Entries.{registered}
-use Rattle.valid_table.specs.Unions.{IsUnion}
 use Rattle.valid_table.specs.Valid.{IsNotValid, IsValid}
 use Rattle.nix_names.specs.Firsts.{IsFirst}
-use Rattle.sched_core.specs.Verdicts.{outputs_of}
 use Rattle.sched_core.proofs.Permitting.{all_are_valid}
 use Rattle.store_run.proofs.Permits.{closure_and_outputs, seeds_stay}
 use Rattle.store_run.proofs.verdict.permitted.Goals as goal
@@ -22,18 +20,17 @@ unreachable-requires g c =
     first
 
 -- src/verdict.rt:69:1
-pub returns-in-Ok-permitted_beside-clause-seeds : goal.returns-in-Ok-permitted_beside-clause-seeds
-returns-in-Ok-permitted_beside-clause-seeds g c =
+pub returns-in-Ok-permitted_with-clause-seeds : goal.returns-in-Ok-permitted_with-clause-seeds
+returns-in-Ok-permitted_with-clause-seeds g c =
     subst (All (IsValid (registered c.closure.new.self.seen))) c.deref.ensures.value
     c.in-Ok.ensures.answer.0
 
 -- src/verdict.rt:69:1
-pub returns-in-Ok-permitted_beside-clause-permitted :
-    goal.returns-in-Ok-permitted_beside-clause-permitted
-returns-in-Ok-permitted_beside-clause-permitted g c =
+pub returns-in-Ok-permitted_with-clause-permitted :
+    goal.returns-in-Ok-permitted_with-clause-permitted
+returns-in-Ok-permitted_with-clause-permitted g c =
     closure_and_outputs c.closure.new.self.seen c.args.job.now c.in-Ok.reached.items
-    c.in-Ok-permitted_beside.paths.items
+    c.in-Ok-permitted_with.paths.items
     (subst (λ roots. IsClosure (registered c.closure.new.self.seen) roots c.in-Ok.reached.items)
     c.deref.ensures.value c.in-Ok.ensures.answer.1)
-    (subst (λ reached. IsUnion reached (outputs_of c.args.job.now)
-    c.in-Ok-permitted_beside.paths.items) c.deref-2.ensures.value c.in-Ok-permitted_beside.ensures.ok)
+    c.in-Ok-permitted_with.ensures.ok

@@ -21,8 +21,8 @@ closure_of-requires c =
 pub returns-clause-ok : goal.returns-clause-ok
 returns-clause-ok c =
     rw (← c.self.view_is)
-    (IfOk-weaker c.permitted_beside.result _ _
+    (IfOk-weaker c.permitted_with.result _ _
     (λ paths union. are_permitted _ _ _ _ paths.items
     (rw c.deref.ensures.value at c.in_ok-reached.ensures.ok)
-    (rw c.deref-2.ensures.value at union))
-    c.permitted_beside.ensures.ok)
+    union)
+    c.permitted_with.ensures.ok)

@@ -1,0 +1,10 @@
+use Rattle.std.proofs.Common.{◌≡◌, length, take}
+use Rattle.std.specs.Prelude.{All}
+use Rattle.ref_scan.proofs.Indexing.{Sieves}
+use Rattle.ref_scan.proofs.index.sieve_of.Given as goal
+
+abbrev pub invariant-loop-part : goal.invariant-loop-part
+invariant-loop-part l = record {
+  slots : length l.sieve.items ≡ l.slots;
+  each : All (Sieves l.slots l.sieve.items) (take l.part-index l.parts);
+}

@@ -1,0 +1,117 @@
+//! Which hash parts stand within the bytes that were fed.
+ghost use Rattle.std.specs.Prelude.{◌≡◌, ◌↔◌, ◌++◌, ◌∷◌, ◌<◌, [], IfOk, IsTrue, length, slice_index_or};
+ghost use Rattle.nix_names.specs.Rising.{IsRising};
+ghost use Rattle.nix_names.specs.StorePaths.{hash_part_of};
+ghost use Rattle.ref_scan.specs.Places.{ArePartsOf};
+ghost use Rattle.ref_scan.specs.Scan.{IsFoundIn, OccursIn};
+
+use crate::fault::ScanFault;
+use crate::fed::{Fed, Piece};
+use crate::index::{Index, part_of};
+use crate::seam::{KEPT, seam, tail_behind};
+use crate::search::search;
+use arrayvec::ArrayVec;
+use nix_names::StorePath;
+use std::alloc::{AllocError, Global};
+use std::marker::Model;
+
+// A mark for each hash part that stands within the bytes that were fed.
+#[derive(Drop)]
+pub(crate) struct Marks {
+    index: Index,
+    met: Vec<bool>,
+    tail: ArrayVec<u8, KEPT>,
+    fed: Fed,
+}
+
+impl Model for Marks {
+    ghost use Rattle.ref_scan.specs.Scanned.{Scanned, Sought};
+
+    ghost Value = { Sought };
+
+    ghost view = { λ m. record {
+      parts = m.index.parts.items;
+      in_order = m.index.in_order;
+      ended = m.fed.ended;
+      present = m.fed.present;
+    } };
+
+    ghost invariant = { λ m. Scanned
+        (record {
+          parts = m.index.parts.items;
+          in_order = m.index.in_order;
+          ended = m.fed.ended;
+          present = m.fed.present;
+        })
+        m.index.sieve.items m.met.items m.tail.items };
+}
+
+impl Marks {
+    // No mark; the hash parts of these paths are sought, and the first list begins.
+    pub(crate) fn new(alloc: Global, paths: &[StorePath]) -> Result<Marks, AllocError>
+        ensures parts { IfOk result (λ marks. ArePartsOf paths.now marks.parts marks.in_order) }
+        ensures fed { IfOk result (λ marks. (marks.ended ≡ []) × (marks.present ≡ [])) }
+    {
+        let index = Index::new(alloc, paths)?;
+        let met = vec![in alloc; false; index.parts.len()]?;
+        Ok(Marks {
+            index,
+            met,
+            tail: ArrayVec::new(),
+            fed: Fed::new(),
+        })
+    }
+
+    // The present list goes on with the piece.
+    pub(crate) fn feed(&mut self, piece: &[u8])
+        ensures { self.new ≡ record self.old { present = self.old.present ++ piece.now } }
+    {
+        let seam = seam(self.tail.as_slice(), piece);
+        search(&self.index, &mut self.met, seam.as_slice());
+        search(&self.index, &mut self.met, piece);
+        self.tail = tail_behind(seam.as_slice(), piece);
+        self.fed = self.fed.and(&Piece { bytes: piece });
+    }
+
+    // The present list ends, and an empty one begins.
+    pub(crate) fn cut(&mut self)
+        ensures { self.new
+            ≡ record self.old { ended = self.old.ended ++ self.old.present ∷ []; present = [] } }
+    {
+        self.tail.clear();
+        self.fed = self.fed.cut();
+    }
+
+    // Those of the paths whose hash part stands within a list.
+    pub(crate) fn found_among(&self, paths: &[StorePath]) -> Result<Vec<StorePath>, ScanFault>
+        requires rising { IsRising paths.now }
+        requires parts { ArePartsOf paths.now self.now.parts self.now.in_order }
+        ensures { IfOk result
+            (λ found. IsFoundIn (self.now.ended ++ self.now.present ∷ []) paths.now found.items) }
+    {
+        let alloc = *self.met.allocator();
+        let mut found = Vec::new(alloc);
+        for (number, path) in paths.iter().enumerate() {
+            if self.is_met(number, paths) {
+                found.push(path.copy(alloc)?)?;
+            }
+        }
+        Ok(found)
+    }
+
+    // Whether the hash part of the path of this number stands within a list.
+    fn is_met(&self, number: usize, paths: &[StorePath]) -> bool
+        requires parts { ArePartsOf paths.now self.now.parts self.now.in_order }
+        requires number { number < length paths.now }
+        ensures { IsTrue result ↔ OccursIn (hash_part_of (slice_index_or paths.now number []))
+            (self.now.ended ++ self.now.present ∷ []) }
+    {
+        if self.index.in_order {
+            return self.met[number];
+        }
+        match self.index.place_of(&part_of(&paths[number])) {
+            Some(place) => self.met[place],
+            None => false,
+        }
+    }
+}

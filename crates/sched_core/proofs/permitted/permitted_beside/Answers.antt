@@ -1,7 +1,0 @@
-use Rattle.sched_core.proofs.Permitting.{union_of_same}
-use Rattle.sched_core.proofs.permitted.permitted_beside.Goals as goal
-
-pub returns-clause-ok : goal.returns-clause-ok
-returns-clause-ok c =
-    union_of_same _ _ _ _ c.in_ok-own.ensures.same
-    (rw (← c.deref.ensures.value) c.in_ok-union.ensures.ok)
