@@ -1,6 +1,7 @@
 """Derivations as files of a store folder, made apart from the program: what the measurements of plans, books and runs read.
 
-The text is that of the Nix manual, "Store Derivation"; the output path is that of its masked modulo text.
+The text is that of the Nix manual, "Store Derivation"; the output path is that of its masked modulo text, in which inputs with one
+hash are one entry.
 """
 
 import hashlib
@@ -48,7 +49,7 @@ def name_of(number):
 def output_of(folder, number, inputs, script=SCRIPT, sources=()):
     """The path of the output of the derivation with this number, whose inputs are paths with their modulo hashes."""
     name = name_of(number)
-    hashes = sorted(modulo for _, modulo in inputs)
+    hashes = sorted({modulo for _, modulo in inputs})
     return make_path("output:out", digest(derivation(name, "", hashes, script, sources)), folder, name)
 
 
@@ -57,7 +58,7 @@ def write(folder, number, inputs, script=SCRIPT, sources=()):
     name = name_of(number)
     output = output_of(folder, number, inputs, script, sources)
     paths = sorted(path for path, _ in inputs)
-    hashes = sorted(modulo for _, modulo in inputs)
+    hashes = sorted({modulo for _, modulo in inputs})
     text = derivation(name, output, paths, script, sources)
     path = text_path(folder, name + ".drv", text.encode(), sorted([*paths, *sources]))
     with open(path, "w", encoding="ascii") as file:
