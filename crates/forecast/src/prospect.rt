@@ -43,8 +43,8 @@ pub(crate) fn prospect_of(
     earlier: &[Prospect],
 ) -> Prospect
     requires { All (λ input. input < length earlier.now) inputs.now }
-    ensures { state_of result ≡ by_validity standing (if has_built_twin then Reused
-        else by_hindrance standing (built_if_ready (by_inputs (state_at earlier.now) inputs.now))) }
+    ensures { state_of result ≡ built_if_ready (by_validity standing (if has_built_twin then Reused
+        else by_hindrance standing (by_inputs (state_at earlier.now) inputs.now))) }
 {
     match standing {
         Standing::AllValid => Prospect::Reuse,
