@@ -89,16 +89,18 @@ all_unless_bad : (f : ℕ → State) (numbers : List ℕ)
     → ((i : ℕ) → Contains numbers i → IsClosed (f i))
     → find (λ i. is_bad (f i)) numbers ≡ None → list_all (λ i. is_good (f i)) numbers ≡ true
 all_unless_bad f [] closed none = refl
-all_unless_bad f (n ∷ ns) closed none = by (is_bad (f n)) refl none
+all_unless_bad f (n ∷ ns) closed none =
+    by (is_bad (f n)) refl none
+    (all_unless_bad f ns (λ i has. closed i (Contains-later n ns i has)))
   where
     by : (bad : Bool) → is_bad (f n) ≡ bad
         → cond bad (Some n) (find (λ i. is_bad (f i)) ns) ≡ None
+        → (find (λ i. is_bad (f i)) ns ≡ None → list_all (λ i. is_good (f i)) ns ≡ true)
         → list_all (λ i. is_good (f i)) (n ∷ ns) ≡ true
-    by true is none_here = let clash : Some n ≡ None = none_here in absurd cc
-    by false is none_here =
+    by true is none_here rest = let clash : Some n ≡ None = none_here in absurd cc
+    by false is none_here rest =
         and_from (is_good (f n)) (list_all (λ i. is_good (f i)) ns)
-        (good_unless_bad (f n) (closed n (Contains-first n ns)) is)
-        (all_unless_bad f ns (λ i has. closed i (Contains-later n ns i has)) none_here)
+        (good_unless_bad (f n) (closed n (Contains-first n ns)) is) (rest none_here)
 
 -- what can be begun is built, and behind closed inputs nothing is blocked
 closed_first : (first : Option ℕ) (all : Bool) → (first ≡ None → all ≡ true)

@@ -1,5 +1,6 @@
 pub mod Aside
 pub mod Foretelling
+pub mod Held
 pub mod Listings
 pub mod Passing
 pub mod Spared

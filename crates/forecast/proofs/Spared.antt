@@ -56,15 +56,15 @@ module _ (d : ℕ) (reason : Reason) where
 
   fails : (events : List Event) → phase_of events d ≡ Broken reason → Fails events
   fails [] is = absurd cc
-  fails (e ∷ events) is = by (phase_of events d) refl is
+  fails (e ∷ events) is = by (phase_of events d) refl is (fails events)
     where
       by : (p : Phase) → phase_of events d ≡ p → later (phase_by e d) p ≡ Broken reason
-          → Fails (e ∷ events)
-      by Idle at there = own_event e events there
-      by (Begun n) at there = absurd cc
-      by Ended at there = absurd cc
-      by (Broken why) at there =
-          let found = fails events (at ∙ there) in
+          → (phase_of events d ≡ Broken reason → Fails events) → Fails (e ∷ events)
+      by Idle at there rest = own_event e events there
+      by (Begun n) at there rest = absurd cc
+      by Ended at there rest = absurd cc
+      by (Broken why) at there rest =
+          let found = rest (at ∙ there) in
           (found.0, Contains-later e events (Fail d found.0 reason) found.1)
 
 -- ---- what is wanted

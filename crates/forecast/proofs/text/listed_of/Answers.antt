@@ -9,3 +9,6 @@ use Rattle.forecast.proofs.text.listed_of.Goals as goal
 
 pub loop-number-init : goal.loop-number-init
 loop-number-init c = rw c.new-listed.ensures.items (listed_none c.args.plan.now.nodes c.args.marks.now)
+
+pub loop-number-preserved : goal.loop-number-preserved
+loop-number-preserved c = let h = c.if-marks-number.branch in ?
