@@ -1,10 +1,10 @@
 -- What the state of a derivation follows from, its own events aside.
-use Rattle.std.proofs.Common.{◌≡◌, ◌∙◌, ℕ, zero, suc, ◌<◌, Bool, true, false, List, [], ◌∷◌, Option, Some, None, refl, sym, ap, subst, ⊎_elim, arith, if◌then◌else◌}
-use Rattle.std.specs.Prelude.{Contains, cond, find}
-use Rattle.std.specs.List.{list_all, list_any, slice_index_or}
+use Rattle.std.proofs.Common.{◌≡◌, ◌∙◌, ℕ, Bool, true, false, List, [], ◌∷◌, None, refl, ap}
+use Rattle.std.specs.Prelude.{Contains, find}
+use Rattle.std.specs.List.{list_all, list_any}
 use Rattle.std.proofs.lemmas.Bool.{false≢true, true≢false}
 use Rattle.nix_names.proofs.Lists.{Contains-first, Contains-later}
-use Rattle.sched_core.specs.States.{IsInOrder, Phase, Rows, by_first, by_hindrance, by_inputs, by_phase, by_twins, by_validity, is_bad, is_done, is_good, is_open, state, states_by, table}
+use Rattle.sched_core.specs.States.{IsInOrder, Phase, Rows, by_hindrance, by_inputs, by_phase, by_twins, by_validity, is_bad, is_done, is_good, is_open, state, table}
 use Rattle.sched_core.specs.declared.reason.State.{State}
 use Rattle.sched_core.specs.declared.reason.State.TheVariants.{Blocked, Building, Done, Failed, Ready, Refused, Reused}
 use Rattle.sched_core.specs.declared.standing.Standing.{Standing}

@@ -1,23 +1,21 @@
 -- The table of foretold states has one solution, in which each derivation is built, reused or
 -- refused.
-use Rattle.std.proofs.Common.{◌≡◌, ◌∙◌, ◌⊎◌, inl, inr, ℕ, zero, suc, ◌<◌, Bool, true, false, List, [], ◌∷◌, Option, Some, None, refl, sym, ap, subst, ⊎_elim, arith, if◌then◌else◌}
+use Rattle.std.proofs.Common.{◌≡◌, ◌∙◌, ◌⊎◌, inl, inr, ℕ, zero, suc, ◌<◌, Bool, true, false, List, [], ◌∷◌, Option, Some, None, refl, sym, ap, subst, arith, if◌then◌else◌}
 use Rattle.std.specs.Prelude.{Contains, cond, find}
-use Rattle.std.specs.List.{list_all, list_any, slice_index_or}
+use Rattle.std.specs.List.{list_all, list_any}
 use Rattle.std.proofs.lemmas.Bool.{and_from, false≢true, true≢false}
 use Rattle.nix_names.proofs.Lists.{Contains-first, Contains-later}
-use Rattle.drv_graph.specs.SoundGraphs.{IsSound}
-use Rattle.valid_table.specs.declared.entry.Entry.{Entry}
-use Rattle.sched_core.specs.Runs.{Run, rows_of}
-use Rattle.sched_core.specs.States.{Idle, IsInOrder, Rows, by_first, by_hindrance, by_inputs, by_phase, by_twins, by_validity, is_bad, is_done, is_good, is_open, states_by, table}
+use Rattle.sched_core.specs.Runs.{rows_of}
+use Rattle.sched_core.specs.States.{Idle, IsInOrder, Rows, by_first, by_hindrance, by_inputs, by_phase, by_twins, by_validity, is_bad, is_done, is_good, is_open}
 use Rattle.sched_core.specs.declared.reason.Refusal.{Refusal}
 use Rattle.sched_core.specs.declared.reason.Refusal.TheVariants.{InputNotRealised}
 use Rattle.sched_core.specs.declared.reason.State.{State}
-use Rattle.sched_core.specs.declared.reason.State.TheVariants.{Blocked, Building, Done, Failed, Ready, Refused, Reused}
+use Rattle.sched_core.specs.declared.reason.State.TheVariants.{Blocked, Done, Refused, Reused}
 use Rattle.sched_core.specs.declared.standing.Standing.{Standing}
 use Rattle.sched_core.specs.declared.standing.Standing.TheVariants.{AllValid, Hindered, Free}
 use Rattle.sched_core.proofs.PlanInputs.{rows_in_order}
 use Rattle.sched_core.proofs.StateLaws.{reads_at, state_at}
-use Rattle.forecast.specs.Forecasts.{ForecastsAgree, ForecastsAreClosed, ForecastsAreOne, built_if_ready, built_table, forecast, foretold}
+use Rattle.forecast.specs.Forecasts.{ForecastsAgree, ForecastsAreClosed, ForecastsAreOne, built_if_ready, built_table, forecast}
 use Rattle.forecast.proofs.Aside.{aside, aside_same, none_passes, table_is}
 
 -- ---- the equation and its uniqueness

@@ -1,6 +1,6 @@
 -- What is held of a forecast says what is foretold.
-use Rattle.std.proofs.Common.{◌≡◌, ◌∙◌, ⊎_elim, ℕ, zero, suc, ◌<◌, ◌≤◌, ◌++◌, Bool, true, false, List, [], ◌∷◌, length, get_or, None, refl, sym, ap, subst, arith}
-use Rattle.std.specs.Prelude.{◌&&◌, ◌↔◌, All, Contains, flat_map, slice_get}
+use Rattle.std.proofs.Common.{◌≡◌, ◌∙◌, ⊎_elim, ℕ, zero, suc, ◌<◌, ◌≤◌, ◌++◌, Bool, true, false, List, [], ◌∷◌, length, get_or, refl, sym, ap, subst, arith}
+use Rattle.std.specs.Prelude.{All, flat_map}
 use Rattle.std.specs.List.{list_all, slice_index_or}
 use Rattle.std.proofs.lemmas.Bool.{and_left, and_right, cases_lt, false≢true}
 use Rattle.std.proofs.lemmas.List.{get_or_past, length-map}
@@ -10,7 +10,7 @@ use Rattle.drv_graph.specs.Plans.{Graph}
 use Rattle.valid_table.specs.declared.entry.Entry.{Entry}
 use Rattle.sched_core.specs.Courses.{AreStandings, AreWanted}
 use Rattle.sched_core.specs.Reports.{lines_if_some, output_lines, outputs_at}
-use Rattle.sched_core.specs.Runs.{IsWanted, Run, rows_of}
+use Rattle.sched_core.specs.Runs.{Run, rows_of}
 use Rattle.sched_core.specs.States.{is_good}
 use Rattle.sched_core.specs.declared.reason.State.{State}
 use Rattle.sched_core.specs.declared.reason.State.TheVariants.{Blocked}
@@ -19,9 +19,9 @@ use Rattle.sched_core.proofs.StateLaws.{length_states, state_at as state_among}
 use Rattle.sched_core.proofs.Tests.{all_pass}
 use Rattle.sched_core.proofs.Wanting.{any_default}
 use Rattle.forecast.specs.Forecasts.{built_table, forecast, foretold}
-use Rattle.forecast.specs.Holding.{AreForetold, IsHeld, state_at, state_of, states_of}
+use Rattle.forecast.specs.Holding.{AreForetold, IsHeld, state_at, state_of}
 use Rattle.forecast.specs.Listing.{IsMarked}
-use Rattle.forecast.specs.Texts.{IsForecast, IsText, is_whole, line_at, line_of}
+use Rattle.forecast.specs.Texts.{IsForecast, IsText, line_at, line_of}
 use Rattle.forecast.specs.declared.prospect.Prospect.{Prospect}
 use Rattle.forecast.proofs.Passing.{AreGood}
 

@@ -1,10 +1,10 @@
 -- What is known on the way through a plan, of the prospects and of the twins that are built.
-use Rattle.std.proofs.Common.{◌≡◌, ◌∙◌, ◌⊎◌, inl, inr, ⊎_elim, ℕ, zero, suc, ◌+◌, ◌<◌, ◌≤◌, Bool, true, false, List, [], ◌∷◌, ◌++◌, length, map, replicate, get_or, Option, Some, None, refl, sym, ap, subst, arith, if◌then◌else◌}
-use Rattle.std.specs.Prelude.{◌==◌, ◌&&◌, Contains, cond, find, slice_get}
+use Rattle.std.proofs.Common.{◌≡◌, ◌∙◌, ◌⊎◌, inl, inr, ⊎_elim, ℕ, zero, suc, ◌<◌, ◌≤◌, Bool, true, false, List, [], ◌∷◌, ◌++◌, length, replicate, get_or, Some, refl, sym, ap, subst, arith, if◌then◌else◌}
+use Rattle.std.specs.Prelude.{Contains, cond, find, slice_get}
 use Rattle.std.specs.List.{list_all, list_any, slice_index_or}
 use Rattle.std.proofs.Math.ListN.{get_or-append, length-append, length-set, set}
 use Rattle.std.proofs.Math.Seq.{get_or-append_seam}
-use Rattle.std.proofs.lemmas.Bool.{and_from, and_parts, cases_eq, cases_lt, eq-eqb, eqb-true, false≢true, true≢false}
+use Rattle.std.proofs.lemmas.Bool.{and_from, cases_eq, cases_lt, eq-eqb, eqb-true, false≢true, true≢false}
 use Rattle.std.proofs.lemmas.List.{get_or-map, get_or-replicate, get_or-set_other, get_or-set_same, get_or_past, length-map, length-replicate, map-append}
 use Rattle.drv_graph.specs.Nodes.{Node}
 use Rattle.drv_graph.specs.Plans.{Graph}
@@ -13,18 +13,18 @@ use Rattle.drv_graph.specs.Twins.{are_twins_at, first_twin_of}
 use Rattle.valid_table.specs.declared.entry.Entry.{Entry}
 use Rattle.sched_core.specs.Courses.{AreStandings, AreWanted}
 use Rattle.sched_core.specs.Runs.{Run, earlier_twins, inputs_at, is_wanted, rows_of, standing_at}
-use Rattle.sched_core.specs.States.{Rows, by_first, by_hindrance, by_inputs, by_twins, by_validity, is_bad, is_done, is_good, is_open, states_by}
+use Rattle.sched_core.specs.States.{by_first, by_hindrance, by_inputs, by_twins, by_validity, is_bad, is_done, is_good, is_open, states_by}
 use Rattle.sched_core.specs.declared.reason.State.{State}
 use Rattle.sched_core.specs.declared.reason.State.TheVariants.{Blocked, Done, Refused, Reused}
 use Rattle.sched_core.specs.declared.reason.Refusal.TheVariants.{InputNotRealised}
 use Rattle.sched_core.specs.declared.standing.Standing.{Standing}
-use Rattle.sched_core.specs.declared.standing.Standing.TheVariants.{AllValid, Free, Hindered}
+use Rattle.sched_core.specs.declared.standing.Standing.TheVariants.{Free}
 use Rattle.sched_core.proofs.EarlierTwins.{twins_from}
 use Rattle.sched_core.proofs.Tests.{any_passes, one_passes, same_test}
 use Rattle.sched_core.proofs.TwinLaws.{first_within, is_earlier_twin, same_first}
 use Rattle.sched_core.proofs.Wanting.{any_default, wanted_told}
 use Rattle.forecast.specs.Forecasts.{built_if_ready, built_table}
-use Rattle.forecast.specs.Holding.{state_at, state_of, states_of}
+use Rattle.forecast.specs.Holding.{AreForetold, state_at, state_of, states_of}
 use Rattle.forecast.specs.declared.prospect.Prospect.{Prospect}
 use Rattle.forecast.specs.declared.prospect.Prospect.TheVariants.{Build, Refuse, Reuse}
 use Rattle.forecast.proofs.Aside.{all_from, good_not_bad, none_bad, none_passes}
@@ -32,10 +32,9 @@ use Rattle.forecast.proofs.Foretelling.{built_is}
 
 -- ---- prospects, and the states that they foretell
 
-pub read_state : (prospects : List Prospect) (i : ℕ) (p : Prospect) → i < length prospects
-    → p ≡ slice_index_or prospects i p → state_at prospects i ≡ state_of p
-read_state prospects i p low is = get_or-map state_of prospects i p Blocked low
-    ∙ ap state_of (sym is)
+pub read_state : (prospects : List Prospect) (i : ℕ) → i < length prospects
+    → state_of (slice_index_or prospects i Build) ≡ state_at prospects i
+read_state prospects i low = sym (get_or-map state_of prospects i Build Blocked low)
 
 pub state_past : (prospects : List Prospect) (i : ℕ) → length prospects ≤ i
     → state_at prospects i ≡ Blocked
@@ -379,3 +378,63 @@ first_more graph standings wanted prospects built p standing marked inputs sound
         ∙ ap (λ s. states_of prospects ++ s ∷ []) here
         ∙ ap (λ (ss : List State). ss ++ rule (λ i. slice_index_or ss i Blocked) d ∷ []) before
         ∙ sym (states_next rule d) ∙ ap (states_by rule) (sym count)
+
+-- ---- one derivation more, by its number
+
+pub first_next : (graph : Graph) (standings : List Standing) (wanted : List Bool)
+    (prospects more : List Prospect) (built : List Bool) (d : ℕ) (p : Prospect)
+    (standing : Standing) (marked : Bool) (inputs : List ℕ) → IsSound graph
+    → length prospects ≡ d → d < length graph.nodes → standing ≡ slice_index_or standings d Free
+    → marked ≡ slice_index_or built (first_twin_of graph.nodes d) false
+    → inputs ≡ inputs_at graph.nodes (slice_get graph.nodes d)
+    → state_of p ≡ built_if_ready (by_validity standing (if marked then Reused
+    else by_hindrance standing (by_inputs (state_at prospects) inputs)))
+    → more ≡ prospects ++ p ∷ []
+    → AreBuilt graph.nodes wanted prospects built → AreFirst graph standings wanted prospects
+    → AreFirst graph standings wanted more
+first_next graph standings wanted prospects more built d p standing marked inputs sound count low
+    stands marks used is added are_built are =
+    subst (AreFirst graph standings wanted) (sym added)
+    (first_more graph standings wanted prospects built p standing marked inputs sound
+    (subst (λ n. n < length graph.nodes) (sym count) low)
+    (stands ∙ ap (λ n. slice_index_or standings n Free) (sym count))
+    (marks ∙ ap (λ n. slice_index_or built (first_twin_of graph.nodes n) false) (sym count))
+    (used ∙ ap (λ n. inputs_at graph.nodes (slice_get graph.nodes n)) (sym count))
+    is are_built are)
+
+pub marked_next : (nodes : List Node) (wanted : List Bool) (prospects more : List Prospect)
+    (built after : List Bool) (d first : ℕ) (p : Prospect) → length prospects ≡ d
+    → d < length nodes → first ≡ first_twin_of nodes d → slice_index_or wanted d false ≡ true
+    → is_done (state_of p) ≡ true → more ≡ prospects ++ p ∷ [] → after ≡ set built first true
+    → AreBuilt nodes wanted prospects built → AreBuilt nodes wanted more after
+marked_next nodes wanted prospects more built after d first p count low first_is is done added
+    marked are =
+    subst (λ ps. AreBuilt nodes wanted ps after) (sym added)
+    (subst (AreBuilt nodes wanted (prospects ++ p ∷ []))
+    (sym (marked ∙ ap (λ n. set built n true)
+    (first_is ∙ ap (first_twin_of nodes) (sym count))))
+    (built_marked nodes wanted prospects p built (subst (λ n. n < length nodes) (sym count) low)
+    (ap (λ n. slice_index_or wanted n false) count ∙ is) done are))
+
+pub kept_next : (nodes : List Node) (wanted : List Bool) (prospects more : List Prospect)
+    (built after : List Bool) (d : ℕ) (p : Prospect) → length prospects ≡ d
+    → (slice_index_or wanted d false ≡ true → is_done (state_of p) ≡ true → ⊥)
+    → more ≡ prospects ++ p ∷ [] → after ≡ built
+    → AreBuilt nodes wanted prospects built → AreBuilt nodes wanted more after
+kept_next nodes wanted prospects more built after d p count neither added same are =
+    subst (λ ps. AreBuilt nodes wanted ps after) (sym added)
+    (subst (AreBuilt nodes wanted (prospects ++ p ∷ [])) (sym same)
+    (built_kept nodes wanted prospects p built
+    (λ is done. neither (ap (λ n. slice_index_or wanted n false) (sym count) ∙ is) done) are))
+
+-- in the end they foretell all states
+pub all_first : (graph : Graph) (standings : List Standing) (wanted : List Bool)
+    (prospects : List Prospect) → length prospects ≡ length graph.nodes
+    → AreFirst graph standings wanted prospects
+    → (run : Run) (opening : List Entry) → run.graph ≡ graph
+    → AreStandings run.system opening graph.nodes standings → AreWanted run opening wanted
+    → AreForetold run opening prospects
+all_first graph standings wanted prospects count are run opening same stand want =
+    are.each run opening same stand want
+    ∙ ap (states_by (built_table (rows_of run opening [])))
+    (count ∙ ap (λ (g : Graph). length g.nodes) (sym same))

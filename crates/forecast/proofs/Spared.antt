@@ -1,14 +1,14 @@
 -- What no failure reaches ends as was foretold.
-use Rattle.std.proofs.Common.{◌≡◌, ◌∙◌, ◌⊎◌, inl, inr, ℕ, zero, suc, ◌<◌, Bool, true, false, List, [], ◌∷◌, length, refl, sym, ap, subst, arith, if◌then◌else◌}
-use Rattle.std.specs.Prelude.{Contains, slice_get}
+use Rattle.std.proofs.Common.{◌≡◌, ◌∙◌, inl, inr, ℕ, zero, suc, ◌<◌, Bool, true, false, List, [], ◌∷◌, length, refl, sym, ap, subst, arith, if◌then◌else◌}
+use Rattle.std.specs.Prelude.{Contains}
 use Rattle.std.proofs.Math.Dec.{eqb}
 use Rattle.std.proofs.lemmas.List.Elements.{All-contains}
 use Rattle.nix_names.proofs.Lists.{Contains-first, Contains-later}
 use Rattle.drv_graph.specs.SoundGraphs.{IsSound}
 use Rattle.valid_table.specs.declared.entry.Entry.{Entry}
 use Rattle.sched_core.specs.Courses.{IsOpen}
-use Rattle.sched_core.specs.Runs.{History, IsWanted, Run, earlier_twins, inputs_at, rows_of, standing_at, state_in, wanted_input, wanted_root}
-use Rattle.sched_core.specs.States.{Begun, Broken, Ended, Idle, Phase, Rows, by_phase, later, phase_by, phase_of, state}
+use Rattle.sched_core.specs.Runs.{History, IsWanted, Run, earlier_twins, rows_of, state_in, wanted_input, wanted_root}
+use Rattle.sched_core.specs.States.{Begun, Broken, Ended, Idle, Phase, Rows, by_phase, later, phase_by, phase_of}
 use Rattle.sched_core.specs.declared.reason.Event.{Event}
 use Rattle.sched_core.specs.declared.reason.Event.TheVariants.{Begin, Done as Finish, Fail}
 use Rattle.sched_core.specs.declared.reason.Reason.{Reason}
@@ -21,7 +21,7 @@ use Rattle.sched_core.proofs.Seeds.{same_number}
 use Rattle.sched_core.proofs.StateLaws.{reads_at}
 use Rattle.sched_core.proofs.TwinLaws.{is_earlier_twin}
 use Rattle.sched_core.proofs.Wanting.{wanted_told}
-use Rattle.forecast.specs.Forecasts.{built_if_ready, built_table, forecast, foretold}
+use Rattle.forecast.specs.Forecasts.{built_if_ready, built_table, foretold}
 use Rattle.forecast.specs.Truths.{HasEnded, HasFailed, IsSpared, NoneFailed, SparedComeTrue, StatesComeTrue, spared}
 use Rattle.forecast.proofs.Aside.{aside, aside_same, state_aside}
 use Rattle.forecast.proofs.Foretelling.{built_is, foretold_by, read_is}
@@ -50,9 +50,11 @@ module _ (d : ℕ) (reason : Reason) where
       by true same there =
           let number : k ≡ d = same_number k d same in
           let cause : why ≡ reason = cc in
-          let event : Fail k n why ≡ Fail d n reason = cc in
-          (n, subst (Contains (Fail k n why ∷ events)) event
-              (Contains-first (Fail k n why) events))
+          let event : Fail k n why ≡ Fail d n reason = cc in (
+            n,
+            subst (Contains (Fail k n why ∷ events)) event
+                (Contains-first (Fail k n why) events),
+          )
 
   fails : (events : List Event) → phase_of events d ≡ Broken reason → Fails events
   fails [] is = absurd cc

@@ -1,19 +1,16 @@
 -- A derivation that has begun was wanted, and nothing has come in its way since.
-use Rattle.std.proofs.Common.{◌≡◌, ◌∙◌, ◌⊎◌, inl, inr, ℕ, ◌<◌, Bool, true, false, List, [], ◌∷◌, ◌++◌, length, Option, Some, None, refl, sym, ap, subst, ⊎_elim, arith, if◌then◌else◌}
+use Rattle.std.proofs.Common.{◌≡◌, ◌∙◌, ◌⊎◌, inl, inr, ℕ, Bool, true, false, List, [], ◌∷◌, ◌++◌, refl, sym, ap, subst, ⊎_elim, arith, if◌then◌else◌}
 use Rattle.std.specs.Prelude.{Contains, find}
 use Rattle.std.specs.List.{list_all, list_any}
 use Rattle.std.proofs.Math.Dec.{eqb}
-use Rattle.std.proofs.lemmas.Bool.{false≢true}
 use Rattle.nix_names.proofs.Lists.{either_side}
 use Rattle.drv_graph.specs.SoundGraphs.{IsSound}
-use Rattle.sched_core.specs.Legal.{IsLegal, begins, begun, ended, failed, legal_begin, legal_done, legal_fail, legal_opening}
+use Rattle.sched_core.specs.Legal.{IsLegal, begins, legal_begin, legal_done, legal_fail, legal_opening}
 use Rattle.sched_core.specs.Runs.{History, Run, rows_of, state_in}
 use Rattle.sched_core.specs.States.{Begun, Broken, Ended, Idle, Phase, Rows, by_inputs, is_bad, is_done, is_good, is_open, later, phase_by, phase_of, state}
 use Rattle.sched_core.specs.declared.reason.Event.{Event}
 use Rattle.sched_core.specs.declared.reason.Event.TheVariants.{Begin, Done as Finish, Fail}
-use Rattle.sched_core.specs.declared.reason.Reason.{Reason}
-use Rattle.sched_core.specs.declared.reason.State.{State}
-use Rattle.sched_core.specs.declared.reason.State.TheVariants.{Blocked, Building, Done, Failed, Ready, Refused, Reused}
+use Rattle.sched_core.specs.declared.reason.State.TheVariants.{Ready}
 use Rattle.sched_core.specs.declared.standing.Standing.TheVariants.{Free}
 use Rattle.sched_core.proofs.ClosedStates.{bad_is_closed, bad_is_not_done, states_stay}
 use Rattle.sched_core.proofs.EarlierTwins.{run_twins}

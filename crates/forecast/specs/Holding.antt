@@ -1,7 +1,6 @@
 -- How the code holds a forecast.
 use Rattle.std.specs.Prelude.{◌≡◌, Bool, ℕ, List, [], length, map}
 use Rattle.std.specs.List.{slice_index_or}
-use Rattle.drv_graph.specs.Plans.{Graph}
 use Rattle.valid_table.specs.declared.entry.Entry.{Entry}
 use Rattle.sched_core.specs.Courses.{AreWanted}
 use Rattle.sched_core.specs.Runs.{Run, rows_of}

@@ -5,7 +5,7 @@ ghost use Rattle.forecast.specs.Forecasts.{foretold};
 ghost use Rattle.forecast.specs.Holding.{state_of};
 ghost use Rattle.forecast.specs.Texts.{IsForecast, is_whole};
 
-use crate::prospect::Prospect;
+use crate::prospect::{Prospect, prospect_at};
 use crate::prospects::prospects_of;
 use crate::text::text_of;
 use drv_graph::Plan;
@@ -79,7 +79,7 @@ impl Forecast {
         requires { d < length self.now.run.graph.nodes }
         ensures { state_of result ≡ foretold self.now.run self.now.entries d }
     {
-        self.prospects[d]
+        prospect_at(&self.prospects, d)
     }
 
     /// Whether each root is built or reused.
@@ -89,7 +89,7 @@ impl Forecast {
         let count = self.plan.len();
         'roots: for root in self.plan.roots() {
             prove!(*root < count);
-            if !self.prospects[*root].is_good() {
+            if !prospect_at(&self.prospects, *root).is_good() {
                 return false;
             }
         }

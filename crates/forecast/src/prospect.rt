@@ -34,6 +34,14 @@ impl Prospect {
     }
 }
 
+// The prospect of the derivation with this number.
+pub(crate) fn prospect_at(prospects: &[Prospect], number: usize) -> Prospect
+    requires { number < length prospects.now }
+    ensures { state_of result ≡ state_at prospects.now number }
+{
+    prospects[number]
+}
+
 // The prospect of a derivation that stands so by itself, of which an earlier twin is built or not,
 // with these inputs, behind the derivations before it.
 pub(crate) fn prospect_of(
@@ -61,7 +69,7 @@ fn behind(inputs: &[usize], earlier: &[Prospect]) -> Prospect
     ensures { state_of result ≡ built_if_ready (by_inputs (state_at earlier.now) inputs.now) }
 {
     for input in inputs {
-        if !earlier[*input].is_good() {
+        if !prospect_at(earlier, *input).is_good() {
             return Prospect::Refuse(Refusal::InputNotRealised(*input));
         }
     }

@@ -9,7 +9,7 @@ ghost use Rattle.forecast.specs.Listing.{AreListed, AreWithin, IsMarked, numbers
 ghost use Rattle.forecast.specs.Texts.{IsText, line_at};
 ghost use Rattle.forecast.specs.declared.text.Listed.{Listed};
 
-use crate::prospect::Prospect;
+use crate::prospect::{Prospect, prospect_at};
 use drv_graph::Plan;
 use nix_drv::Derivation;
 use nix_names::StorePath;
@@ -44,11 +44,7 @@ pub(crate) fn text_of(
 }
 
 // The marked derivations, by path.
-fn by_path<'a>(
-    alloc: Global,
-    plan: &'a Plan,
-    marks: &[bool],
-) -> Result<Vec<Listed<'a>>, AllocError>
+fn by_path<'a>(alloc: Global, plan: &'a Plan, marks: &[bool]) -> Result<Vec<Listed<'a>>, AllocError>
     requires { length marks.now ≡ length plan.now.nodes }
     ensures by_path { IfOk result
         (λ listed. AreByPath plan.now.nodes (IsMarked marks.now (length plan.now.nodes))
@@ -95,7 +91,7 @@ fn write_lines(
         listed.now) }
 {
     'listed: for one in listed {
-        write_line(plan, one.number, prospects[one.number], out)?;
+        write_line(plan, one.number, prospect_at(prospects, one.number), out)?;
     }
     Ok(())
 }
@@ -109,7 +105,7 @@ fn write_roots(plan: &Plan, prospects: &[Prospect], out: &mut Vec<u8>) -> Result
     let count = plan.len();
     'roots: for root in plan.roots() {
         prove!(*root < count);
-        write_root(plan, *root, prospects[*root], out)?;
+        write_root(plan, *root, prospect_at(prospects, *root), out)?;
     }
     Ok(())
 }
