@@ -12,6 +12,7 @@ pub mod EnteredPaths
 pub mod EntriesRead
 pub mod EntryLines
 pub mod EqualEntries
+pub mod FirstRows
 pub mod Following
 pub mod JournalLists
 pub mod Leading

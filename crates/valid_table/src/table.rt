@@ -14,6 +14,7 @@ use crate::fault::TableFault;
 use crate::journal::Journal;
 use crate::links::Links;
 use crate::obstacle::{Blame, Obstacle, fault_of, obstacle_of};
+use crate::order::Order;
 use crate::rows::{add_rows, has_row, push_entry};
 use indexmap::IndexMap;
 use nix_names::StorePath;
@@ -28,10 +29,14 @@ pub struct Table {
     rows: IndexMap<StorePath, Record>,
     // The references of the first rows, by number.
     links: Links,
+    // The order of the first rows.
+    order: Order,
 }
 
 impl Model for Table {
     ghost use Rattle.indexmap.specs.IndexMap.{spare};
+    ghost use Rattle.std.specs.Prelude.{length};
+    ghost use Rattle.valid_table.specs.FirstRows.{AreFirst, rows_behind};
     ghost use Rattle.valid_table.specs.Linking.{AreLinked};
     ghost use Rattle.valid_table.specs.Tables.{TableValue, registrations_of};
     ghost use Rattle.valid_table.specs.Valid.{AreReferencesValid, IsOnce};
@@ -43,7 +48,8 @@ impl Model for Table {
 
     ghost invariant = { λ t. IsOnce (registrations_of t.rows.entries)
         × AreReferencesValid (registrations_of t.rows.entries)
-        × AreLinked (registrations_of t.rows.entries) t.links.ends.items t.links.numbers.items };
+        × AreLinked (registrations_of t.rows.entries) t.links.ends.items t.links.numbers.items
+        × AreFirst (length t.rows.entries) (rows_behind t.order.keyed.items) };
 }
 
 impl Table {
@@ -54,6 +60,7 @@ impl Table {
         Table {
             rows: IndexMap::new(alloc),
             links: Links::new(alloc),
+            order: Order::new(alloc),
         }
     }
 
@@ -91,7 +98,7 @@ impl Table {
     pub fn closure(&self, alloc: Global, roots: &[StorePath]) -> Result<Vec<StorePath>, TableFault>
         ensures { IsClosing self.now.registrations roots.now result }
     {
-        close(alloc, &self.rows, &self.links, roots)
+        close(alloc, &self.rows, &self.links, &self.order, roots)
     }
 
     /// What stands against an entry, if anything: the first path of its registrations that is
@@ -132,6 +139,7 @@ impl Table {
     {
         let alloc = *self.rows.allocator();
         self.links.link(alloc, &self.rows);
+        self.order.extend(&self.rows);
         self.rows.reserve(paths)?;
         Ok(())
     }
@@ -195,6 +203,7 @@ impl Table {
         let alloc = *rows.allocator();
         let mut links = Links::new(alloc);
         links.link(alloc, &rows);
-        Table { rows, links }
+        let order = Order::new(alloc);
+        Table { rows, links, order }
     }
 }
