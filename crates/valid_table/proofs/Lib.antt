@@ -9,6 +9,7 @@ pub mod ClosureLaws
 pub mod Closures
 pub mod DigestTexts
 pub mod EnteredPaths
+pub mod EnteredRows
 pub mod EntriesRead
 pub mod EntryLines
 pub mod EqualEntries

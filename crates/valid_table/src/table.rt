@@ -92,8 +92,8 @@ impl Table {
     /// All that the roots lead to by references, the roots among them, in strictly rising order; no
     /// roots lead to nothing. `NotValid` with the first root that is not valid, `NoMemory` where
     /// memory is refused; no other fault. Costs a bit for each row of the table, one look-up by hash
-    /// for each root, a step for each reference of what is reached, one sort of numbers, and a copy
-    /// and a comparison for each path. A path that was registered behind the last call that made
+    /// for each root, a step for each reference of what is reached, a sort of numbers most of which
+    /// are in order, and a copy and a comparison for each path. A path that was registered behind the last call that made
     /// room costs one look-up by hash for each of its references instead. Does not recurse.
     pub fn closure(&self, alloc: Global, roots: &[StorePath]) -> Result<Vec<StorePath>, TableFault>
         ensures { IsClosing self.now.registrations roots.now result }
@@ -129,8 +129,9 @@ impl Table {
 
     /// Makes room for so many more paths. Want of memory is its only fault; what is registered
     /// stays. Costs one look-up by hash for each reference of what was registered behind the last
-    /// call that made room, so that closures need none for it. Where memory is refused for that,
-    /// nothing is told: closures cost the look-ups.
+    /// call that made room, so that closures need none for it, and a few steps for each row, by which
+    /// most rows stand in the order of their paths. Where memory is refused for these, nothing is
+    /// told: closures cost the look-ups, or more of a sort.
     pub fn reserve(&mut self, paths: usize) -> Result<(), AllocError>
         ensures same { self.new.registrations ≡ self.old.registrations }
         ensures ok { OnOk result (paths ≤ self.new.room) }
