@@ -67,4 +67,8 @@ pub use job::{Answer, Job, JobOutput};
 pub use lease::Lease;
 pub use permitted::permitted_beside;
 pub use reason::{Event, Reason, Refusal, State};
+pub use standing::Standing;
+pub use standings::standings_of;
 pub use verdict::examine;
+pub use wanted::wanted_of;
+pub use words::write_refusal;

@@ -14,10 +14,11 @@ use nix_names::StorePath;
 use std::alloc::Global;
 use valid_table::Journal;
 
-// Of each derivation, where it stands by itself behind the journal's entries, in a run for the
-// system. Costs a look-up by hash for each output, up to two where not all are valid, and for each
-// source, and a few comparisons for each entry of an environment.
-pub(crate) fn standings_of(
+/// Of each derivation, where it stands by itself behind the journal's entries, in a run for the
+/// system. `NoMemory`, the only fault, where memory is refused. Costs a look-up by hash for each
+/// output, up to two where not all are valid, and for each source, and a few comparisons for each
+/// entry of an environment.
+pub fn standings_of(
     alloc: Global,
     plan: &Plan,
     journal: &Journal,

@@ -10,9 +10,9 @@ use crate::standing::Standing;
 use drv_graph::Plan;
 use std::alloc::{AllocError, Global};
 
-// Of each derivation, whether it is wanted, where they stand so by themselves. Linear in the pairs
-// of a user and an input.
-pub(crate) fn wanted_of(
+/// Of each derivation, whether it is wanted, where they stand so by themselves. `NoMemory`, the only
+/// fault, where memory is refused. Linear in the pairs of a user and an input.
+pub fn wanted_of(
     alloc: Global,
     plan: &Plan,
     standings: &[Standing],

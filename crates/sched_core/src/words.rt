@@ -35,8 +35,8 @@ pub(crate) fn write_reason(
     }
 }
 
-// Adds why a derivation of a plan is not begun.
-pub(crate) fn write_refusal(
+/// Adds why a derivation of a plan is not begun: the cause's name, and its value in parentheses.
+pub fn write_refusal(
     plan: &Plan,
     drv: &Derivation,
     cause: Refusal,
