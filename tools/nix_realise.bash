@@ -4,6 +4,7 @@ _nix_realise_options() {
     case $1 in
         check | add-drv) echo "--store-dir --help" ;;
         add-text) echo "--store-dir --journal --help" ;;
+        plan) echo "--store-dir --journal --system --help" ;;
         realise) echo "--store-dir --journal --system --jobs --help" ;;
         help) ;;
         *) echo "--help --version" ;;
@@ -36,7 +37,7 @@ _nix_realise_files() {
 
 # A word that is no option's value.
 _nix_realise_word() {
-    local begun=$1 words commands="check add-text add-drv realise help"
+    local begun=$1 words commands="check add-text add-drv plan realise help"
     mapfile -t words < <(_nix_realise_words)
     if [[ $begun == -* ]]; then
         mapfile -t COMPREPLY < <(compgen -W "$(_nix_realise_options "${words[0]-}")" -- "$begun")
@@ -45,7 +46,7 @@ _nix_realise_word() {
     case ${words[0]-}:${#words[@]} in
         :*) mapfile -t COMPREPLY < <(compgen -W "$commands" -- "$begun") ;;
         help:1) mapfile -t COMPREPLY < <(compgen -W "$commands" -- "$begun") ;;
-        check:* | realise:*) _nix_realise_files "$begun" "*.drv" ;;
+        check:* | plan:* | realise:*) _nix_realise_files "$begun" "*.drv" ;;
         add-text:2 | add-drv:2) _nix_realise_files "$begun" "*" ;;
     esac
 }
