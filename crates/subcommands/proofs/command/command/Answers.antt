@@ -9,7 +9,7 @@ pub returns : goal.returns
 returns c =
     let check = grown_by_subcommand _ _ _ _ _ refl c.top.ensures c.in_ok-check_command.ensures
     c.in_ok-command.ensures in
-    let more = c.in_ok-with_adding.ensures
+    let more = c.in_ok-command-2.ensures
     ∙ ap (λ a. with_subcommand (with_subcommand a add_text_line.top) add_drv_line.top) check in
     IfOk-weaker c.with_running.result _ _
     (λ command is. is
