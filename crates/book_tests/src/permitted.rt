@@ -1,4 +1,6 @@
 //! What is permitted beside a closure.
+ghost use Rattle.std.specs.Prelude.{IfOk};
+ghost use Rattle.nix_names.specs.Rising.{IsRising};
 
 use crate::books::{journal, paths};
 use crate::files::*;
@@ -61,7 +63,9 @@ const REGISTERED: [&[u8]; 10] = [
 ];
 
 // What these paths lead to, which are all registered.
-fn reached(alloc: Global, texts: &[&[u8]]) -> Result<Vec<StorePath>, Fail> {
+fn reached(alloc: Global, texts: &[&[u8]]) -> Result<Vec<StorePath>, Fail>
+    ensures { IfOk result (λ paths. IsRising paths.items) }
+{
     let table = Table::replay(alloc, &journal(alloc, &REGISTERED)?)?;
     Ok(table.closure(alloc, &paths(alloc, texts)?)?)
 }

@@ -68,11 +68,7 @@ fn system(alloc: Global) -> Result<Vec<u8>, AllocError> {
 }
 
 /// The forecast of a run with these roots that opens with this journal.
-pub(crate) fn forecast(
-    alloc: Global,
-    roots: &[&[u8]],
-    before: &[&[u8]],
-) -> Result<Forecast, Fail> {
+pub(crate) fn forecast(alloc: Global, roots: &[&[u8]], before: &[&[u8]]) -> Result<Forecast, Fail> {
     let plan = plan(alloc, roots)?;
     let journal = journal(alloc, before)?;
     let system = system(alloc)?;

@@ -1,8 +1,8 @@
 -- The characters of digits.
-use Rattle.std.proofs.Common.{◌≡◌, ◌+◌, ◌<◌, ◌==◌, ℕ, suc, Bool, true, false, List, [], ◌∷◌, ◌||◌, length, inl, inr, refl, sym, subst, ◌∙◌, arith}
-use Rattle.std.specs.Prelude.{nat_lt, map, cond, not}
+use Rattle.std.proofs.Common.{◌≡◌, ◌+◌, ◌<◌, ◌==◌, ℕ, suc, Bool, true, false, List, [], ◌∷◌, ◌||◌, length, refl, arith}
+use Rattle.std.specs.Prelude.{◌/◌, ◌%◌, ◌^◌, nat_lt, map, cond, not, slice_index}
 use Rattle.std.specs.List.{list_all, list_any, range_with_len, position_or_len, All}
-use Rattle.std.proofs.lemmas.Bool.{cases_Bool, eqb-true, false_from_ne_true, false≢true, ltb-true, lt-ltb}
+use Rattle.std.proofs.lemmas.Bool.{eqb-true, ltb-true}
 use Rattle.std.proofs.lemmas.List.Elements.{All-head, All-tail}
 use Rattle.std.proofs.lemmas.List.Sums.{passes_at_first}
 use Rattle.nix_names.specs.Base32.{alphabet, digit_char, digit_of, is_digit}
@@ -51,19 +51,30 @@ char_at_place c below = eqb-true (digit_char (digit_of c)) c
 pub digit_char_digit_of : (c : ℕ) → is_digit c ≡ true → digit_char (digit_of c) ≡ c
 digit_char_digit_of c is = char_at_place c (digit_of_below c is)
 
--- a character is one of the alphabet where its digit is below 32
-is_digit_where_below : (c : ℕ) → digit_of c < 32 → is_digit c ≡ true
-is_digit_where_below c below = subst (λ x. is_digit x ≡ true) (char_at_place c below)
-    (is_digit_digit_char (digit_of c) below)
+-- a truth as a bit
+abbrev bit : Bool → ℕ
+bit true = 1
+bit false = 0
 
-pub is_digit_by_digit : (c : ℕ) → nat_lt (digit_of c) 32 ≡ is_digit c
-is_digit_by_digit c =
-    elim (cases_Bool (is_digit c)) [
-      | inl is ↦ lt-ltb (digit_of c) 32 (digit_of_below c is) ∙ sym is
-      | inr isnt ↦ false_from_ne_true (nat_lt (digit_of c) 32)
-          (λ e. false≢true (sym isnt ∙ is_digit_where_below c (ltb-true (digit_of c) 32 e)))
-          ∙ sym isnt
-    ]
+-- a truth is told by its bit
+told_by_bit : (n : ℕ) (b : Bool) → n ≡ bit b → (n == 1) ≡ b
+told_by_bit n true e = rw e refl
+told_by_bit n false e = rw e refl
+
+-- the bit of a character in eight words of 32 bits
+abbrev bit_in : List ℕ → ℕ → ℕ
+bit_in words c = slice_index words (c / 32) / 2 ^ (c % 32) % 2
+
+-- the words in which the bits of the alphabet are set
+abbrev digit_bits : List ℕ
+digit_bits = 0 ∷ 67043328 ∷ 0 ∷ 131039198 ∷ 0 ∷ 0 ∷ 0 ∷ 0 ∷ []
+
+pub is_digit_by_bit : (c : ℕ) → c < 256 → (bit_in digit_bits c == 1) ≡ is_digit c
+is_digit_by_bit c below =
+    told_by_bit (bit_in digit_bits c) (is_digit c)
+    (eqb-true (bit_in digit_bits c) (bit (is_digit c))
+    (each_from 0 256 (λ x. bit_in digit_bits x == bit (is_digit x)) refl c (omega arith)
+    (omega arith)))
 
 pub map_digit_of : (ds : List ℕ) → All (λ d. d < 32) ds → map digit_of (map digit_char ds) ≡ ds
 map_digit_of [] below = refl

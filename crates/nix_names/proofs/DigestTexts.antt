@@ -1,12 +1,11 @@
 -- Bytes and their hexadecimal digits, and what the digits and the text of a digest tell.
-use Rattle.std.proofs.Common.{◌≡◌, ◌≢◌, ◌<◌, ℕ, List, [], ◌∷◌, ◌++◌, get_or, length, Option, Some, None, Ok, Err, inl, inr, refl, sym, ap, subst, ◌∙◌, arith, rules}
+use Rattle.std.proofs.Common.{◌≡◌, ◌≢◌, ◌<◌, ℕ, List, [], ◌∷◌, ◌++◌, get_or, length, Option, Some, None, Ok, inl, inr, refl, sym, ap, subst, ◌∙◌, arith, rules}
 use Rattle.std.specs.Prelude.{All, MatchOption}
 use Rattle.std.proofs.lemmas.Bool.{cases_lt}
 use Rattle.std.proofs.lemmas.List.{get_or_past}
-use Rattle.std.proofs.lemmas.List.Elements.{All-cons, All-from_get_or, All-head, All-nil, All-tail}
+use Rattle.std.proofs.lemmas.List.Elements.{All-cons, All-head, All-nil, All-tail}
 use Rattle.hex.specs.Hex.{IsBytes, decode_sized, encode_lower}
-use Rattle.hex.specs.declared.error.FromHexError.{FromHexError}
-use Rattle.hex.proofs.HexLemmas.{decode_of-ok, decode_sized-encode_lower, decode_sized-ok, decode_sized-twice}
+use Rattle.hex.proofs.HexLemmas.{decode_sized-encode_lower}
 use Rattle.nix_names.specs.Digests.{DigitsAreOfOneDigest, IsDigest, TextIsOfOneDigest, algorithm_of, bytes_of, digest_with, digits_of, name_of, size_of, text_of}
 use Rattle.nix_names.specs.declared.digest.Algorithm.{Algorithm}
 use Rattle.nix_names.specs.declared.digest.Algorithm.TheVariants.{Md5, Sha1, Sha256, Sha512}
@@ -31,27 +30,6 @@ bytes_everywhere xs each i =
 pub digits_decode : (n : ℕ) (bytes : List ℕ) → AreBytes n bytes
     → decode_sized (encode_lower bytes) n ≡ Ok bytes
 digits_decode n bytes are = decode_sized-encode_lower bytes n are.0 (bytes_everywhere bytes are.1)
-
--- what a text decodes to is bytes
-pub decoded : (n : ℕ) (text bytes : List ℕ) → decode_sized text n ≡ Ok bytes → AreBytes n bytes
-decoded n text bytes ok =
-    let long = decode_sized-ok text n bytes ok in
-    let parts = decode_of-ok text bytes (sym (decode_sized-twice text n long) ∙ ok) in
-    (omega (arith, parts.2), All-from_get_or (λ b. b < 256) bytes 0 (λ i within. parts.3 i))
-
--- a text that doesn't decode has no bytes' digits
-pub no_digits : (n : ℕ) (text : List ℕ) (e : FromHexError) → decode_sized text n ≡ Err e
-    → (bytes : List ℕ) → AreBytes n bytes → text ≢ encode_lower bytes
-no_digits n text e err bytes are same =
-    let ok = rw (← same) at (digits_decode n bytes are) in cc
-
--- nor has one that decodes to bytes with other digits
-pub other_digits : (n : ℕ) (text found : List ℕ) → decode_sized text n ≡ Ok found
-    → text ≢ encode_lower found → (bytes : List ℕ) → AreBytes n bytes → text ≢ encode_lower bytes
-other_digits n text found ok other bytes are same =
-    let again = rw (← same) at (digits_decode n bytes are) in
-    let one : found ≡ bytes = cc in
-    other (same ∙ ap encode_lower (sym one))
 
 -- bytes are told by their digits
 pub one_list : (n : ℕ) (a b : List ℕ) → AreBytes n a → AreBytes n b

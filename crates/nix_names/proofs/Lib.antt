@@ -6,6 +6,7 @@ pub mod Base32Laws
 pub mod Base32Reading
 pub mod Base32Runs
 pub mod Base32Texts
+pub mod DigestPairs
 pub mod DigestTexts
 pub mod FirstElements
 pub mod Lists

@@ -1,11 +1,10 @@
 //! Digests of a file's bytes: an algorithm and the bytes that it gives, and how they are written.
-ghost use Rattle.std.specs.Prelude.{◌≡◌, ◌≢◌, ◌≤◌, ◌<◌, ◌++◌, ◌∷◌, ℕ, List, All, MatchOption, OnOk, length};
-ghost use Rattle.hex.specs.Hex.{encode_lower};
+ghost use Rattle.std.specs.Prelude.{◌≡◌, ◌≢◌, ◌≤◌, ◌<◌, ◌++◌, ◌∷◌, ◌*◌, ℕ, List, All, MatchOption, OnOk, length, slice_index};
+ghost use Rattle.hex.specs.Hex.{encode_lower, lower_digits};
 ghost use Rattle.nix_names.specs.Digests.{IsDigest, algorithm_of, bytes_of, digits_of, name_of, text_of};
 ghost use Rattle.nix_names.specs.declared.digest.Algorithm.{Algorithm as AnAlgorithm};
 ghost use Rattle.nix_names.specs.declared.digest.Digest.{Digest as ADigest};
 
-use hex::FromHex;
 use memchr::memchr;
 use std::alloc::AllocError;
 
@@ -172,15 +171,39 @@ fn decoded<const N: usize>(digits: &[u8]) -> Option<[u8; N]>
         (λ bytes. (length bytes ≡ N) × All (λ b. b < 256) bytes
         × (digits.now ≡ encode_lower bytes)) }
 {
-    let Ok(bytes) = <[u8; N] as FromHex>::from_hex(digits) else {
+    if digits.len() != 2 * N {
         return None;
-    };
+    }
+    let bytes = read_pairs(digits);
     let mut room = [0; 128];
-    if digits == encoded(&bytes, &mut room) {
+    if digits == encoded(array_bytes(&bytes), &mut room) {
         Some(bytes)
     } else {
         None
     }
+}
+
+// The bytes with these lower-case hexadecimal digits. Another text gives some bytes, too. The code
+// has no branch on a digit.
+fn read_pairs<const N: usize>(digits: &[u8]) -> [u8; N]
+    requires { length digits.now ≡ 2 * N }
+    ensures { (bytes : List ℕ) → All (λ b. b < 256) bytes → digits.now ≡ encode_lower bytes
+        → result ≡ bytes }
+{
+    let mut bytes = [0; N];
+    for at in 0..N {
+        bytes[at] = 16 * nibble(digits[2 * at]) + nibble(digits[2 * at + 1]);
+    }
+    bytes
+}
+
+// The value of a lower-case hexadecimal digit. Another byte has some value, too.
+fn nibble(digit: u8) -> u8
+    ensures below { result < 16 }
+    ensures value { (value : ℕ) → value < 16 → digit ≡ slice_index lower_digits value
+        → result ≡ value }
+{
+    (digit % 16 + 9 * (digit / 64)) % 16
 }
 
 // The lower-case hexadecimal digits of at most 64 bytes, in this room.

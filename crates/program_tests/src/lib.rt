@@ -9,6 +9,7 @@
 //! | `checks` | derivations that are read from files |
 //! | `added_texts`, `journals` | `add-text`, and the journal file that it writes |
 //! | `drvs` | `add-drv` |
+//! | `planning` | `plan` |
 //! | `realising`, `realisations`, `many` | `realise`: its faults, its reports, many derivations |
 //! | `twins` | `realise` over derivations that share all their outputs |
 //! | `progress` | the line of progress |
@@ -52,6 +53,8 @@ mod many;
 mod outputs;
 #[cfg(test)]
 mod places;
+#[cfg(test)]
+mod planning;
 #[cfg(test)]
 mod progress;
 #[cfg(test)]

@@ -55,7 +55,7 @@ static USAGE_FAULTS: [Row; 2] = [
                 "nix_realise",
                 "",
                 "error: 'nix_realise' requires a subcommand but one was not provided\n\
-                    \x20 [subcommands: check, add-text, add-drv, realise, help]\n\
+                    \x20 [subcommands: check, add-text, add-drv, plan, realise, help]\n\
                     \n\
                     Usage: nix_realise <COMMAND>\n\
                     \n\

@@ -15,6 +15,7 @@ const PROGRAM: &str =
     \x20 check     Checks that each text is a store derivation and stands under its own path\n\
     \x20 add-text  Prints the store path of a text, writes it there and registers it in the journal\n\
     \x20 add-drv   Fills the outputs of a draft, writes the derivation and prints its path\n\
+    \x20 plan      Tells what realise would report if every builder made its outputs\n\
     \x20 realise   Builds what is wanted of derivations, and tells what became of it\n\
     \x20 help      Print this message or the help of the given subcommand(s)\n\
     \n\
@@ -66,6 +67,21 @@ const ADD_DRV: &str = "Fills the outputs of a draft, writes the derivation and p
     \x20 -h, --help           Print help\n\
     ";
 
+// The help of `plan`.
+const PLAN: &str = "Tells what realise would report if every builder made its outputs\n\
+    \n\
+    Usage: nix_realise plan [OPTIONS] <DRV>...\n\
+    \n\
+    Arguments:\n\
+    \x20 <DRV>...  Paths of derivations whose outputs are wanted\n\
+    \n\
+    Options:\n\
+    \x20     --store-dir <D>  The store folder, in paths and on disk [default: /nix/store]\n\
+    \x20     --journal <F>    The journal file [default: realiser-journal in the store folder]\n\
+    \x20     --system <S>     The system for which derivations are built [default: x86_64-linux]\n\
+    \x20 -h, --help           Print help\n\
+    ";
+
 // The help of `realise`.
 const REALISE: &str = "Builds what is wanted of derivations, and tells what became of it\n\
     \n\
@@ -91,6 +107,7 @@ static HELPS: [Row; 1] = [Row {
         Step::Run("nix_realise check --help", CHECK, "", 0),
         Step::Run("nix_realise add-text --help", ADD_TEXT, "", 0),
         Step::Run("nix_realise add-drv --help", ADD_DRV, "", 0),
+        Step::Run("nix_realise plan --help", PLAN, "", 0),
         Step::Run("nix_realise realise --help", REALISE, "", 0),
         Step::Run("nix_realise help realise", REALISE, "", 0),
         Step::Run("nix_realise --version", "nix_realise 0.1.0\n", "", 0),

@@ -43,6 +43,7 @@ pub mod Tests
 pub mod ToldStates
 pub mod Totals
 pub mod TwinLaws
+pub mod UnitedPaths
 pub mod UserCounts
 pub mod UserSpans
 pub mod Verdicts

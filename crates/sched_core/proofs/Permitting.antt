@@ -1,13 +1,10 @@
 -- The permitted paths: a closure and outputs, put together.
-use Rattle.std.proofs.Common.{◌≡◌, ◌↔◌, ◌++◌, inl, inr, nat_eq, ℕ, Bool, true, false, List, [], ◌∷◌, refl, sym, subst, ⊎_elim}
+use Rattle.std.proofs.Common.{◌≡◌, inl, inr, ℕ, Bool, true, false, List, [], ◌∷◌, refl, sym, subst, ⊎_elim}
 use Rattle.std.specs.Prelude.{All, Contains, Err, if◌then◌else◌}
 use Rattle.std.proofs.Math.Dec.{T, eqb}
 use Rattle.std.proofs.Math.Facts.{eqb_yes}
-use Rattle.std.specs.Cmp.Lexicographic.{pointwise, slice_cmp}
-use Rattle.std.specs.List.{dedup}
-use Rattle.std.specs.List.Sorted.{IsPermutation, IsSorted}
-use Rattle.std.specs.Ordering.{nat_cmp}
-use Rattle.std.proofs.lemmas.List.Elements.{All-contains, Contains-append_cases, Contains-append_left, Contains-append_right}
+use Rattle.std.proofs.lemmas.List.Elements.{All-contains, Contains-append_right}
+use Rattle.valid_table.specs.Closing.{HaveSame}
 use Rattle.valid_table.specs.Closure.{IsClosing, IsClosure}
 use Rattle.valid_table.specs.Entries.{registered}
 use Rattle.valid_table.specs.Unions.{IsUnion}
@@ -24,7 +21,6 @@ use Rattle.sched_core.specs.declared.reason.Event.{Event}
 use Rattle.sched_core.specs.declared.reason.Event.TheVariants.{Begin, Done as Finish, Fail}
 use Rattle.sched_core.proofs.Seeds.{seeds_are_valid}
 use Rattle.nix_names.proofs.Lists.{Contains-first, Contains-later}
-use Rattle.nix_names.proofs.RisingLists.{members_of_dedup, rising_dedup}
 use Rattle.nix_names.specs.Firsts.{IsFirst}
 
 -- ---- the closure of valid paths
@@ -56,24 +52,16 @@ only_memory registrations roots (AlreadyValid path) valid none = absurd none
 
 -- ---- both together
 
--- two lists behind each other, sorted and without doubles, are their union
-pub union_of_sorted : (reached outputs both sorted : List (List ℕ)) → both ≡ reached ++ outputs
-    → IsPermutation both sorted → IsSorted (slice_cmp nat_cmp) sorted
-    → IsUnion reached outputs (dedup (pointwise nat_eq) sorted)
-union_of_sorted reached outputs both sorted is moved ordered =
-    let same : (path : List ℕ) → Contains (dedup (pointwise nat_eq) sorted) path
-    ↔ Contains (reached ++ outputs) path =
-    subst (λ all. (path : List ℕ) → Contains (dedup (pointwise nat_eq) sorted) path
-    ↔ Contains all path) is (members_of_dedup both sorted moved) in
-    record {
-      rising = rising_dedup sorted ordered;
-      each = λ path. (
-        λ has. Contains-append_cases reached outputs path ((same path).0 has),
-        λ either. (same path).1
-            (⊎_elim (Contains-append_left reached outputs path)
-            (Contains-append_right reached outputs path) either),
-      );
-    }
+-- a union with the same paths in another list
+pub union_of_same : (reached own outputs all : List (List ℕ)) → HaveSame own outputs
+    → IsUnion reached own all → IsUnion reached outputs all
+union_of_same reached own outputs all same union = record {
+  rising = union.rising;
+  each = λ path. (
+    λ has. ⊎_elim inl (λ output. inr ((same path).0 output)) ((union.each path).0 has),
+    λ either. (union.each path).1 (⊎_elim inl (λ output. inr ((same path).1 output)) either),
+  );
+}
 
 -- a union with what the seeds lead to
 pub are_permitted : (registrations : List Registration) (seeds outputs reached all : List (List ℕ))

@@ -6,7 +6,7 @@
 //! | `job` | what a builder is given, and what it answers |
 //! | `book`, `lease` | the book, and derivations that it gave out to be built |
 //! | `progress` | a run's history, and where its derivations stand |
-//! | `permitted` | to what outputs may refer |
+//! | `permitted`, `uniting` | to what outputs may refer |
 //! | `verdict`, `checked` | the verdict on an answer, and the records that it gives |
 //! | `digest` | the digest of a file by each algorithm |
 //! | `done_entry` | the entry of a derivation that was built |
@@ -53,6 +53,7 @@ mod standings;
 mod states;
 mod tally;
 mod twins;
+mod uniting;
 mod users;
 mod verdict;
 mod walk;

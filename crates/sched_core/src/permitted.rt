@@ -1,5 +1,7 @@
 //! The paths to which outputs may refer.
 ghost use Rattle.std.specs.Prelude.{◌≡◌, All, IfErr, IfOk};
+ghost use Rattle.nix_names.specs.Rising.{IsRising};
+ghost use Rattle.valid_table.specs.Closing.{HaveSame};
 ghost use Rattle.valid_table.specs.Closure.{IsClosure};
 ghost use Rattle.valid_table.specs.Entries.{registered};
 ghost use Rattle.valid_table.specs.Unions.{IsUnion};
@@ -9,28 +11,26 @@ ghost use Rattle.sched_core.specs.declared.fault.BookFault.TheVariants.{NoMemory
 
 use crate::fault::BookFault;
 use crate::job::Job;
+use crate::uniting::united;
 use nix_names::StorePath;
-use std::alloc::Global;
+use std::alloc::{AllocError, Global};
 use valid_table::{Journal, TableFault};
 
 /// The paths to which the outputs of a job may refer, strictly rising: what its seeds lead to,
-/// which is given away, and its own outputs. Answers `NoMemory` where memory is refused, and no
-/// other fault. Costs one pass over what is given where it rises; no path of it is copied.
+/// which is given away in that order, and its own outputs. Answers `NoMemory` where memory is
+/// refused, and no other fault. Costs a binary search and a copy for each output of the job, and
+/// moves the paths that stand above the least of them; no other path is copied or compared.
 pub fn permitted_beside(
     alloc: Global,
     reached: Vec<StorePath>,
     job: &Job,
 ) -> Result<Vec<StorePath>, BookFault>
+    requires { IsRising reached.items }
     ensures ok { IfOk result (λ paths. IsUnion reached.items (outputs_of job.now) paths.items) }
     ensures err { IfErr result (λ fault. fault ≡ NoMemory) }
 {
-    let mut paths = reached;
-    for output in &job.outputs {
-        paths.push(output.path.copy(alloc)?)?;
-    }
-    paths.sort()?;
-    paths.dedup();
-    Ok(paths)
+    let own = sorted_outputs(alloc, job)?;
+    Ok(united(reached, own)?)
 }
 
 // What some paths lead to that are valid by a journal.
@@ -51,4 +51,18 @@ pub(crate) fn closure_of(
             _ => unreachable!(),
         },
     }
+}
+
+// The paths of a job's outputs, in strictly rising order.
+fn sorted_outputs(alloc: Global, job: &Job) -> Result<Vec<StorePath>, AllocError>
+    ensures rising { IfOk result (λ sorted. IsRising sorted.items) }
+    ensures same { IfOk result (λ sorted. HaveSame sorted.items (outputs_of job.now)) }
+{
+    let mut sorted = Vec::with_capacity(alloc, job.outputs.len())?;
+    for output in &job.outputs {
+        sorted.push(output.path.copy(alloc)?)?;
+    }
+    sorted.sort_unstable();
+    sorted.dedup();
+    Ok(sorted)
 }

@@ -51,6 +51,12 @@ add_drv_line =
     (with_rule (with_rule (new_app (codes "add-drv")) store_dir_option)
     (required_word (codes "NAME"))) (required_word (codes "FILE"))
 
+abbrev pub plan_line : App
+plan_line =
+    with_rule
+    (with_rule (with_rule (with_rule (new_app (codes "plan")) store_dir_option) journal_option)
+    system_option) drv_words
+
 abbrev pub realise_line : App
 realise_line =
     with_rule
@@ -72,5 +78,6 @@ abbrev pub command_line : App
 command_line =
     with_subcommand
     (with_subcommand
+    (with_subcommand
     (with_subcommand (with_subcommand top_line check_line.top) add_text_line.top)
-    add_drv_line.top) realise_line.top
+    add_drv_line.top) plan_line.top) realise_line.top

@@ -9,6 +9,7 @@ pub mod Files
 pub mod Folders
 pub mod GraphWords
 pub mod JournalFiles
+pub mod Planning
 pub mod ProgramEndings
 pub mod Realising
 pub mod Registering

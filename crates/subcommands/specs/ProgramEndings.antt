@@ -12,12 +12,14 @@ use Rattle.subcommands.specs.CommandLine.{command_line}
 use Rattle.subcommands.specs.DrvEndings.{DrvEnds}
 use Rattle.subcommands.specs.Endings.{Ends}
 use Rattle.subcommands.specs.Folders.{may_give}
+use Rattle.subcommands.specs.Planning.{PlanEnds}
 use Rattle.subcommands.specs.Realising.{May, RealiseEnds}
 use Rattle.subcommands.specs.Requests.{IsRequest}
 use Rattle.subcommands.specs.Stops.{IsStopOf, IsTold}
 use Rattle.subcommands.specs.declared.options.CheckRequest.{CheckRequest}
 use Rattle.subcommands.specs.declared.options.Request.{Request}
-use Rattle.subcommands.specs.declared.options.Request.TheVariants.{Check, AddText, AddDrv, Realise}
+use Rattle.subcommands.specs.declared.options.Request.TheVariants.{Check, AddText, AddDrv, Plan}
+use Rattle.subcommands.specs.declared.options.Request.TheVariants.{Realise}
 use Rattle.subcommands.specs.declared.status.Status.{Status}
 use Rattle.subcommands.specs.declared.status.Status.TheVariants.{Done, Refused, CutShort}
 use Rattle.subcommands.specs.declared.stop.Stop.{Stop}
@@ -47,6 +49,7 @@ abbrev pub SubcommandEnds : May → Request → Stream → Result Status Stop �
 SubcommandEnds may (Check request) out outcome = CheckEnds request out outcome
 SubcommandEnds may (AddText request) out outcome = Ends request out.0 out.1 outcome
 SubcommandEnds may (AddDrv request) out outcome = DrvEnds request out.0 out.1 outcome
+SubcommandEnds may (Plan request) out outcome = PlanEnds request out.0 out.1 outcome
 SubcommandEnds may (Realise request) out outcome = RealiseEnds may request out.0 out.1 outcome
 
 -- What is told of such an end: its own status and nothing else, or why it stopped.

@@ -35,12 +35,12 @@ May = Job → Result Answer Reason → Type 0
 -- the workers settled a book over the plan and the journal
 abbrev pub IsSettledBook : May → RealiseRequest → Task → Ledger → Type 0
 IsSettledBook may request task book =
-    IsRealised may task.plan request.system.now task.journal.entries request.jobs book
+    IsRealised may task.plan request.run.system.now task.journal.entries request.jobs book
 
 -- the workers gave no settled book, for this fault
 abbrev pub IsFallingShort : May → RealiseRequest → Task → RunFault → Type 0
 IsFallingShort may request task fault = (book : Option Ledger)
-    × IsRunFault may task.plan request.system.now task.journal.entries request.jobs fault book
+    × IsRunFault may task.plan request.run.system.now task.journal.entries request.jobs fault book
 
 -- How a run ends with a settled book: standard output gets its report, and nothing where the
 -- journal cannot be written.
@@ -69,8 +69,8 @@ abbrev pub RealiseEndsBy : May → RealiseRequest → (gave : FileBytes)
     → (before after : Option (List ℕ)) → Result Status Stop → Type 0
 RealiseEndsBy may request gave before after result =
     ((stop : Stop) × (result ≡ Err stop) × (after ≡ before)
-    × IsTaking (λ _ answer. may_give answer) request gave (Err stop))
-    ⊎ ((task : Task) × IsTaking (λ _ answer. may_give answer) request gave (Ok task)
+    × IsTaking (λ _ answer. may_give answer) request.run gave (Err stop))
+    ⊎ ((task : Task) × IsTaking (λ _ answer. may_give answer) request.run gave (Ok task)
     × (RunEnds may request task before after result
     ⊎ (((result ≡ Err JournalNotWritten) ⊎ (result ≡ Err NoMemory)) × (after ≡ before))))
 

@@ -9,8 +9,10 @@ use Rattle.subcommands.specs.declared.options.AddDrvRequest.{AddDrvRequest}
 use Rattle.subcommands.specs.declared.options.AddTextRequest.{AddTextRequest}
 use Rattle.subcommands.specs.declared.options.CheckRequest.{CheckRequest}
 use Rattle.subcommands.specs.declared.options.RealiseRequest.{RealiseRequest}
+use Rattle.subcommands.specs.declared.options.RunRequest.{RunRequest}
 use Rattle.subcommands.specs.declared.options.Request.{Request}
-use Rattle.subcommands.specs.declared.options.Request.TheVariants.{Check, AddText, AddDrv, Realise}
+use Rattle.subcommands.specs.declared.options.Request.TheVariants.{Check, AddText, AddDrv, Plan}
+use Rattle.subcommands.specs.declared.options.Request.TheVariants.{Realise}
 
 -- the store folder among what was found
 abbrev pub store_dir_in : List Row → List ℕ
@@ -53,19 +55,24 @@ pub record IsAddDrv (rows : List Row) (request : AddDrvRequest) : Type 0 where
   pub name : request.name.now ≡ word_in (codes "NAME") rows
   pub file : request.file.now ≡ word_in (codes "FILE") rows
 
--- what is asked of `realise`
-pub record IsRealise (rows : List Row) (request : RealiseRequest) : Type 0 where
+-- what is asked of `plan`, and of `realise` beside the number of its builders
+pub record IsRun (rows : List Row) (request : RunRequest) : Type 0 where
   pub store_dir : request.store_dir.now ≡ store_dir_in rows
   pub journal : option_map (λ f. f.now) request.journal ≡ first_of (codes "journal") rows
   pub system : request.system.now ≡ system_in rows
-  pub jobs : IsNumber (one_of (codes "jobs") rows) request.jobs
   pub drvs : map (λ w. w.now) request.drvs.items ≡ drvs_in rows
+
+-- what is asked of `realise`
+pub record IsRealise (rows : List Row) (request : RealiseRequest) : Type 0 where
+  pub run : IsRun rows request.run
+  pub jobs : IsNumber (one_of (codes "jobs") rows) request.jobs
 
 -- what is asked by a subcommand with this name, with what was found behind it
 abbrev pub IsAskedBy : (name : List ℕ) → List Row → Request → Type 0
 IsAskedBy name rows (Check request) = (name ≡ codes "check") × IsCheck rows request
 IsAskedBy name rows (AddText request) = (name ≡ codes "add-text") × IsAddText rows request
 IsAskedBy name rows (AddDrv request) = (name ≡ codes "add-drv") × IsAddDrv rows request
+IsAskedBy name rows (Plan request) = (name ≡ codes "plan") × IsRun rows request
 IsAskedBy name rows (Realise request) = (name ≡ codes "realise") × IsRealise rows request
 
 -- the same of the subcommand that was met, if there is one

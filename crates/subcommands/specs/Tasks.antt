@@ -1,5 +1,5 @@
--- What `realise` makes of its request and of what its files gave: a plan and a journal, or the
--- first of its faults.
+-- What `plan` and `realise` make of a request and of what its files gave: a plan and a journal, or
+-- the first of its faults.
 use Rattle.std.specs.Prelude.{◌≡◌, ◌⊎◌, ℕ, List, All, Some, None, Result, Ok, Err, map}
 use Rattle.std.specs.Borrow.{Bor}
 use Rattle.std.specs.Global.{Vec}
@@ -12,7 +12,7 @@ use Rattle.drv_graph.specs.Loading.{IsLoading}
 use Rattle.drv_graph.specs.Plans.{Graph, IsPlan}
 use Rattle.drv_graph.specs.declared.fault.GraphFault.TheVariants as graph
 use Rattle.subcommands.specs.AddedText.{FileBytes, IsJournalOf}
-use Rattle.subcommands.specs.declared.options.RealiseRequest.{RealiseRequest}
+use Rattle.subcommands.specs.declared.options.RunRequest.{RunRequest}
 use Rattle.subcommands.specs.declared.stop.Stop.{Stop}
 use Rattle.subcommands.specs.declared.stop.Stop.TheVariants.{BadStoreDir, NoPath, BadDrv}
 use Rattle.subcommands.specs.declared.stop.Stop.TheVariants.{NoMemory}
@@ -54,23 +54,23 @@ IsPlanOf dir gives roots (Err NoMemory) = Unit {0}
 IsPlanOf dir gives roots (Err stop) = ⊥
 
 -- the words DRV of a request
-abbrev pub words_of : RealiseRequest → List (List ℕ)
+abbrev pub words_of : RunRequest → List (List ℕ)
 words_of request = map (λ w. w.now) request.drvs.items
 
 -- The store folder is one, and the words DRV are paths of it.
-abbrev pub HasRoots : RealiseRequest → Type 0
+abbrev pub HasRoots : RunRequest → Type 0
 HasRoots request =
     IsStoreDir request.store_dir.now × ArePaths request.store_dir.now (words_of request)
 
 -- And these derivations have this plan.
-abbrev pub HasPlan : (gives : List ℕ → Answer → Type 0) → RealiseRequest → Graph → Type 0
+abbrev pub HasPlan : (gives : List ℕ → Answer → Type 0) → RunRequest → Graph → Type 0
 HasPlan gives request plan =
     HasRoots request × IsPlan request.store_dir.now gives (words_of request) plan
 
 -- What is answered in place of a plan. The store folder is tested first, then the words DRV, and each
 -- fault comes only where nothing is wrong with what is tested before it, by answers that the source
 -- may give; want of memory never stands in the place of a refused folder.
-abbrev pub IsNotPlanned : (gives : List ℕ → Answer → Type 0) → RealiseRequest → Stop → Type 0
+abbrev pub IsNotPlanned : (gives : List ℕ → Answer → Type 0) → RunRequest → Stop → Type 0
 IsNotPlanned gives request (BadStoreDir blamed) =
     (blamed ≡ request.store_dir) × ¬ (IsStoreDir request.store_dir.now)
 IsNotPlanned gives request (NoPath blamed fault) =
@@ -83,7 +83,7 @@ IsNotPlanned gives request NoMemory = ¬ (¬ (IsStoreDir request.store_dir.now))
 IsNotPlanned gives request stop = ⊥
 
 -- What is answered. Behind the plan comes the journal: its fault comes only where there is a plan.
-abbrev pub IsTaking : (gives : List ℕ → Answer → Type 0) → RealiseRequest → (gave : FileBytes)
+abbrev pub IsTaking : (gives : List ℕ → Answer → Type 0) → RunRequest → (gave : FileBytes)
     → Result Task Stop → Type 0
 IsTaking gives request gave (Ok task) =
     HasPlan gives request task.plan × IsJournalOf request.store_dir.now gave (Ok task.journal)

@@ -15,7 +15,7 @@ pub fn make_all<M: Builders>(
 {
     let mut builders = Vec::new(alloc);
     for _ in 0..request.jobs.count() {
-        builders.push(make.builder(alloc, request.store_dir)?)?;
+        builders.push(make.builder(alloc, request.run.store_dir)?)?;
     }
     Ok(builders)
 }

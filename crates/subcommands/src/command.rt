@@ -3,7 +3,8 @@ ghost use Rattle.std.specs.Prelude.{◌≡◌, IfOk, false};
 ghost use Rattle.clap.specs.Words.{app_of, new_app, rule_of, with_subcommand};
 ghost use Rattle.subcommands.specs.CommandLine.{add_drv_line, add_text_line, check_line};
 ghost use Rattle.subcommands.specs.CommandLine.{command_line, drv_words, jobs_option};
-ghost use Rattle.subcommands.specs.CommandLine.{journal_option, realise_line, store_dir_option};
+ghost use Rattle.subcommands.specs.CommandLine.{journal_option, plan_line, realise_line};
+ghost use Rattle.subcommands.specs.CommandLine.{store_dir_option};
 ghost use Rattle.subcommands.specs.CommandLine.{system_option, top_line};
 ghost use Rattle.subcommands.specs.CommandLine.{required_word};
 
@@ -33,6 +34,8 @@ pub const ADD_TEXT: &str = "add-text";
 
 pub const ADD_DRV: &str = "add-drv";
 
+pub const PLAN: &str = "plan";
+
 pub const REALISE: &str = "realise";
 
 pub const DEFAULT_STORE_DIR: &str = "/nix/store";
@@ -46,7 +49,8 @@ pub fn command<'a>(alloc: Global) -> Result<Command<'a>, AllocError>
     ensures { IfOk result (λ command. app_of command ≡ command_line) }
 {
     let command = top(alloc).subcommand(check_command(alloc)?)?;
-    with_adding(alloc, command)?.subcommand(realise_command(alloc)?)
+    let command = with_adding(alloc, command)?;
+    with_running(alloc, command)
 }
 
 // The command line without its subcommands.
@@ -67,6 +71,16 @@ fn with_adding<'a>(alloc: Global, command: Command<'a>) -> Result<Command<'a>, A
     command
         .subcommand(add_text_command(alloc)?)?
         .subcommand(add_drv_command(alloc)?)
+}
+
+// A command with the subcommands that are over a run, too.
+fn with_running<'a>(alloc: Global, command: Command<'a>) -> Result<Command<'a>, AllocError>
+    ensures { IfOk result (λ more. app_of more ≡ with_subcommand
+        (with_subcommand (app_of command.entry) plan_line.top) realise_line.top) }
+{
+    command
+        .subcommand(plan_command(alloc)?)?
+        .subcommand(realise_command(alloc)?)
 }
 
 // The subcommand `check`.
@@ -109,6 +123,21 @@ fn add_drv_command<'a>(alloc: Global) -> Result<Command<'a>, AllocError>
     .arg(store_dir(alloc))?
     .arg(word(alloc, NAME, "The name of the derivation"))?
     .arg(word(alloc, FILE, "The file whose bytes are the draft"))
+}
+
+// The subcommand `plan`.
+fn plan_command<'a>(alloc: Global) -> Result<Command<'a>, AllocError>
+    ensures { IfOk result (λ command. app_of command ≡ plan_line) }
+{
+    subcommand(
+        alloc,
+        PLAN,
+        "Tells what realise would report if every builder made its outputs",
+    )
+    .arg(store_dir(alloc))?
+    .arg(journal(alloc))?
+    .arg(system(alloc))?
+    .arg(drvs(alloc, "Paths of derivations whose outputs are wanted"))
 }
 
 // The subcommand `realise`.

@@ -16,7 +16,8 @@
 //! | `verdict`, `check` | what `check` says of one word; its lines |
 //! | `added_text`, `add_text` | what `add-text` makes of a text; the subcommand |
 //! | `added_drv`, `add_drv` | what `add-drv` makes of a draft; the subcommand |
-//! | `task` | what `realise` is over: a plan and a journal |
+//! | `task`, `taken` | what `plan` and `realise` are over: a plan and a journal |
+//! | `plan` | the subcommand `plan` |
 //! | `settled` | what a book says at the end of a run |
 //! | `builders`, `realise` | the builders of a run; the subcommand `realise` |
 //! | `printing`, `program` | what is printed; one run of the program |
@@ -36,6 +37,7 @@ mod graph_words;
 mod jobs;
 mod journal_file;
 mod options;
+mod plan;
 mod printing;
 mod program;
 mod realise;
@@ -43,6 +45,7 @@ mod settled;
 mod status;
 mod stop;
 mod store_dir;
+mod taken;
 mod task;
 mod verdict;
 mod whole_file;

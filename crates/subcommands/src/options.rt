@@ -10,6 +10,8 @@ pub enum Request<'a> {
     AddText(AddTextRequest<'a>),
     /// `add-drv`: a draft is filled and put into the store.
     AddDrv(AddDrvRequest<'a>),
+    /// `plan`: it is foretold what `realise` would report.
+    Plan(RunRequest<'a>),
     /// `realise`: the outputs of derivations are made valid.
     Realise(RealiseRequest<'a>),
 }
@@ -47,18 +49,25 @@ pub struct AddDrvRequest<'a> {
     pub file: &'a str,
 }
 
-/// The words of `realise`.
+/// What a run is over, by the words of `plan` and of `realise`.
 #[derive(Debug, Drop)]
-pub struct RealiseRequest<'a> {
+pub struct RunRequest<'a> {
     /// The store folder, as it was given.
     pub store_dir: &'a str,
     /// The path of the journal file, where one was given.
     pub journal: Option<&'a str>,
     /// The system for which derivations are built.
     pub system: &'a str,
-    /// How many builders run at a time.
-    pub jobs: Jobs,
     /// The paths of the derivations whose outputs are wanted, as they were given and in their
     /// order.
     pub drvs: Vec<&'a str>,
+}
+
+/// The words of `realise`.
+#[derive(Debug, Drop)]
+pub struct RealiseRequest<'a> {
+    /// What the run is over.
+    pub run: RunRequest<'a>,
+    /// How many builders run at a time.
+    pub jobs: Jobs,
 }

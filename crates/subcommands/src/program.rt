@@ -14,6 +14,7 @@ use crate::check::check_lines;
 use crate::fault_words::stop_line;
 use crate::folder::FolderSource;
 use crate::options::{CheckRequest, Request};
+use crate::plan::plan;
 use crate::printing::{print_bytes, print_text};
 use crate::realise::realise;
 use crate::status::Status;
@@ -93,6 +94,7 @@ where
         Request::Check(request) => check(rt, request, out),
         Request::AddText(request) => add_text(rt, request, out),
         Request::AddDrv(request) => add_drv(rt, request, out),
+        Request::Plan(request) => plan(rt, request, out),
         Request::Realise(request) => realise(rt, make, request, out),
     }
 }

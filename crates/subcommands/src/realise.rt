@@ -1,21 +1,17 @@
 //! The subcommand `realise`.
-ghost use Rattle.std.specs.Prelude.{◌≡◌, Err, IfErr, IfOk, Ok, length};
+ghost use Rattle.std.specs.Prelude.{◌≡◌, length};
 ghost use Rattle.sched_core.specs.Books.{IsRunSettled};
-ghost use Rattle.subcommands.specs.AddedText.{FileBytes};
-ghost use Rattle.subcommands.specs.Folders.{may_give};
 ghost use Rattle.subcommands.specs.Realising.{BookEnds, RealiseEnds, RunEnds};
-ghost use Rattle.subcommands.specs.Tasks.{IsTaking};
 
-use crate::added_text::journal_of;
 use crate::builders::make_all;
-use crate::folder::FolderSource;
 use crate::journal_file::JournalFile;
 use crate::options::RealiseRequest;
 use crate::printing::print_bytes;
 use crate::settled::{journal_bytes, report_of, roots_status};
 use crate::status::Status;
 use crate::stop::Stop;
-use crate::task::{Task, planned};
+use crate::taken::taken;
+use crate::task::Task;
 use process_build::Builders;
 use sched_core::Book;
 use std::io::Write;
@@ -45,27 +41,10 @@ where
     ensures { RealiseEnds M.Builder.may request.now (O.contents out.old) (O.contents out.new)
         result }
 {
-    let (file, task) = taken(rt, request)?;
+    let (file, task) = taken(rt, &request.run)?;
     file.try_out(rt)?;
     let builders = make_all(rt.alloc(), make, request)?;
     run_task(rt, request, &file, &task, builders, out)
-}
-
-// The journal file of a request, and what its run is over.
-fn taken<'a, R: Files + AllocGlobal>(
-    rt: &R,
-    request: &RealiseRequest<'a>,
-) -> Result<(JournalFile, Task), Stop<'a>>
-    ensures ok { IfOk result (λ t. (gave : FileBytes)
-        × IsTaking (λ _ answer. may_give answer) request.now gave (Ok t.1)) }
-    ensures err { IfErr result (λ stop. (gave : FileBytes)
-        × IsTaking (λ _ answer. may_give answer) request.now gave (Err stop)) }
-{
-    let (dir, plan) = planned(rt.alloc(), &mut FolderSource::new(rt), request)?;
-    let file = JournalFile::new(rt.alloc(), request.store_dir, request.journal)?;
-    let gave = file.read(rt);
-    let journal = journal_of(rt.alloc(), &dir, gave)?;
-    Ok((file, Task { plan, journal }))
 }
 
 /// Builds what is wanted of a task, by one worker for each builder, writes the journal and prints
@@ -107,7 +86,7 @@ where
     requires jobs { length builders.items ≡ request.now.jobs }
     ensures { RunEnds B.may request.now task.now (O.contents out.old) (O.contents out.new) result }
 {
-    let system = request.system.as_bytes();
+    let system = request.run.system.as_bytes();
     let (plan, journal) = (&task.plan, &task.journal);
     match store_run::realise::<J, R, B>(rt, rt.alloc(), name, plan, journal, system, builders) {
         Ok(book) => end(rt, file, book, out),

@@ -1,9 +1,9 @@
-//! What a run of `realise` is over: the plan of its roots, and the journal. No file is reached here
-//! but through the source.
+//! What a run of `plan` or `realise` is over: the plan of its roots, and the journal. No file is
+//! reached here but through the source.
 ghost use Rattle.std.specs.Prelude.{◌≡◌, IfErr, IfOk, map};
 ghost use Rattle.subcommands.specs.Tasks.{ArePathsOf, HasPlan, IsNotPlanned, IsPathOf, IsPlanOf};
 
-use crate::options::RealiseRequest;
+use crate::options::RunRequest;
 use crate::stop::Stop;
 use crate::store_dir::store_dir;
 use drv_graph::{GraphFault, Plan};
@@ -28,7 +28,7 @@ pub struct Task {
 pub fn planned<'a, S: DrvSource>(
     alloc: Global,
     source: &mut S,
-    request: &RealiseRequest<'a>,
+    request: &RunRequest<'a>,
 ) -> Result<(StoreDir, Plan), Stop<'a>>
     ensures ok { IfOk result (λ found. (found.0 ≡ request.now.store_dir.now)
         × HasPlan (S.gives source.old) request.now found.1) }

@@ -3,15 +3,17 @@ ghost use Rattle.std.specs.Prelude.{◌≡◌, IfErr, IfOk, IfSome, codes, map, 
 ghost use Rattle.clap.specs.Words.{first_of, found_of, kind_of, one_of, rows_of};
 ghost use Rattle.subcommands.specs.ProgramEndings.{IsAsked, IsOwnFault, IsUsageFault};
 ghost use Rattle.subcommands.specs.Requests.{IsAddDrv, IsAddText, IsAskedBy, IsCheck, IsNumber};
-ghost use Rattle.subcommands.specs.Requests.{IsRealise, drvs_in, store_dir_in};
+ghost use Rattle.subcommands.specs.Requests.{IsRealise, IsRun, drvs_in, store_dir_in};
 ghost use Rattle.subcommands.specs.Requests.{system_in, word_in};
 
 use crate::command::{
     ADD_DRV, ADD_TEXT, CHECK, DEFAULT_STORE_DIR, DEFAULT_SYSTEM, DRVS, FILE, JOBS, JOURNAL, NAME,
-    REALISE, STORE_DIR, SYSTEM, command,
+    PLAN, REALISE, STORE_DIR, SYSTEM, command,
 };
 use crate::jobs::Jobs;
-use crate::options::{AddDrvRequest, AddTextRequest, CheckRequest, RealiseRequest, Request};
+use crate::options::{
+    AddDrvRequest, AddTextRequest, CheckRequest, RealiseRequest, Request, RunRequest,
+};
 use clap::error::ErrorKind;
 use clap::{ArgMatches, Error};
 use std::alloc::{AllocError, Global};
@@ -43,6 +45,7 @@ fn subcommand_request<'a>(
         CHECK => Ok(Request::Check(check_request(alloc, found)?)),
         ADD_TEXT => Ok(Request::AddText(add_text_request(found))),
         ADD_DRV => Ok(Request::AddDrv(add_drv_request(found))),
+        PLAN => Ok(Request::Plan(run_request(alloc, found)?)),
         REALISE => Ok(Request::Realise(realise_request(alloc, found)?)),
         _ => Err(no_subcommand(alloc)?),
     }
@@ -116,11 +119,18 @@ fn realise_request<'a>(alloc: Global, found: &ArgMatches<'a>) -> Result<RealiseR
     let Some(jobs) = jobs_of(found) else {
         return Err(no_jobs(alloc)?);
     };
-    Ok(RealiseRequest {
+    let run = run_request(alloc, found)?;
+    Ok(RealiseRequest { run, jobs })
+}
+
+// What the matches of `plan` say, and those of `realise` beside the number of builders.
+fn run_request<'a>(alloc: Global, found: &ArgMatches<'a>) -> Result<RunRequest<'a>, AllocError>
+    ensures { IfOk result (IsRun (rows_of (found_of found.now))) }
+{
+    Ok(RunRequest {
         store_dir: store_dir_of(found),
         journal: journal_of(found),
         system: system_of(found),
-        jobs,
         drvs: drvs_of(alloc, found)?,
     })
 }

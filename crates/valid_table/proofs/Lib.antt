@@ -9,9 +9,11 @@ pub mod ClosureLaws
 pub mod Closures
 pub mod DigestTexts
 pub mod EnteredPaths
+pub mod EnteredRows
 pub mod EntriesRead
 pub mod EntryLines
 pub mod EqualEntries
+pub mod FirstRows
 pub mod Following
 pub mod JournalLists
 pub mod Leading

@@ -1,5 +1,5 @@
 -- Marks of rows, one bit each.
-use Rattle.std.proofs.Common.{◌≡◌, ◌≢◌, ℕ, ◌*◌, ◌/◌, ◌%◌, ◌^◌, ◌<◌, true, false, nat_eq, List, [], ◌∷◌, ◌++◌, inl, inr, length, replicate, get_or, set, refl, sym, ◌∙◌, ap, arith, get_or-set_same, get_or-set_other, eq-eqb, ne_eqb, w64}
+use Rattle.std.proofs.Common.{◌≡◌, ◌≢◌, ℕ, ◌*◌, ◌/◌, ◌%◌, ◌^◌, ◌<◌, true, false, not, nat_eq, List, [], ◌∷◌, ◌++◌, inl, inr, length, replicate, get_or, set, refl, sym, ◌∙◌, ap, arith, get_or-set_same, get_or-set_other, eq-eqb, ne_eqb, w64}
 use Rattle.std.proofs.Math.Bool.{or-false, or-true}
 use Rattle.std.specs.Prelude.{bit_and, bit_or}
 use Rattle.std.specs.Int.{bit_at}
@@ -119,3 +119,14 @@ marked_more marks rows row word are within read clear =
           | inr two ↦ ap (λ x. nat_eq (bit_at x (r % 64)) 1)
               (get_or-set_other marks (row / 64) (r / 64) new 0 two)
         ])
+
+-- what the test `word & bit != 0` answers
+pub bit_test : (word k : ℕ) → k < 64 → not (nat_eq (bit_and word (1 * 2 ^ k % 2 ^ 64)) 0)
+    ≡ nat_eq (bit_at word k) 1
+bit_test word k low = elim (cases_eq (bit_and word (1 * 2 ^ k % 2 ^ 64)) 0) [
+  | inl clear ↦
+      ap not (eq-eqb (bit_and word (1 * 2 ^ k % 2 ^ 64)) 0 clear)
+      ∙ sym (bit_is_clear word k low clear)
+  | inr set ↦
+      ap not (ne_eqb (bit_and word (1 * 2 ^ k % 2 ^ 64)) 0 set) ∙ sym (bit_is_set word k low set)
+]

@@ -1,6 +1,9 @@
 -- Paths that are looked up among known ones.
-use Rattle.std.specs.Prelude.{◌≡◌, ◌≤◌, ℕ, List, All, Contains, IfSome, length, slice_get, take}
+use Rattle.std.specs.Prelude.{◌≡◌, ◌≤◌, ℕ, Bool, true, false, List, [], ◌∷◌, ◌++◌, All, Contains, IfSome, length, slice_get, take}
 use Rattle.nix_names.specs.Firsts.{IsFirst}
+use Rattle.valid_table.specs.Entries.{paths_of}
+use Rattle.valid_table.specs.Valid.{IsNotValid, IsValid}
+use Rattle.valid_table.specs.declared.entry.Registration.{Registration}
 
 -- a path isn't known
 abbrev pub IsUnknown : (known : List (List ℕ)) → List ℕ → Type 0
@@ -21,3 +24,9 @@ abbrev pub IsFirstUnknownAt : (known paths : List (List ℕ)) → ℕ → Type 0
 IsFirstUnknownAt known paths at =
     (path : List ℕ) × (first : IsFirst (Contains known) (IsUnknown known) paths path)
     × (at ≡ length first.before)
+
+-- A registration is put among others: in the place of the one with its path, where there is such a
+-- one, and else behind them.
+abbrev pub IsPut : (old new : List Registration) → Registration → (had : Bool) → Type 0
+IsPut old new r true = IsValid old r.path × (paths_of new ≡ paths_of old)
+IsPut old new r false = IsNotValid old r.path × (new ≡ old ++ r ∷ [])

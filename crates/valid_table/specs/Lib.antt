@@ -8,6 +8,7 @@ pub mod Entering
 pub mod Entries
 pub mod Equality
 pub mod Faults
+pub mod FirstRows
 pub mod Kept
 pub mod LineFaults
 pub mod LineTexts

@@ -8,10 +8,10 @@ ghost use Rattle.valid_table.specs.Tables.{registrations_of};
 ghost use Rattle.valid_table.specs.Texts.{entry_lines, lines, output_lines};
 ghost use Rattle.valid_table.specs.Valid.{IsClosed, IsOnce};
 
-use crate::entering::{first_unknown, new_front};
+use crate::entering::first_unknown;
 use crate::entry::{Entry, Record, Registration};
 use crate::fault::TableFault;
-use crate::rows::add_rows;
+use crate::rows::add_new;
 use crate::table::Table;
 use indexmap::IndexMap;
 use nix_names::StorePath;
@@ -26,7 +26,7 @@ pub(crate) fn check_entries(alloc: Global, entries: &[Entry]) -> Result<Table, T
     ensures table { IfOk result (λ table. table.registrations ≡ registered entries.now) }
     ensures err { IfErr result (λ fault. IsChecking entries.now (Err fault)) }
 {
-    let mut rows = IndexMap::new(alloc);
+    let mut rows = IndexMap::with_capacity(alloc, entries.len())?;
     let mut line = 2;
     for entry in entries {
         line = check_entry(alloc, &mut rows, entry, line)?;
@@ -53,10 +53,8 @@ fn check_entry(
     ensures unique { OnOk result (IsOnce (registrations_of rows.new.entries)) }
 {
     let registrations = entry.registrations();
-    let new = new_front(rows, registrations);
-    let behind = check_lines(rows, registrations, new, line + header_len(entry))?;
-    add_rows(alloc, rows, registrations)?;
-    Ok(behind)
+    let new = add_new(alloc, rows, registrations)?;
+    check_lines(rows, registrations, new, line + header_len(entry))
 }
 
 // How many lines of an entry stand before those of what it registers.

@@ -1,11 +1,8 @@
 //! How a closure is found: from the rows of the roots to the rows of their references, and on.
-ghost use Rattle.std.specs.Prelude.{◌≡◌, ◌≤◌, ◌<◌, [], All, IfErr, IfOk, OnOk, length, map};
-ghost use Rattle.std.specs.Cmp.Lexicographic.{slice_cmp};
-ghost use Rattle.std.specs.List.Sorted.{IsPermutation, IsSorted};
-ghost use Rattle.std.specs.Ordering.{nat_cmp};
-ghost use Rattle.nix_names.specs.Rising.{IsRising};
-ghost use Rattle.valid_table.specs.Closing.{AddsReferences, AddsRows, AreRows, HaveSame, IsFollowed, paths_at};
+ghost use Rattle.std.specs.Prelude.{◌≡◌, ◌≤◌, ◌<◌, [], All, IfErr, IfOk, OnOk, length};
+ghost use Rattle.valid_table.specs.Closing.{AddsReferences, AddsRows, AreRows, IsFollowed, paths_at};
 ghost use Rattle.valid_table.specs.Closure.{IsClosing};
+ghost use Rattle.valid_table.specs.FirstRows.{AreFirst, rows_behind};
 ghost use Rattle.valid_table.specs.Linking.{AreLinked};
 ghost use Rattle.valid_table.specs.Tables.{registrations_of};
 ghost use Rattle.valid_table.specs.Valid.{IsOnce, IsValid};
@@ -14,6 +11,8 @@ use crate::entry::Record;
 use crate::fault::TableFault;
 use crate::found::Found;
 use crate::links::Links;
+use crate::order::Order;
+use crate::rising::sorted_paths;
 use crate::rows::row_of;
 use indexmap::IndexMap;
 use nix_names::StorePath;
@@ -24,16 +23,18 @@ pub(crate) fn close(
     alloc: Global,
     rows: &IndexMap<StorePath, Record>,
     links: &Links,
+    order: &Order,
     roots: &[StorePath],
 ) -> Result<Vec<StorePath>, TableFault>
     requires once { IsOnce (registrations_of rows.now.entries) }
     requires linked { AreLinked (registrations_of rows.now.entries) links.now.ends.items
         links.now.numbers.items }
+    requires first { AreFirst (length rows.now.entries) (rows_behind order.now.keyed.items) }
     ensures { IsClosing (registrations_of rows.now.entries) roots.now result }
 {
     let mut found = root_rows(alloc, rows, roots)?;
     follow_all(rows, links, &mut found)?;
-    sorted_paths(alloc, rows, &found)
+    sorted_paths(alloc, rows, order, &found)
 }
 
 // The rows of the roots, each once. `NotValid` with the first root that has none.
@@ -143,92 +144,4 @@ fn add_rows(
         }
     }
     Ok(())
-}
-
-// The paths of the rows, in rising order.
-fn sorted_paths(
-    alloc: Global,
-    rows: &IndexMap<StorePath, Record>,
-    found: &Found,
-) -> Result<Vec<StorePath>, TableFault>
-    requires once { IsOnce (registrations_of rows.now.entries) }
-    requires rows { AreRows (registrations_of rows.now.entries) found.now.rows }
-    ensures rising { IfOk result (λ paths. IsRising paths.items) }
-    ensures same { IfOk result
-        (λ paths. HaveSame paths.items
-        (paths_at (registrations_of rows.now.entries) found.now.rows)) }
-    ensures err { IfErr result (λ e. e ≡ TableFault.NoMemory) }
-{
-    let mut keyed = keyed_rows(alloc, rows, found.rows())?;
-    keyed.sort_unstable();
-    let mut paths = copied_paths(alloc, rows, &keyed)?;
-    put_in_order(&mut paths);
-    Ok(paths)
-}
-
-// The rows, each behind the key of its path.
-fn keyed_rows(
-    alloc: Global,
-    rows: &IndexMap<StorePath, Record>,
-    found: &[usize],
-) -> Result<Vec<(u64, usize)>, TableFault>
-    requires { AreRows (registrations_of rows.now.entries) found.now }
-    ensures rows { IfOk result (λ keyed. map (λ k. k.1) keyed.items ≡ found.now) }
-    ensures err { IfErr result (λ e. e ≡ TableFault.NoMemory) }
-{
-    let texts = rows.keys();
-    let start = match found {
-        [] => 0,
-        [row, ..] => base_start(&texts[*row]),
-    };
-    let mut keyed = Vec::with_capacity(alloc, found.len())?;
-    for row in found {
-        keyed.push((key_at(texts[*row].text(), start), *row))?;
-    }
-    Ok(keyed)
-}
-
-// The paths of the rows, in their order.
-fn copied_paths(
-    alloc: Global,
-    rows: &IndexMap<StorePath, Record>,
-    keyed: &[(u64, usize)],
-) -> Result<Vec<StorePath>, TableFault>
-    requires { All (λ k. k.1 < length (registrations_of rows.now.entries)) keyed.now }
-    ensures paths { IfOk result (λ paths. paths.items
-        ≡ paths_at (registrations_of rows.now.entries) (map (λ k. k.1) keyed.now)) }
-    ensures err { IfErr result (λ e. e ≡ TableFault.NoMemory) }
-{
-    let texts = rows.keys();
-    let mut paths = Vec::with_capacity(alloc, keyed.len())?;
-    for row in keyed {
-        paths.push(texts[row.1].copy(alloc)?)?;
-    }
-    Ok(paths)
-}
-
-// Sorts paths that stand by their keys. That is their order, unless two have one key or they are of
-// several folders.
-fn put_in_order(paths: &mut Vec<StorePath>)
-    ensures moved { IsPermutation paths.old.items paths.new.items }
-    ensures sorted { IsSorted (slice_cmp nat_cmp) paths.new.items }
-{
-    if !paths.is_sorted() {
-        paths.sort_unstable();
-    }
-}
-
-// Where the base name of a path begins, behind the folder and a slash.
-fn base_start(path: &StorePath) -> usize {
-    path.text()
-        .len()
-        .saturating_sub(path.hash_part().len() + 1 + path.name().len())
-}
-
-// The eight bytes from a place on, as one number that compares as they do; 0 where there are fewer.
-fn key_at(text: &[u8], start: usize) -> u64 {
-    match text.get(start..) {
-        Some([a, b, c, d, e, f, g, h, ..]) => u64::from_be_bytes([*a, *b, *c, *d, *e, *f, *g, *h]),
-        _ => 0,
-    }
 }

@@ -37,7 +37,7 @@ pub(crate) fn blame(
 }
 
 // How many first registrations have paths without a row.
-pub(crate) fn new_front(rows: &IndexMap<StorePath, Record>, registrations: &[Registration]) -> usize
+fn new_front(rows: &IndexMap<StorePath, Record>, registrations: &[Registration]) -> usize
     ensures { IsNewFront (paths_of (registrations_of rows.now.entries)) (paths_of registrations.now)
         result }
 {

@@ -1,6 +1,6 @@
 //! Rows that were found, each once, in the order in which they were found.
 ghost use Rattle.std.specs.Prelude.{◌≡◌, ◌<◌, ◌≤◌, [], nat_eq, IfOk, OnOk};
-ghost use Rattle.std.specs.List.{IsDistinct};
+ghost use Rattle.std.specs.List.{IsDistinct, list_any};
 ghost use Rattle.indexmap.specs.IndexSet.{insert_key};
 
 use std::alloc::{AllocError, AllocFailed, Global};
@@ -43,6 +43,16 @@ impl Found {
         ensures { result.now ≡ self.now.rows }
     {
         &self.rows
+    }
+
+    // Whether a row is among them.
+    pub(crate) fn has(&self, row: usize) -> bool
+        ensures { result ≡ list_any (nat_eq row) self.now.rows }
+    {
+        match self.marks.get(row / 64) {
+            Some(word) => *word & (1u64 << (row % 64)) != 0,
+            None => false,
+        }
     }
 
     // Adds a row at the end, where it isn't there yet.

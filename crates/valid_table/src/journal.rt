@@ -149,7 +149,8 @@ impl Journal {
     // The journal of entries whose text was read. `Twice` has the first line that registers a path
     // again and `NotClosed` the first that refers to a path which neither an earlier entry nor its
     // own registers, whichever comes first; line 1 is the version's. `NoMemory` may come in the
-    // place of either. Costs two look-ups by hash for each registered path and each reference.
+    // place of either. Costs one look-up by hash for each registered path, and two for each
+    // reference.
     pub(crate) fn checked(alloc: Global, entries: Vec<Entry>) -> Result<Journal, TableFault>
         requires derived { All HasDrvPath entries.items }
         requires few { length (lines entries.items) ≤ 134217729 }

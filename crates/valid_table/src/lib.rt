@@ -13,7 +13,8 @@
 //! | `rows`, `table` | the rows of valid paths, and the table of them |
 //! | `links` | the references of rows, by the numbers of their rows |
 //! | `found` | rows that were found, each once |
-//! | `closing` | how a closure is found |
+//! | `order` | the order of rows by the keys of their paths |
+//! | `closing`, `rising` | how a closure is found, and put in order |
 //! | `merging` | rising lists of paths, put together |
 //! | `outlet`, `list_outlet` | where registrations go, and the outlet in memory |
 //! | `fault` | why a call refused |
@@ -35,9 +36,11 @@ mod links;
 mod list_outlet;
 mod merging;
 mod obstacle;
+mod order;
 mod outlet;
 mod reading;
 mod reference;
+mod rising;
 mod rows;
 mod table;
 mod version;

@@ -35,8 +35,8 @@ impl Journal {
     /// Lines are counted from 1.
     ///
     /// Passes over the bytes once, and once more over their newlines where a line is bad. Costs a
-    /// copy of each path, one more of each that is registered, and two look-ups by hash for each
-    /// path that is registered or referred to.
+    /// copy of each path, one more of each that is registered, one look-up by hash for each path
+    /// that is registered, and two for each reference.
     pub fn read(alloc: Global, dir: &StoreDir, bytes: &[u8]) -> Result<Journal, TableFault>
         ensures { IsReading dir.now bytes.now (answered result) }
     {

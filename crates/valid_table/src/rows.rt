@@ -1,8 +1,10 @@
 //! The rows of a table: asked for, copied in, moved in.
-ghost use Rattle.std.specs.Prelude.{◌≡◌, ◌≤◌, ◌<◌, ◌+◌, ◌++◌, ◌↔◌, [], ◌∷◌, IfErr, IsTrue, MatchOption, OnOk, length};
+ghost use Rattle.std.specs.Prelude.{◌≡◌, ◌≤◌, ◌<◌, ◌+◌, ◌++◌, ◌↔◌, [], ◌∷◌, IfErr, IfOk, IsTrue, MatchOption, OnOk, length, take};
 ghost use Rattle.indexmap.specs.IndexMap.{spare};
 ghost use Rattle.valid_table.specs.Closing.{IsRowOf};
-ghost use Rattle.valid_table.specs.Entries.{registered_by};
+ghost use Rattle.nix_names.specs.Rising.{IsRising};
+ghost use Rattle.valid_table.specs.Entering.{IsNewFront, IsPut};
+ghost use Rattle.valid_table.specs.Entries.{paths_of, registered_by};
 ghost use Rattle.valid_table.specs.Tables.{registrations_of};
 ghost use Rattle.valid_table.specs.Valid.{IsNotValid, IsOnce, IsValid};
 
@@ -45,6 +47,49 @@ pub(crate) fn add_rows(
         rows.insert(path, info)?;
     }
     Ok(())
+}
+
+// Adds a row for each registration up to the first whose path has one already, and gives how many
+// those are. The record of that path is replaced.
+pub(crate) fn add_new(
+    alloc: Global,
+    rows: &mut IndexMap<StorePath, Record>,
+    registrations: &[Registration],
+) -> Result<usize, TableFault>
+    requires once { IsOnce (registrations_of rows.old.entries) }
+    requires rising { IsRising (paths_of registrations.now) }
+    ensures front { IfOk result
+        (λ count. IsNewFront (paths_of (registrations_of rows.old.entries))
+        (paths_of registrations.now) count) }
+    ensures paths { IfOk result
+        (λ count. paths_of (registrations_of rows.new.entries)
+        ≡ paths_of (registrations_of rows.old.entries) ++ take count (paths_of registrations.now)) }
+    ensures whole { IfOk result
+        (λ count. length registrations.now ≤ count → registrations_of rows.new.entries
+        ≡ registrations_of rows.old.entries ++ registrations.now) }
+    ensures err { IfErr result (λ e. e ≡ TableFault.NoMemory) }
+{
+    for (count, registration) in registrations.iter().enumerate() {
+        if put_row(rows, registration.copy(alloc)?)? {
+            return Ok(count);
+        }
+    }
+    Ok(registrations.len())
+}
+
+// Puts a registration among the rows, and answers whether its path had a row. The record of that
+// row is replaced.
+fn put_row(
+    rows: &mut IndexMap<StorePath, Record>,
+    registration: Registration,
+) -> Result<bool, TableFault>
+    ensures put { IfOk result
+        (IsPut (registrations_of rows.old.entries) (registrations_of rows.new.entries)
+        registration) }
+    ensures err { IfErr result (λ e. e ≡ TableFault.NoMemory) }
+{
+    let Registration { path, info } = registration;
+    Ok(rows.insert(path, info)?.is_some())
 }
 
 // Moves in what an entry registers. There is room, and no path of theirs has a row yet.

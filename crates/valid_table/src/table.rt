@@ -14,6 +14,7 @@ use crate::fault::TableFault;
 use crate::journal::Journal;
 use crate::links::Links;
 use crate::obstacle::{Blame, Obstacle, fault_of, obstacle_of};
+use crate::order::Order;
 use crate::rows::{add_rows, has_row, push_entry};
 use indexmap::IndexMap;
 use nix_names::StorePath;
@@ -28,10 +29,14 @@ pub struct Table {
     rows: IndexMap<StorePath, Record>,
     // The references of the first rows, by number.
     links: Links,
+    // The order of the first rows.
+    order: Order,
 }
 
 impl Model for Table {
     ghost use Rattle.indexmap.specs.IndexMap.{spare};
+    ghost use Rattle.std.specs.Prelude.{length};
+    ghost use Rattle.valid_table.specs.FirstRows.{AreFirst, rows_behind};
     ghost use Rattle.valid_table.specs.Linking.{AreLinked};
     ghost use Rattle.valid_table.specs.Tables.{TableValue, registrations_of};
     ghost use Rattle.valid_table.specs.Valid.{AreReferencesValid, IsOnce};
@@ -43,7 +48,8 @@ impl Model for Table {
 
     ghost invariant = { λ t. IsOnce (registrations_of t.rows.entries)
         × AreReferencesValid (registrations_of t.rows.entries)
-        × AreLinked (registrations_of t.rows.entries) t.links.ends.items t.links.numbers.items };
+        × AreLinked (registrations_of t.rows.entries) t.links.ends.items t.links.numbers.items
+        × AreFirst (length t.rows.entries) (rows_behind t.order.keyed.items) };
 }
 
 impl Table {
@@ -54,6 +60,7 @@ impl Table {
         Table {
             rows: IndexMap::new(alloc),
             links: Links::new(alloc),
+            order: Order::new(alloc),
         }
     }
 
@@ -85,13 +92,13 @@ impl Table {
     /// All that the roots lead to by references, the roots among them, in strictly rising order; no
     /// roots lead to nothing. `NotValid` with the first root that is not valid, `NoMemory` where
     /// memory is refused; no other fault. Costs a bit for each row of the table, one look-up by hash
-    /// for each root, a step for each reference of what is reached, one sort of numbers, and a copy
-    /// and a comparison for each path. A path that was registered behind the last call that made
+    /// for each root, a step for each reference of what is reached, a sort of numbers most of which
+    /// are in order, and a copy and a comparison for each path. A path that was registered behind the last call that made
     /// room costs one look-up by hash for each of its references instead. Does not recurse.
     pub fn closure(&self, alloc: Global, roots: &[StorePath]) -> Result<Vec<StorePath>, TableFault>
         ensures { IsClosing self.now.registrations roots.now result }
     {
-        close(alloc, &self.rows, &self.links, roots)
+        close(alloc, &self.rows, &self.links, &self.order, roots)
     }
 
     /// What stands against an entry, if anything: the first path of its registrations that is
@@ -122,8 +129,9 @@ impl Table {
 
     /// Makes room for so many more paths. Want of memory is its only fault; what is registered
     /// stays. Costs one look-up by hash for each reference of what was registered behind the last
-    /// call that made room, so that closures need none for it. Where memory is refused for that,
-    /// nothing is told: closures cost the look-ups.
+    /// call that made room, so that closures need none for it, and a few steps for each row, by which
+    /// most rows stand in the order of their paths. Where memory is refused for these, nothing is
+    /// told: closures cost the look-ups, or more of a sort.
     pub fn reserve(&mut self, paths: usize) -> Result<(), AllocError>
         ensures same { self.new.registrations ≡ self.old.registrations }
         ensures ok { OnOk result (paths ≤ self.new.room) }
@@ -132,6 +140,7 @@ impl Table {
     {
         let alloc = *self.rows.allocator();
         self.links.link(alloc, &self.rows);
+        self.order.extend(&self.rows);
         self.rows.reserve(paths)?;
         Ok(())
     }
@@ -195,6 +204,7 @@ impl Table {
         let alloc = *rows.allocator();
         let mut links = Links::new(alloc);
         links.link(alloc, &rows);
-        Table { rows, links }
+        let order = Order::new(alloc);
+        Table { rows, links, order }
     }
 }

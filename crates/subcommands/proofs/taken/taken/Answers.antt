@@ -2,7 +2,7 @@ use Rattle.std.proofs.Common.{inl, inr, subst, Ok, Err}
 use Rattle.std.proofs.lemmas.Result.{err_from_is_err_and}
 use Rattle.subcommands.specs.AddedText.{FileBytes, IsJournalOf, file_bytes}
 use Rattle.subcommands.specs.declared.files.FileFault.TheVariants.{Unreadable}
-use Rattle.subcommands.proofs.realise.taken.Goals as goal
+use Rattle.subcommands.proofs.taken.taken.Goals as goal
 
 pub returns-in_err-dir-clause-err : goal.returns-in_err-dir-clause-err
 returns-in_err-dir-clause-err g c =

@@ -1,40 +1,36 @@
-use Rattle.std.proofs.Common.{◌+◌, ap, subst, sym, rules}
-use Rattle.std.specs.Prelude.{Ok}
-use Rattle.std.proofs.lemmas.Result.{err_from_is_err_and}
+use Rattle.std.proofs.Common.{◌+◌, ◌++◌, ◌∙◌, ap, subst, sym}
 use Rattle.valid_table.specs.Entries.{paths_of}
 use Rattle.valid_table.specs.Tables.{registrations_of}
 use Rattle.valid_table.specs.Valid.{IsOnce}
 use Rattle.valid_table.proofs.CheckedEntries.{own_checked}
 use Rattle.valid_table.proofs.EnteredPaths.{all_new}
+use Rattle.valid_table.proofs.EnteredRows.{check_before, where_right}
 use Rattle.valid_table.proofs.TakenIn.{once_more}
 use Rattle.valid_table.proofs.checking.check_entry.Goals as goal
 
-pub returns-in_err-behind-clause-checked : goal.returns-in_err-behind-clause-checked
-returns-in_err-behind-clause-checked c = search (rules, err_from_is_err_and, own_checked)
-
-pub add_rows-requires : goal.add_rows-requires
-add_rows-requires c = record {
-  once = once_more (registrations_of c.args.rows.now.entries)
-      c.registrations-registrations.result.now c.requires.once
-      c.registrations-registrations.ensures.rising
-      (all_new (paths_of (registrations_of c.args.rows.now.entries))
-      c.registrations-registrations.result.now c.new_front-new.result c.new_front-new.ensures
-      c.in_ok-behind.ensures.0);
-}
-
 pub returns-clause-checked : goal.returns-clause-checked
 returns-clause-checked c =
-    own_checked (registrations_of c.args.rows.now.entries) c.args.entry.now
-    c.registrations-registrations.result.now c.new_front-new.result c.args.line _
-    (Ok c.in_ok-behind.behind)
+    let known = registrations_of c.args.rows.now.entries in
+    let rs = c.registrations-registrations.result.now in
+    own_checked known c.args.entry.now rs c.in_ok-new.new c.args.line _ c.check_lines.result
     c.registrations-registrations.ensures.value (ap (λ n. c.args.line + n) c.header_len.ensures)
-    c.new_front-new.ensures c.in_ok-behind.ensures
+    c.in_ok-new.ensures.front
+    (check_before known (registrations_of c.add_new.new.rows.entries) rs c.in_ok-new.new _
+    c.check_lines.result c.in_ok-new.ensures.paths c.check_lines.ensures)
+
+pub returns-clause-added : goal.returns-clause-added
+returns-clause-added c =
+    where_right _ c.registrations-registrations.result.now c.in_ok-new.new _ c.check_lines.result
+    c.check_lines.ensures
+    (λ long. c.in_ok-new.ensures.whole long
+    ∙ ap (λ rs. registrations_of c.args.rows.now.entries ++ rs)
+    c.registrations-registrations.ensures.value)
 
 pub returns-clause-unique : goal.returns-clause-unique
 returns-clause-unique c =
     let known = registrations_of c.args.rows.now.entries in
-    let some = c.registrations-registrations.result.now in
-    subst IsOnce (sym c.in_ok-add_rows.ensures.ok)
-    (once_more known some c.requires.once c.registrations-registrations.ensures.rising
-    (all_new (paths_of known) some c.new_front-new.result c.new_front-new.ensures
-    c.in_ok-behind.ensures.0))
+    let rs = c.registrations-registrations.result.now in
+    where_right _ rs c.in_ok-new.new _ c.check_lines.result c.check_lines.ensures
+    (λ long. subst IsOnce (sym (c.in_ok-new.ensures.whole long))
+    (once_more known rs c.requires.once c.registrations-registrations.ensures.rising
+    (all_new (paths_of known) rs c.in_ok-new.new c.in_ok-new.ensures.front long)))

@@ -1,6 +1,6 @@
-use Rattle.std.proofs.Common.{rules}
 use Rattle.valid_table.proofs.TableRows.{found_row}
 use Rattle.valid_table.proofs.table.Table.get.Goals as goal
 
 pub returns : goal.returns
-returns c = search (rules, found_row)
+returns c = rw (← c.self.view_is)
+    (found_row c.self.inside.rows.entries c.args.path.now c.get.result c.get.ensures.value)

@@ -3,6 +3,8 @@ use Rattle.nix_names.specs.Rising.{IsRising}
 use Rattle.valid_table.specs.Adding.{AreClosed, AreNew}
 use Rattle.valid_table.specs.Entries.{paths_of, registered_by}
 use Rattle.valid_table.specs.Tables.{TableValue, registrations_of}
+use Rattle.valid_table.specs.FirstRows.{rows_behind}
+use Rattle.valid_table.proofs.FirstRows.{first_of_more}
 use Rattle.valid_table.proofs.Linking.{links_stay}
 use Rattle.valid_table.proofs.TakenIn.{once_more, valid_with_more}
 use Rattle.valid_table.proofs.table.Table.register_reserved.Goals as goal
@@ -31,4 +33,7 @@ invariant_of-self c =
       valid_with_more known (registered_by c.args.entry) c.self.invariant.1 closed,
       links_stay known (registered_by c.args.entry) c.self.inside.links.ends.items
           c.self.inside.links.numbers.items c.self.invariant.2,
+      first_of_more c.self.inside.rows.entries (registered_by c.args.entry)
+          c.push_entry.new.rows.entries (rows_behind c.self.inside.order.keyed.items)
+          c.push_entry.ensures.rows c.self.invariant.3,
     )

@@ -3,7 +3,7 @@ use Rattle.std.specs.Cmp.Lexicographic.{slice_cmp}
 use Rattle.std.specs.List.Sorted.{IsSorted}
 use Rattle.std.specs.Ordering.{nat_cmp}
 use Rattle.valid_table.proofs.Sorting.{sorted_from_test}
-use Rattle.valid_table.proofs.closing.put_in_order.Goals as goal
+use Rattle.valid_table.proofs.rising.put_in_order.Goals as goal
 
 pub returns-else-not-is_sorted-clause-sorted : goal.returns-else-not-is_sorted-clause-sorted
 returns-else-not-is_sorted-clause-sorted c =

@@ -1,0 +1,244 @@
+-- Two rising lists, put together from their ends.
+use Rattle.std.proofs.Common.{◌≡◌, ◌∙◌, ◌⊎◌, ◌+◌, ◌<◌, ◌≤◌, ℕ, List, [], ◌∷◌, ◌++◌, length, take, drop, get_or, refl, reverse, sym, ap, subst, inl, inr, ⊎_elim, append-nil, append_assoc, arith, length-drop, Err}
+use Rattle.std.specs.Prelude.{Contains, ◌↔◌}
+use Rattle.std.specs.Cmp.Lexicographic.{slice_cmp, texts_ties}
+use Rattle.std.specs.List.{HoldsAt}
+use Rattle.std.specs.List.Sorted.{IsBinarySearchResult}
+use Rattle.std.specs.Ordering.{is_eq, is_lt, nat_cmp, ordering_reverse}
+use Rattle.std.specs.declared.cmp.Ordering.TheVariants.{Equal, Greater}
+use Rattle.std.proofs.lemmas.Cmp.{nat_list_cmp_total}
+use Rattle.std.proofs.lemmas.List.{get_or-take, get_or-drop, length-take, reverse-append, reverse-reverse}
+use Rattle.std.proofs.lemmas.List.Elements.{Contains-append_cases, Contains-append_left, Contains-append_right, Contains-push, Contains-push_cases}
+use Rattle.std.proofs.lemmas.List.Sorted.{searchable_from_sorted}
+use Rattle.std.proofs.lemmas.Map.Keys.{Less-from_sorted}
+use Rattle.nix_names.specs.Rising.{IsRising}
+use Rattle.nix_names.proofs.Lists.{Contains-cons_cases, Contains-first, Contains-later, Contains-nothing}
+use Rattle.nix_names.proofs.RisingLists.{IsBelow, below_trans, equal_from_eq, first_below, rising_back, rising_front, rising_later, sorted_from_rising}
+use Rattle.valid_table.specs.Unions.{IsInEither, IsUnion}
+
+-- ---- rising lists, end to end
+
+-- what stands in the first of two lists is below what stands in the second
+rising_across : (xs ys : List (List ℕ)) (x y : List ℕ) → IsRising (xs ++ ys) → Contains xs x
+    → Contains ys y → IsBelow x y
+rising_across [] ys x y rises has has' = absurd (Contains-nothing x has)
+rising_across (z ∷ zs) ys x y rises has has' =
+    ⊎_elim
+    (λ is. subst (λ w. IsBelow w y) is
+    (first_below z (zs ++ ys) y rises (Contains-append_right zs ys y has')))
+    (λ later. rising_across zs ys x y (rising_later z (zs ++ ys) rises) later has')
+    (Contains-cons_cases z zs x has)
+
+rising_append : (xs ys : List (List ℕ)) → IsRising xs → IsRising ys
+    → ((x y : List ℕ) → Contains xs x → Contains ys y → IsBelow x y) → IsRising (xs ++ ys)
+rising_append [] ys rises rises' below = rises'
+rising_append (x ∷ []) [] rises rises' below = tt
+rising_append (x ∷ []) (y ∷ ys) rises rises' below =
+    (below x y (Contains-first x []) (Contains-first y ys), rises')
+rising_append (x ∷ z ∷ zs) ys rises rises' below = (
+  rises.0,
+  rising_append (z ∷ zs) ys rises.1 rises'
+      (λ w y has. below w y (Contains-later x (z ∷ zs) w has)),
+)
+
+-- ---- the place of a path
+
+-- where a path is not found, what stands before the place is below it, and what stands behind above
+pub record IsGap (paths : List (List ℕ)) (path : List ℕ) (place : ℕ) : Type 0 where
+  pub before : (x : List ℕ) → Contains (take place paths) x → IsBelow x path
+  pub behind : (x : List ℕ) → Contains (drop place paths) x → IsBelow path x
+
+pub found_told :
+    (paths : List (List ℕ)) (path : List ℕ) (place : ℕ) →
+    place < length paths →
+    HoldsAt (λ y. slice_cmp nat_cmp y path ≡ Equal) paths place →
+    Contains paths path
+found_told paths path place within here = (
+  place,
+  within,
+  equal_from_eq (get_or paths place path) path
+      (texts_ties (get_or paths place path) path ∙ ap is_eq (here path)),
+)
+
+pub gap_told :
+    (paths : List (List ℕ)) (path : List ℕ) (place : ℕ) →
+    IsRising paths →
+    place ≤ length paths →
+    IsBinarySearchResult (λ y. slice_cmp nat_cmp y path) paths (Err place) →
+    IsGap paths path place
+gap_told paths path place rises within told =
+    let sides = told
+    (searchable_from_sorted nat_list_cmp_total (λ (p : List ℕ). p) paths path
+    (λ j d low lt. ap is_lt
+    (nat_list_cmp_total.antisymm (get_or paths (j + 1) d) (get_or paths j d)
+    ∙ ap ordering_reverse
+    (Less-from_sorted (slice_cmp nat_cmp) paths j (j + 1) d (sorted_from_rising paths rises)
+    (omega arith) lt)))) in
+    record {
+      before = λ x has.
+          let k = has.0 in
+          let lt : k < place = omega (arith, has.1, length-take place paths) in
+          subst (λ y. IsBelow y path) (sym (get_or-take place paths k x lt) ∙ has.2)
+          (sides.0 k x (omega arith) lt);
+      behind = λ x has.
+          let k = has.0 in
+          let lt : place + k < length paths = omega (arith, has.1, length-drop place paths) in
+          let greater : slice_cmp nat_cmp (get_or paths (place + k) x) path
+          ≡ Greater = sides.1 (place + k) x (omega arith) lt in
+          subst (IsBelow path) (sym (get_or-drop place paths k x) ∙ has.2)
+          (nat_list_cmp_total.antisymm path (get_or paths (place + k) x)
+          ∙ ap ordering_reverse greater);
+    }
+
+-- ---- the lists as they are put together
+
+-- a path is in one of three lists
+abbrev IsInAny : (below left above : List (List ℕ)) → List ℕ → Type 0
+IsInAny below left above path = Contains below path ⊎ (Contains left path ⊎ Contains above path)
+
+-- What is left of two lists, and what stands above both: either rises with it, and all three have
+-- the paths of the two lists.
+pub record IsUniting (paths others below left above : List (List ℕ)) : Type 0 where
+  pub below_rises : IsRising (below ++ above)
+  pub left_rises : IsRising (left ++ above)
+  pub each : (path : List ℕ) → IsInEither paths others path ↔ IsInAny below left above path
+
+-- nothing is put together at first
+pub uniting_none : (paths others : List (List ℕ)) → IsRising paths → IsRising others
+    → IsUniting paths others paths others []
+uniting_none paths others rises rises' = record {
+  below_rises = subst IsRising (sym (append-nil paths)) rises;
+  left_rises = subst IsRising (sym (append-nil others)) rises';
+  each = λ path. (
+    λ has. ⊎_elim inl (λ there. inr (inl there)) has,
+    λ has. ⊎_elim inl (λ more. ⊎_elim inr (λ none. absurd (Contains-nothing path none)) more) has,
+  );
+}
+
+module _ (paths others below left above : List (List ℕ)) (path : List ℕ)
+    (before : IsUniting paths others below (left ++ path ∷ []) above) where
+  -- the last of the second list is below what stands above
+  last_below : (y : List ℕ) → Contains above y → IsBelow path y
+  last_below y has = rising_across (left ++ path ∷ []) above path y before.left_rises
+      (Contains-push left path) has
+
+  -- and above the others of that list
+  left_below : (x : List ℕ) → Contains left x → IsBelow x path
+  left_below x has = rising_across left (path ∷ []) x path
+      (rising_front (left ++ path ∷ []) above before.left_rises) has (Contains-first path [])
+
+  left_alone : IsRising left
+  left_alone = rising_front left (path ∷ [])
+      (rising_front (left ++ path ∷ []) above before.left_rises)
+
+  -- a path that the first list has is left out
+  pub uniting_found : Contains below path → IsUniting paths others below left above
+  uniting_found there = record {
+    below_rises = before.below_rises;
+    left_rises =
+        rising_append left above left_alone
+        (rising_back (left ++ path ∷ []) above before.left_rises)
+        (λ x y has has'. below_trans x path y (left_below x has) (last_below y has'));
+    each = λ p. (
+      λ has. ⊎_elim inl
+          (λ more. ⊎_elim
+          (λ last. ⊎_elim (λ earlier. inr (inl earlier)) (λ is. inl (subst (Contains below) is there))
+          (Contains-push_cases left path p last))
+          (λ up. inr (inr up)) more)
+          ((before.each p).0 has),
+      λ has. (before.each p).1
+          (⊎_elim inl
+          (λ more. inr
+          (⊎_elim (λ earlier. inl (Contains-append_left left (path ∷ []) p earlier)) inr more)) has),
+    );
+  }
+
+  -- another path goes above, behind what stands above it in the first list
+  pub uniting_placed :
+      (front tail : List (List ℕ)) →
+      below ≡ front ++ tail →
+      ((x : List ℕ) → Contains front x → IsBelow x path) →
+      ((x : List ℕ) → Contains tail x → IsBelow path x) →
+      IsUniting paths others front left (path ∷ (tail ++ above))
+  uniting_placed front tail parts lower higher =
+      let joined : below ++ above ≡ front ++ (tail ++ above) = ap (λ l. l ++ above) parts
+      ∙ append_assoc front tail above in
+      let rises = subst IsRising joined before.below_rises in
+      let up : (y : List ℕ) → Contains (tail ++ above) y → IsBelow path y =
+      λ y has. ⊎_elim (higher y) (last_below y) (Contains-append_cases tail above y has) in
+      let head : IsRising (path ∷ (tail ++ above)) =
+      rising_append (path ∷ []) (tail ++ above) tt (rising_back front (tail ++ above) rises)
+      (λ x y has has'. ⊎_elim (λ is. subst (λ w. IsBelow w y) is (up y has'))
+      (λ none. absurd (Contains-nothing x none)) (Contains-cons_cases path [] x has)) in
+      let over : (x y : List ℕ) → IsBelow x path → Contains (path ∷ (tail ++ above)) y
+      → IsBelow x y =
+      λ x y less has. ⊎_elim (λ is. subst (IsBelow x) is less)
+      (λ later. below_trans x path y less (up y later))
+      (Contains-cons_cases path (tail ++ above) y has) in
+      record {
+        below_rises =
+            rising_append front (path ∷ (tail ++ above))
+            (rising_front front (tail ++ above) rises) head
+            (λ x y has has'. over x y (lower x has) has');
+        left_rises =
+            rising_append left (path ∷ (tail ++ above)) left_alone head
+            (λ x y has has'. over x y (left_below x has) has');
+        each = λ p.
+            let later : Contains (tail ++ above) p → Contains (path ∷ (tail ++ above)) p =
+            Contains-later path (tail ++ above) p in (
+              λ has. ⊎_elim
+                  (λ there. ⊎_elim inl
+                  (λ behind. inr (inr (later (Contains-append_left tail above p behind))))
+                  (Contains-append_cases front tail p
+                  (subst (λ l. Contains l p) parts there)))
+                  (λ more. ⊎_elim
+                  (λ last. ⊎_elim (λ earlier. inr (inl earlier))
+                  (λ is. inr (inr (subst (Contains (path ∷ (tail ++ above))) is
+                  (Contains-first path (tail ++ above)))))
+                  (Contains-push_cases left path p last))
+                  (λ high. inr (inr (later (Contains-append_right tail above p high)))) more)
+                  ((before.each p).0 has),
+              λ has. (before.each p).1
+                  (⊎_elim
+                  (λ low. inl (subst (λ l. Contains l p) (sym parts)
+                  (Contains-append_left front tail p low)))
+                  (λ more. ⊎_elim
+                  (λ earlier. inr (inl (Contains-append_left left (path ∷ []) p earlier)))
+                  (λ high. ⊎_elim
+                  (λ is. inr (inl (subst (Contains (left ++ path ∷ [])) is (Contains-push left path))))
+                  (λ rest. ⊎_elim
+                  (λ behind. inl (subst (λ l. Contains l p) (sym parts)
+                  (Contains-append_right front tail p behind)))
+                  (λ top. inr (inr top))
+                  (Contains-append_cases tail above p rest))
+                  (Contains-cons_cases path (tail ++ above) p high)) more)
+                  has),
+            );
+      }
+
+-- where nothing is left of the second list, both are put together
+pub uniting_all : (paths others below above : List (List ℕ))
+    → IsUniting paths others below [] above → IsUnion paths others (below ++ above)
+uniting_all paths others below above done = record {
+  rising = done.below_rises;
+  each = λ path. (
+    λ has. (done.each path).1
+        (⊎_elim inl (λ high. inr (inr high)) (Contains-append_cases below above path has)),
+    λ has. ⊎_elim (Contains-append_left below above path)
+        (λ more. ⊎_elim (λ none. absurd (Contains-nothing path none))
+        (Contains-append_right below above path) more)
+        ((done.each path).0 has),
+  );
+}
+
+-- what was put above so far, and the paths that were taken off, in order
+pub turned : (above tail : List (List ℕ)) (path : List ℕ)
+    → reverse ((above ++ reverse tail) ++ path ∷ []) ≡ path ∷ (tail ++ reverse above)
+turned above tail path =
+    reverse-append (above ++ reverse tail) (path ∷ [])
+    ∙ ap (λ l. path ∷ l)
+    (reverse-append above (reverse tail) ∙ ap (λ l. l ++ reverse above) (reverse-reverse tail))
+
+pub nothing_left : (paths : List (List ℕ)) → length paths ≡ 0 → paths ≡ []
+nothing_left [] none = refl
+nothing_left (path ∷ paths) none = absurd (omega (arith, none))

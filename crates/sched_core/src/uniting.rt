@@ -1,0 +1,49 @@
+//! Rising lists of paths, put together by moving the paths.
+ghost use Rattle.std.specs.Prelude.{◌≡◌, ◌≤◌, ◌++◌, IfOk, drop, length, reverse, take};
+ghost use Rattle.nix_names.specs.Rising.{IsRising};
+ghost use Rattle.valid_table.specs.Unions.{IsUnion};
+
+use nix_names::StorePath;
+use std::alloc::AllocError;
+
+// The union of two strictly rising lists, of which the second has few paths: the paths of the first
+// that stand above one of the second are taken off and put back, the others stay where they are.
+// Costs a binary search for each path of the second.
+pub(crate) fn united(
+    paths: Vec<StorePath>,
+    others: Vec<StorePath>,
+) -> Result<Vec<StorePath>, AllocError>
+    requires left { IsRising paths.items }
+    requires right { IsRising others.items }
+    ensures { IfOk result (λ all. IsUnion paths.items others.items all.items) }
+{
+    let alloc = *paths.allocator();
+    let mut below = paths;
+    let mut left = others;
+    let mut above = Vec::new(alloc);
+    while let Some(path) = left.pop() {
+        if let Err(place) = below.binary_search(&path) {
+            take_off(&mut below, place, &mut above)?;
+            above.push(path)?;
+        }
+    }
+    above.reverse();
+    below.append(&mut above)?;
+    Ok(below)
+}
+
+// Moves the paths from this place on behind those above, the last first.
+fn take_off(
+    paths: &mut Vec<StorePath>,
+    place: usize,
+    above: &mut Vec<StorePath>,
+) -> Result<(), AllocError>
+    requires { place ≤ length paths.old.items }
+    ensures below { IfOk result (λ _. paths.new.items ≡ take place paths.old.items) }
+    ensures above { IfOk result
+        (λ _. above.new.items ≡ above.old.items ++ reverse (drop place paths.old.items)) }
+{
+    let mut taken = paths.split_off(place)?;
+    taken.reverse();
+    above.append(&mut taken)
+}

@@ -1,0 +1,90 @@
+//! The subcommand `plan`.
+ghost use Rattle.std.specs.Prelude.{◌≡◌, IfErr, IfOk};
+ghost use Rattle.forecast.specs.Texts.{IsForecast};
+ghost use Rattle.subcommands.specs.Planning.{ForecastEnds, PlanEnds, over, whole_status};
+ghost use Rattle.subcommands.specs.declared.stop.Stop.TheVariants.{NoMemory};
+
+use crate::options::RunRequest;
+use crate::printing::print_bytes;
+use crate::status::Status;
+use crate::stop::Stop;
+use crate::taken::taken;
+use crate::task::Task;
+use forecast::Forecast;
+use sched_core::BookFault;
+use std::alloc::Global;
+use std::io::Write;
+use std::rt::Files;
+
+/// Prints what `realise` would report for the request, if each builder that it starts made its
+/// outputs. The plan is loaded, then the journal is read; what is refused is told. Nothing is
+/// written but to standard output, and nothing is started.
+pub fn plan<'a, R, O>(rt: &R, request: &RunRequest<'a>, out: &mut O) -> Result<Status, Stop<'a>>
+where
+    R: Files + AllocGlobal,
+    O: Write,
+    ensures { PlanEnds request.now (O.contents out.old) (O.contents out.new) result }
+{
+    let (_, task) = taken(rt, request)?;
+    print_forecast(rt.alloc(), request, task, out)
+}
+
+// Prints the forecast of a run over a task.
+fn print_forecast<'a, O: Write>(
+    alloc: Global,
+    request: &RunRequest<'a>,
+    task: Task,
+    out: &mut O,
+) -> Result<Status, Stop<'a>>
+    ensures { ForecastEnds request.now task (O.contents out.old) (O.contents out.new) result }
+{
+    let forecast = forecast_of(alloc, request, task)?;
+    let text = text_of(&forecast)?;
+    match print_bytes(&text, out) {
+        Ok(()) => Ok(whole_status(&forecast)),
+        Err(_) => Err(Stop::Unwritable),
+    }
+}
+
+// The forecast of a run over a task.
+fn forecast_of<'a>(
+    alloc: Global,
+    request: &RunRequest<'a>,
+    task: Task,
+) -> Result<Forecast, Stop<'a>>
+    ensures run { IfOk result (λ forecast. forecast.run ≡ over request.now task) }
+    ensures entries { IfOk result (λ forecast. forecast.entries ≡ task.journal.entries) }
+    ensures err { IfErr result (λ stop. stop ≡ NoMemory) }
+{
+    let Task { plan, journal } = task;
+    let system = Vec::from_slice(alloc, request.system.as_bytes())?;
+    match Forecast::open(alloc, plan, journal, system) {
+        Ok(forecast) => Ok(forecast),
+        Err(BookFault::NoMemory) => Err(Stop::NoMemory),
+        Err(_) => unreachable!(),
+    }
+}
+
+// The text of a forecast.
+fn text_of<'a>(forecast: &Forecast) -> Result<Vec<u8>, Stop<'a>>
+    ensures ok { IfOk result
+        (λ text. IsForecast forecast.now.run forecast.now.entries text.items) }
+    ensures err { IfErr result (λ stop. stop ≡ NoMemory) }
+{
+    match forecast.text() {
+        Ok(text) => Ok(text),
+        Err(BookFault::NoMemory) => Err(Stop::NoMemory),
+        Err(_) => unreachable!(),
+    }
+}
+
+// The status of a forecast: `Done` where each root is built or reused, else `Unrealised`.
+fn whole_status(forecast: &Forecast) -> Status
+    ensures { result ≡ whole_status forecast.now.run forecast.now.entries }
+{
+    if forecast.is_whole() {
+        Status::Done
+    } else {
+        Status::Unrealised
+    }
+}

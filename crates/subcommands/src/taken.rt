@@ -1,0 +1,31 @@
+//! What a run is over, by the files on disk.
+ghost use Rattle.std.specs.Prelude.{Err, IfErr, IfOk, Ok};
+ghost use Rattle.subcommands.specs.AddedText.{FileBytes};
+ghost use Rattle.subcommands.specs.Folders.{may_give};
+ghost use Rattle.subcommands.specs.Tasks.{IsTaking};
+
+use crate::added_text::journal_of;
+use crate::folder::FolderSource;
+use crate::journal_file::JournalFile;
+use crate::options::RunRequest;
+use crate::stop::Stop;
+use crate::task::{Task, planned};
+use std::rt::Files;
+
+/// The journal file of a request, and what its run is over. The plan is loaded, then the journal is
+/// read.
+pub fn taken<'a, R: Files + AllocGlobal>(
+    rt: &R,
+    request: &RunRequest<'a>,
+) -> Result<(JournalFile, Task), Stop<'a>>
+    ensures ok { IfOk result (λ t. (gave : FileBytes)
+        × IsTaking (λ _ answer. may_give answer) request.now gave (Ok t.1)) }
+    ensures err { IfErr result (λ stop. (gave : FileBytes)
+        × IsTaking (λ _ answer. may_give answer) request.now gave (Err stop)) }
+{
+    let (dir, plan) = planned(rt.alloc(), &mut FolderSource::new(rt), request)?;
+    let file = JournalFile::new(rt.alloc(), request.store_dir, request.journal)?;
+    let gave = file.read(rt);
+    let journal = journal_of(rt.alloc(), &dir, gave)?;
+    Ok((file, Task { plan, journal }))
+}

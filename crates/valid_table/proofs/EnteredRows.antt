@@ -1,0 +1,211 @@
+-- Registrations that are put among the rows of a table before their lines are checked.
+use Rattle.std.proofs.Common.{◌≡◌, ◌∙◌, ℕ, ◌+◌, ◌<◌, ◌≤◌, Bool, true, false, List, [], ◌∷◌, ◌++◌, length, take, drop, get_or, sym, ap, subst, arith, refl, inl, inr, nat_eq}
+use Rattle.std.specs.Prelude.{Contains, IfSome, OnOk, Some, Result, Ok, Err, is_some}
+use Rattle.std.specs.List.{IsDistinct, take-map}
+use Rattle.std.specs.Cmp.Lexicographic.{pointwise}
+use Rattle.std.specs.Map.{keys_of}
+use Rattle.std.proofs.lemmas.Bool.{false≢true}
+use Rattle.std.proofs.lemmas.List.{append_assoc, take-append-drop, take_all}
+use Rattle.std.proofs.lemmas.Option.{slice_get-get_or}
+use Rattle.std.proofs.lemmas.List.Elements.{All-weaker, Contains-append_cases, Contains-append_left, Contains-append_right}
+use Rattle.indexmap.proofs.CallerLemmas.{keys-insert_entry-present}
+use Rattle.indexmap.specs.IndexMap.{IndexMap, get_by, insert_entry}
+use Rattle.nix_names.specs.Rising.{IsRising}
+use Rattle.nix_names.proofs.Lists.{parts_at, taken_more}
+use Rattle.nix_names.proofs.RisingLists.{distinct_from_rising}
+use Rattle.valid_table.specs.Checking.{IsLineCheck}
+use Rattle.valid_table.specs.Closing.{HaveSame}
+use Rattle.valid_table.specs.Entering.{AreUnknown, IsNewFront, IsPut, IsUnknown}
+use Rattle.valid_table.specs.Entries.{paths_of}
+use Rattle.valid_table.specs.PathInfos.{PathInfo}
+use Rattle.valid_table.specs.Tables.{registrations_of}
+use Rattle.valid_table.specs.Valid.{IsNotValid, IsValid}
+use Rattle.valid_table.specs.declared.entry.Registration.{Registration}
+use Rattle.valid_table.specs.declared.fault.TableFault.{TableFault}
+use Rattle.valid_table.specs.declared.fault.TableFault.TheVariants.{NotClosed, Twice}
+use Rattle.valid_table.proofs.EnteredPaths.{new_more, path_at}
+use Rattle.valid_table.proofs.JournalLists.{paths_of-append}
+use Rattle.valid_table.proofs.PathLists.{once_apart}
+use Rattle.valid_table.proofs.RowNumbers.{paths_are_keys, path_count}
+use Rattle.valid_table.proofs.TableRows.{has_row_says, row_pushed}
+
+-- what the insertion of a row answers
+pub row_put : {S : Type 0} (rows : IndexMap (List ℕ) PathInfo S) (r : Registration)
+    (new : List (List ℕ × PathInfo)) (had : Bool)
+    → had ≡ is_some (get_by (pointwise nat_eq r.path) rows)
+    → new ≡ insert_entry (pointwise nat_eq) rows.entries r.path r.info
+    → IsPut (registrations_of rows.entries) (registrations_of new) r had
+row_put rows r new true is added =
+    let valid = (has_row_says rows r.path true is).0 refl in (
+      valid,
+      paths_are_keys new
+          ∙ ap keys_of added
+          ∙ keys-insert_entry-present (pointwise nat_eq) rows r.path r.info (sym is)
+          ∙ sym (paths_are_keys rows.entries),
+    )
+row_put rows r new false is added =
+    let fresh : IsNotValid (registrations_of rows.entries) r.path =
+    (λ valid. false≢true ((has_row_says rows r.path false is).1 valid)) in
+    (fresh, row_pushed rows r new fresh added)
+
+-- ---- the first of some registrations, behind known ones
+
+abbrev front : List Registration → List Registration → ℕ → List Registration
+front known rs i = known ++ take i rs
+
+front_paths : (known rs : List Registration) (i : ℕ) → paths_of (front known rs i)
+    ≡ paths_of known ++ take i (paths_of rs)
+front_paths known rs i = paths_of-append known (take i rs)
+    ∙ ap (λ l. paths_of known ++ l) (sym (take-map (λ (r : Registration). r.path) i rs))
+
+-- the next path is not among the first
+next_apart : (rs : List Registration) (i : ℕ) (r : Registration) → IsRising (paths_of rs)
+    → i < length rs → r ≡ get_or rs i r → Contains (take i (paths_of rs)) r.path → ⊥
+next_apart rs i r rising lt is has =
+    let paths = paths_of rs in
+    let at : r.path ≡ get_or paths i r.path = sym (path_at rs i r r.path lt is) in
+    once_apart (take i paths) (drop (i + 1) paths) r.path
+    (subst (IsDistinct (pointwise nat_eq))
+    (parts_at paths i r.path (omega (arith, lt, path_count rs)) at)
+    (distinct_from_rising paths rising)) has
+
+-- so it is valid by both where it is by known ones
+pub known_next : (known rs : List Registration) (i : ℕ) (r : Registration)
+    → IsRising (paths_of rs) → i < length rs → r ≡ get_or rs i r → IsValid (front known rs i) r.path
+    → IsValid known r.path
+known_next known rs i r rising lt is valid =
+    elim (Contains-append_cases (paths_of known) (take i (paths_of rs)) r.path
+    (subst (λ ps. Contains ps r.path) (front_paths known rs i) valid)) [
+      | inl there ↦ there
+      | inr among ↦ absurd (next_apart rs i r rising lt is among)
+    ]
+
+unknown_next : (known rs : List Registration) (i : ℕ) (r : Registration)
+    → IsNotValid (front known rs i) r.path → IsUnknown (paths_of known) r.path
+unknown_next known rs i r not valid =
+    not (subst (λ ps. Contains ps r.path) (sym (front_paths known rs i))
+    (Contains-append_left (paths_of known) (take i (paths_of rs)) r.path valid))
+
+-- one more was put behind them
+pub put_more : (known rs now new : List Registration) (i : ℕ) (r : Registration)
+    → now ≡ front known rs i → AreUnknown (paths_of known) (take i (paths_of rs)) → i < length rs
+    → r ≡ get_or rs i r → IsPut now new r false
+    → (new ≡ front known rs (i + 1)) × AreUnknown (paths_of known) (take (i + 1) (paths_of rs))
+put_more known rs now new i r is_front unknown lt is put = (
+  put.1
+      ∙ ap (λ l. l ++ r ∷ []) is_front
+      ∙ append_assoc known (take i rs) (r ∷ [])
+      ∙ ap (λ l. known ++ l) (sym (taken_more rs i r lt is)),
+  new_more (paths_of known) rs i r unknown lt is
+      (unknown_next known rs i r (subst (λ l. IsNotValid l r.path) is_front put.0)),
+)
+
+-- the next one had its path there
+pub put_twice : (known rs now new : List Registration) (i : ℕ) (r : Registration)
+    → IsRising (paths_of rs) → now ≡ front known rs i
+    → AreUnknown (paths_of known) (take i (paths_of rs)) → i < length rs → r ≡ get_or rs i r
+    → IsPut now new r true
+    → IsNewFront (paths_of known) (paths_of rs) i × (paths_of new
+    ≡ paths_of known ++ take i (paths_of rs))
+put_twice known rs now new i r rising is_front unknown lt is put = (
+  record {
+    within = omega (arith, lt, path_count rs);
+    new = unknown;
+    next = subst (λ o. IfSome o (Contains (paths_of known)))
+        (sym (slice_get-get_or (paths_of rs) i r.path (omega (arith, lt, path_count rs))
+        ∙ ap Some (path_at rs i r r.path lt is)))
+        (known_next known rs i r rising lt is (subst (λ l. IsValid l r.path) is_front put.0));
+  },
+  put.1 ∙ ap paths_of is_front ∙ front_paths known rs i,
+)
+
+-- all were put behind them
+pub put_all : (known rs new : List Registration) (n : ℕ) → length rs ≤ n → new ≡ front known rs n
+    → new ≡ known ++ rs
+put_all known rs new n long is = is ∙ ap (λ l. known ++ l) (take_all n rs long)
+
+pub put_paths : (known rs new : List Registration) (n : ℕ) → length rs ≤ n → new ≡ front known rs n
+    → paths_of new ≡ paths_of known ++ take (length rs) (paths_of rs)
+put_paths known rs new n long is =
+    ap paths_of (put_all known rs new n long is)
+    ∙ paths_of-append known rs
+    ∙ ap (λ l. paths_of known ++ l)
+    (sym (take_all (length rs) (paths_of rs) (omega (arith, path_count rs))))
+
+-- ---- lines that were checked behind more rows with the same paths
+
+Contains-take : (paths : List (List ℕ)) (i : ℕ) (path : List ℕ) → Contains (take i paths) path
+    → Contains paths path
+Contains-take paths i path has =
+    subst (λ ps. Contains ps path) (take-append-drop i paths)
+    (Contains-append_left (take i paths) (drop i paths) path has)
+
+-- behind the first of some paths, and behind all of them, the same are known
+pub same_known : (known paths : List (List ℕ)) (i : ℕ)
+    → HaveSame ((known ++ take i paths) ++ paths) (known ++ paths)
+same_known known paths i = λ path. (
+  λ has. elim (Contains-append_cases (known ++ take i paths) paths path has) [
+    | inl front ↦ elim (Contains-append_cases known (take i paths) path front) [
+      | inl there ↦ Contains-append_left known paths path there
+      | inr taken ↦ Contains-append_right known paths path (Contains-take paths i path taken)
+    ]
+    | inr own ↦ Contains-append_right known paths path own
+  ],
+  λ has. elim (Contains-append_cases known paths path has) [
+    | inl there ↦
+        Contains-append_left (known ++ take i paths) paths path
+        (Contains-append_left known (take i paths) path there)
+    | inr own ↦ Contains-append_right (known ++ take i paths) paths path own
+  ],
+)
+
+-- so the same is answered for the lines
+pub same_check : (all known : List (List ℕ)) (rs : List Registration) (new first : ℕ)
+    (result : Result ℕ TableFault) → HaveSame all known → IsLineCheck all rs new first result
+    → IsLineCheck known rs new first result
+same_check all known rs new first (Ok behind) same (long, closed, number) =
+    (long, All-weaker (Contains all) (Contains known) (λ p has. (same p).0 has) _ closed, number)
+same_check all known rs new first (Err (Twice n)) same (lt, closed, number) =
+    (lt, All-weaker (Contains all) (Contains known) (λ p has. (same p).0 has) _ closed, number)
+same_check all known rs new first (Err (NotClosed n)) same
+    (before, r, after, place, parts, lt, closed, unknown, number) = (
+      before,
+      r,
+      after,
+      place,
+      parts,
+      lt,
+      All-weaker (Contains all) (Contains known) (λ p has. (same p).0 has) _ closed,
+      (
+        unknown.0,
+        record {
+          before = unknown.1.before;
+          after = unknown.1.after;
+          parts = unknown.1.parts;
+          others = All-weaker (Contains all) (Contains known) (λ p has. (same p).0 has) _
+              unknown.1.others;
+          is = λ has. unknown.1.is ((same unknown.0).1 has);
+        },
+        unknown.2,
+      ),
+      number,
+    )
+same_check all known rs new first (Err other) same check = check
+
+pub check_before : (known now rs : List Registration) (new first : ℕ) (result : Result ℕ TableFault)
+    → paths_of now ≡ paths_of known ++ take new (paths_of rs)
+    → IsLineCheck (paths_of (now ++ rs)) rs new first result
+    → IsLineCheck (paths_of (known ++ rs)) rs new first result
+check_before known now rs new first result is check =
+    same_check (paths_of (now ++ rs)) (paths_of (known ++ rs)) rs new first result
+    (subst (HaveSame (paths_of (now ++ rs))) (sym (paths_of-append known rs))
+    (subst (λ ps. HaveSame ps (paths_of known ++ paths_of rs))
+    (sym (paths_of-append now rs ∙ ap (λ ps. ps ++ paths_of rs) is))
+    (same_known (paths_of known) (paths_of rs) new))) check
+
+-- what holds where all paths were new holds where no line was wrong
+pub where_right : {P : Type 0} (all : List (List ℕ)) (rs : List Registration) (new first : ℕ)
+    (result : Result ℕ TableFault) → IsLineCheck all rs new first result → (length rs ≤ new → P)
+    → OnOk result P
+where_right all rs new first (Ok behind) check holds = holds check.0
+where_right all rs new first (Err e) check holds = tt

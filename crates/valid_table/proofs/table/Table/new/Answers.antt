@@ -1,0 +1,11 @@
+use Rattle.std.proofs.Common.{rules}
+use Rattle.valid_table.proofs.FirstRows.{first_none}
+use Rattle.valid_table.proofs.table.Table.new.Goals as goal
+
+pub invariant_of-result : goal.invariant_of-result
+invariant_of-result c = (
+  search (rules),
+  search (rules),
+  search (rules),
+  first_none _ c.new-3.result.keyed.items c.new-3.ensures,
+)

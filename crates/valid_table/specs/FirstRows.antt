@@ -1,0 +1,13 @@
+-- The first rows of a table, each once, in any order.
+use Rattle.std.specs.Prelude.{◌≡◌, ◌≤◌, ℕ, List, length, map, nat_eq, nat_lt}
+use Rattle.std.specs.List.{IsDistinct, list_any}
+
+-- the rows that stand behind keys
+abbrev pub rows_behind : List (ℕ × ℕ) → List ℕ
+rows_behind keyed = map (λ k. k.1) keyed
+
+-- Rows are the first ones of a table with so many rows: just those below their own number.
+pub record AreFirst (count : ℕ) (rows : List ℕ) : Type 0 where
+  pub few : length rows ≤ count
+  pub distinct : IsDistinct nat_eq rows
+  pub there : (row : ℕ) → list_any (nat_eq row) rows ≡ nat_lt row (length rows)

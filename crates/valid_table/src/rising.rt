@@ -1,0 +1,152 @@
+//! The paths of rows that were found, in rising order.
+ghost use Rattle.std.specs.Prelude.{◌≡◌, ◌<◌, ◌++◌, ◌⊎◌, [], ℕ, All, IfErr, IfOk, OnOk, length, map, nat_eq, nat_lt, not};
+ghost use Rattle.std.specs.Cmp.Lexicographic.{slice_cmp};
+ghost use Rattle.std.specs.List.{filter, list_any};
+ghost use Rattle.std.specs.List.Sorted.{IsPermutation, IsSorted};
+ghost use Rattle.std.specs.Ordering.{nat_cmp};
+ghost use Rattle.nix_names.specs.Rising.{IsRising};
+ghost use Rattle.valid_table.specs.Closing.{AreRows, HaveSame, paths_at};
+ghost use Rattle.valid_table.specs.FirstRows.{AreFirst, rows_behind};
+ghost use Rattle.valid_table.specs.Tables.{registrations_of};
+ghost use Rattle.valid_table.specs.Valid.{IsOnce};
+
+use crate::entry::Record;
+use crate::fault::TableFault;
+use crate::found::Found;
+use crate::order::{Order, base_start, key_at};
+use indexmap::IndexMap;
+use nix_names::StorePath;
+use std::alloc::{AllocFailed, Global};
+
+// A pass over the rows in order costs less than a sort where one in this many of them was found.
+const SWEEP: usize = 16;
+
+// The paths of the rows, in rising order.
+pub(crate) fn sorted_paths(
+    alloc: Global,
+    rows: &IndexMap<StorePath, Record>,
+    order: &Order,
+    found: &Found,
+) -> Result<Vec<StorePath>, TableFault>
+    requires once { IsOnce (registrations_of rows.now.entries) }
+    requires first { AreFirst (length rows.now.entries) (rows_behind order.now.keyed.items) }
+    requires rows { AreRows (registrations_of rows.now.entries) found.now.rows }
+    ensures rising { IfOk result (λ paths. IsRising paths.items) }
+    ensures same { IfOk result
+        (λ paths. HaveSame paths.items
+        (paths_at (registrations_of rows.now.entries) found.now.rows)) }
+    ensures err { IfErr result (λ e. e ≡ TableFault.NoMemory) }
+{
+    let mut keyed = keyed_rows(alloc, rows, order, found)?;
+    keyed.sort()?;
+    let mut paths = copied_paths(alloc, rows, &keyed)?;
+    put_in_order(&mut paths);
+    Ok(paths)
+}
+
+// The rows that were found, each behind the key of its path: mostly in the order of their keys.
+fn keyed_rows(
+    alloc: Global,
+    rows: &IndexMap<StorePath, Record>,
+    order: &Order,
+    found: &Found,
+) -> Result<Vec<(u64, usize)>, TableFault>
+    requires first { AreFirst (length rows.now.entries) (rows_behind order.now.keyed.items) }
+    requires rows { AreRows (registrations_of rows.now.entries) found.now.rows }
+    ensures rows { IfOk result
+        (λ keyed. AreRows (registrations_of rows.now.entries) (rows_behind keyed.items)) }
+    ensures same { IfOk result
+        (λ keyed. (row : ℕ) → list_any (nat_eq row) (rows_behind keyed.items)
+        ≡ list_any (nat_eq row) found.now.rows) }
+    ensures err { IfErr result (λ e. e ≡ TableFault.NoMemory) }
+{
+    let mut keyed = Vec::with_capacity(alloc, found.rows().len())?;
+    let ordered = swept(order, found);
+    push_found(ordered, found, &mut keyed)?;
+    push_late(rows, ordered.len(), found, &mut keyed)?;
+    Ok(keyed)
+}
+
+// The rows in order that a closure passes over: all of them, or none where few were found.
+fn swept<'a>(order: &'a Order, found: &Found) -> &'a [(u64, usize)]
+    ensures { (result.now ≡ []) ⊎ (result.now ≡ order.now.keyed.items) }
+{
+    if found.rows().len() < order.keyed.len() / SWEEP {
+        &[]
+    } else {
+        &order.keyed
+    }
+}
+
+// Adds those of the rows in order that were found.
+fn push_found(
+    ordered: &[(u64, usize)],
+    found: &Found,
+    keyed: &mut Vec<(u64, usize)>,
+) -> Result<(), AllocFailed<(u64, usize)>>
+    ensures { OnOk result
+        (rows_behind keyed.new.items ≡ rows_behind keyed.old.items
+        ++ filter (λ row. list_any (nat_eq row) found.now.rows) (rows_behind ordered.now)) }
+{
+    for item in ordered {
+        if found.has(item.1) {
+            keyed.push(*item)?;
+        }
+    }
+    Ok(())
+}
+
+// Adds those of the rows that were found that stand behind the first so many.
+fn push_late(
+    rows: &IndexMap<StorePath, Record>,
+    first: usize,
+    found: &Found,
+    keyed: &mut Vec<(u64, usize)>,
+) -> Result<(), AllocFailed<(u64, usize)>>
+    requires { AreRows (registrations_of rows.now.entries) found.now.rows }
+    ensures { OnOk result
+        (rows_behind keyed.new.items ≡ rows_behind keyed.old.items
+        ++ filter (λ row. not (nat_lt row first)) found.now.rows) }
+{
+    let paths = rows.keys();
+    let start = match found.rows() {
+        [] => 0,
+        [row, ..] => base_start(&paths[*row]),
+    };
+    for row in found.rows() {
+        if *row >= first {
+            keyed.push((key_at(paths[*row].text(), start), *row))?;
+        }
+    }
+    Ok(())
+}
+
+// The paths of the rows, in their order.
+fn copied_paths(
+    alloc: Global,
+    rows: &IndexMap<StorePath, Record>,
+    keyed: &[(u64, usize)],
+) -> Result<Vec<StorePath>, TableFault>
+    requires { All (λ k. k.1 < length (registrations_of rows.now.entries)) keyed.now }
+    ensures paths { IfOk result (λ paths. paths.items
+        ≡ paths_at (registrations_of rows.now.entries) (map (λ k. k.1) keyed.now)) }
+    ensures err { IfErr result (λ e. e ≡ TableFault.NoMemory) }
+{
+    let texts = rows.keys();
+    let mut paths = Vec::with_capacity(alloc, keyed.len())?;
+    for row in keyed {
+        paths.push(texts[row.1].copy(alloc)?)?;
+    }
+    Ok(paths)
+}
+
+// Sorts paths that stand by their keys. That is their order, unless two have one key or they are of
+// several folders.
+fn put_in_order(paths: &mut Vec<StorePath>)
+    ensures moved { IsPermutation paths.old.items paths.new.items }
+    ensures sorted { IsSorted (slice_cmp nat_cmp) paths.new.items }
+{
+    if !paths.is_sorted() {
+        paths.sort_unstable();
+    }
+}
