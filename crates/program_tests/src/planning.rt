@@ -28,7 +28,7 @@ static ROWS: [Row; 3] = [
                 "",
                 0,
             ),
-            Step::Left(1),
+            Step::Left(2),
             Step::Run(
                 "nix_realise realise --store-dir <dir> <any>",
                 "built <any>\noutput <any.out>\n",
@@ -60,7 +60,7 @@ static ROWS: [Row; 3] = [
                 "",
                 0,
             ),
-            Step::Left(1),
+            Step::Left(2),
         ],
     },
     // The faults of `realise`, in its order; a refused line is told.
@@ -94,7 +94,7 @@ static ROWS: [Row; 3] = [
                 "nix_realise: run: Unwritable\n",
                 3,
             ),
-            Step::Left(1),
+            Step::Left(2),
         ],
     },
 ];
