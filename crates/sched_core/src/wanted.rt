@@ -12,11 +12,7 @@ use std::alloc::{AllocError, Global};
 
 /// Of each derivation, whether it is wanted, where they stand so by themselves. `NoMemory`, the only
 /// fault, where memory is refused. Linear in the pairs of a user and an input.
-pub fn wanted_of(
-    alloc: Global,
-    plan: &Plan,
-    standings: &[Standing],
-) -> Result<Vec<bool>, BookFault>
+pub fn wanted_of(alloc: Global, plan: &Plan, standings: &[Standing]) -> Result<Vec<bool>, BookFault>
     requires { length standings.now ≡ length plan.now.nodes }
     ensures ok { IfOk result (λ wanted. (run : Run) (opening : List Entry) → run.graph ≡ plan.now
         → AreStandings run.system opening plan.now.nodes standings.now

@@ -26,7 +26,7 @@ pub(crate) fn check_entries(alloc: Global, entries: &[Entry]) -> Result<Table, T
     ensures table { IfOk result (λ table. table.registrations ≡ registered entries.now) }
     ensures err { IfErr result (λ fault. IsChecking entries.now (Err fault)) }
 {
-    let mut rows = IndexMap::new(alloc);
+    let mut rows = IndexMap::with_capacity(alloc, entries.len())?;
     let mut line = 2;
     for entry in entries {
         line = check_entry(alloc, &mut rows, entry, line)?;

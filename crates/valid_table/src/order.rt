@@ -55,16 +55,20 @@ impl Order {
     }
 }
 
-// The key of a path: the first eight bytes behind its folder and the slash, as one number that
-// compares as they do; 0 where there are fewer.
-pub(crate) fn key_of(path: &StorePath) -> u64 {
-    let text = path.text();
-    let base = path.hash_part().len() + 1 + path.name().len();
-    key_at(text, text.len().saturating_sub(base))
+// The key of a path: the first eight bytes behind its folder and the slash.
+fn key_of(path: &StorePath) -> u64 {
+    key_at(path.text(), base_start(path))
+}
+
+// Where the base name of a path begins, behind the folder and a slash.
+pub(crate) fn base_start(path: &StorePath) -> usize {
+    path.text()
+        .len()
+        .saturating_sub(path.hash_part().len() + 1 + path.name().len())
 }
 
 // The eight bytes from a place on, as one number that compares as they do; 0 where there are fewer.
-fn key_at(text: &[u8], start: usize) -> u64 {
+pub(crate) fn key_at(text: &[u8], start: usize) -> u64 {
     match text.get(start..) {
         Some([a, b, c, d, e, f, g, h, ..]) => u64::from_be_bytes([*a, *b, *c, *d, *e, *f, *g, *h]),
         _ => 0,

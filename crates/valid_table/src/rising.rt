@@ -13,7 +13,7 @@ ghost use Rattle.valid_table.specs.Valid.{IsOnce};
 use crate::entry::Record;
 use crate::fault::TableFault;
 use crate::found::Found;
-use crate::order::{Order, key_of};
+use crate::order::{Order, base_start, key_at};
 use indexmap::IndexMap;
 use nix_names::StorePath;
 use std::alloc::{AllocFailed, Global};
@@ -109,9 +109,13 @@ fn push_late(
         ++ filter (λ row. not (nat_lt row first)) found.now.rows) }
 {
     let paths = rows.keys();
+    let start = match found.rows() {
+        [] => 0,
+        [row, ..] => base_start(&paths[*row]),
+    };
     for row in found.rows() {
         if *row >= first {
-            keyed.push((key_of(&paths[*row]), *row))?;
+            keyed.push((key_at(paths[*row].text(), start), *row))?;
         }
     }
     Ok(())

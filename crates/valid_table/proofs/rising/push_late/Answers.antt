@@ -23,7 +23,7 @@ loop-row-preserved c =
           kept p (take i found) (take (i + 1) found) start (rows_behind before)
           (rows_behind c.if-row-first.keyed.items) row one c.loop-row.invariant
           (ap not (le-ltb row first w.if-row-first.true))
-          (behind_pushed before c.if-row-first.keyed.items (w.key_of.result, row)
+          (behind_pushed before c.if-row-first.keyed.items (w.key_at.result, row)
           (ap (λ v. v.items) w.keyed-is ∙ w.in_ok-push.ensures.items))
       | else-row-first w ↦
           ap (λ v. rows_behind v.items) w.keyed-is

@@ -1,0 +1,167 @@
+-- What is held of a forecast says what is foretold.
+use Rattle.std.proofs.Common.{◌≡◌, ◌∙◌, ⊎_elim, ℕ, zero, suc, ◌<◌, ◌≤◌, ◌++◌, Bool, true, false, List, [], ◌∷◌, length, get_or, refl, sym, ap, subst, arith}
+use Rattle.std.specs.Prelude.{All, flat_map}
+use Rattle.std.specs.List.{list_all, slice_index_or}
+use Rattle.std.proofs.lemmas.Bool.{and_left, and_right, cases_lt, false≢true}
+use Rattle.std.proofs.lemmas.List.{get_or_past, length-map}
+use Rattle.std.proofs.lemmas.Option.{slice_get_past}
+use Rattle.drv_graph.specs.Nodes.{Node}
+use Rattle.drv_graph.specs.Plans.{Graph}
+use Rattle.valid_table.specs.declared.entry.Entry.{Entry}
+use Rattle.sched_core.specs.Courses.{AreStandings, AreWanted}
+use Rattle.sched_core.specs.Reports.{lines_if_some, output_lines, outputs_at}
+use Rattle.sched_core.specs.Runs.{Run, rows_of}
+use Rattle.sched_core.specs.States.{is_good}
+use Rattle.sched_core.specs.declared.reason.State.{State}
+use Rattle.sched_core.specs.declared.reason.State.TheVariants.{Blocked}
+use Rattle.sched_core.specs.declared.standing.Standing.{Standing}
+use Rattle.sched_core.proofs.StateLaws.{length_states, state_at as state_among}
+use Rattle.sched_core.proofs.Tests.{all_pass}
+use Rattle.sched_core.proofs.Wanting.{any_default}
+use Rattle.forecast.specs.Forecasts.{built_table, forecast, foretold}
+use Rattle.forecast.specs.Holding.{AreForetold, IsHeld, state_at, state_of}
+use Rattle.forecast.specs.Listing.{IsMarked}
+use Rattle.forecast.specs.Texts.{IsForecast, IsText, line_at, line_of}
+use Rattle.forecast.specs.declared.prospect.Prospect.{Prospect}
+use Rattle.forecast.proofs.Passing.{AreGood}
+
+-- ---- each derivation's prospect
+
+module _ (run : Run) (opening : List Entry) (wanted : List Bool) (prospects : List Prospect)
+    (held : IsHeld run opening wanted prospects) where
+  abbrev nodes : List Node
+  nodes = run.graph.nodes
+
+  pub held_count : length prospects ≡ length nodes
+  held_count =
+      let rule = built_table (rows_of run opening []) in
+      omega (
+        arith,
+        length-map prospects state_of,
+        ap length held.are_foretold,
+        length_states rule (length nodes),
+      )
+
+  pub held_state : (d : ℕ) → d < length nodes → state_at prospects d ≡ foretold run opening d
+  unfolding forecast
+  held_state d low =
+      let rule = built_table (rows_of run opening []) in
+      ap (λ ss. slice_index_or ss d Blocked) held.are_foretold
+      ∙ state_among rule (length nodes) d low
+
+  -- ---- whether all roots are good
+
+  good_at : (root : ℕ) → root < length nodes → is_good (state_at prospects root) ≡ true
+      → is_good (foretold run opening root) ≡ true
+  good_at root low good = sym (ap is_good (held_state root low)) ∙ good
+
+  pub all_whole : (roots : List ℕ) (place : ℕ) → length roots ≤ place
+      → All (λ root. root < length nodes) roots → AreGood prospects roots place
+      → true ≡ list_all (λ root. is_good (foretold run opening root)) roots
+  all_whole roots place past within good =
+      sym (all_pass (λ root. is_good (foretold run opening root)) roots (λ root has.
+      let low = has.1 in
+      let there = any_default roots has.0 0 root has.1 ∙ has.2 in
+      let below : root < length nodes =
+      subst (λ n. n < length nodes) there (within has.0 0 has.1) in
+      good_at root below
+      (subst (λ n. is_good (state_at prospects n) ≡ true) there (good has.0 (omega arith)))))
+
+all_but : (p : ℕ → Bool) (numbers : List ℕ) (place : ℕ) → place < length numbers
+    → p (get_or numbers place 0) ≡ false → list_all p numbers ≡ false
+all_but p [] place low not = absurd (omega arith)
+all_but p (n ∷ ns) zero low not = and_left (p n) (list_all p ns) not
+all_but p (n ∷ ns) (suc place) low not = and_right (p n) (list_all p ns)
+    (all_but p ns place (omega arith) not)
+
+module _ (run : Run) (opening : List Entry) (wanted : List Bool) (prospects : List Prospect)
+    (held : IsHeld run opening wanted prospects) where
+  pub not_whole : (roots : List ℕ) (place : ℕ) → place < length roots
+      → get_or roots place 0 < length run.graph.nodes
+      → is_good (state_at prospects (get_or roots place 0)) ≡ false
+      → false ≡ list_all (λ root. is_good (foretold run opening root)) roots
+  not_whole roots place low below not =
+      sym (all_but (λ root. is_good (foretold run opening root)) roots place low
+      (sym (ap is_good (held_state run opening wanted prospects held (get_or roots place 0) below))
+      ∙ not))
+
+-- ---- the text
+
+-- the lines of a derivation follow from its state
+same_line : (nodes : List Node) (f g : ℕ → State) (d : ℕ) → (d < length nodes → f d ≡ g d)
+    → line_at nodes f d ≡ line_at nodes g d
+same_line nodes f g d same = ⊎_elim
+    (λ low. ap (λ s. line_at nodes (λ _. s) d) (same low))
+    (λ past.
+    ap (lines_if_some (λ node. line_of nodes node (f d))) (slice_get_past nodes d past)
+    ∙ sym (ap (lines_if_some (λ node. line_of nodes node (g d))) (slice_get_past nodes d past)))
+    (cases_lt d (length nodes))
+
+same_outputs : (nodes : List Node) (f g : ℕ → State) (d : ℕ) → (d < length nodes → f d ≡ g d)
+    → outputs_at nodes f d ≡ outputs_at nodes g d
+same_outputs nodes f g d same = ⊎_elim
+    (λ low. ap (λ s. outputs_at nodes (λ _. s) d) (same low))
+    (λ past.
+    ap (lines_if_some (λ node. output_lines node (f d))) (slice_get_past nodes d past)
+    ∙ sym (ap (lines_if_some (λ node. output_lines node (g d))) (slice_get_past nodes d past)))
+    (cases_lt d (length nodes))
+
+same_texts : (f g : ℕ → List ℕ) (numbers : List ℕ) → ((d : ℕ) → f d ≡ g d)
+    → flat_map f numbers ≡ flat_map g numbers
+same_texts f g [] same = refl
+same_texts f g (n ∷ ns) same = ap (λ (ys : List ℕ). ys ++ flat_map f ns) (same n)
+    ∙ ap (λ (ys : List ℕ). g n ++ ys) (same_texts f g ns same)
+
+marked_within : (marks : List Bool) (d : ℕ) → slice_index_or marks d false ≡ true
+    → d < length marks
+marked_within marks d is = ⊎_elim
+    (λ low. low)
+    (λ past. absurd (false≢true (sym (get_or_past marks d false past) ∙ is)))
+    (cases_lt d (length marks))
+
+-- the text by what is held is the forecast
+pub held_text : (run : Run) (opening : List Entry) (wanted : List Bool)
+    (prospects : List Prospect) (text : List ℕ) → IsHeld run opening wanted prospects
+    → IsText run.graph (IsMarked wanted (length run.graph.nodes)) (state_at prospects) text
+    → IsForecast run opening text
+held_text run opening wanted prospects text held is = record {
+  wanted = is.wanted;
+  by_path = record {
+    just = λ d. (
+      λ has. held.are_wanted.yes d ((is.by_path.just d).0 has).1,
+      λ is_wanted.
+          let marked = held.are_wanted.no d is_wanted in
+          let low = marked_within wanted d marked in
+          (is.by_path.just d).1 (omega (arith, held.are_wanted.count), marked),
+    );
+    rising = is.by_path.rising;
+  };
+  is_text =
+      let nodes = run.graph.nodes in
+      let now = state_at prospects in
+      let then' = foretold run opening in
+      let same = held_state run opening wanted prospects held in
+      is.is_text
+      ∙ ap (λ (l : List ℕ). l ++ flat_map (outputs_at nodes now) run.graph.roots)
+      (same_texts (line_at nodes now) (line_at nodes then') is.wanted
+      (λ d. same_line nodes now then' d (same d)))
+      ∙ ap (λ (l : List ℕ). flat_map (line_at nodes then') is.wanted ++ l)
+      (same_texts (outputs_at nodes now) (outputs_at nodes then') run.graph.roots
+      (λ d. same_outputs nodes now then' d (same d)));
+}
+
+-- ---- a new forecast
+
+pub are_held : (graph : Graph) (system : List ℕ) (opening : List Entry)
+    (standings : List Standing) (wanted : List Bool) (prospects : List Prospect)
+    → AreStandings system opening graph.nodes standings
+    → ((run : Run) (first : List Entry) → run.graph ≡ graph
+    → AreStandings run.system first graph.nodes standings → AreWanted run first wanted)
+    → ((run : Run) (first : List Entry) → run.graph ≡ graph
+    → AreStandings run.system first graph.nodes standings → AreWanted run first wanted
+    → AreForetold run first prospects)
+    → IsHeld (record { graph = graph; system = system }) opening wanted prospects
+are_held graph system opening standings wanted prospects stand want told =
+    let run : Run = record { graph = graph; system = system } in
+    let are = want run opening refl stand in
+    record { are_wanted = are; are_foretold = told run opening refl stand are }

@@ -1,0 +1,8 @@
+pub mod Aside
+pub mod Foretelling
+pub mod Held
+pub mod Listings
+pub mod Passing
+pub mod Spared
+pub mod Telling
+pub mod Unhindered

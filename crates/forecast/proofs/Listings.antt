@@ -1,0 +1,190 @@
+-- What the code lists for the text of a forecast, and the text that it makes.
+use Rattle.std.proofs.Common.{◌≡◌, ◌∙◌, ◌⊎◌, inl, inr, ⊎_elim, ℕ, ◌+◌, ◌<◌, Bool, true, false, nat_eq, List, [], ◌∷◌, ◌++◌, map, Some, refl, sym, ap, subst, arith}
+use Rattle.std.specs.Prelude.{All, Contains, flat_map, slice_get}
+use Rattle.std.specs.Cmp.Lexicographic.{nat_list_eq_equiv, pointwise, slice_cmp}
+use Rattle.std.specs.List.{IsDistinct, slice_index_or}
+use Rattle.std.specs.List.Sorted.{IsPermutation, IsSortedBy}
+use Rattle.std.specs.Ordering.{is_lt, nat_cmp}
+use Rattle.std.proofs.lemmas.Bool.{cases_lt, false≢true}
+use Rattle.std.proofs.lemmas.List.{map-append}
+use Rattle.std.proofs.lemmas.List.Elements.{All-contains, All-head, All-nil, All-push, All-tail, Contains-append_left, Contains-push}
+use Rattle.std.proofs.lemmas.List.Folds.{flat_map-map}
+use Rattle.std.proofs.lemmas.List.Sorted.{All-permutation, Contains-permutation, IsPermutation-map, IsPermutation-sym}
+use Rattle.std.proofs.lemmas.Map.Keys.{IsDistinct-IsPermutation}
+use Rattle.std.proofs.lemmas.Option.{get_or_from_slice_get}
+use Rattle.nix_names.specs.Rising.{IsRising}
+use Rattle.nix_names.proofs.Lists.{All-from_contains, Contains-from_map, Contains-map, Contains-nothing, Contains-push_cases}
+use Rattle.nix_names.proofs.RisingLists.{rising_sorted}
+use Rattle.drv_graph.specs.Loading.{AreDistinct}
+use Rattle.drv_graph.specs.Nodes.{Node, paths_of}
+use Rattle.drv_graph.specs.Plans.{Graph}
+use Rattle.drv_graph.proofs.Gathering.{sorted_map}
+use Rattle.drv_graph.proofs.PathLists.{distinct_push, same_place}
+use Rattle.sched_core.specs.Reports.{AreByPath, outputs_at, path_at}
+use Rattle.sched_core.specs.declared.reason.State.{State}
+use Rattle.forecast.specs.Listing.{AreListed, AreWithin, HasItsPath, IsMarked, listed_paths, numbers_of}
+use Rattle.forecast.specs.Texts.{IsText, line_at}
+use Rattle.forecast.specs.declared.text.Listed.{Listed}
+
+-- ---- the marked ones of the derivations before a number
+
+pub listed_none : (nodes : List Node) (marks : List Bool)
+    → AreListed nodes (IsMarked marks 0) []
+unfolding IsDistinct
+listed_none nodes marks = record {
+  each = All-nil (HasItsPath nodes);
+  just = λ d. (λ has. absurd (Contains-nothing d has), λ is. absurd (omega (arith, is.0)));
+  once = tt;
+}
+
+below_or_same : (d n : ℕ) → d < n + 1 → (d < n) ⊎ (d ≡ n)
+below_or_same d n low = ⊎_elim (λ less. inl less) (λ past. inr (omega arith)) (cases_lt d n)
+
+-- one that isn't marked
+pub listed_skip : (nodes : List Node) (marks : List Bool) (n : ℕ) (listed : List Listed)
+    → slice_index_or marks n false ≡ false → AreListed nodes (IsMarked marks n) listed
+    → AreListed nodes (IsMarked marks (n + 1)) listed
+listed_skip nodes marks n listed not are = record {
+  each = are.each;
+  just = λ d. (
+    λ has. let before = (are.just d).0 has in (omega (arith, before.0), before.1),
+    λ is. ⊎_elim
+        (λ below. (are.just d).1 (below, is.1))
+        (λ same. absurd
+        (false≢true (sym not ∙ ap (λ k. slice_index_or marks k false) (sym same) ∙ is.1)))
+        (below_or_same d n is.0),
+  );
+  once = are.once;
+}
+
+-- a listed path is that of a derivation before the number
+path_before : (nodes : List Node) (marks : List Bool) (n : ℕ) (listed : List Listed)
+    (path : List ℕ) → AreDistinct (paths_of nodes) → AreListed nodes (IsMarked marks n) listed
+    → slice_get (paths_of nodes) n ≡ Some path → Contains (listed_paths listed) path → ⊥
+path_before nodes marks n listed path distinct are at has =
+    let found = Contains-from_map (λ (l : Listed). l.path.now) listed path has in
+    let one = found.0 in
+    let there : slice_get (paths_of nodes) one.number
+    ≡ Some path = All-contains (HasItsPath nodes) listed one are.each found.1 ∙ ap Some found.2
+    in
+    let before = (are.just one.number).0
+    (Contains-map (λ (l : Listed). l.number) listed one found.1) in
+    let same = same_place (paths_of nodes) one.number n path distinct there at in
+    omega (arith, before.0, same)
+
+-- a marked one
+listed_push : (nodes : List Node) (marks : List Bool) (n : ℕ) (listed : List Listed)
+    (one : Listed) → AreDistinct (paths_of nodes)
+    → one.number ≡ n → slice_get (paths_of nodes) n ≡ Some one.path.now
+    → slice_index_or marks n false ≡ true
+    → AreListed nodes (IsMarked marks n) listed
+    → AreListed nodes (IsMarked marks (n + 1)) (listed ++ one ∷ [])
+listed_push nodes marks n listed one distinct is at marked are = record {
+  each = All-push (HasItsPath nodes) listed one are.each
+      (subst (λ k. slice_get (paths_of nodes) k ≡ Some one.path.now) (sym is) at);
+  just = λ d. (
+    λ has. ⊎_elim
+        (λ earlier. let before = (are.just d).0 earlier in (omega (arith, before.0), before.1))
+        (λ same. let d_is : n ≡ d = sym is ∙ same
+        in (
+          omega (arith, d_is),
+          subst (λ k. slice_index_or marks k false ≡ true) d_is marked,
+        ))
+        (Contains-push_cases (numbers_of listed) one.number d
+        (subst (λ numbers. Contains numbers d) numbers has)),
+    λ was. subst (λ numbers. Contains numbers d) (sym numbers)
+        (⊎_elim
+        (λ below. Contains-append_left (numbers_of listed) (one.number ∷ []) d
+        ((are.just d).1 (below, was.1)))
+        (λ same. subst (Contains (numbers_of listed ++ one.number ∷ [])) (is ∙ sym same)
+        (Contains-push (numbers_of listed) one.number))
+        (below_or_same d n was.0)),
+  );
+  once = subst AreDistinct (sym paths)
+      (distinct_push (listed_paths listed) one.path.now are.once
+      (path_before nodes marks n listed one.path.now distinct are at));
+}
+  where
+    numbers : numbers_of (listed ++ one ∷ []) ≡ numbers_of listed ++ one.number ∷ []
+    numbers = map-append (λ (l : Listed). l.number) listed (one ∷ [])
+
+    paths : listed_paths (listed ++ one ∷ []) ≡ listed_paths listed ++ one.path.now ∷ []
+    paths = map-append (λ (l : Listed). l.path.now) listed (one ∷ [])
+
+-- the same where the list with it is another's name
+pub listed_new : (nodes : List Node) (marks : List Bool) (n : ℕ) (listed more : List Listed)
+    (one : Listed) → AreDistinct (paths_of nodes)
+    → one.number ≡ n → slice_get (paths_of nodes) n ≡ Some one.path.now
+    → slice_index_or marks n false ≡ true
+    → more ≡ listed ++ one ∷ [] → AreListed nodes (IsMarked marks n) listed
+    → AreListed nodes (IsMarked marks (n + 1)) more
+listed_new nodes marks n listed more one distinct is at marked more_is are =
+    subst (AreListed nodes (IsMarked marks (n + 1))) (sym more_is)
+    (listed_push nodes marks n listed one distinct is at marked are)
+
+-- ---- by path
+
+-- the paths of listed derivations are those at their numbers
+paths_are : (nodes : List Node) (listed : List Listed) → All (HasItsPath nodes) listed
+    → listed_paths listed ≡ map (path_at nodes) (numbers_of listed)
+paths_are nodes [] each = refl
+paths_are nodes (l ∷ listed) each =
+    let first : l.path.now ≡ path_at nodes l.number =
+    sym (get_or_from_slice_get (paths_of nodes) l.number l.path.now []
+    (All-head (HasItsPath nodes) l listed each)) in
+    ap (λ p. p ∷ listed_paths listed) first ∙ ap (λ ps. path_at nodes l.number ∷ ps)
+    (paths_are nodes listed (All-tail (HasItsPath nodes) l listed each))
+
+-- sorted by path they rise
+pub listed_by_path : (nodes : List Node) (is_such : ℕ → Type 0) (listed sorted : List Listed)
+    → AreListed nodes is_such listed → IsPermutation listed sorted
+    → IsSortedBy (λ (a b : Listed). is_lt (slice_cmp nat_cmp a.path.now b.path.now)) sorted
+    → AreByPath nodes is_such (numbers_of sorted)
+listed_by_path nodes is_such listed sorted are moved ordered = record {
+  just = λ d.
+      let same = IsPermutation-map (λ (l : Listed). l.number) listed sorted moved in (
+        λ has. (are.just d).0
+            (Contains-permutation (numbers_of sorted) (numbers_of listed) d
+            (IsPermutation-sym (numbers_of listed) (numbers_of sorted) same) has),
+        λ is. Contains-permutation (numbers_of listed) (numbers_of sorted) d same
+            ((are.just d).1 is),
+      );
+  rising =
+      let distinct = IsDistinct-IsPermutation (pointwise nat_eq) nat_list_eq_equiv.symm
+      (listed_paths listed) (listed_paths sorted)
+      (IsPermutation-map (λ (l : Listed). l.path.now) listed sorted moved) are.once in
+      let rises = rising_sorted (listed_paths sorted)
+      (sorted_map (λ (l : Listed). l.path.now) sorted ordered) distinct in
+      subst IsRising
+      (paths_are nodes sorted
+      (All-permutation (HasItsPath nodes) listed sorted moved are.each)) rises;
+}
+
+-- those by path are derivations of the plan
+pub by_path_within : (nodes : List Node) (marks : List Bool) (count : ℕ) (listed : List Listed)
+    → AreByPath nodes (IsMarked marks count) (numbers_of listed) → AreWithin count listed
+by_path_within nodes marks count listed by_path =
+    All-from_contains (λ (l : Listed). l.number < count) listed
+    (λ l has. ((by_path.just l.number).0
+    (Contains-map (λ (m : Listed). m.number) listed l has)).0)
+
+-- ---- the text
+
+-- the lines that are written are the text
+pub text_made : (graph : Graph) (is_such : ℕ → Type 0) (state : ℕ → State)
+    (listed : List Listed) (start lines text : List ℕ)
+    → AreByPath graph.nodes is_such (numbers_of listed) → start ≡ []
+    → lines ≡ start ++ flat_map (λ (l : Listed). line_at graph.nodes state l.number) listed
+    → text ≡ lines ++ flat_map (outputs_at graph.nodes state) graph.roots
+    → IsText graph is_such state text
+text_made graph is_such state listed start lines text by_path empty first all = record {
+  wanted = numbers_of listed;
+  by_path = by_path;
+  is_text =
+      let line : ℕ → List ℕ = line_at graph.nodes state in
+      let outputs = flat_map (outputs_at graph.nodes state) graph.roots in
+      let lines_are : lines ≡ flat_map line (numbers_of listed) =
+      first ∙ ap (λ (s : List ℕ). s ++ flat_map (λ (l : Listed). line l.number) listed) empty
+      ∙ sym (flat_map-map line (λ (l : Listed). l.number) listed) in
+      all ∙ ap (λ (ls : List ℕ). ls ++ outputs) lines_are;
+}

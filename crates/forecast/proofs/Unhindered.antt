@@ -1,0 +1,181 @@
+-- A derivation that has begun was wanted, and nothing has come in its way since.
+use Rattle.std.proofs.Common.{◌≡◌, ◌∙◌, ◌⊎◌, inl, inr, ℕ, Bool, true, false, List, [], ◌∷◌, ◌++◌, refl, sym, ap, subst, ⊎_elim, arith, if◌then◌else◌}
+use Rattle.std.specs.Prelude.{Contains, find}
+use Rattle.std.specs.List.{list_all, list_any}
+use Rattle.std.proofs.Math.Dec.{eqb}
+use Rattle.nix_names.proofs.Lists.{either_side}
+use Rattle.drv_graph.specs.SoundGraphs.{IsSound}
+use Rattle.sched_core.specs.Legal.{IsLegal, begins, legal_begin, legal_done, legal_fail, legal_opening}
+use Rattle.sched_core.specs.Runs.{History, Run, rows_of, state_in}
+use Rattle.sched_core.specs.States.{Begun, Broken, Ended, Idle, Phase, Rows, by_inputs, is_bad, is_done, is_good, is_open, later, phase_by, phase_of, state}
+use Rattle.sched_core.specs.declared.reason.Event.{Event}
+use Rattle.sched_core.specs.declared.reason.Event.TheVariants.{Begin, Done as Finish, Fail}
+use Rattle.sched_core.specs.declared.reason.State.TheVariants.{Ready}
+use Rattle.sched_core.specs.declared.standing.Standing.TheVariants.{Free}
+use Rattle.sched_core.proofs.ClosedStates.{bad_is_closed, bad_is_not_done, states_stay}
+use Rattle.sched_core.proofs.EarlierTwins.{run_twins}
+use Rattle.sched_core.proofs.NearestTwins.{ready_ended}
+use Rattle.sched_core.proofs.PlanInputs.{rows_in_order}
+use Rattle.sched_core.proofs.Seeds.{all_good, phase_push, ready_by, same_number}
+use Rattle.sched_core.proofs.Tests.{list_all_has}
+use Rattle.forecast.proofs.Aside.{all_from, aside, closed_is_good, good_is_closed, good_not_bad, none_bad, none_passes, state_aside}
+
+-- Nothing but its own events is in the way of a derivation.
+pub record IsUnhindered (rows : Rows) (d : ℕ) : Type 0 where
+  pub free : rows.standing d ≡ Free
+  pub spent : (t : ℕ) → Contains (rows.twins d) t → is_bad (state rows t) ≡ true
+  pub good : (i : ℕ) → Contains (rows.inputs d) i → is_good (state rows i) ≡ true
+
+-- such a derivation is ready, its own events aside
+pub unhindered_ready : (rows : Rows) (d : ℕ) → IsUnhindered rows d
+    → aside rows (state rows) d ≡ Ready
+unhindered_ready rows d un =
+    let f = state rows in
+    rw (
+      un.free,
+      none_passes (λ t. is_done (f t)) (rows.twins d)
+          (λ t has. bad_is_not_done (f t) (un.spent t has)),
+      none_passes (λ t. is_open (f t)) (rows.twins d)
+          (λ t has. bad_is_closed (f t) (un.spent t has)),
+      none_bad f (rows.inputs d) un.good,
+      all_from f (rows.inputs d) un.good,
+    ) refl
+
+-- and back
+ready_unhindered : (run : Run) (history : History) → IsSound run.graph → (d : ℕ)
+    → state_in run history d ≡ Ready
+    → IsUnhindered (rows_of run history.opening history.events) d
+ready_unhindered run history sound d ready =
+    let rows = rows_of run history.opening history.events in
+    let f = state rows in
+    let facts = ready_by (rows.phase d) (rows.standing d)
+    (list_any (λ t. is_done (f t)) (rows.twins d)) (list_any (λ t. is_open (f t)) (rows.twins d))
+    (by_inputs f (rows.inputs d))
+    (sym (state_aside rows (rows_in_order run history.opening history.events sound) d
+    (rows.phase d) refl) ∙ ready) in
+    let good = all_good (find (λ i. is_bad (f i)) (rows.inputs d))
+    (list_all (λ i. is_good (f i)) (rows.inputs d)) facts.open_is in
+    record {
+      free = facts.free;
+      spent = λ t has. ready_ended rows (run_twins run history.opening history.events) d t ready
+          has;
+      good = λ i has. list_all_has (λ j. is_good (f j)) (rows.inputs d) i good has;
+    }
+
+-- ---- where an event is of a derivation that was open
+
+module _ (rows : Rows) (phase : ℕ → Phase)
+    (moves : (d : ℕ) → (phase d ≡ rows.phase d) ⊎ (is_open (state rows d) ≡ true)) where
+  abbrev behind : Rows
+  behind = record rows { phase = phase }
+
+  good_stays : (i : ℕ) → is_good (state rows i) ≡ true → is_good (state behind i) ≡ true
+  good_stays i good =
+      let stays = states_stay rows phase moves i (good_is_closed (state rows i) good) in
+      closed_is_good (state behind i) stays.0 (stays.2 ∙ good_not_bad (state rows i) good)
+
+  bad_stays : (i : ℕ) → is_bad (state rows i) ≡ true → is_bad (state behind i) ≡ true
+  bad_stays i bad =
+      (states_stay rows phase moves i (bad_is_closed (state rows i) bad)).2 ∙ bad
+
+  unhindered_stays : (d : ℕ) → IsUnhindered rows d → IsUnhindered behind d
+  unhindered_stays d un = record {
+    free = un.free;
+    spent = λ t has. bad_stays t (un.spent t has);
+    good = λ i has. good_stays i (un.good i has);
+  }
+
+-- ---- where a derivation stands behind one event more
+
+-- the derivation of an event
+abbrev number_of : Event → ℕ
+number_of (Begin d lease) = d
+number_of (Finish d lease) = d
+number_of (Fail d lease reason) = d
+
+same_or_other : (d e : ℕ) → (d ≡ e) ⊎ (d ≡ e → ⊥)
+same_or_other d e =
+    ⊎_elim inl (λ apart. inr (λ same. ⊎_elim (λ less. absurd (omega arith))
+    (λ more. absurd (omega arith)) apart)) (either_side d e)
+
+idle_unless : (p : Phase) (e d : ℕ) → (e ≡ d → ⊥) → (if eqb e d then p else Idle) ≡ Idle
+idle_unless p e d other = by (eqb e d) refl
+  where
+    by : (same : Bool) → eqb e d ≡ same → (if same then p else Idle) ≡ Idle
+    by true is = absurd (other (same_number e d is))
+    by false is = refl
+
+phase_by_other : (x : Event) (d : ℕ) → (number_of x ≡ d → ⊥) → phase_by x d ≡ Idle
+phase_by_other (Begin e n) d other = idle_unless (Begun n) e d other
+phase_by_other (Finish e n) d other = idle_unless Ended e d other
+phase_by_other (Fail e n reason) d other = idle_unless (Broken reason) e d other
+
+phase_other : (events : List Event) (x : Event) (d : ℕ) → (number_of x ≡ d → ⊥)
+    → phase_of (events ++ x ∷ []) d ≡ phase_of events d
+phase_other events x d other = phase_push events x d
+    ∙ ap (later (phase_of events d)) (phase_by_other x d other)
+
+-- an event of an open derivation leaves what is unhindered so
+module _ (run : Run) (opening : _) (events : List Event) (x : Event)
+    (still : is_open (state (rows_of run opening events) (number_of x)) ≡ true) where
+  abbrev rows : Rows
+  rows = rows_of run opening events
+
+  moves : (d : ℕ) → (phase_of (events ++ x ∷ []) d ≡ phase_of events d)
+      ⊎ (is_open (state rows d) ≡ true)
+  moves d = ⊎_elim
+      (λ same. inr (ap (λ n. is_open (state rows n)) (sym same) ∙ still))
+      (λ other. inl (phase_other events x d other))
+      (same_or_other (number_of x) d)
+
+  behind_event : (d : ℕ) → IsUnhindered rows d
+      → IsUnhindered (rows_of run opening (events ++ x ∷ [])) d
+  behind_event d un = unhindered_stays rows (phase_of (events ++ x ∷ [])) moves d un
+
+-- ---- in a legal history
+
+building_is_open : (run : Run) → IsSound run.graph → (history : History) (d lease : ℕ)
+    → phase_of history.events d ≡ Begun lease → is_open (state_in run history d) ≡ true
+building_is_open run sound history d lease phase =
+    ap is_open (state_aside (rows_of run history.opening history.events)
+    (rows_in_order run history.opening history.events sound) d (Begun lease) phase)
+
+begun_not_idle : (p : Phase) (lease : ℕ) → p ≡ Begun lease → p ≡ Idle → ⊥
+begun_not_idle p lease is idle = let clash : Begun lease ≡ Idle = sym is ∙ idle in cc
+
+module _ (run : Run) (sound : IsSound run.graph) where
+  -- nothing but its own events is in the way of a derivation that has begun
+  pub begun_unhindered : (history : History) → IsLegal run history → (d : ℕ)
+      → (phase_of history.events d ≡ Idle → ⊥)
+      → IsUnhindered (rows_of run history.opening history.events) d
+  begun_unhindered _ (legal_opening entries journal) d moved = absurd (moved refl)
+  begun_unhindered _ (legal_begin history e legal within wanted ready) d moved =
+      behind_event run history.opening history.events (Begin e (begins history.events))
+      (ap is_open ready) d
+      (⊎_elim
+      (λ same. subst (IsUnhindered (rows_of run history.opening history.events)) same
+      (ready_unhindered run history sound e ready))
+      (λ other. begun_unhindered history legal d (λ idle. moved
+      (phase_other history.events (Begin e (begins history.events)) d other ∙ idle)))
+      (same_or_other e d))
+  begun_unhindered _ (legal_done history e lease node infos entry legal phase at allowed is) d
+      moved =
+      behind_event run history.opening history.events (Finish e lease)
+      (building_is_open run sound history e lease phase) d
+      (⊎_elim
+      (λ same. begun_unhindered history legal d
+      (λ idle. begun_not_idle (phase_of history.events d) lease
+      (ap (phase_of history.events) (sym same) ∙ phase) idle))
+      (λ other. begun_unhindered history legal d (λ idle. moved
+      (phase_other history.events (Finish e lease) d other ∙ idle)))
+      (same_or_other e d))
+  begun_unhindered _ (legal_fail history e lease reason legal phase) d moved =
+      behind_event run history.opening history.events (Fail e lease reason)
+      (building_is_open run sound history e lease phase) d
+      (⊎_elim
+      (λ same. begun_unhindered history legal d
+      (λ idle. begun_not_idle (phase_of history.events d) lease
+      (ap (phase_of history.events) (sym same) ∙ phase) idle))
+      (λ other. begun_unhindered history legal d (λ idle. moved
+      (phase_other history.events (Fail e lease reason) d other ∙ idle)))
+      (same_or_other e d))

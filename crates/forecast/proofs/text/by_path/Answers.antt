@@ -1,0 +1,30 @@
+use Rattle.std.proofs.Common.{length, rules}
+use Rattle.std.specs.Cmp.Lexicographic.{slice_cmp}
+use Rattle.std.specs.Ordering.{is_lt, nat_cmp}
+use Rattle.std.proofs.lemmas.Cmp.{nat_list_cmp_total}
+use Rattle.std.proofs.lemmas.List.Sorted.{answers_always, ranks_by}
+use Rattle.forecast.specs.Listing.{IsMarked}
+use Rattle.forecast.specs.declared.text.Listed.{Listed}
+use Rattle.forecast.proofs.Listings.{by_path_within, listed_by_path}
+use Rattle.forecast.proofs.text.by_path.Goals as goal
+
+pub returns-clause-by_path : goal.returns-clause-by_path
+returns-clause-by_path c =
+    let sorted = c.sort_unstable_by.ensures.sorted
+    (λ (a b : Listed). is_lt (slice_cmp nat_cmp a.path.now b.path.now))
+    (ranks_by nat_list_cmp_total (λ (l : Listed). l.path.now))
+    (answers_always _ _ _ (λ f a r g h. search rules)) in
+    listed_by_path c.args.plan.now.nodes
+    (IsMarked c.args.marks.now (length c.args.plan.now.nodes)) _ _
+    c.in_ok-listed.ensures c.sort_unstable_by.ensures.permutation sorted
+
+pub returns-clause-within : goal.returns-clause-within
+returns-clause-within c =
+    let sorted = c.sort_unstable_by.ensures.sorted
+    (λ (a b : Listed). is_lt (slice_cmp nat_cmp a.path.now b.path.now))
+    (ranks_by nat_list_cmp_total (λ (l : Listed). l.path.now))
+    (answers_always _ _ _ (λ f a r g h. search rules)) in
+    by_path_within c.args.plan.now.nodes c.args.marks.now (length c.args.plan.now.nodes) _
+    (listed_by_path c.args.plan.now.nodes
+    (IsMarked c.args.marks.now (length c.args.plan.now.nodes)) _ _
+    c.in_ok-listed.ensures c.sort_unstable_by.ensures.permutation sorted)

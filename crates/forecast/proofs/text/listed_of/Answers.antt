@@ -1,0 +1,25 @@
+use Rattle.std.proofs.Common.{◌∙◌, ap, refl}
+use Rattle.std.specs.Global.{Vec}
+use Rattle.forecast.specs.declared.text.Listed.{Listed}
+use Rattle.forecast.proofs.Listings.{listed_none, listed_new, listed_skip}
+use Rattle.forecast.proofs.text.listed_of.Goals.{then-marks-number+in_ok-push, else-marks-number}
+use Rattle.forecast.proofs.text.listed_of.Goals as goal
+
+pub loop-number-init : goal.loop-number-init
+loop-number-init c = rw c.new-listed.ensures.items (listed_none c.args.plan.now.nodes c.args.marks.now)
+
+pub loop-number-preserved : goal.loop-number-preserved
+loop-number-preserved c =
+    elim c.if-marks-number.branch [
+      | then-marks-number+in_ok-push w ↦
+          listed_new c.args.plan.now.nodes c.args.marks.now c.loop-number.number
+          c.loop-number.listed.items c.if-marks-number.listed.items _
+          c.len-number-end.ensures.sound.distinct refl w.path-path.ensures.value
+          w.if-marks-number.true
+          (ap (λ (v : Vec Listed). v.items) w.listed-is ∙ w.in_ok-push.ensures.items)
+          c.loop-number.invariant
+      | else-marks-number w ↦
+          rw w.listed-is
+          (listed_skip c.args.plan.now.nodes c.args.marks.now c.loop-number.number
+          c.loop-number.listed.items w.if-marks-number.false c.loop-number.invariant)
+    ]

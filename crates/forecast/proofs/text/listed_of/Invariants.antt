@@ -1,0 +1,6 @@
+use Rattle.forecast.specs.Listing.{AreListed, IsMarked}
+use Rattle.forecast.proofs.text.listed_of.Given as goal
+
+-- the marked ones of the derivations so far are listed
+abbrev pub invariant-loop-number : goal.invariant-loop-number
+invariant-loop-number l = AreListed l.plan.nodes (IsMarked l.marks l.number) l.listed.items

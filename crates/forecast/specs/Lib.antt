@@ -1,0 +1,5 @@
+pub mod Forecasts
+pub mod Holding
+pub mod Listing
+pub mod Texts
+pub mod Truths

@@ -1,0 +1,52 @@
+//! What is foretold of all derivations of a plan.
+ghost use Rattle.std.specs.Prelude.{◌≡◌, ◌<◌, All, IfErr, IfOk, List, length, slice_get};
+ghost use Rattle.valid_table.specs.declared.entry.Entry.{Entry};
+ghost use Rattle.sched_core.specs.Courses.{AreStandings, AreWanted};
+ghost use Rattle.sched_core.specs.Runs.{Run, inputs_at};
+ghost use Rattle.sched_core.specs.declared.fault.BookFault.TheVariants.{NoMemory};
+ghost use Rattle.forecast.specs.Holding.{AreForetold};
+
+use crate::prospect::{Prospect, prospect_of};
+use drv_graph::Plan;
+use sched_core::{BookFault, Standing};
+use std::alloc::Global;
+
+// The prospects of a plan's derivations, which stand so by themselves and of which these are
+// wanted. Costs a step for each derivation, and for each of its inputs.
+pub(crate) fn prospects_of(
+    alloc: Global,
+    plan: &Plan,
+    standings: &[Standing],
+    wanted: &[bool],
+) -> Result<Vec<Prospect>, BookFault>
+    requires standings { length standings.now ≡ length plan.now.nodes }
+    requires wanted { length wanted.now ≡ length plan.now.nodes }
+    ensures ok { IfOk result (λ prospects. (run : Run) (opening : List Entry) → run.graph ≡ plan.now
+        → AreStandings run.system opening plan.now.nodes standings.now
+        → AreWanted run opening wanted.now → AreForetold run opening prospects.items) }
+    ensures count { IfOk result (λ prospects. length prospects.items ≡ length plan.now.nodes) }
+    ensures err { IfErr result (λ fault. fault ≡ NoMemory) }
+{
+    // Of each first twin, whether a wanted one of its twins so far is built.
+    let mut built = vec![in alloc; false; plan.len()]?;
+    let mut prospects = Vec::with_capacity(alloc, plan.len())?;
+    for d in 0..plan.len() {
+        let first = plan.first_twin(d);
+        let inputs = inputs_of(plan, d);
+        let prospect = prospect_of(standings[d], built[first], inputs, &prospects);
+        if wanted[d] && prospect.is_build() {
+            built[first] = true;
+        }
+        prospects.push(prospect)?;
+    }
+    Ok(prospects)
+}
+
+// The numbers of the inputs of the derivation with this number, in its text's order.
+fn inputs_of(plan: &Plan, d: usize) -> &[usize]
+    requires { d < length plan.now.nodes }
+    ensures numbers { result.now ≡ inputs_at plan.now.nodes (slice_get plan.now.nodes d) }
+    ensures smaller { All (λ input. input < d) result.now }
+{
+    plan.inputs(d)
+}
