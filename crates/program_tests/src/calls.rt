@@ -7,6 +7,7 @@ use process_build::{Builders, ByProcesses};
 use std::alloc::{AllocError, Global};
 use std::io::ErrorKind;
 use std::process;
+use std::process::Processes;
 use std::rt::Files;
 use std::sync::Wait;
 use std::test::Fail;
@@ -23,13 +24,14 @@ const KINDS: [ErrorKind; 5] = [
 
 // What stands before a run, its command line, the calls of a good run, each in a line, and for each
 // call what comes of the run where it is refused: a letter for each kind. The first letters are of
-// the good run.
+// the good run. Behind a run with status 2 or 3 the last steps are taken: they find what it kept.
 struct Row {
     name: &'static str,
     before: &'static [Step],
     line: &'static str,
     calls: &'static str,
     refusals: &'static [&'static [u8; 5]],
+    kept: &'static [Step],
 }
 
 /// A draft without inputs, whose builder writes a line.
@@ -42,6 +44,14 @@ const PUT: Step = Step::Put("any", DRAFT);
 const FILE: Step = Step::Write("<dir>/file", "hello\n");
 
 const TEXT: Step = Step::TextPath("text", "greeting", "hello\n");
+
+const JOURNAL: &str = "<dir>/realiser-journal";
+
+const EMPTY_JOURNAL: &str = "realiser-journal 2\n";
+
+const NO_JOURNAL: Step = Step::Stands(JOURNAL, false);
+
+const NO_TEMPORARY: Step = Step::Stands("<dir>/.nix_realise-0", false);
 
 // What a run wrote to standard output and standard error and its status, by its letter.
 fn told(letter: u8) -> (&'static str, &'static str, u8) {
@@ -76,6 +86,7 @@ static ADDING: [Row; 4] = [
         line: "nix_realise check --store-dir <dir> <any>",
         calls: "stat <any>\nopen <any>\nread \nread \n",
         refusals: &[b"kkkkk", b"BBBMB", b"BBBMB", b"BBBMB", b"BBBMB"],
+        kept: &[],
     },
     Row {
         name: "calls-add-text",
@@ -89,15 +100,12 @@ static ADDING: [Row; 4] = [
             b"ttttt", b"FFFMF", b"FFFMF", b"FFFMF", b"tRRMR", b"twwmw", b"wtwmw", b"wwwmw",
             b"wwwmw", b"wwwmw", b"tjjmj", b"jtjmj", b"jjjmj", b"jjjmj", b"jjjmj",
         ],
+        kept: &[NO_JOURNAL, NO_TEMPORARY],
     },
     // A journal that is there is read, and gives its permissions to the new one.
     Row {
         name: "calls-add-text-behind",
-        before: &[
-            FILE,
-            TEXT,
-            Step::Write("<dir>/realiser-journal", "realiser-journal 2\n"),
-        ],
+        before: &[FILE, TEXT, Step::Write(JOURNAL, EMPTY_JOURNAL)],
         line: "nix_realise add-text --store-dir <dir> greeting <dir>/file",
         calls: "open <dir>/file\nread \nread \nstat <dir>/realiser-journal\n\
             open <dir>/realiser-journal\nread \nread \n\
@@ -109,6 +117,7 @@ static ADDING: [Row; 4] = [
             b"twwmw", b"wtwmw", b"wwwmw", b"wwwmw", b"wwwmw", b"tjjmj", b"jtjmj", b"jjjmj",
             b"jjjmj", b"jjjmj", b"jjjmj",
         ],
+        kept: &[Step::Holds(JOURNAL, EMPTY_JOURNAL), NO_TEMPORARY],
     },
     Row {
         name: "calls-add-drv",
@@ -120,6 +129,7 @@ static ADDING: [Row; 4] = [
             b"aaaaa", b"fffMf", b"fffMf", b"fffMf", b"aWWMW", b"WaWMW", b"WWWMW", b"WWWMW",
             b"WWWMW", b"WWWMW",
         ],
+        kept: &[Step::Stands("<any>", true), NO_TEMPORARY],
     },
 ];
 
@@ -143,6 +153,7 @@ static RUN: [Row; 1] = [Row {
         b"rNNON", b"rNNON", b"NNNON", b"NNNON", b"XXXOX", b"0XXOX", b"XXXOX", b"XXXOX", b"XXXOX",
         b"rrrrr", b"rrrrr", b"rJJMJ", b"JrJMJ", b"JJJMJ", b"JJJMJ", b"JJJMJ",
     ],
+    kept: &[NO_JOURNAL],
 }];
 
 fn adding() -> &'static [Row] {
@@ -217,20 +228,31 @@ fn came<R: Host>(
     Ok(is_told && is_called && second.status == 0)
 }
 
+// Whether a run that was refused or cut short kept what it has to.
+fn keeps<R: Host + Processes, M: Builders>(
+    rt: &R,
+    make: &M,
+    scene: &mut Scene,
+    row: &Row,
+) -> Result<bool, Fail> {
+    Ok(scene.take(rt, make, row.kept)? == row.kept.len())
+}
+
 #[test]
 fn refused_calls_of_adding(rt: HostRuntime) -> Result<(), Fail> {
     let process = process::id(rt.process());
     let make = ByProcesses::new(&rt, &rt);
     let mut stray = None;
     for case in cases(rt.alloc(), adding())?.iter() {
-        let scene = Scene::behind(&rt, &make, process, case.row.name, case.row.before)?;
+        let mut scene = Scene::behind(&rt, &make, process, case.row.name, case.row.before)?;
         let line = scene.said(rt.alloc(), case.row.line)?;
         let double = Double::new(rt.clone()?, Event::Refused(case.number, case.kind))?;
         let first = ran(&double, &ByProcesses::new(&double, &double), line.as_str())?;
+        let is_kept = first.status < 2 || keeps(&rt, &make, &mut scene, case.row)?;
         let again = Double::new(rt.clone()?, Event::Nothing)?;
         let second = ran(&again, &ByProcesses::new(&again, &again), line.as_str())?;
         let calls = double.calls()?;
-        if !came(&rt, &scene, case, (&first, calls.as_str(), &second))? {
+        if !is_kept || !came(&rt, &scene, case, (&first, calls.as_str(), &second))? {
             stray = Some((case.row.name, case.number, case.kind));
         }
         scene.close(&rt)?;
@@ -245,14 +267,15 @@ fn refused_calls_of_a_run(rt: HostRuntime) -> Result<(), Fail> {
     let make = ByProcesses::new(&rt, &rt);
     let mut stray = None;
     for case in cases(rt.alloc(), run_rows())?.iter() {
-        let scene = Scene::behind(&rt, &make, process, case.row.name, case.row.before)?;
+        let mut scene = Scene::behind(&rt, &make, process, case.row.name, case.row.before)?;
         let line = scene.said(rt.alloc(), case.row.line)?;
         let double = Double::new(rt.clone()?, Event::Refused(case.number, case.kind))?;
         let first = ran(&double, &ByProcesses::new(&double, &double), line.as_str())?;
+        let is_kept = first.status < 2 || keeps(&rt, &make, &mut scene, case.row)?;
         let again = Double::new(rt.clone()?, Event::Nothing)?;
         let second = ran(&again, &ByProcesses::new(&again, &again), line.as_str())?;
         let calls = double.calls()?;
-        if !came(&rt, &scene, case, (&first, calls.as_str(), &second))? {
+        if !is_kept || !came(&rt, &scene, case, (&first, calls.as_str(), &second))? {
             stray = Some((case.row.name, case.number, case.kind));
         }
         scene.close(&rt)?;

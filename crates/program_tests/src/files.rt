@@ -55,7 +55,9 @@ impl Scene {
     pub(crate) fn holds<R: Host>(&mut self, rt: &R, file: &str, text: &str) -> Result<bool, Fail> {
         let file = self.said(rt.alloc(), file)?;
         let text = self.said(rt.alloc(), text)?;
-        let came = fs::read(rt, file.as_str())?;
+        let Ok(came) = fs::read(rt, file.as_str()) else {
+            return self.strays(rt.alloc(), text.as_str(), "no file");
+        };
         if came.as_slice() == text.as_bytes() {
             return Ok(true);
         }

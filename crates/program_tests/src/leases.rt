@@ -4,10 +4,11 @@ use crate::double::{Double, Event};
 use crate::scene::Scene;
 use crate::steps::Step;
 use crate::texts::replaced;
-use process_build::ByProcesses;
+use process_build::{ByProcesses, ProcessBuild};
 use std::alloc::{AllocError, Global};
 use std::process;
 use std::test::Fail;
+use store_run::Build;
 
 // Three derivations without inputs, and their words.
 static PUTS: [Step; 3] = [
@@ -146,4 +147,23 @@ fn calls_of_each_lease(rt: HostRuntime) -> Result<(), Fail> {
         scene.close(&rt)?;
     }
     Ok(())
+}
+
+// A lease builds in the folder of its own number, however many there were before it.
+#[test]
+fn folders_of_later_leases(rt: HostRuntime) -> Result<(), Fail> {
+    let scene = Scene::new(&rt, process::id(rt.process()), "later-leases")?;
+    let job = scene.site.job(rt.alloc(), b"/bin/sh", &["out"])?;
+    for number in [64, 256, 65_536, u64::MAX] {
+        let double = Double::new(rt.clone()?, Event::Nothing)?;
+        let folder = scene.site.folder.as_str();
+        let build = ProcessBuild::new(rt.alloc(), &double, &double, folder)?;
+        let is_built = build.run(number, &job).is_ok();
+        let made = format!(in rt.alloc(); "mkdir {folder}/.build-{number}\n")?;
+        assert!(rt;
+            is_built && double.calls()?.contains(made.as_str()),
+            "at {number}"
+        );
+    }
+    scene.close(&rt)
 }

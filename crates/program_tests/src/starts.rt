@@ -38,14 +38,23 @@ static RUNS: [Row; 5] = [
             Made::File("/path-not-set|h|<dir>|<dir>/.build-0|<dir>/.build-0|v\n"),
         )],
     },
-    // A builder that runs in silence, however much it prints, and finds no input.
+    // A builder that runs in silence, however much it prints, and finds no input: none of its streams
+    // is one of the run.
     Row {
         name: "streams",
-        steps: &[Step::Script(
-            "yes | head -c 10000000; yes | head -c 10000000 >&2; wc -c > $out",
-            &["out"],
-            Made::File("0\n"),
-        )],
+        steps: &[
+            Step::Script(
+                "yes | head -c 10000000; yes | head -c 10000000 >&2; wc -c > $out",
+                &["out"],
+                Made::File("0\n"),
+            ),
+            Step::Script(
+                "for n in 0 1 2; do test /dev/null -ef /proc/self/fd/$n || exit 1; done; : > \
+                    $out",
+                &["out"],
+                Made::File(""),
+            ),
+        ],
     },
     // Exit statuses, and a signal.
     Row {
