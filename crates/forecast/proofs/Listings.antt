@@ -24,7 +24,7 @@ use Rattle.sched_core.specs.Reports.{AreByPath, outputs_at, path_at}
 use Rattle.sched_core.specs.declared.reason.State.{State}
 use Rattle.forecast.specs.Listing.{AreListed, AreWithin, HasItsPath, IsMarked, listed_paths, numbers_of}
 use Rattle.forecast.specs.Texts.{IsText, line_at}
-use Rattle.forecast.specs.declared.text.Listed.{Listed}
+use Rattle.forecast.specs.declared.listing.Listed.{Listed}
 
 -- ---- the marked ones of the derivations before a number
 

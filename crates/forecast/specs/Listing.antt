@@ -3,7 +3,7 @@ use Rattle.std.specs.Prelude.{◌≡◌, ◌<◌, ◌↔◌, Bool, true, false, 
 use Rattle.std.specs.List.{slice_index_or}
 use Rattle.drv_graph.specs.Loading.{AreDistinct}
 use Rattle.drv_graph.specs.Nodes.{Node, paths_of}
-use Rattle.forecast.specs.declared.text.Listed.{Listed}
+use Rattle.forecast.specs.declared.listing.Listed.{Listed}
 
 abbrev pub numbers_of : List Listed → List ℕ
 numbers_of listed = map (λ (l : Listed). l.number) listed

@@ -5,12 +5,17 @@
 //! | `forecast` | what is foretold of a plan before anything is built |
 //! | `prospect` | what is foretold of a derivation |
 //! | `prospects` | what is foretold of all, by one pass in the order of the plan |
+//! | `listing` | the derivations that a forecast tells of, by path |
 //! | `text` | the text of a forecast |
+//! | `picture`, `edges` | the picture of a forecast |
 //! | `laws` | laws over the definitions that contracts cite |
 #![tactic(auto)]
 
+mod edges;
 mod forecast;
 pub mod laws;
+mod listing;
+mod picture;
 mod prospect;
 mod prospects;
 mod text;

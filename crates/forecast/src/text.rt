@@ -1,27 +1,20 @@
 //! The text of a forecast: what is foretold of each wanted derivation, and the outputs of the roots.
 ghost use Rattle.std.specs.Prelude.{◌≡◌, ◌<◌, ◌++◌, IfErr, IfOk, OnOk, codes, flat_map, length};
-ghost use Rattle.drv_graph.specs.SoundGraphs.{IsSound};
-ghost use Rattle.sched_core.specs.Reports.{AreByPath, outputs_at, path_line, why_line};
+ghost use Rattle.sched_core.specs.Reports.{outputs_at, path_line, why_line};
 ghost use Rattle.sched_core.specs.Words.{refusal_words};
 ghost use Rattle.sched_core.specs.declared.fault.BookFault.TheVariants.{NoMemory};
 ghost use Rattle.forecast.specs.Holding.{state_at, state_of};
-ghost use Rattle.forecast.specs.Listing.{AreListed, AreWithin, IsMarked, numbers_of};
+ghost use Rattle.forecast.specs.Listing.{AreWithin, IsMarked};
 ghost use Rattle.forecast.specs.Texts.{IsText, line_at};
-ghost use Rattle.forecast.specs.declared.text.Listed.{Listed};
+ghost use Rattle.forecast.specs.declared.listing.Listed.{Listed};
 
+use crate::listing::{Listed, by_path};
 use crate::prospect::{Prospect, prospect_at};
 use drv_graph::Plan;
 use nix_drv::Derivation;
 use nix_names::StorePath;
 use sched_core::{BookFault, Refusal, write_refusal};
 use std::alloc::{AllocError, Global};
-
-// A derivation that has a line, by its number in the plan.
-#[derive(Drop)]
-struct Listed<'a> {
-    path: &'a StorePath,
-    number: usize,
-}
 
 // The text of a plan of which these derivations are wanted, with these prospects.
 pub(crate) fn text_of(
@@ -41,40 +34,6 @@ pub(crate) fn text_of(
     write_lines(plan, &listed, prospects, &mut text)?;
     write_roots(plan, prospects, &mut text)?;
     Ok(text)
-}
-
-// The marked derivations, by path.
-fn by_path<'a>(alloc: Global, plan: &'a Plan, marks: &[bool]) -> Result<Vec<Listed<'a>>, AllocError>
-    requires { length marks.now ≡ length plan.now.nodes }
-    ensures by_path { IfOk result
-        (λ listed. AreByPath plan.now.nodes (IsMarked marks.now (length plan.now.nodes))
-        (numbers_of listed.items)) }
-    ensures within { IfOk result (λ listed. AreWithin (length plan.now.nodes) listed.items) }
-{
-    let mut listed = listed_of(alloc, plan, marks)?;
-    listed.sort_unstable_by(|a, b| a.path.cmp(b.path));
-    Ok(listed)
-}
-
-// The marked derivations, in the order of the plan.
-fn listed_of<'a>(
-    alloc: Global,
-    plan: &'a Plan,
-    marks: &[bool],
-) -> Result<Vec<Listed<'a>>, AllocError>
-    requires { length marks.now ≡ length plan.now.nodes }
-    ensures { IfOk result
-        (λ listed. AreListed plan.now.nodes (IsMarked marks.now (length plan.now.nodes))
-        listed.items) }
-{
-    let mut listed = Vec::new(alloc);
-    for number in 0..plan.len() {
-        if marks[number] {
-            let path = plan.path(number);
-            listed.push(Listed { path, number })?;
-        }
-    }
-    Ok(listed)
 }
 
 // Adds the lines of some derivations.

@@ -4,9 +4,9 @@ use Rattle.std.specs.Ordering.{is_lt, nat_cmp}
 use Rattle.std.proofs.lemmas.Cmp.{nat_list_cmp_total}
 use Rattle.std.proofs.lemmas.List.Sorted.{answers_always, ranks_by}
 use Rattle.forecast.specs.Listing.{IsMarked}
-use Rattle.forecast.specs.declared.text.Listed.{Listed}
+use Rattle.forecast.specs.declared.listing.Listed.{Listed}
 use Rattle.forecast.proofs.Listings.{by_path_within, listed_by_path}
-use Rattle.forecast.proofs.text.by_path.Goals as goal
+use Rattle.forecast.proofs.listing.by_path.Goals as goal
 
 pub returns-clause-by_path : goal.returns-clause-by_path
 returns-clause-by_path c =
