@@ -1,10 +1,10 @@
 -- Rows that were found, in another order: those of the first rows of a table, and those behind them.
-use Rattle.std.proofs.Common.{◌≡◌, ◌⊎◌, Contains, ◌∙◌, ◌≤◌, ◌<◌, ◌+◌, ℕ, List, [], ◌∷◌, ◌++◌, All, Bool, true, false, cond, not, ◌&&◌, ◌||◌, length, take, get_or, nat_eq, nat_lt, inl, inr, refl, sym, ap, subst, arith}
+use Rattle.std.proofs.Common.{◌≡◌, ◌⊎◌, Contains, ◌∙◌, ◌≤◌, ◌<◌, ◌+◌, ℕ, List, [], ◌∷◌, ◌++◌, All, Bool, true, false, cond, not, ◌&&◌, ◌||◌, length, nat_eq, nat_lt, inl, inr, refl, sym, ap, subst, arith}
 use Rattle.std.specs.List.{AllByRecursion, IsDistinct, filter, list_any}
 use Rattle.std.specs.List.Sorted.{IsPermutation}
 use Rattle.std.proofs.lemmas.Bool.{cases_lt, eq-eqb, eqb-true, false≢true, le-ltb, lt-ltb, ltb-true}
 use Rattle.std.proofs.lemmas.Cmp.{nat_eq_equiv}
-use Rattle.std.proofs.lemmas.List.{append-nil, append_assoc, length-append, length-map, map-append, take_more}
+use Rattle.std.proofs.lemmas.List.{append-nil, append_assoc, length-append, length-map, map-append}
 use Rattle.std.proofs.lemmas.List.Elements.{All-append, All-filter, filter-append}
 use Rattle.nix_names.proofs.Lists.{All-from_contains, Contains-from_map, Contains-map}
 use Rattle.std.proofs.lemmas.List.Folds.{list_any-append}
@@ -98,6 +98,15 @@ none_first count = record {
   distinct = tt;
   there = λ row. sym (le-ltb row 0 (omega arith));
 }
+
+-- they are rows of the table
+pub first_below : (count : ℕ) (rows : List ℕ) → AreFirst count rows → All (λ r. r < count) rows
+first_below count rows are =
+    All-from_contains (λ r. r < count) rows
+    (λ r has. within r (sym (are.there r) ∙ list_any-from_Contains nat_eq_equiv r rows has))
+  where
+    within : (r : ℕ) → nat_lt r (length rows) ≡ true → r < count
+    within r is = omega (arith, are.few, ltb-true r (length rows) is)
 
 -- they stay so when more is registered
 pub first_stay : (count more : ℕ) (rows : List ℕ) → AreFirst count rows → count ≤ more
@@ -219,11 +228,7 @@ regrouped_rows registrations first found are rows = record {
         split false b c same both = absurd (false≢true both)
 
     all_first : All (λ r. r < length registrations) first
-    all_first = All-from_contains (λ r. r < length registrations) first
-        (λ r has. within r (sym (are.there r) ∙ list_any-from_Contains nat_eq_equiv r first has))
-      where
-        within : (r : ℕ) → nat_lt r (length first) ≡ true → r < length registrations
-        within r is = omega (arith, are.few, ltb-true r (length first) is)
+    all_first = first_below (length registrations) first are
 
 -- so also of rows that stand behind keys
 pub first_none : (count : ℕ) (keyed : List (ℕ × ℕ)) → keyed ≡ []
@@ -259,8 +264,8 @@ keyed_more count key row keyed more are next below is =
 
 -- ---- one more row is looked at
 
-pub kept : (p : ℕ → Bool) (rows more start old new : List ℕ) (row : ℕ) → more ≡ rows ++ row ∷ []
-    → old ≡ start ++ filter p rows → p row ≡ true → new ≡ old ++ row ∷ []
+pub kept : {A : Type 0} (p : A → Bool) (rows more start old new : List A) (row : A)
+    → more ≡ rows ++ row ∷ [] → old ≡ start ++ filter p rows → p row ≡ true → new ≡ old ++ row ∷ []
     → new ≡ start ++ filter p more
 kept p rows more start old new row more_is before is pushed =
     let one : filter p more ≡ filter p rows ++ row ∷ [] =
@@ -272,8 +277,8 @@ kept p rows more start old new row more_is before is pushed =
     ∙ append_assoc start (filter p rows) (row ∷ [])
     ∙ ap (λ l. start ++ l) (sym one)
 
-pub left_out : (p : ℕ → Bool) (rows more start old : List ℕ) (row : ℕ) → more ≡ rows ++ row ∷ []
-    → old ≡ start ++ filter p rows → p row ≡ false → old ≡ start ++ filter p more
+pub left_out : {A : Type 0} (p : A → Bool) (rows more start old : List A) (row : A)
+    → more ≡ rows ++ row ∷ [] → old ≡ start ++ filter p rows → p row ≡ false → old ≡ start ++ filter p more
 left_out p rows more start old row more_is before is =
     let one : filter p more ≡ filter p rows =
     ap (filter p) more_is
@@ -282,16 +287,40 @@ left_out p rows more start old row more_is before is =
     ∙ append-nil (filter p rows) in
     before ∙ ap (λ l. start ++ l) (sym one)
 
--- a row behind a key more
-pub behind_more : (keyed : List (ℕ × ℕ)) (i : ℕ) → i < length keyed
-    → rows_behind (take (i + 1) keyed) ≡ rows_behind (take i keyed) ++ (get_or keyed i (0, 0)).1 ∷ []
-behind_more keyed i below = ap rows_behind (take_more keyed i (0, 0) below)
-    ∙ map-append (λ (k : ℕ × ℕ). k.1) (take i keyed) (get_or keyed i (0, 0) ∷ [])
+-- the rows behind those keys of whose rows a test holds
+pub behind_kept : (p : ℕ → Bool) (keyed : List (ℕ × ℕ)) → rows_behind (filter (λ k. p k.1) keyed)
+    ≡ filter p (rows_behind keyed)
+behind_kept p [] = refl
+behind_kept p (k ∷ keyed) = split (p k.1) (behind_kept p keyed)
+  where
+    split : (b : Bool) → rows_behind (filter (λ k. p k.1) keyed) ≡ filter p (rows_behind keyed)
+        → rows_behind (cond b (k ∷ filter (λ k. p k.1) keyed) (filter (λ k. p k.1) keyed))
+        ≡ cond b (k.1 ∷ filter p (rows_behind keyed)) (filter p (rows_behind keyed))
+    split true same = ap (λ l. k.1 ∷ l) same
+    split false same = same
+
+pub behind_added : (p : ℕ → Bool) (ordered start pushed : List (ℕ × ℕ))
+    → pushed ≡ start ++ filter (λ k. p k.1) ordered
+    → rows_behind pushed ≡ rows_behind start ++ filter p (rows_behind ordered)
+behind_added p ordered start pushed is =
+    ap rows_behind is
+    ∙ map-append (λ (k : ℕ × ℕ). k.1) start (filter (λ k. p k.1) ordered)
+    ∙ ap (λ l. rows_behind start ++ l) (behind_kept p ordered)
 
 pub behind_pushed : (keyed pushed : List (ℕ × ℕ)) (item : ℕ × ℕ) → pushed ≡ keyed ++ item ∷ []
     → rows_behind pushed ≡ rows_behind keyed ++ item.1 ∷ []
 behind_pushed keyed pushed item is = ap rows_behind is
     ∙ map-append (λ (k : ℕ × ℕ). k.1) keyed (item ∷ [])
+
+pub keys_swept : (P : ℕ × ℕ → Type 0) (p : ℕ × ℕ → Bool) (all ordered start pushed
+    : List (ℕ × ℕ)) → (ordered ≡ []) ⊎ (ordered ≡ all) → start ≡ []
+    → pushed ≡ start ++ filter p ordered → All P all → All P pushed
+keys_swept P p all ordered start pushed swept none is of =
+    rw (is, none) (All-filter p P ordered (of_ordered swept))
+  where
+    of_ordered : (ordered ≡ []) ⊎ (ordered ≡ all) → All P ordered
+    of_ordered (inl empty) = rw empty (λ i d below. absurd (omega (arith, below)))
+    of_ordered (inr same) = subst (All P) (sym same) of
 
 -- ---- the same rows have the same paths
 

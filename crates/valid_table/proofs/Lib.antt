@@ -16,6 +16,7 @@ pub mod EqualEntries
 pub mod FirstRows
 pub mod Following
 pub mod JournalLists
+pub mod Keys
 pub mod Leading
 pub mod LineLists
 pub mod LinePaths

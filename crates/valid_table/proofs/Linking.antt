@@ -45,7 +45,7 @@ range_behind xs ys i j first last =
 -- ---- the rows of paths
 
 -- rows stay where they are when more is registered
-path_stays : (registrations added : List Registration) (row : ℕ) → row < length registrations
+pub path_stays : (registrations added : List Registration) (row : ℕ) → row < length registrations
     → path_at (registrations ++ added) row ≡ path_at registrations row
 path_stays registrations added row below =
     ap (λ (paths : List (List ℕ)). get_or paths row []) (paths_of-append registrations added)

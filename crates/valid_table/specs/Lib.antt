@@ -9,6 +9,7 @@ pub mod Entries
 pub mod Equality
 pub mod Faults
 pub mod FirstRows
+pub mod Keys
 pub mod Kept
 pub mod LineFaults
 pub mod LineTexts

@@ -3,6 +3,7 @@ ghost use Rattle.std.specs.Prelude.{◌≡◌, ◌≤◌, ◌<◌, [], All, IfEr
 ghost use Rattle.valid_table.specs.Closing.{AddsReferences, AddsRows, AreRows, IsFollowed, paths_at};
 ghost use Rattle.valid_table.specs.Closure.{IsClosing};
 ghost use Rattle.valid_table.specs.FirstRows.{AreFirst, rows_behind};
+ghost use Rattle.valid_table.specs.Keys.{AreKeyed};
 ghost use Rattle.valid_table.specs.Linking.{AreLinked};
 ghost use Rattle.valid_table.specs.Tables.{registrations_of};
 ghost use Rattle.valid_table.specs.Valid.{IsOnce, IsValid};
@@ -30,6 +31,7 @@ pub(crate) fn close(
     requires linked { AreLinked (registrations_of rows.now.entries) links.now.ends.items
         links.now.numbers.items }
     requires first { AreFirst (length rows.now.entries) (rows_behind order.now.keyed.items) }
+    requires keys { AreKeyed (registrations_of rows.now.entries) order.now.keyed.items }
     ensures { IsClosing (registrations_of rows.now.entries) roots.now result }
 {
     let mut found = root_rows(alloc, rows, roots)?;

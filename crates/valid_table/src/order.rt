@@ -1,6 +1,10 @@
 //! The order of a table's first rows by the keys of their paths.
-ghost use Rattle.std.specs.Prelude.{◌≡◌, ◌≤◌, [], length};
+ghost use Rattle.std.specs.Prelude.{◌≡◌, ◌⊎◌, ◌≤◌, ◌+◌, ◌-◌, ◌<◌, [], All, length};
+ghost use Rattle.std.specs.Int.{from_be_bytes, w64};
+ghost use Rattle.nix_names.specs.StorePaths.{hash_part_of, name_of};
 ghost use Rattle.valid_table.specs.FirstRows.{AreFirst, rows_behind};
+ghost use Rattle.valid_table.specs.Keys.{AreKeyed, IsKey, folder_of, folder_part};
+ghost use Rattle.valid_table.specs.Tables.{registrations_of};
 
 use crate::entry::Record;
 use indexmap::IndexMap;
@@ -10,8 +14,8 @@ use std::alloc::Global;
 // How many times as many rows as are late stand in order, at least, beside a first few.
 const SHARE: usize = 16;
 
-// The first rows of a table, each behind the key of its path. They are sorted, unless memory was
-// refused for that. The rows behind them are late.
+// The first rows of a table, each behind the key of its path in the folder of the first path. They
+// are sorted, unless memory was refused for that. The rows behind them are late.
 #[derive(Debug, Drop)]
 pub(crate) struct Order {
     pub(crate) keyed: Vec<(u64, usize)>,
@@ -31,8 +35,10 @@ impl Order {
     // merge, whenever it was registered. Where memory is refused, rows stay late or unsorted, which
     // costs a closure more of its own sorting.
     pub(crate) fn extend(&mut self, rows: &IndexMap<StorePath, Record>)
-        requires { AreFirst (length rows.now.entries) (rows_behind self.old.keyed.items) }
-        ensures { AreFirst (length rows.now.entries) (rows_behind self.new.keyed.items) }
+        requires first { AreFirst (length rows.now.entries) (rows_behind self.old.keyed.items) }
+        requires keys { AreKeyed (registrations_of rows.now.entries) self.old.keyed.items }
+        ensures first { AreFirst (length rows.now.entries) (rows_behind self.new.keyed.items) }
+        ensures keys { AreKeyed (registrations_of rows.now.entries) self.new.keyed.items }
     {
         let late = rows.len().saturating_sub(self.keyed.len());
         if late > SHARE + self.keyed.len() / SHARE {
@@ -43,34 +49,65 @@ impl Order {
 
     // Puts the late rows behind the others.
     fn take_in(&mut self, rows: &IndexMap<StorePath, Record>)
-        requires { AreFirst (length rows.now.entries) (rows_behind self.old.keyed.items) }
-        ensures { AreFirst (length rows.now.entries) (rows_behind self.new.keyed.items) }
+        requires first { AreFirst (length rows.now.entries) (rows_behind self.old.keyed.items) }
+        requires keys { AreKeyed (registrations_of rows.now.entries) self.old.keyed.items }
+        ensures first { AreFirst (length rows.now.entries) (rows_behind self.new.keyed.items) }
+        ensures keys { AreKeyed (registrations_of rows.now.entries) self.new.keyed.items }
     {
+        let folder = folder_of(rows);
         let paths = rows.keys();
         for row in self.keyed.len()..rows.len() {
-            if self.keyed.push((key_of(&paths[row]), row)).is_err() {
+            let key = key_of(folder, &paths[row]);
+            if self.keyed.push((key, row)).is_err() {
                 return;
             }
         }
     }
 }
 
-// The key of a path: the first eight bytes behind its folder and the slash.
-fn key_of(path: &StorePath) -> u64 {
-    key_at(path.text(), base_start(path))
+// The folder of the first path, with its slash.
+pub(crate) fn folder_of(rows: &IndexMap<StorePath, Record>) -> &[u8]
+    ensures { result.now ≡ folder_of (registrations_of rows.now.entries) }
+{
+    match rows.first() {
+        Some((path, _)) => folder_part(path),
+        None => &[],
+    }
+}
+
+// All of a path before its base name.
+fn folder_part(path: &StorePath) -> &[u8]
+    ensures { result.now ≡ folder_part path.now }
+{
+    let text = path.text();
+    text.get(..base_start(path)).unwrap_or(text)
 }
 
 // Where the base name of a path begins, behind the folder and a slash.
-pub(crate) fn base_start(path: &StorePath) -> usize {
+fn base_start(path: &StorePath) -> usize
+    ensures { result ≡ length path.now
+        - (length (hash_part_of path.now) + 1 + length (name_of path.now)) }
+{
     path.text()
         .len()
         .saturating_sub(path.hash_part().len() + 1 + path.name().len())
 }
 
-// The eight bytes from a place on, as one number that compares as they do; 0 where there are fewer.
-pub(crate) fn key_at(text: &[u8], start: usize) -> u64 {
-    match text.get(start..) {
-        Some([a, b, c, d, e, f, g, h, ..]) => u64::from_be_bytes([*a, *b, *c, *d, *e, *f, *g, *h]),
+// The key of a path: the eight bytes behind the folder, as one number that compares as they do; 0
+// for a path of another folder.
+pub(crate) fn key_of(folder: &[u8], path: &StorePath) -> u64
+    ensures { (result ≡ 0) ⊎ (IsKey folder.now path.now result) }
+{
+    match path.text().strip_prefix(folder) {
+        Some([a, b, c, d, e, f, g, h, ..]) => number_of([*a, *b, *c, *d, *e, *f, *g, *h]),
         _ => 0,
     }
+}
+
+// The number of eight bytes, of which the first counts most.
+fn number_of(bytes: [u8; 8]) -> u64
+    ensures number { result ≡ from_be_bytes w64 bytes }
+    ensures small { All (λ b. b < 256) bytes }
+{
+    u64::from_be_bytes(bytes)
 }

@@ -1,5 +1,5 @@
 //! The paths of rows that were found, in rising order.
-ghost use Rattle.std.specs.Prelude.{◌≡◌, ◌<◌, ◌++◌, ◌⊎◌, [], ℕ, All, IfErr, IfOk, OnOk, length, map, nat_eq, nat_lt, not};
+ghost use Rattle.std.specs.Prelude.{◌≡◌, ◌<◌, ◌++◌, ◌⊎◌, [], ℕ, All, IfErr, IfOk, IsTrue, OnOk, length, map, nat_eq, nat_lt, not};
 ghost use Rattle.std.specs.Cmp.Lexicographic.{slice_cmp};
 ghost use Rattle.std.specs.List.{filter, list_any};
 ghost use Rattle.std.specs.List.Sorted.{IsPermutation, IsSorted};
@@ -7,13 +7,14 @@ ghost use Rattle.std.specs.Ordering.{nat_cmp};
 ghost use Rattle.nix_names.specs.Rising.{IsRising};
 ghost use Rattle.valid_table.specs.Closing.{AreRows, HaveSame, paths_at};
 ghost use Rattle.valid_table.specs.FirstRows.{AreFirst, rows_behind};
+ghost use Rattle.valid_table.specs.Keys.{AreKeyed, KeysRise, folder_of};
 ghost use Rattle.valid_table.specs.Tables.{registrations_of};
 ghost use Rattle.valid_table.specs.Valid.{IsOnce};
 
 use crate::entry::Record;
 use crate::fault::TableFault;
 use crate::found::Found;
-use crate::order::{Order, base_start, key_at};
+use crate::order::{Order, folder_of, key_of};
 use indexmap::IndexMap;
 use nix_names::StorePath;
 use std::alloc::{AllocFailed, Global};
@@ -30,6 +31,7 @@ pub(crate) fn sorted_paths(
 ) -> Result<Vec<StorePath>, TableFault>
     requires once { IsOnce (registrations_of rows.now.entries) }
     requires first { AreFirst (length rows.now.entries) (rows_behind order.now.keyed.items) }
+    requires keys { AreKeyed (registrations_of rows.now.entries) order.now.keyed.items }
     requires rows { AreRows (registrations_of rows.now.entries) found.now.rows }
     ensures rising { IfOk result (λ paths. IsRising paths.items) }
     ensures same { IfOk result
@@ -40,7 +42,9 @@ pub(crate) fn sorted_paths(
     let mut keyed = keyed_rows(alloc, rows, order, found)?;
     keyed.sort()?;
     let mut paths = copied_paths(alloc, rows, &keyed)?;
-    put_in_order(&mut paths);
+    if !keys_rise(&keyed) {
+        put_in_order(&mut paths);
+    }
     Ok(paths)
 }
 
@@ -52,12 +56,15 @@ fn keyed_rows(
     found: &Found,
 ) -> Result<Vec<(u64, usize)>, TableFault>
     requires first { AreFirst (length rows.now.entries) (rows_behind order.now.keyed.items) }
+    requires keys { AreKeyed (registrations_of rows.now.entries) order.now.keyed.items }
     requires rows { AreRows (registrations_of rows.now.entries) found.now.rows }
     ensures rows { IfOk result
         (λ keyed. AreRows (registrations_of rows.now.entries) (rows_behind keyed.items)) }
     ensures same { IfOk result
         (λ keyed. (row : ℕ) → list_any (nat_eq row) (rows_behind keyed.items)
         ≡ list_any (nat_eq row) found.now.rows) }
+    ensures keys { IfOk result
+        (λ keyed. AreKeyed (registrations_of rows.now.entries) keyed.items) }
     ensures err { IfErr result (λ e. e ≡ TableFault.NoMemory) }
 {
     let mut keyed = Vec::with_capacity(alloc, found.rows().len())?;
@@ -85,8 +92,8 @@ fn push_found(
     keyed: &mut Vec<(u64, usize)>,
 ) -> Result<(), AllocFailed<(u64, usize)>>
     ensures { OnOk result
-        (rows_behind keyed.new.items ≡ rows_behind keyed.old.items
-        ++ filter (λ row. list_any (nat_eq row) found.now.rows) (rows_behind ordered.now)) }
+        (keyed.new.items ≡ keyed.old.items
+        ++ filter (λ k. list_any (nat_eq k.1) found.now.rows) ordered.now) }
 {
     for item in ordered {
         if found.has(item.1) {
@@ -103,19 +110,19 @@ fn push_late(
     found: &Found,
     keyed: &mut Vec<(u64, usize)>,
 ) -> Result<(), AllocFailed<(u64, usize)>>
-    requires { AreRows (registrations_of rows.now.entries) found.now.rows }
-    ensures { OnOk result
+    requires rows { AreRows (registrations_of rows.now.entries) found.now.rows }
+    requires keys { AreKeyed (registrations_of rows.now.entries) keyed.old.items }
+    ensures rows { OnOk result
         (rows_behind keyed.new.items ≡ rows_behind keyed.old.items
         ++ filter (λ row. not (nat_lt row first)) found.now.rows) }
+    ensures keys { OnOk result
+        (AreKeyed (registrations_of rows.now.entries) keyed.new.items) }
 {
+    let folder = folder_of(rows);
     let paths = rows.keys();
-    let start = match found.rows() {
-        [] => 0,
-        [row, ..] => base_start(&paths[*row]),
-    };
     for row in found.rows() {
         if *row >= first {
-            keyed.push((key_at(paths[*row].text(), start), *row))?;
+            keyed.push((key_of(folder, &paths[*row]), *row))?;
         }
     }
     Ok(())
@@ -140,8 +147,21 @@ fn copied_paths(
     Ok(paths)
 }
 
-// Sorts paths that stand by their keys. That is their order, unless two have one key or they are of
-// several folders.
+// Whether keys rise strictly, and none is 0: then their paths rise too.
+fn keys_rise(keyed: &[(u64, usize)]) -> bool
+    ensures { IsTrue result → KeysRise 0 keyed.now }
+{
+    let mut last = 0;
+    for item in keyed {
+        if item.0 <= last {
+            return false;
+        }
+        last = item.0;
+    }
+    true
+}
+
+// Sorts paths that stand by their keys: two may have one key, or they may be of several folders.
 fn put_in_order(paths: &mut Vec<StorePath>)
     ensures moved { IsPermutation paths.old.items paths.new.items }
     ensures sorted { IsSorted (slice_cmp nat_cmp) paths.new.items }

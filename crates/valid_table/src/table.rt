@@ -37,6 +37,7 @@ impl Model for Table {
     ghost use Rattle.indexmap.specs.IndexMap.{spare};
     ghost use Rattle.std.specs.Prelude.{length};
     ghost use Rattle.valid_table.specs.FirstRows.{AreFirst, rows_behind};
+    ghost use Rattle.valid_table.specs.Keys.{AreKeyed};
     ghost use Rattle.valid_table.specs.Linking.{AreLinked};
     ghost use Rattle.valid_table.specs.Tables.{TableValue, registrations_of};
     ghost use Rattle.valid_table.specs.Valid.{AreReferencesValid, IsOnce};
@@ -49,7 +50,8 @@ impl Model for Table {
     ghost invariant = { λ t. IsOnce (registrations_of t.rows.entries)
         × AreReferencesValid (registrations_of t.rows.entries)
         × AreLinked (registrations_of t.rows.entries) t.links.ends.items t.links.numbers.items
-        × AreFirst (length t.rows.entries) (rows_behind t.order.keyed.items) };
+        × AreFirst (length t.rows.entries) (rows_behind t.order.keyed.items)
+        × AreKeyed (registrations_of t.rows.entries) t.order.keyed.items };
 }
 
 impl Table {
@@ -93,8 +95,10 @@ impl Table {
     /// roots lead to nothing. `NotValid` with the first root that is not valid, `NoMemory` where
     /// memory is refused; no other fault. Costs a bit for each row of the table, one look-up by hash
     /// for each root, a step for each reference of what is reached, a sort of numbers most of which
-    /// are in order, and a copy and a comparison for each path. A path that was registered behind the last call that made
-    /// room costs one look-up by hash for each of its references instead. Does not recurse.
+    /// are in order, and a copy for each path. Texts are compared only where two paths begin with
+    /// the same eight characters, or are of several folders. A path that was registered behind the
+    /// last call that made room costs one look-up by hash for each of its references instead. Does
+    /// not recurse.
     pub fn closure(&self, alloc: Global, roots: &[StorePath]) -> Result<Vec<StorePath>, TableFault>
         ensures { IsClosing self.now.registrations roots.now result }
     {

@@ -1,13 +1,17 @@
-use Rattle.std.proofs.Common.{◌≡◌, ◌∙◌, ◌+◌, ◌++◌, ◌∷◌, [], ap, get_or, nat_lt, not, subst, take, ℕ, List}
+use Rattle.std.proofs.Common.{◌≡◌, ◌∙◌, ◌+◌, ◌++◌, ◌∷◌, [], List, ap, get_or, nat_lt, not, subst, sym, take, ℕ}
 use Rattle.std.proofs.lemmas.Bool.{le-ltb, lt-ltb}
 use Rattle.std.proofs.lemmas.List.{take_more}
 use Rattle.valid_table.specs.FirstRows.{rows_behind}
+use Rattle.valid_table.specs.Keys.{AreKeyed}
+use Rattle.valid_table.specs.Tables.{registrations_of}
 use Rattle.valid_table.proofs.FirstRows.{behind_pushed, kept, left_out}
+use Rattle.valid_table.proofs.Keys.{one_more_keyed, path_looked_up}
 use Rattle.valid_table.proofs.rising.push_late.Goals.{then-row-first+in_ok-push, else-row-first}
 use Rattle.valid_table.proofs.rising.push_late.Goals as goal
 
 pub loop-row-preserved : goal.loop-row-preserved
 loop-row-preserved c =
+    let registrations = registrations_of c.args.rows.now.entries in
     let found = c.args.found.now.rows in
     let first = c.args.first in
     let i = c.loop-row.row-index in
@@ -20,13 +24,25 @@ loop-row-preserved c =
     (take_more c.rows-row-items.result.now i 0 c.loop-row-test.true) in
     elim c.if-row-first.branch [
       | then-row-first+in_ok-push w ↦
-          kept p (take i found) (take (i + 1) found) start (rows_behind before)
-          (rows_behind c.if-row-first.keyed.items) row one c.loop-row.invariant
-          (ap not (le-ltb row first w.if-row-first.true))
-          (behind_pushed before c.if-row-first.keyed.items (w.key_at.result, row)
-          (ap (λ v. v.items) w.keyed-is ∙ w.in_ok-push.ensures.items))
+          let pushed = ap (λ v. v.items) w.keyed-is ∙ w.in_ok-push.ensures.items in
+          record {
+            rows = kept p (take i found) (take (i + 1) found) start (rows_behind before)
+                (rows_behind c.if-row-first.keyed.items) row one c.loop-row.invariant.rows
+                (ap not (le-ltb row first w.if-row-first.true))
+                (behind_pushed before c.if-row-first.keyed.items (w.key_of.result, row) pushed);
+            keys = one_more_keyed registrations w.key_of.result row w.index.result.now
+                c.folder_of-folder.result.now before c.if-row-first.keyed.items
+                c.loop-row.invariant.keys c.folder_of-folder.ensures
+                (path_looked_up c.args.rows.now.entries _ row w.index.result.now
+                c.keys-paths.ensures.rest w.index.ensures)
+                w.key_of.ensures pushed;
+          }
       | else-row-first w ↦
-          ap (λ v. rows_behind v.items) w.keyed-is
-          ∙ left_out p (take i found) (take (i + 1) found) start (rows_behind before) row one
-          c.loop-row.invariant (ap not (lt-ltb row first w.if-row-first.false))
+          record {
+            rows = ap (λ v. rows_behind v.items) w.keyed-is
+                ∙ left_out p (take i found) (take (i + 1) found) start (rows_behind before) row one
+                c.loop-row.invariant.rows (ap not (lt-ltb row first w.if-row-first.false));
+            keys = subst (λ v. AreKeyed registrations v.items) (sym w.keyed-is)
+                c.loop-row.invariant.keys;
+          }
     ]

@@ -1,20 +1,29 @@
 use Rattle.std.proofs.Common.{◌∙◌, ◌∷◌, [], ap, arith, length, not}
 use Rattle.std.proofs.lemmas.List.{length-append}
+use Rattle.valid_table.specs.Tables.{registrations_of}
 use Rattle.valid_table.proofs.FirstRows.{keyed_more}
+use Rattle.valid_table.proofs.Keys.{one_more_keyed, path_looked_up}
 use Rattle.valid_table.proofs.order.Order.take_in.Goals as goal
 
 pub loop-row-preserved : goal.loop-row-preserved
 loop-row-preserved c =
+    let key = c.key_of-key.result in
+    let row = c.loop-row.row in
+    let before = c.loop-row.self.keyed.items in
     let pushed = rw (c.is_err.ensures.negation ∙ ap not c.if-is_err.false) at c.push.ensures.items
     in
     record {
-      first = keyed_more _ c.key_of.result c.loop-row.row c.loop-row.self.keyed.items _
-          c.loop-row.invariant.first c.loop-row.invariant.next
+      first = keyed_more _ key row before _ c.loop-row.invariant.first c.loop-row.invariant.next
           (omega (arith, c.loop-row-test.true, c.len-row-end.ensures.len)) pushed;
+      keys = one_more_keyed (registrations_of c.args.rows.now.entries) key row c.index.result.now
+          c.folder_of-folder.result.now before _ c.loop-row.invariant.keys c.folder_of-folder.ensures
+          (path_looked_up c.args.rows.now.entries _ row c.index.result.now
+          c.keys-paths.ensures.rest c.index.ensures)
+          c.key_of-key.ensures pushed;
       next = omega (
         arith,
         ap length pushed,
         c.loop-row.invariant.next,
-        length-append c.loop-row.self.keyed.items ((c.key_of.result, c.loop-row.row) ∷ []),
+        length-append before ((key, row) ∷ []),
       );
     }

@@ -1,5 +1,6 @@
 use Rattle.std.proofs.Common.{rules}
 use Rattle.valid_table.proofs.FirstRows.{first_none}
+use Rattle.valid_table.proofs.Keys.{none_keyed}
 use Rattle.valid_table.proofs.table.Table.new.Goals as goal
 
 pub invariant_of-result : goal.invariant_of-result
@@ -8,4 +9,5 @@ invariant_of-result c = (
   search (rules),
   search (rules),
   first_none _ c.new-3.result.keyed.items c.new-3.ensures,
+  none_keyed _ c.new-3.result.keyed.items c.new-3.ensures,
 )

@@ -1,4 +1,5 @@
 use Rattle.valid_table.proofs.FirstRows.{first_none}
+use Rattle.valid_table.proofs.Keys.{none_keyed}
 use Rattle.valid_table.proofs.table.Table.of_rows.Goals as goal
 
 pub invariant_of-result : goal.invariant_of-result
@@ -7,4 +8,5 @@ invariant_of-result c = (
   c.requires.closed,
   c.link.ensures,
   first_none _ c.new-order.result.keyed.items c.new-order.ensures,
+  none_keyed _ c.new-order.result.keyed.items c.new-order.ensures,
 )

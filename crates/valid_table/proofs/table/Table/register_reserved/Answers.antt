@@ -5,6 +5,7 @@ use Rattle.valid_table.specs.Entries.{paths_of, registered_by}
 use Rattle.valid_table.specs.Tables.{TableValue, registrations_of}
 use Rattle.valid_table.specs.FirstRows.{rows_behind}
 use Rattle.valid_table.proofs.FirstRows.{first_of_more}
+use Rattle.valid_table.proofs.Keys.{keyed_of_more}
 use Rattle.valid_table.proofs.Linking.{links_stay}
 use Rattle.valid_table.proofs.TakenIn.{once_more, valid_with_more}
 use Rattle.valid_table.proofs.table.Table.register_reserved.Goals as goal
@@ -36,4 +37,6 @@ invariant_of-self c =
       first_of_more c.self.inside.rows.entries (registered_by c.args.entry)
           c.push_entry.new.rows.entries (rows_behind c.self.inside.order.keyed.items)
           c.push_entry.ensures.rows c.self.invariant.3,
+      keyed_of_more c.self.inside.rows.entries (registered_by c.args.entry)
+          c.self.inside.order.keyed.items c.self.invariant.3 c.self.invariant.4,
     )

@@ -1,0 +1,287 @@
+-- Keys that rise strictly: the texts that they stand for do.
+use Rattle.std.proofs.Common.{◌≡◌, ◌⊎◌, ◌<◌, ◌≤◌, ◌+◌, ◌*◌, ℕ, List, [], ◌∷◌, ◌++◌, All, Option, Some, ap, ap₂, arith, drop, get_or, inl, inr, is_some, length, nat_eq, refl, subst, suc, sym, take, true, zero, ◌∙◌}
+use Rattle.std.specs.Cmp.Lexicographic.{pointwise, slice_cmp}
+use Rattle.std.specs.Int.{from_be_bytes, w64}
+use Rattle.std.specs.List.{AllByRecursion, slice_get}
+use Rattle.std.specs.List.Sorted.{IsPermutation}
+use Rattle.std.specs.Map.{keys_of}
+use Rattle.std.specs.Option.{unwrap_or}
+use Rattle.std.specs.Ordering.{nat_cmp, ordering_then}
+use Rattle.std.specs.declared.cmp.Ordering.{Ordering}
+use Rattle.std.specs.declared.cmp.Ordering.TheVariants.{Equal, Less}
+use Rattle.std.proofs.lemmas.Bool.{cases_lt, false≢true, le-ltb, lt-ltb}
+use Rattle.std.proofs.lemmas.Cmp.{nat_eq_equiv}
+use Rattle.std.proofs.lemmas.List.{append_assoc, drop_all, drop_more, get_or-map, length-map, take-append-drop}
+use Rattle.std.proofs.lemmas.List.Elements.{All-append, recursion_from_All}
+use Rattle.std.proofs.lemmas.List.Sorted.{All-permutation}
+use Rattle.std.proofs.lemmas.Option.{get_or_from_slice_get}
+use Rattle.nix_names.specs.Rising.{IsRising}
+use Rattle.nix_names.proofs.RisingLists.{equal_from_eq}
+use Rattle.valid_table.specs.Closing.{path_at, paths_at}
+use Rattle.valid_table.specs.Entries.{paths_of}
+use Rattle.valid_table.specs.FirstRows.{AreFirst, rows_behind}
+use Rattle.valid_table.specs.Keys.{AreKeyed, IsKey, KeysRise, folder_of, folder_part}
+use Rattle.valid_table.specs.PathInfos.{PathInfo}
+use Rattle.valid_table.specs.Tables.{registrations_of}
+use Rattle.valid_table.specs.declared.entry.Registration.{Registration}
+use Rattle.valid_table.proofs.FirstRows.{first_below}
+use Rattle.valid_table.proofs.Linking.{path_stays}
+use Rattle.valid_table.proofs.RowNumbers.{paths_are_keys, row_count}
+
+-- ---- numbers of the same many bytes compare as these do
+
+-- the number that bytes spell behind a number, of which the first byte counts most
+abbrev spelt : ℕ → List ℕ → ℕ
+spelt n [] = n
+spelt n (b ∷ bs) = spelt (n * 256 + b) bs
+
+abbrev Small : List ℕ → Type 0
+Small bytes = AllByRecursion (λ b. b < 256) bytes
+
+spelt_less : (n m : ℕ) (xs ys : List ℕ) → length xs ≡ length ys → Small xs → Small ys → n < m
+    → spelt n xs < spelt m ys
+spelt_less n m [] [] same of_x of_y less = less
+spelt_less n m [] (y ∷ ys) same of_x of_y less = absurd (omega (arith, same))
+spelt_less n m (x ∷ xs) [] same of_x of_y less = absurd (omega (arith, same))
+spelt_less n m (x ∷ xs) (y ∷ ys) same of_x of_y less =
+    spelt_less (n * 256 + x) (m * 256 + y) xs ys (omega (arith, same)) of_x.1 of_y.1
+    (omega (arith, less, of_x.0))
+
+eight_spelt : (bytes : List ℕ) → length bytes ≡ 8 → from_be_bytes w64 bytes ≡ spelt 0 bytes
+eight_spelt [] is = absurd (omega (arith, is))
+eight_spelt (a ∷ []) is = absurd (omega (arith, is))
+eight_spelt (a ∷ b ∷ []) is = absurd (omega (arith, is))
+eight_spelt (a ∷ b ∷ c ∷ []) is = absurd (omega (arith, is))
+eight_spelt (a ∷ b ∷ c ∷ d ∷ []) is = absurd (omega (arith, is))
+eight_spelt (a ∷ b ∷ c ∷ d ∷ e ∷ []) is = absurd (omega (arith, is))
+eight_spelt (a ∷ b ∷ c ∷ d ∷ e ∷ f ∷ []) is = absurd (omega (arith, is))
+eight_spelt (a ∷ b ∷ c ∷ d ∷ e ∷ f ∷ g ∷ []) is = absurd (omega (arith, is))
+eight_spelt (a ∷ b ∷ c ∷ d ∷ e ∷ f ∷ g ∷ h ∷ []) is = omega arith
+eight_spelt (a ∷ b ∷ c ∷ d ∷ e ∷ f ∷ g ∷ h ∷ i ∷ bytes) is = absurd (omega (arith, is))
+
+-- ---- so texts behind one folder compare as their keys do
+
+equal_bytes : (x : ℕ) → nat_cmp x x ≡ Equal
+equal_bytes x = rw (le-ltb x x (omega arith), nat_eq_equiv.refl x) refl
+
+lesser_byte : (x y : ℕ) → x < y → nat_cmp x y ≡ Less
+lesser_byte x y less = rw (lt-ltb x y less) refl
+
+bytes_less : (n : ℕ) (xs ys rest others : List ℕ) → length xs ≡ length ys → Small xs → Small ys
+    → spelt n xs < spelt n ys → slice_cmp nat_cmp (xs ++ rest) (ys ++ others) ≡ Less
+bytes_less n [] [] rest others same of_x of_y less = absurd (omega (arith, less))
+bytes_less n [] (y ∷ ys) rest others same of_x of_y less = absurd (omega (arith, same))
+bytes_less n (x ∷ xs) [] rest others same of_x of_y less = absurd (omega (arith, same))
+bytes_less n (x ∷ xs) (y ∷ ys) rest others same of_x of_y less =
+    elim (cases_lt x y) [
+      | inl below ↦ ap (λ o. ordering_then o tail) (lesser_byte x y below)
+      | inr past ↦ elim (cases_lt y x) [
+        | inl above ↦
+            absurd (omega (
+              arith,
+              less,
+              spelt_less (n * 256 + y) (n * 256 + x) ys xs (sym tails) of_y.1 of_x.1
+                  (omega (arith, above)),
+            ))
+        | inr before ↦
+            level (omega (arith, past, before))
+            (bytes_less (n * 256 + x) xs ys rest others tails of_x.1 of_y.1)
+      ]
+    ]
+  where
+    tail : Ordering
+    tail = slice_cmp nat_cmp (xs ++ rest) (ys ++ others)
+
+    tails : length xs ≡ length ys
+    tails = omega (arith, same)
+
+    level : x ≡ y → (spelt (n * 256 + x) xs < spelt (n * 256 + x) ys → tail ≡ Less)
+        → ordering_then (nat_cmp x y) tail ≡ Less
+    level is next =
+        ap (λ z. ordering_then (nat_cmp x z) tail) (sym is)
+        ∙ ap (λ o. ordering_then o tail) (equal_bytes x)
+        ∙ next (subst (λ z. spelt (n * 256 + x) xs < spelt (n * 256 + z) ys) (sym is) less)
+
+same_front : (front xs ys : List ℕ) → slice_cmp nat_cmp (front ++ xs) (front ++ ys)
+    ≡ slice_cmp nat_cmp xs ys
+same_front [] xs ys = refl
+same_front (b ∷ front) xs ys =
+    ap (λ o. ordering_then o (slice_cmp nat_cmp (front ++ xs) (front ++ ys))) (equal_bytes b)
+    ∙ same_front front xs ys
+
+lesser_key : (folder text other : List ℕ) (k l : ℕ) → IsKey folder text k → IsKey folder other l
+    → k < l → slice_cmp nat_cmp text other ≡ Less
+lesser_key folder text other k l of_k of_l less =
+    ap₂ (slice_cmp nat_cmp) (of_k.parts ∙ append_assoc folder of_k.bytes of_k.rest)
+    (of_l.parts ∙ append_assoc folder of_l.bytes of_l.rest)
+    ∙ (same_front folder (of_k.bytes ++ of_k.rest) (of_l.bytes ++ of_l.rest)
+    ∙ bytes_less 0 of_k.bytes of_l.bytes of_k.rest of_l.rest
+    (of_k.eight ∙ sym of_l.eight)
+    (recursion_from_All (λ b. b < 256) of_k.bytes of_k.small)
+    (recursion_from_All (λ b. b < 256) of_l.bytes of_l.small)
+    (omega (
+      arith,
+      less,
+      of_k.number ∙ eight_spelt of_k.bytes of_k.eight,
+      of_l.number ∙ eight_spelt of_l.bytes of_l.eight,
+    )))
+
+-- a key above a bound isn't 0
+is_key : (folder text : List ℕ) (key bound : ℕ) → (key ≡ 0) ⊎ (IsKey folder text key)
+    → bound < key → IsKey folder text key
+is_key folder text key bound (inl none) above = absurd (omega (arith, none, above))
+is_key folder text key bound (inr is) above = is
+
+rising_by : (registrations : List Registration) (folder : List ℕ) (bound : ℕ)
+    (keyed : List (ℕ × ℕ)) → AllByRecursion
+    (λ (k : ℕ × ℕ). (k.0 ≡ 0) ⊎ (IsKey folder (path_at registrations k.1) k.0)) keyed
+    → KeysRise bound keyed → IsRising (paths_at registrations (rows_behind keyed))
+rising_by registrations folder bound [] keys rise = tt
+rising_by registrations folder bound (k ∷ []) keys rise = tt
+rising_by registrations folder bound (k ∷ l ∷ keyed) keys rise = (
+  lesser_key folder (path_at registrations k.1) (path_at registrations l.1) k.0 l.0
+      (is_key folder (path_at registrations k.1) k.0 bound keys.0 rise.0)
+      (is_key folder (path_at registrations l.1) l.0 k.0 keys.1.0 rise.1.0) rise.1.0,
+  rising_by registrations folder k.0 (l ∷ keyed) keys.1 rise.1,
+)
+
+pub paths_rise : (registrations : List Registration) (keyed : List (ℕ × ℕ))
+    → AreKeyed registrations keyed → KeysRise 0 keyed
+    → IsRising (paths_at registrations (rows_behind keyed))
+paths_rise registrations keyed keys rise =
+    rising_by registrations (folder_of registrations) 0 keyed
+    (recursion_from_All
+    (λ (k : ℕ × ℕ). (k.0 ≡ 0) ⊎ (IsKey (folder_of registrations) (path_at registrations k.1) k.0))
+    keyed keys)
+    rise
+
+-- ---- the rows of a table behind their keys
+
+pub none_keyed : (registrations : List Registration) (keyed : List (ℕ × ℕ)) → keyed ≡ []
+    → AreKeyed registrations keyed
+none_keyed registrations keyed none i d below = absurd (omega (arith, below, ap length none))
+
+pub keyed_moved : (registrations : List Registration) (keyed moved : List (ℕ × ℕ))
+    → IsPermutation keyed moved → AreKeyed registrations keyed → AreKeyed registrations moved
+keyed_moved registrations keyed moved is keys =
+    All-permutation
+    (λ (k : ℕ × ℕ). (k.0 ≡ 0) ⊎ (IsKey (folder_of registrations) (path_at registrations k.1) k.0))
+    keyed moved is keys
+
+-- one more row behind its key
+pub one_more_keyed : (registrations : List Registration) (key row : ℕ) (path folder : List ℕ)
+    (keyed more : List (ℕ × ℕ)) → AreKeyed registrations keyed → folder ≡ folder_of registrations
+    → path ≡ path_at registrations row → (key ≡ 0) ⊎ (IsKey folder path key)
+    → more ≡ keyed ++ (key, row) ∷ [] → AreKeyed registrations more
+one_more_keyed registrations key row path folder keyed more keys of_folder of_path is pushed =
+    rw pushed (All-append P keyed ((key, row) ∷ []) keys one)
+  where
+    P : ℕ × ℕ → Type 0
+    P k = (k.0 ≡ 0) ⊎ (IsKey (folder_of registrations) (path_at registrations k.1) k.0)
+
+    here : P (key, row)
+    here = rw (sym of_folder, sym of_path) is
+
+    one : All P ((key, row) ∷ [])
+    one zero d below = here
+    one (suc i) d below = absurd (omega (arith, below))
+
+-- the folder is that of the first path
+folder_stays : (registrations added : List Registration) (row : ℕ) → row < length registrations
+    → folder_of (registrations ++ added) ≡ folder_of registrations
+folder_stays [] added row below = absurd (omega (arith, below))
+folder_stays (r ∷ registrations) added row below = refl
+
+-- what is registered later changes neither a row's path nor the folder
+keyed_with_more : (registrations added : List Registration) (keyed : List (ℕ × ℕ))
+    → AreFirst (length registrations) (rows_behind keyed) → AreKeyed registrations keyed
+    → AreKeyed (registrations ++ added) keyed
+keyed_with_more registrations added keyed first keys i d below = rw (folder, path) (keys i d below)
+  where
+    row : ℕ
+    row = (get_or keyed i d).1
+
+    within : row < length registrations
+    within =
+        let at : get_or (rows_behind keyed) i 0 ≡ row =
+        get_or-map (λ (k : ℕ × ℕ). k.1) keyed i d 0 below in
+        subst (λ r. r < length registrations) at
+        (first_below (length registrations) (rows_behind keyed) first i 0
+        (omega (arith, below, length-map keyed (λ (k : ℕ × ℕ). k.1))))
+
+    path : path_at (registrations ++ added) row ≡ path_at registrations row
+    path = path_stays registrations added row within
+
+    folder : folder_of (registrations ++ added) ≡ folder_of registrations
+    folder = folder_stays registrations added row within
+
+pub keyed_of_more : (rows : List (List ℕ × PathInfo)) (added : List Registration)
+    (keyed : List (ℕ × ℕ)) → AreFirst (length rows) (rows_behind keyed)
+    → AreKeyed (registrations_of rows) keyed → AreKeyed (registrations_of rows ++ added) keyed
+keyed_of_more rows added keyed first keys =
+    keyed_with_more (registrations_of rows) added keyed
+    (subst (λ n. AreFirst n (rows_behind keyed)) (sym (row_count rows)) first) keys
+
+-- the path of a row, as it was looked up
+pub path_looked_up : (rows : List (List ℕ × PathInfo)) (keys : List (List ℕ)) (row : ℕ)
+    (path : List ℕ) → keys ≡ keys_of rows → slice_get keys row ≡ Some path
+    → path ≡ path_at (registrations_of rows) row
+path_looked_up rows keys row path are at =
+    sym (get_or_from_slice_get (paths_of (registrations_of rows)) row path []
+    (ap (λ ks. slice_get ks row) (paths_are_keys rows ∙ sym are) ∙ at))
+
+-- ---- how a key is read
+
+-- the first eight bytes
+abbrev pub eight : List ℕ → List ℕ
+eight found = get_or found 0 0 ∷ get_or found 1 0 ∷ get_or found 2 0 ∷ get_or found 3 0
+    ∷ get_or found 4 0 ∷ get_or found 5 0 ∷ get_or found 6 0 ∷ get_or found 7 0 ∷ []
+
+pub key_read : (folder text found : List ℕ) (key : ℕ)
+    → pointwise nat_eq (take (length folder) text) folder ≡ true
+    → found ≡ drop (length folder) text → 8 ≤ length found
+    → All (λ b. b < 256) (eight found) → key ≡ from_be_bytes w64 found
+    → IsKey folder text key
+key_read folder text [] key front is long small number = absurd (omega (arith, long))
+key_read folder text (a ∷ []) key front is long small number = absurd (omega (arith, long))
+key_read folder text (a ∷ b ∷ []) key front is long small number = absurd (omega (arith, long))
+key_read folder text (a ∷ b ∷ c ∷ []) key front is long small number = absurd (omega (arith, long))
+key_read folder text (a ∷ b ∷ c ∷ d ∷ []) key front is long small number =
+    absurd (omega (arith, long))
+key_read folder text (a ∷ b ∷ c ∷ d ∷ e ∷ []) key front is long small number =
+    absurd (omega (arith, long))
+key_read folder text (a ∷ b ∷ c ∷ d ∷ e ∷ f ∷ []) key front is long small number =
+    absurd (omega (arith, long))
+key_read folder text (a ∷ b ∷ c ∷ d ∷ e ∷ f ∷ g ∷ []) key front is long small number =
+    absurd (omega (arith, long))
+key_read folder text (a ∷ b ∷ c ∷ d ∷ e ∷ f ∷ g ∷ h ∷ rest) key front is long small number = record {
+  bytes = a ∷ b ∷ c ∷ d ∷ e ∷ f ∷ g ∷ h ∷ [];
+  rest = rest;
+  parts = sym (take-append-drop (length folder) text)
+      ∙ ap (λ l. l ++ drop (length folder) text) (equal_from_eq _ _ front)
+      ∙ ap (λ l. folder ++ l) (sym is)
+      ∙ sym (append_assoc folder (a ∷ b ∷ c ∷ d ∷ e ∷ f ∷ g ∷ h ∷ []) rest);
+  eight = refl;
+  small = small;
+  number = number;
+}
+
+-- the first row has the first path
+pub first_row_folder : (rows : List (List ℕ × PathInfo)) (path : List ℕ) (info : PathInfo)
+    → Some (path, info) ≡ slice_get rows 0
+    → folder_part path ≡ folder_of (registrations_of rows)
+first_row_folder [] path info is = absurd (false≢true (sym (ap is_some is)))
+first_row_folder (row ∷ rows) path info is =
+    ap (λ (o : Option (List ℕ × PathInfo)). folder_part (unwrap_or o row).0) is
+
+-- ---- one more key is looked at
+
+pub keys_go_on : (keyed : List (ℕ × ℕ)) (i last : ℕ) (all : Type 0) → i < length keyed
+    → (KeysRise last (drop i keyed) → all) → last < (get_or keyed i (0, 0)).0
+    → KeysRise (get_or keyed i (0, 0)).0 (drop (i + 1) keyed) → all
+keys_go_on keyed i last all below before above rest =
+    before (subst (KeysRise last) (sym (drop_more keyed i (0, 0) below)) (above, rest))
+
+pub keys_at_end : (keyed : List (ℕ × ℕ)) (i last : ℕ) → length keyed ≤ i
+    → KeysRise last (drop i keyed)
+keys_at_end keyed i last past = subst (KeysRise last) (sym (drop_all i keyed past)) tt
