@@ -1,14 +1,14 @@
 -- What the state of a derivation follows from, its own events aside.
-use Rattle.std.proofs.Common.{◌≡◌, ◌∙◌, ℕ, Bool, true, false, List, [], ◌∷◌, None, refl, ap}
+use Rattle.std.proofs.Common.{◌≡◌, ◌∙◌, ℕ, true, List, [], ◌∷◌, None, refl, ap}
 use Rattle.std.specs.Prelude.{Contains, find}
-use Rattle.std.specs.List.{list_all, list_any}
-use Rattle.std.proofs.lemmas.Bool.{false≢true, true≢false}
+use Rattle.std.specs.List.{list_all}
 use Rattle.nix_names.proofs.Lists.{Contains-first, Contains-later}
 use Rattle.sched_core.specs.States.{IsInOrder, Phase, Rows, by_hindrance, by_inputs, by_phase, by_twins, by_validity, is_bad, is_done, is_good, is_open, state, table}
 use Rattle.sched_core.specs.declared.reason.State.{State}
-use Rattle.sched_core.specs.declared.reason.State.TheVariants.{Blocked, Building, Done, Failed, Ready, Refused, Reused}
+use Rattle.sched_core.specs.declared.reason.State.TheVariants.{Refused}
 use Rattle.sched_core.specs.declared.standing.Standing.{Standing}
 use Rattle.sched_core.specs.declared.standing.Standing.TheVariants.{AllValid, Hindered, Free}
+use Rattle.sched_core.proofs.ClosedStates.{good_not_bad}
 use Rattle.sched_core.proofs.StateLaws.{all_same, any_same, find_same, states_agree}
 
 -- by its standing, its earlier twins and its inputs, in these states
@@ -51,36 +51,6 @@ aside_same rows f g d inputs twins = by (rows.standing d) refl
     by Free is = by_twins_same f g (rows.twins d) (by_inputs f (rows.inputs d)) twins
         ∙ ap (by_twins g (rows.twins d)) (by_inputs_same f g (rows.inputs d) (inputs is))
 
--- ---- what is good, bad or open
-
-pub good_not_bad : (s : State) → is_good s ≡ true → is_bad s ≡ false
-good_not_bad Done good = refl
-good_not_bad Reused good = refl
-good_not_bad (Failed reason) good = absurd (false≢true good)
-good_not_bad (Refused cause) good = absurd (false≢true good)
-good_not_bad (Building lease) good = absurd (false≢true good)
-good_not_bad Ready good = absurd (false≢true good)
-good_not_bad Blocked good = absurd (false≢true good)
-
-pub good_is_closed : (s : State) → is_good s ≡ true → is_open s ≡ false
-good_is_closed Done good = refl
-good_is_closed Reused good = refl
-good_is_closed (Failed reason) good = refl
-good_is_closed (Refused cause) good = refl
-good_is_closed (Building lease) good = absurd (false≢true good)
-good_is_closed Ready good = absurd (false≢true good)
-good_is_closed Blocked good = absurd (false≢true good)
-
--- what is neither open nor bad is good
-pub closed_is_good : (s : State) → is_open s ≡ false → is_bad s ≡ false → is_good s ≡ true
-closed_is_good Done closed not_bad = refl
-closed_is_good Reused closed not_bad = refl
-closed_is_good (Failed reason) closed not_bad = absurd (true≢false not_bad)
-closed_is_good (Refused cause) closed not_bad = absurd (true≢false not_bad)
-closed_is_good (Building lease) closed not_bad = absurd (true≢false closed)
-closed_is_good Ready closed not_bad = absurd (true≢false closed)
-closed_is_good Blocked closed not_bad = absurd (true≢false closed)
-
 -- ---- of some numbers
 
 pub all_from : (f : ℕ → State) (numbers : List ℕ)
@@ -99,12 +69,4 @@ none_bad f [] good = refl
 none_bad f (i ∷ is) good =
     let here = good_not_bad (f i) (good i (Contains-first i is)) in
     let rest = none_bad f is (λ j has. good j (Contains-later i is j has)) in
-    rw (here, rest) refl
-
-pub none_passes : (test : ℕ → Bool) (numbers : List ℕ)
-    → ((n : ℕ) → Contains numbers n → test n ≡ false) → list_any test numbers ≡ false
-none_passes test [] none = refl
-none_passes test (n ∷ ns) none =
-    let here = none n (Contains-first n ns) in
-    let rest = none_passes test ns (λ m has. none m (Contains-later n ns m has)) in
     rw (here, rest) refl

@@ -13,10 +13,12 @@ use Rattle.sched_core.specs.declared.reason.State.{State}
 use Rattle.sched_core.specs.declared.reason.State.TheVariants.{Blocked, Done, Refused, Reused}
 use Rattle.sched_core.specs.declared.standing.Standing.{Standing}
 use Rattle.sched_core.specs.declared.standing.Standing.TheVariants.{AllValid, Hindered, Free}
+use Rattle.sched_core.proofs.ClosedStates.{closed_is_good}
+use Rattle.sched_core.proofs.NearestTwins.{none_from}
 use Rattle.sched_core.proofs.PlanInputs.{rows_in_order}
 use Rattle.sched_core.proofs.StateLaws.{reads_at, state_at}
 use Rattle.forecast.specs.Forecasts.{ForecastsAgree, ForecastsAreClosed, ForecastsAreOne, built_if_ready, built_table, forecast}
-use Rattle.forecast.proofs.Aside.{aside, aside_same, none_passes, table_is}
+use Rattle.forecast.proofs.Aside.{aside, aside_same, table_is}
 
 -- ---- the equation and its uniqueness
 
@@ -76,12 +78,6 @@ is_not_open s (inl is) = ap is_open is
 is_not_open s (inr (inl is)) = ap is_open is
 is_not_open s (inr (inr refused)) = ap is_open refused.1
 
-good_unless_bad : (s : State) → IsClosed s → is_bad s ≡ false → is_good s ≡ true
-good_unless_bad s (inl is) not_bad = ap is_good is
-good_unless_bad s (inr (inl is)) not_bad = ap is_good is
-good_unless_bad s (inr (inr refused)) not_bad =
-    absurd (true≢false (sym (ap is_bad refused.1) ∙ not_bad))
-
 -- where none of some closed ones is bad all are good
 all_unless_bad : (f : ℕ → State) (numbers : List ℕ)
     → ((i : ℕ) → Contains numbers i → IsClosed (f i))
@@ -98,7 +94,8 @@ all_unless_bad f (n ∷ ns) closed none =
     by true is none_here rest = let clash : Some n ≡ None = none_here in absurd cc
     by false is none_here rest =
         and_from (is_good (f n)) (list_all (λ i. is_good (f i)) ns)
-        (good_unless_bad (f n) (closed n (Contains-first n ns)) is) (rest none_here)
+        (closed_is_good (f n) (is_not_open (f n) (closed n (Contains-first n ns))) is)
+        (rest none_here)
 
 -- what can be begun is built, and behind closed inputs nothing is blocked
 closed_first : (first : Option ℕ) (all : Bool) → (first ≡ None → all ≡ true)
@@ -125,7 +122,7 @@ closed_aside rows f d inputs twins = by (rows.standing d)
         (list_all (λ i. is_good (f i)) (rows.inputs d)) (all_unless_bad f (rows.inputs d) inputs)
 
     none_open : list_any (λ t. is_open (f t)) (rows.twins d) ≡ false
-    none_open = none_passes (λ t. is_open (f t)) (rows.twins d)
+    none_open = none_from (λ t. is_open (f t)) (rows.twins d)
         (λ t has. is_not_open (f t) (twins t has))
 
     beside : (other : State) → IsClosed (built_if_ready other)

@@ -1,26 +1,27 @@
 -- What is held of a forecast says what is foretold.
 use Rattle.std.proofs.Common.{◌≡◌, ◌∙◌, ⊎_elim, ℕ, zero, suc, ◌<◌, ◌≤◌, ◌++◌, Bool, true, false, List, [], ◌∷◌, length, get_or, refl, sym, ap, subst, arith}
-use Rattle.std.specs.Prelude.{All, flat_map}
+use Rattle.std.specs.Prelude.{All, flat_map, slice_get}
 use Rattle.std.specs.List.{list_all, slice_index_or}
-use Rattle.std.proofs.lemmas.Bool.{and_left, and_right, cases_lt, false≢true}
-use Rattle.std.proofs.lemmas.List.{get_or_past, length-map}
+use Rattle.std.proofs.lemmas.Bool.{and_left, and_right, cases_lt}
+use Rattle.std.proofs.lemmas.List.{length-map}
 use Rattle.std.proofs.lemmas.Option.{slice_get_past}
 use Rattle.drv_graph.specs.Nodes.{Node}
 use Rattle.drv_graph.specs.Plans.{Graph}
 use Rattle.valid_table.specs.declared.entry.Entry.{Entry}
 use Rattle.sched_core.specs.Courses.{AreStandings, AreWanted}
+use Rattle.sched_core.specs.Listing.{IsMarked}
 use Rattle.sched_core.specs.Reports.{lines_if_some, output_lines, outputs_at}
-use Rattle.sched_core.specs.Runs.{Run, rows_of}
+use Rattle.sched_core.specs.Runs.{IsWanted, Run, rows_of}
 use Rattle.sched_core.specs.States.{is_good}
 use Rattle.sched_core.specs.declared.reason.State.{State}
 use Rattle.sched_core.specs.declared.reason.State.TheVariants.{Blocked}
 use Rattle.sched_core.specs.declared.standing.Standing.{Standing}
+use Rattle.sched_core.proofs.RunReports.{by_path_moved, marks_told, same_texts}
 use Rattle.sched_core.proofs.StateLaws.{length_states, state_at as state_among}
 use Rattle.sched_core.proofs.Tests.{all_pass}
 use Rattle.sched_core.proofs.Wanting.{any_default}
 use Rattle.forecast.specs.Forecasts.{built_table, forecast, foretold}
 use Rattle.forecast.specs.Holding.{AreForetold, IsHeld, state_at, state_of}
-use Rattle.forecast.specs.Listing.{IsMarked}
 use Rattle.forecast.specs.Texts.{IsForecast, IsText, line_at, line_of}
 use Rattle.forecast.specs.declared.prospect.Prospect.{Prospect}
 use Rattle.forecast.proofs.Passing.{AreGood}
@@ -87,37 +88,16 @@ module _ (run : Run) (opening : List Entry) (wanted : List Bool) (prospects : Li
 
 -- ---- the text
 
--- the lines of a derivation follow from its state
-same_line : (nodes : List Node) (f g : ℕ → State) (d : ℕ) → (d < length nodes → f d ≡ g d)
-    → line_at nodes f d ≡ line_at nodes g d
-same_line nodes f g d same = ⊎_elim
-    (λ low. ap (λ s. line_at nodes (λ _. s) d) (same low))
+-- what is written of a derivation follows from its state
+pub same_at : (nodes : List Node) (lines : State → Node → List ℕ) (s t : State) (d : ℕ)
+    → (d < length nodes → s ≡ t)
+    → lines_if_some (lines s) (slice_get nodes d) ≡ lines_if_some (lines t) (slice_get nodes d)
+same_at nodes lines s t d same = ⊎_elim
+    (λ low. ap (λ u. lines_if_some (lines u) (slice_get nodes d)) (same low))
     (λ past.
-    ap (lines_if_some (λ node. line_of nodes node (f d))) (slice_get_past nodes d past)
-    ∙ sym (ap (lines_if_some (λ node. line_of nodes node (g d))) (slice_get_past nodes d past)))
+    ap (lines_if_some (lines s)) (slice_get_past nodes d past)
+    ∙ sym (ap (lines_if_some (lines t)) (slice_get_past nodes d past)))
     (cases_lt d (length nodes))
-
-same_outputs : (nodes : List Node) (f g : ℕ → State) (d : ℕ) → (d < length nodes → f d ≡ g d)
-    → outputs_at nodes f d ≡ outputs_at nodes g d
-same_outputs nodes f g d same = ⊎_elim
-    (λ low. ap (λ s. outputs_at nodes (λ _. s) d) (same low))
-    (λ past.
-    ap (lines_if_some (λ node. output_lines node (f d))) (slice_get_past nodes d past)
-    ∙ sym (ap (lines_if_some (λ node. output_lines node (g d))) (slice_get_past nodes d past)))
-    (cases_lt d (length nodes))
-
-same_texts : (f g : ℕ → List ℕ) (numbers : List ℕ) → ((d : ℕ) → f d ≡ g d)
-    → flat_map f numbers ≡ flat_map g numbers
-same_texts f g [] same = refl
-same_texts f g (n ∷ ns) same = ap (λ (ys : List ℕ). ys ++ flat_map f ns) (same n)
-    ∙ ap (λ (ys : List ℕ). g n ++ ys) (same_texts f g ns same)
-
-marked_within : (marks : List Bool) (d : ℕ) → slice_index_or marks d false ≡ true
-    → d < length marks
-marked_within marks d is = ⊎_elim
-    (λ low. low)
-    (λ past. absurd (false≢true (sym (get_or_past marks d false past) ∙ is)))
-    (cases_lt d (length marks))
 
 -- the text by what is held is the forecast
 pub held_text : (run : Run) (opening : List Entry) (wanted : List Bool)
@@ -126,16 +106,8 @@ pub held_text : (run : Run) (opening : List Entry) (wanted : List Bool)
     → IsForecast run opening text
 held_text run opening wanted prospects text held is = record {
   wanted = is.wanted;
-  by_path = record {
-    just = λ d. (
-      λ has. held.are_wanted.yes d ((is.by_path.just d).0 has).1,
-      λ is_wanted.
-          let marked = held.are_wanted.no d is_wanted in
-          let low = marked_within wanted d marked in
-          (is.by_path.just d).1 (omega (arith, held.are_wanted.count), marked),
-    );
-    rising = is.by_path.rising;
-  };
+  by_path = by_path_moved run.graph.nodes (IsMarked wanted (length run.graph.nodes))
+      (IsWanted run opening) is.wanted (marks_told run opening wanted held.are_wanted) is.by_path;
   is_text =
       let nodes = run.graph.nodes in
       let now = state_at prospects in
@@ -144,10 +116,10 @@ held_text run opening wanted prospects text held is = record {
       is.is_text
       ∙ ap (λ (l : List ℕ). l ++ flat_map (outputs_at nodes now) run.graph.roots)
       (same_texts (line_at nodes now) (line_at nodes then') is.wanted
-      (λ d. same_line nodes now then' d (same d)))
+      (λ d. same_at nodes (λ s node. line_of nodes node s) (now d) (then' d) d (same d)))
       ∙ ap (λ (l : List ℕ). flat_map (line_at nodes then') is.wanted ++ l)
       (same_texts (outputs_at nodes now) (outputs_at nodes then') run.graph.roots
-      (λ d. same_outputs nodes now then' d (same d)));
+      (λ d. same_at nodes (λ s node. output_lines node s) (now d) (then' d) d (same d)));
 }
 
 -- ---- a new forecast

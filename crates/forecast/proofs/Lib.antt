@@ -1,7 +1,6 @@
 pub mod Aside
 pub mod Foretelling
 pub mod Held
-pub mod Listings
 pub mod Passing
 pub mod Spared
 pub mod Telling

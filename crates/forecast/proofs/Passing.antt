@@ -5,7 +5,7 @@ use Rattle.std.specs.List.{list_all, list_any, slice_index_or}
 use Rattle.std.proofs.Math.ListN.{get_or-append, length-append, length-set, set}
 use Rattle.std.proofs.Math.Seq.{get_or-append_seam}
 use Rattle.std.proofs.lemmas.Bool.{and_from, cases_eq, cases_lt, eq-eqb, eqb-true, false≢true, true≢false}
-use Rattle.std.proofs.lemmas.List.{get_or-map, get_or-replicate, get_or-set_other, get_or-set_same, get_or_past, length-map, length-replicate, map-append}
+use Rattle.std.proofs.lemmas.List.{get_or-map, get_or-set_other, get_or-set_same, get_or_past, length-map, length-replicate, map-append}
 use Rattle.drv_graph.specs.Nodes.{Node}
 use Rattle.drv_graph.specs.Plans.{Graph}
 use Rattle.drv_graph.specs.SoundGraphs.{IsSound}
@@ -19,15 +19,17 @@ use Rattle.sched_core.specs.declared.reason.State.TheVariants.{Blocked, Done, Re
 use Rattle.sched_core.specs.declared.reason.Refusal.TheVariants.{InputNotRealised}
 use Rattle.sched_core.specs.declared.standing.Standing.{Standing}
 use Rattle.sched_core.specs.declared.standing.Standing.TheVariants.{Free}
+use Rattle.sched_core.proofs.ClosedStates.{good_not_bad}
 use Rattle.sched_core.proofs.EarlierTwins.{twins_from}
+use Rattle.sched_core.proofs.NearestTwins.{none_from}
 use Rattle.sched_core.proofs.Tests.{any_passes, one_passes, same_test}
 use Rattle.sched_core.proofs.TwinLaws.{first_within, is_earlier_twin, same_first}
-use Rattle.sched_core.proofs.Wanting.{any_default, wanted_told}
+use Rattle.sched_core.proofs.Wanting.{any_default, none_marked, wanted_told}
 use Rattle.forecast.specs.Forecasts.{built_if_ready, built_table}
 use Rattle.forecast.specs.Holding.{AreForetold, state_at, state_of, states_of}
 use Rattle.forecast.specs.declared.prospect.Prospect.{Prospect}
 use Rattle.forecast.specs.declared.prospect.Prospect.TheVariants.{Build, Refuse, Reuse}
-use Rattle.forecast.proofs.Aside.{all_from, good_not_bad, none_bad, none_passes}
+use Rattle.forecast.proofs.Aside.{all_from, none_bad}
 use Rattle.forecast.proofs.Foretelling.{built_is}
 
 -- ---- prospects, and the states that they foretell
@@ -131,11 +133,7 @@ none_built nodes wanted built prospects n all none start = record {
 }
   where
     unmarked : (first : ℕ) → slice_index_or built first false ≡ false
-    unmarked first = ap (λ l. slice_index_or l first false) none ∙ ⊎_elim
-        (λ low. get_or-replicate n first false false low)
-        (λ past. get_or_past (replicate n false) first false
-        (omega (arith, past, length-replicate n false)))
-        (cases_lt first n)
+    unmarked first = ap (λ l. slice_index_or l first false) none ∙ none_marked n first
 
 module _ (nodes : List Node) (wanted : List Bool) (prospects : List Prospect) (p : Prospect) where
   abbrev more : List Prospect
@@ -304,7 +302,7 @@ module _ (run : Run) (opening : List Entry) (sound : IsSound run.graph) (wanted 
 
   none_open : list_any (λ t. is_open (state_at prospects t)) (earlier_twins run opening here)
       ≡ false
-  none_open = none_passes (λ t. is_open (state_at prospects t)) (earlier_twins run opening here)
+  none_open = none_from (λ t. is_open (state_at prospects t)) (earlier_twins run opening here)
       (λ t has. closed_at prospects t (is_earlier_twin run opening here t has).earlier)
 
   -- what the table of foretold states says of the next derivation

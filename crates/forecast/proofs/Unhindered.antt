@@ -12,13 +12,13 @@ use Rattle.sched_core.specs.declared.reason.Event.{Event}
 use Rattle.sched_core.specs.declared.reason.Event.TheVariants.{Begin, Done as Finish, Fail}
 use Rattle.sched_core.specs.declared.reason.State.TheVariants.{Ready}
 use Rattle.sched_core.specs.declared.standing.Standing.TheVariants.{Free}
-use Rattle.sched_core.proofs.ClosedStates.{bad_is_closed, bad_is_not_done, states_stay}
+use Rattle.sched_core.proofs.ClosedStates.{bad_is_closed, bad_is_not_done, closed_is_good, good_is_closed, good_not_bad, states_stay}
 use Rattle.sched_core.proofs.EarlierTwins.{run_twins}
-use Rattle.sched_core.proofs.NearestTwins.{ready_ended}
+use Rattle.sched_core.proofs.NearestTwins.{none_from, ready_ended}
 use Rattle.sched_core.proofs.PlanInputs.{rows_in_order}
 use Rattle.sched_core.proofs.Seeds.{all_good, phase_push, ready_by, same_number}
 use Rattle.sched_core.proofs.Tests.{list_all_has}
-use Rattle.forecast.proofs.Aside.{all_from, aside, closed_is_good, good_is_closed, good_not_bad, none_bad, none_passes, state_aside}
+use Rattle.forecast.proofs.Aside.{all_from, aside, none_bad, state_aside}
 
 -- Nothing but its own events is in the way of a derivation.
 pub record IsUnhindered (rows : Rows) (d : ℕ) : Type 0 where
@@ -33,9 +33,9 @@ unhindered_ready rows d un =
     let f = state rows in
     rw (
       un.free,
-      none_passes (λ t. is_done (f t)) (rows.twins d)
+      none_from (λ t. is_done (f t)) (rows.twins d)
           (λ t has. bad_is_not_done (f t) (un.spent t has)),
-      none_passes (λ t. is_open (f t)) (rows.twins d)
+      none_from (λ t. is_open (f t)) (rows.twins d)
           (λ t has. bad_is_closed (f t) (un.spent t has)),
       none_bad f (rows.inputs d) un.good,
       all_from f (rows.inputs d) un.good,

@@ -1,5 +1,4 @@
 pub mod Forecasts
 pub mod Holding
-pub mod Listing
 pub mod Texts
 pub mod Truths

@@ -1,27 +1,18 @@
 //! The text of a forecast: what is foretold of each wanted derivation, and the outputs of the roots.
-ghost use Rattle.std.specs.Prelude.{◌≡◌, ◌<◌, ◌++◌, IfErr, IfOk, OnOk, codes, flat_map, length};
-ghost use Rattle.drv_graph.specs.SoundGraphs.{IsSound};
-ghost use Rattle.sched_core.specs.Reports.{AreByPath, outputs_at, path_line, why_line};
-ghost use Rattle.sched_core.specs.Words.{refusal_words};
+ghost use Rattle.std.specs.Prelude.{◌≡◌, ◌<◌, ◌++◌, IfErr, IfOk, OnOk, flat_map, length};
+ghost use Rattle.sched_core.specs.Listing.{AreWithin, IsMarked};
+ghost use Rattle.sched_core.specs.Reports.{outputs_at};
 ghost use Rattle.sched_core.specs.declared.fault.BookFault.TheVariants.{NoMemory};
+ghost use Rattle.sched_core.specs.declared.listing.Listed.{Listed};
 ghost use Rattle.forecast.specs.Holding.{state_at, state_of};
-ghost use Rattle.forecast.specs.Listing.{AreListed, AreWithin, IsMarked, numbers_of};
 ghost use Rattle.forecast.specs.Texts.{IsText, line_at};
-ghost use Rattle.forecast.specs.declared.text.Listed.{Listed};
 
 use crate::prospect::{Prospect, prospect_at};
 use drv_graph::Plan;
-use nix_drv::Derivation;
-use nix_names::StorePath;
-use sched_core::{BookFault, Refusal, write_refusal};
+use sched_core::{
+    BookFault, Listed, marked_by_path, write_outputs, write_path_line, write_refused,
+};
 use std::alloc::{AllocError, Global};
-
-// A derivation that has a line, by its number in the plan.
-#[derive(Drop)]
-struct Listed<'a> {
-    path: &'a StorePath,
-    number: usize,
-}
 
 // The text of a plan of which these derivations are wanted, with these prospects.
 pub(crate) fn text_of(
@@ -36,45 +27,11 @@ pub(crate) fn text_of(
         (IsMarked wanted.now (length plan.now.nodes)) (state_at prospects.now) text.items) }
     ensures err { IfErr result (λ fault. fault ≡ NoMemory) }
 {
-    let listed = by_path(alloc, plan, wanted)?;
+    let listed = marked_by_path(alloc, plan, wanted)?;
     let mut text = Vec::new(alloc);
     write_lines(plan, &listed, prospects, &mut text)?;
     write_roots(plan, prospects, &mut text)?;
     Ok(text)
-}
-
-// The marked derivations, by path.
-fn by_path<'a>(alloc: Global, plan: &'a Plan, marks: &[bool]) -> Result<Vec<Listed<'a>>, AllocError>
-    requires { length marks.now ≡ length plan.now.nodes }
-    ensures by_path { IfOk result
-        (λ listed. AreByPath plan.now.nodes (IsMarked marks.now (length plan.now.nodes))
-        (numbers_of listed.items)) }
-    ensures within { IfOk result (λ listed. AreWithin (length plan.now.nodes) listed.items) }
-{
-    let mut listed = listed_of(alloc, plan, marks)?;
-    listed.sort_unstable_by(|a, b| a.path.cmp(b.path));
-    Ok(listed)
-}
-
-// The marked derivations, in the order of the plan.
-fn listed_of<'a>(
-    alloc: Global,
-    plan: &'a Plan,
-    marks: &[bool],
-) -> Result<Vec<Listed<'a>>, AllocError>
-    requires { length marks.now ≡ length plan.now.nodes }
-    ensures { IfOk result
-        (λ listed. AreListed plan.now.nodes (IsMarked marks.now (length plan.now.nodes))
-        listed.items) }
-{
-    let mut listed = Vec::new(alloc);
-    for number in 0..plan.len() {
-        if marks[number] {
-            let path = plan.path(number);
-            listed.push(Listed { path, number })?;
-        }
-    }
-    Ok(listed)
 }
 
 // Adds the lines of some derivations.
@@ -143,44 +100,6 @@ fn write_line(
     match prospect {
         Prospect::Build => write_path_line(b"build ", path, out),
         Prospect::Reuse => write_path_line(b"reuse ", path, out),
-        Prospect::Refuse(cause) => write_refused(plan, path, drv, cause, out),
+        Prospect::Refuse(cause) => write_refused(b"refuse ", plan, path, drv, cause, out),
     }
-}
-
-// Adds the line of a derivation of a plan that is refused.
-fn write_refused(
-    plan: &Plan,
-    path: &StorePath,
-    drv: &Derivation,
-    cause: Refusal,
-    out: &mut Vec<u8>,
-) -> Result<(), AllocError>
-    ensures { OnOk result (out.new.items ≡ out.old.items
-        ++ why_line (codes "refuse ") path.now (refusal_words plan.now.nodes drv.now cause)) }
-{
-    out.extend_from_slice(b"refuse ")?;
-    out.extend_from_slice(path.text())?;
-    out.extend_from_slice(b": ")?;
-    write_refusal(plan, drv, cause, out)?;
-    out.extend_from_slice(b"\n")
-}
-
-// Adds a line for each of some outputs.
-fn write_outputs(paths: &[StorePath], out: &mut Vec<u8>) -> Result<(), AllocError>
-    ensures { OnOk result (out.new.items ≡ out.old.items
-        ++ flat_map (path_line (codes "output ")) paths.now) }
-{
-    'paths: for path in paths {
-        write_path_line(b"output ", path, out)?;
-    }
-    Ok(())
-}
-
-// Adds a line of a word and a path.
-fn write_path_line(word: &[u8], path: &StorePath, out: &mut Vec<u8>) -> Result<(), AllocError>
-    ensures { OnOk result (out.new.items ≡ out.old.items ++ path_line word.now path.now) }
-{
-    out.extend_from_slice(word)?;
-    out.extend_from_slice(path.text())?;
-    out.extend_from_slice(b"\n")
 }

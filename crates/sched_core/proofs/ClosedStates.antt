@@ -37,6 +37,34 @@ bad_is_not_done (Building lease) is = refl
 bad_is_not_done Ready is = refl
 bad_is_not_done Blocked is = refl
 
+pub good_not_bad : (s : State) → is_good s ≡ true → is_bad s ≡ false
+good_not_bad Done good = refl
+good_not_bad Reused good = refl
+good_not_bad (Failed reason) good = absurd (false≢true good)
+good_not_bad (Refused cause) good = absurd (false≢true good)
+good_not_bad (Building lease) good = absurd (false≢true good)
+good_not_bad Ready good = absurd (false≢true good)
+good_not_bad Blocked good = absurd (false≢true good)
+
+pub good_is_closed : (s : State) → is_good s ≡ true → is_open s ≡ false
+good_is_closed Done good = refl
+good_is_closed Reused good = refl
+good_is_closed (Failed reason) good = refl
+good_is_closed (Refused cause) good = refl
+good_is_closed (Building lease) good = absurd (false≢true good)
+good_is_closed Ready good = absurd (false≢true good)
+good_is_closed Blocked good = absurd (false≢true good)
+
+-- what is neither open nor bad is good
+pub closed_is_good : (s : State) → is_open s ≡ false → is_bad s ≡ false → is_good s ≡ true
+closed_is_good Done closed not_bad = refl
+closed_is_good Reused closed not_bad = refl
+closed_is_good (Failed reason) closed not_bad = absurd (true≢false not_bad)
+closed_is_good (Refused cause) closed not_bad = absurd (true≢false not_bad)
+closed_is_good (Building lease) closed not_bad = absurd (true≢false closed)
+closed_is_good Ready closed not_bad = absurd (true≢false closed)
+closed_is_good Blocked closed not_bad = absurd (true≢false closed)
+
 -- what is closed stays as good or as bad
 abbrev pub Stays : (before after : State) → Type 0
 Stays before after = is_open before ≡ false

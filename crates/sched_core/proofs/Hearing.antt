@@ -10,7 +10,7 @@ use Rattle.sched_core.specs.Courses.{Awaited, all_of}
 use Rattle.sched_core.specs.Coursing.{AreStatesOf, kept, phase_in}
 use Rattle.sched_core.specs.Nearest.{News, Open, Good, Bad, by_twin_news, near_table, news_of}
 use Rattle.sched_core.specs.States.{Idle, IsInOrder, Rows, by_hindrance, by_phase, by_validity, is_good}
-use Rattle.sched_core.proofs.KnownNews.{by_news_in}
+use Rattle.sched_core.proofs.KnownNews.{by_news_in, known_news}
 use Rattle.sched_core.proofs.StateLaws.{near_are_one}
 use Rattle.sched_core.specs.Tallies.{CanHear, HaveHeard, Hears, IsTally, Knows, Turns, turns_begun, turns_done, turns_failed, turns_freed, turns_named, turns_refused, turns_reused, turns_stays, are_news, by_heard, by_news, news_by, news_in, of_inputs, of_twins, states_in, to_tell}
 use Rattle.sched_core.specs.Users.{AreUsers, once_at, times, users_of}
@@ -83,16 +83,6 @@ turns_news before after (turns_refused cause) = inr (refl, refl, λ e. cc)
 turns_news before after (turns_begun lease) = inl (refl, refl)
 turns_news before after (turns_done lease) = inr (refl, refl, λ e. cc)
 turns_news before after (turns_failed lease reason) = inr (refl, refl, λ e. cc)
-
--- where there is news, it is good or bad
-good_or_bad : (s : State) → (news_of s ≡ Open → ⊥) → news_by (is_good s) ≡ news_of s
-good_or_bad Done known = refl
-good_or_bad (Failed reason) known = refl
-good_or_bad (Building lease) known = absurd (known refl)
-good_or_bad Reused known = refl
-good_or_bad (Refused cause) known = refl
-good_or_bad Ready known = absurd (known refl)
-good_or_bad Blocked known = absurd (known refl)
 
 -- what is left to tell of an input whose state may change so
 knows_turned : (before after : State) (known : News) (left here : ℕ) → Turns before after
@@ -309,7 +299,7 @@ module _ (inputs : ℕ → Awaited) (tallies : List Tally) (edge : Edge) (w : �
 
   -- there is news of the input
   pub told_news_is : news_by (is_good (state w)) ≡ news_of (state w)
-  told_news_is = good_or_bad (state w)
+  told_news_is = known_news (state w)
       (⊎_elim (λ heard. absurd (omega (arith, heard.1, times-first edge left)))
       (λ unheard. unheard.1) (hears.knows edge.place w it))
 

@@ -8,7 +8,7 @@ use Rattle.std.proofs.lemmas.List.Folds.{find_at}
 use Rattle.std.proofs.lemmas.Option.{slice_get-get_or, slice_get_past}
 use Rattle.sched_core.specs.States.{by_first, by_inputs, is_bad, is_good}
 use Rattle.sched_core.specs.Nearest.{News, Open, Good, Bad, news_of}
-use Rattle.sched_core.specs.Tallies.{by_news, input_at, is_bad_news, is_good_news, news_in, waiting}
+use Rattle.sched_core.specs.Tallies.{by_news, input_at, is_bad_news, is_good_news, news_by, news_in, waiting}
 use Rattle.sched_core.specs.declared.reason.State.{State}
 use Rattle.sched_core.specs.declared.reason.State.TheVariants.{Blocked, Building, Done, Failed, Ready, Refused, Reused}
 
@@ -29,6 +29,16 @@ good_news Reused = refl
 good_news (Refused cause) = refl
 good_news Ready = refl
 good_news Blocked = refl
+
+-- where there is news, it is good or bad
+pub known_news : (s : State) → (news_of s ≡ Open → ⊥) → news_by (is_good s) ≡ news_of s
+known_news Done known = refl
+known_news (Failed reason) known = refl
+known_news (Building lease) known = absurd (known refl)
+known_news Reused known = refl
+known_news (Refused cause) known = refl
+known_news Ready known = absurd (known refl)
+known_news Blocked known = absurd (known refl)
 
 -- none waits where all news are good
 pub all_good : (heard : List News) → list_all is_good_news heard ≡ (waiting heard == 0)

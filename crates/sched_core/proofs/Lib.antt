@@ -19,6 +19,7 @@ pub mod KeptStates
 pub mod KnownNews
 pub mod LastTwins
 pub mod Linkages
+pub mod Listings
 pub mod NearestTwins
 pub mod OneReport
 pub mod OneStates
@@ -29,7 +30,6 @@ pub mod Places
 pub mod PlanInputs
 pub mod Registering
 pub mod Registrable
-pub mod Reported
 pub mod RunReports
 pub mod SeedParts
 pub mod Seeds

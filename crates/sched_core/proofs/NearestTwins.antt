@@ -101,7 +101,7 @@ none_has : (test : ℕ → Bool) (numbers : List ℕ) (n : ℕ) → list_any tes
 none_has test numbers n none (k, low, is) = false_from_ne_true (test n) (λ passes.
     false≢true (sym none ∙ list_any_at test numbers k n low (ap test is ∙ passes)))
 
-none_from : (test : ℕ → Bool) (numbers : List ℕ)
+pub none_from : (test : ℕ → Bool) (numbers : List ℕ)
     → ((n : ℕ) → Contains numbers n → test n ≡ false) → list_any test numbers ≡ false
 none_from test numbers none = list_any_none test numbers
     (All-from_contains (λ n. test n ≡ false) numbers none)

@@ -1,6 +1,5 @@
 -- What a verdict on a derivation's job gives.
-use Rattle.std.proofs.Common.{◌≡◌, ◌∙◌, ℕ, Bool, true, false, List, [], ◌∷◌, length, nat_eq, Option, Some, None, refl, sym, ap, subst, arith}
-use Rattle.std.specs.Prelude.{All}
+use Rattle.std.proofs.Common.{◌≡◌, ◌∙◌, ℕ, Bool, true, false, List, length, nat_eq, Option, Some, None, refl, sym, ap, subst, arith}
 use Rattle.std.specs.Cmp.Lexicographic.{pointwise}
 use Rattle.std.proofs.lemmas.List.{length-map}
 use Rattle.std.proofs.lemmas.Option.{slice_get_within}
@@ -10,9 +9,8 @@ use Rattle.nix_names.specs.declared.digest.Algorithm.TheVariants.{Md5, Sha1, Sha
 use Rattle.nix_names.specs.declared.digest.Digest.{Digest}
 use Rattle.nix_names.specs.declared.digest.Digest.TheVariants.{Md5 as OfMd5, Sha1 as OfSha1, Sha256 as OfSha256, Sha512 as OfSha512}
 use Rattle.drv_graph.proofs.KindAnswers.{one_kind}
-use Rattle.nix_drv.specs.Derivation.{Drv, Output}
+use Rattle.nix_drv.specs.Derivation.{Output}
 use Rattle.nix_names.proofs.RisingLists.{equal_from_eq, unequal_from_eq}
-use Rattle.drv_graph.specs.Kinds.{HasKind}
 use Rattle.drv_graph.specs.Nodes.{Node}
 use Rattle.drv_graph.specs.declared.kinds.Kind.{Kind}
 use Rattle.drv_graph.specs.declared.kinds.Kind.TheVariants.{Fixed}

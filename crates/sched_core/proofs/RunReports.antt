@@ -1,26 +1,45 @@
--- The report of a course is that of its run.
-use Rattle.std.proofs.Common.{◌≡◌, ◌∙◌, ℕ, zero, suc, ◌<◌, true, false, List, [], ◌∷◌, ◌++◌, length, refl, ap, subst, arith}
+-- The report of a course is that of its run, and what else tells of the derivations by path.
+use Rattle.std.proofs.Common.{◌≡◌, ◌∙◌, ℕ, List, [], ◌∷◌, ◌++◌, length, refl, sym, ap, subst, arith}
 use Rattle.std.specs.Prelude.{◌↔◌, Bool, flat_map}
-use Rattle.std.specs.List.{slice_index_or}
-use Rattle.std.proofs.lemmas.Bool.{false≢true}
+use Rattle.drv_graph.specs.Nodes.{Node}
 use Rattle.drv_graph.specs.Plans.{Graph}
+use Rattle.valid_table.specs.declared.entry.Entry.{Entry}
 use Rattle.sched_core.specs.Courses.{AreWanted, Course, course_state}
-use Rattle.sched_core.specs.Reports.{IsReport, IsReportIn, IsReportOf, IsWantedIn, line_at, outputs_at}
+use Rattle.sched_core.specs.Listing.{IsMarked}
+use Rattle.sched_core.specs.Reports.{AreByPath, IsReport, IsReportIn, IsReportOf, IsWantedIn, line_at, outputs_at}
 use Rattle.sched_core.specs.Runs.{History, IsWanted, Run, state_in}
 use Rattle.sched_core.specs.declared.reason.State.{State}
+use Rattle.sched_core.proofs.Wanting.{marked_within}
 
 -- by the same words of each element the texts are the same
-same_texts : {X : Type 0} (f g : X → List ℕ) (xs : List X) → ((x : X) → f x ≡ g x) → flat_map f xs
+pub same_texts : {X : Type 0} (f g : X → List ℕ) (xs : List X) → ((x : X) → f x ≡ g x) → flat_map f xs
     ≡ flat_map g xs
 same_texts f g [] same = refl
 same_texts f g (x ∷ xs) same = ap (λ (ys : List ℕ). ys ++ flat_map f xs) (same x)
     ∙ ap (λ (ys : List ℕ). g x ++ ys) (same_texts f g xs same)
 
--- what is chosen stands within the list
-within : (chosen : List Bool) (d : ℕ) → slice_index_or chosen d false ≡ true → d < length chosen
-within [] d is = absurd (false≢true is)
-within (b ∷ chosen) zero is = omega arith
-within (b ∷ chosen) (suc d) is = let below = within chosen d is in omega (arith, below)
+-- the marks of what is wanted tell just that
+pub marks_told : (run : Run) (opening : List Entry) (wanted : List Bool)
+    → AreWanted run opening wanted → (d : ℕ)
+    → IsMarked wanted (length run.graph.nodes) d ↔ IsWanted run opening d
+marks_told run opening wanted are d = (
+  λ is. are.yes d is.1,
+  λ is_wanted.
+      let marked = are.no d is_wanted in
+      (omega (arith, marked_within wanted d marked, are.count), marked),
+)
+
+-- the same derivations by path, in other words
+pub by_path_moved : (nodes : List Node) (is_wanted is_wanted' : ℕ → Type 0) (numbers : List ℕ)
+    → ((d : ℕ) → is_wanted d ↔ is_wanted' d) → AreByPath nodes is_wanted numbers
+    → AreByPath nodes is_wanted' numbers
+by_path_moved nodes is_wanted is_wanted' numbers same by_path = record {
+  just = λ d. (
+    λ has. (same d).0 ((by_path.just d).0 has),
+    λ is. (by_path.just d).1 ((same d).1 is),
+  );
+  rising = by_path.rising;
+}
 
 -- a report of other words for the same
 pub report_moved : (graph : Graph) (is_wanted is_wanted' : ℕ → Type 0) (state state' : ℕ → State)
@@ -29,13 +48,7 @@ pub report_moved : (graph : Graph) (is_wanted is_wanted' : ℕ → Type 0) (stat
     → IsReport graph is_wanted state text → IsReport graph is_wanted' state' text
 report_moved graph is_wanted is_wanted' state state' text wanted_same states_same report = record {
   wanted = report.wanted;
-  by_path = record {
-    just = λ d. (
-      λ has. (wanted_same d).0 ((report.by_path.just d).0 has),
-      λ is. (report.by_path.just d).1 ((wanted_same d).1 is),
-    );
-    rising = report.by_path.rising;
-  };
+  by_path = by_path_moved graph.nodes is_wanted is_wanted' report.wanted wanted_same report.by_path;
   is_text =
       report.is_text
       ∙ ap (λ (lines : List ℕ). lines ++ flat_map (outputs_at graph.nodes state) graph.roots)
@@ -56,17 +69,7 @@ report_in run history course text graph_is are_wanted states report =
     text) graph_is
     (report_moved course.graph (IsWantedIn course) (IsWanted run history.opening)
     (course_state course) (state_in run history) text
-    (λ d. (
-      λ is. are_wanted.yes d is.1,
-      λ wanted.
-          let chosen = are_wanted.no d wanted in (
-            omega (
-              arith,
-              within course.wanted d chosen,
-              are_wanted.count,
-              ap (λ (graph : Graph). length graph.nodes) graph_is,
-            ),
-            chosen,
-          ),
-    ))
+    (λ d. subst (λ (g : Graph). IsMarked course.wanted (length g.nodes) d
+    ↔ IsWanted run history.opening d) (sym graph_is)
+    (marks_told run history.opening course.wanted are_wanted d))
     states report)

@@ -21,6 +21,7 @@ use Rattle.sched_core.specs.declared.tally.Tally.{Tally}
 use Rattle.sched_core.specs.declared.users.Edge.{Edge}
 use Rattle.sched_core.proofs.Agendas.{noted_agenda, noted_measure, one, settles_most, turn_open}
 use Rattle.sched_core.proofs.Hearing.{can_hear, heard_told, heard_turned}
+use Rattle.sched_core.proofs.KnownNews.{known_news}
 
 -- ---- edges
 
@@ -216,15 +217,6 @@ same_set tallies u before after at same = record {
 
 -- ---- one user is told
 
-news_good : (s : State) → (news_of s ≡ Open → ⊥) → news_by (is_good s) ≡ news_of s
-news_good Blocked told = absurd (told refl)
-news_good Ready told = absurd (told refl)
-news_good (Building lease) told = absurd (told refl)
-news_good Done told = refl
-news_good Reused told = refl
-news_good (Failed reason) told = refl
-news_good (Refused cause) told = refl
-
 module _ (inputs : ℕ → Awaited) (users : List (List Edge)) (tallies : List Tally)
     (agenda : Agenda) (w i : ℕ) (no_edge : Edge) (no_tally : Tally) (row : List Edge)
     (low : w < length tallies) (row_is : row ≡ users_of users w) (here : i < length row)
@@ -325,7 +317,7 @@ module _ (inputs : ℕ → Awaited) (users : List (List Edge)) (tallies : List T
           at its.1 heard
           (λ known can. subst
           (λ news. IsTally (inputs edge.user) (slice_set known edge.place news) after)
-          (ap news_by good_is ∙ news_good (kept (states_in tallies) w) has_news)
+          (ap news_by good_is ∙ known_news (kept (states_in tallies) w) has_news)
           (told (inputs edge.user) known can)) turns);
       listed = told_agenda;
     }

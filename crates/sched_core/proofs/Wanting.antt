@@ -185,11 +185,18 @@ pub record AreMarked (graph : Graph) (standings : List Standing) (wanted : List 
       → slice_index_or standings user Free ≡ Free
       → Contains (inputs_at graph.nodes (slice_get graph.nodes user)) d → IsMarked wanted d
 
-marked_within : (wanted : List Bool) (d : ℕ) → IsMarked wanted d → d < length wanted
+-- what is marked stands within the list
+pub marked_within : (wanted : List Bool) (d : ℕ) → IsMarked wanted d → d < length wanted
 marked_within wanted d is = ⊎_elim
     (λ low. low)
     (λ past. absurd (false≢true (sym (get_or_past wanted d false past) ∙ is)))
     (cases_lt d (length wanted))
+
+-- where no mark is set none is marked
+pub none_marked : (n d : ℕ) → slice_index_or (replicate n false) d false ≡ false
+none_marked n d = ⊎_elim (λ low. get_or-replicate n d false false low)
+    (λ past. get_or_past (replicate n false) d false (omega (arith, past, length-replicate n false)))
+    (cases_lt d n)
 
 -- the roots are marked
 pub roots_marked : (graph : Graph) (standings : List Standing) (old new : List Bool) (n : ℕ) → n
@@ -209,11 +216,7 @@ roots_marked graph standings old new n all none marks =
     }
   where
     unmarked : (d : ℕ) → slice_index_or old d false ≡ false
-    unmarked d = ap (λ l. slice_index_or l d false) none ∙ ⊎_elim
-        (λ low. get_or-replicate n d false false low)
-        (λ past. get_or_past (replicate n false) d false
-        (omega (arith, past, length-replicate n false)))
-        (cases_lt d n)
+    unmarked d = ap (λ l. slice_index_or l d false) none ∙ none_marked n d
 
 -- a derivation whose inputs aren't wanted for it is passed
 pub passed_over : (graph : Graph) (standings : List Standing) (wanted : List Bool) (rest d : ℕ)

@@ -10,10 +10,10 @@ pub mod Headline
 pub mod Jobs
 pub mod Legal
 pub mod Linking
+pub mod Listing
 pub mod Nearest
 pub mod Numbers
 pub mod PlanLaws
-pub mod Reporting
 pub mod Reports
 pub mod Runs
 pub mod SameJobs

@@ -1,7 +1,7 @@
 //! Where each derivation of a plan stands.
-ghost use Rattle.std.specs.Prelude.{◌≡◌, ◌<◌, ◌↔◌, false, ℕ, All, IfErr, IfOk, IsTrue, MatchOption, None, length, slice_set};
+ghost use Rattle.std.specs.Prelude.{◌≡◌, ◌<◌, ◌↔◌, ℕ, All, IfErr, IfOk, IsTrue, MatchOption, None, length, slice_set};
 ghost use Rattle.std.specs.List.{slice_index_or};
-ghost use Rattle.sched_core.specs.Agendas.{AreOpening};
+ghost use Rattle.sched_core.specs.Agendas.{AreOpening, wanted_in};
 ghost use Rattle.sched_core.specs.Counts.{AreSoMany};
 ghost use Rattle.sched_core.specs.Courses.{HasBegun, IsNext, IsSettled, IsUnsettledIn, course_state, listed};
 ghost use Rattle.sched_core.specs.Coursing.{phase_in};
@@ -19,7 +19,7 @@ use crate::states::inputs_of;
 use crate::tally::{Tally, tally_of};
 use crate::users::Users;
 use drv_graph::Plan;
-use std::alloc::Global;
+use std::alloc::{AllocError, Global};
 use std::marker::Model;
 
 // A plan, and where each of its derivations stands: of each a tally and the edges to those that wait
@@ -89,12 +89,12 @@ impl Course {
         &self.plan
     }
 
-    // Whether the derivation with this number is wanted.
-    pub(crate) fn is_wanted(&self, d: usize) -> bool
-        requires { d < length self.now.graph.nodes }
-        ensures { result ≡ slice_index_or self.now.wanted d false }
+    // Of each derivation, whether it is wanted.
+    pub(crate) fn wanted(&self, alloc: Global) -> Result<Vec<bool>, AllocError>
+        ensures marks { IfOk result (λ marks. marks.items ≡ self.now.wanted) }
+        ensures count { IfOk result (λ marks. length marks.items ≡ length self.now.graph.nodes) }
     {
-        self.tallies[d].wanted
+        wanted_in(alloc, &self.tallies)
     }
 
     // The state of the derivation with this number.
@@ -170,6 +170,13 @@ impl Course {
         let told = turn(&self.users, &mut self.tallies, &mut self.agenda, d, state);
         self.told += told;
     }
+}
+
+// Of each of some derivations, whether it is wanted.
+fn wanted_in(alloc: Global, tallies: &[Tally]) -> Result<Vec<bool>, AllocError>
+    ensures { IfOk result (λ marks. marks.items ≡ wanted_in tallies.now) }
+{
+    tallies.iter().map(|tally| tally.wanted).collect(alloc)
 }
 
 // The tallies of a plan on which nothing has begun, by one pass in plan order. Costs a step for

@@ -22,7 +22,9 @@
 //! | `is_job`, `has_seeds` | whether a job is that of a derivation |
 //! | `standings` | where the derivations of a plan stand by themselves |
 //! | `wanted`, `twins` | which derivations of a plan are wanted, and their nearest earlier twins |
-//! | `report`, `words` | the report of a run, and the words for why a derivation was not built |
+//! | `report` | the report of a run |
+//! | `listing`, `lines` | what a report and a forecast share: the derivations by path, and lines |
+//! | `words` | the words for why a derivation was not built |
 //! | `fault` | why a call of a book refuses |
 //! | `laws` | laws over the definitions that contracts cite |
 #![tactic(auto)]
@@ -41,7 +43,9 @@ mod job;
 mod job_of;
 pub mod laws;
 mod lease;
+mod lines;
 mod links;
+mod listing;
 mod permitted;
 mod progress;
 mod reason;
@@ -65,6 +69,8 @@ pub use checked::Checked;
 pub use fault::BookFault;
 pub use job::{Answer, Job, JobOutput};
 pub use lease::Lease;
+pub use lines::{write_outputs, write_path_line, write_refused};
+pub use listing::{Listed, marked_by_path};
 pub use permitted::permitted_beside;
 pub use reason::{Event, Reason, Refusal, State};
 pub use standing::Standing;

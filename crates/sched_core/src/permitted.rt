@@ -18,8 +18,9 @@ use valid_table::{Journal, TableFault};
 
 /// The paths to which the outputs of a job may refer, strictly rising: what its seeds lead to,
 /// which is given away in that order, and its own outputs. Answers `NoMemory` where memory is
-/// refused, and no other fault. Costs a binary search and a copy for each output of the job, and
-/// moves the paths that stand above the least of them; no other path is copied or compared.
+/// refused, and no other fault. Costs one sort of the job's outputs, a copy and a binary search for
+/// each of them, and a move of the paths that stand above the least of them. The searches compare
+/// some of the other paths; those stay where they are, and none is copied.
 pub fn permitted_beside(
     alloc: Global,
     reached: Vec<StorePath>,

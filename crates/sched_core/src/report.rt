@@ -2,27 +2,22 @@
 ghost use Rattle.std.specs.Prelude.{◌≡◌, ◌<◌, ◌++◌, IfErr, IfOk, OnOk, codes, flat_map, length};
 ghost use Rattle.drv_graph.specs.SoundGraphs.{IsSound};
 ghost use Rattle.sched_core.specs.Courses.{course_state};
-ghost use Rattle.sched_core.specs.Reporting.{AreListed, AreWithin, numbers_of};
-ghost use Rattle.sched_core.specs.Reports.{AreByPath, IsReportOf, IsWantedIn, line_at, outputs_at, path_line, why_line};
-ghost use Rattle.sched_core.specs.Words.{reason_words, refusal_words};
+ghost use Rattle.sched_core.specs.Listing.{AreWithin};
+ghost use Rattle.sched_core.specs.Reports.{IsReportOf, line_at, outputs_at, why_line};
+ghost use Rattle.sched_core.specs.Words.{reason_words};
 ghost use Rattle.sched_core.specs.declared.fault.BookFault.TheVariants.{NoMemory};
-ghost use Rattle.sched_core.specs.declared.report.Wanted.{Wanted};
+ghost use Rattle.sched_core.specs.declared.listing.Listed.{Listed};
 
 use crate::course::Course;
 use crate::fault::BookFault;
-use crate::reason::{Reason, Refusal, State};
-use crate::words::{write_reason, write_refusal};
+use crate::lines::{write_front, write_outputs, write_path_line, write_refused};
+use crate::listing::{Listed, marked_by_path};
+use crate::reason::{Reason, State};
+use crate::words::write_reason;
 use drv_graph::Plan;
 use nix_drv::Derivation;
 use nix_names::StorePath;
 use std::alloc::{AllocError, Global};
-
-// A wanted derivation, by its number in the plan.
-#[derive(Drop)]
-struct Wanted<'a> {
-    path: &'a StorePath,
-    number: usize,
-}
 
 // The report of a course. For each wanted derivation, by path, a line `built P`, `reused P`,
 // `failed P: WHY` or `refused P: WHY`, or none while something is still before it. Then for each
@@ -33,51 +28,23 @@ pub(crate) fn report_of(alloc: Global, course: &Course) -> Result<Vec<u8>, BookF
     ensures ok { IfOk result (λ text. IsReportOf course.now text.items) }
     ensures err { IfErr result (λ fault. fault ≡ NoMemory) }
 {
-    let wanted = wanted_by_path(alloc, course)?;
+    let wanted = course.wanted(alloc)?;
+    let listed = marked_by_path(alloc, course.plan(), &wanted)?;
     let mut text = Vec::new(alloc);
-    write_lines(course, &wanted, &mut text)?;
+    write_lines(course, &listed, &mut text)?;
     write_roots(course, &mut text)?;
     Ok(text)
 }
 
-// The wanted derivations, by path.
-fn wanted_by_path<'a>(alloc: Global, course: &'a Course) -> Result<Vec<Wanted<'a>>, AllocError>
-    ensures by_path { IfOk result
-        (λ wanted. AreByPath course.now.graph.nodes (IsWantedIn course.now)
-        (numbers_of wanted.items)) }
-    ensures within { IfOk result
-        (λ wanted. AreWithin (length course.now.graph.nodes) wanted.items) }
-{
-    let mut wanted = wanted_of(alloc, course)?;
-    wanted.sort_unstable_by(|a, b| a.path.cmp(b.path));
-    Ok(wanted)
-}
-
-// The wanted derivations, in the order of the plan.
-fn wanted_of<'a>(alloc: Global, course: &'a Course) -> Result<Vec<Wanted<'a>>, AllocError>
-    ensures { IfOk result
-        (λ wanted. AreListed course.now.graph.nodes (IsWantedIn course.now) wanted.items) }
-{
-    let plan = course.plan();
-    let mut wanted = Vec::new(alloc);
-    for number in 0..plan.len() {
-        if course.is_wanted(number) {
-            let path = plan.path(number);
-            wanted.push(Wanted { path, number })?;
-        }
-    }
-    Ok(wanted)
-}
-
 // Adds the lines of some derivations.
-fn write_lines(course: &Course, wanted: &[Wanted<'_>], out: &mut Vec<u8>) -> Result<(), AllocError>
-    requires { AreWithin (length course.now.graph.nodes) wanted.now }
+fn write_lines(course: &Course, listed: &[Listed<'_>], out: &mut Vec<u8>) -> Result<(), AllocError>
+    requires { AreWithin (length course.now.graph.nodes) listed.now }
     ensures { OnOk result (out.new.items ≡ out.old.items
         ++ flat_map
-        (λ (w : Wanted). line_at course.now.graph.nodes (course_state course.now) w.number)
-        wanted.now) }
+        (λ (l : Listed). line_at course.now.graph.nodes (course_state course.now) l.number)
+        listed.now) }
 {
-    'wanted: for one in wanted {
+    'listed: for one in listed {
         write_line(course.plan(), one.number, course.state(one.number), out)?;
     }
     Ok(())
@@ -122,7 +89,7 @@ fn write_line(plan: &Plan, number: usize, state: State, out: &mut Vec<u8>) -> Re
         State::Done => write_path_line(b"built ", path, out),
         State::Reused => write_path_line(b"reused ", path, out),
         State::Failed(reason) => write_failed(path, drv, reason, out),
-        State::Refused(cause) => write_refused(plan, path, drv, cause, out),
+        State::Refused(cause) => write_refused(b"refused ", plan, path, drv, cause, out),
         State::Building(_) | State::Ready | State::Blocked => Ok(()),
     }
 }
@@ -140,49 +107,4 @@ fn write_failed(
     write_front(b"failed ", path, out)?;
     write_reason(drv, reason, out)?;
     out.extend_from_slice(b"\n")
-}
-
-// Adds the line of a derivation of a plan that is refused.
-fn write_refused(
-    plan: &Plan,
-    path: &StorePath,
-    drv: &Derivation,
-    cause: Refusal,
-    out: &mut Vec<u8>,
-) -> Result<(), AllocError>
-    ensures { OnOk result (out.new.items ≡ out.old.items
-        ++ why_line (codes "refused ") path.now (refusal_words plan.now.nodes drv.now cause)) }
-{
-    write_front(b"refused ", path, out)?;
-    write_refusal(plan, drv, cause, out)?;
-    out.extend_from_slice(b"\n")
-}
-
-// Adds a line for each of some outputs.
-fn write_outputs(paths: &[StorePath], out: &mut Vec<u8>) -> Result<(), AllocError>
-    ensures { OnOk result (out.new.items ≡ out.old.items
-        ++ flat_map (path_line (codes "output ")) paths.now) }
-{
-    'paths: for path in paths {
-        write_path_line(b"output ", path, out)?;
-    }
-    Ok(())
-}
-
-// Adds a line of a word and a path.
-fn write_path_line(word: &[u8], path: &StorePath, out: &mut Vec<u8>) -> Result<(), AllocError>
-    ensures { OnOk result (out.new.items ≡ out.old.items ++ path_line word.now path.now) }
-{
-    out.extend_from_slice(word)?;
-    out.extend_from_slice(path.text())?;
-    out.extend_from_slice(b"\n")
-}
-
-// Adds a word, a path and a colon.
-fn write_front(word: &[u8], path: &StorePath, out: &mut Vec<u8>) -> Result<(), AllocError>
-    ensures { OnOk result (out.new.items ≡ out.old.items ++ word.now ++ path.now ++ codes ": ") }
-{
-    out.extend_from_slice(word)?;
-    out.extend_from_slice(path.text())?;
-    out.extend_from_slice(b": ")
 }

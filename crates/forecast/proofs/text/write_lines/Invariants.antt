@@ -2,7 +2,7 @@ use Rattle.std.proofs.Common.{◌≡◌, ◌++◌, List, ℕ, drop}
 use Rattle.std.specs.List.{flat_map}
 use Rattle.forecast.specs.Holding.{state_at}
 use Rattle.forecast.specs.Texts.{line_at}
-use Rattle.forecast.specs.declared.text.Listed.{Listed}
+use Rattle.sched_core.specs.declared.listing.Listed.{Listed}
 use Rattle.forecast.proofs.text.write_lines.Given as goal
 
 -- what is written, and the lines of the derivations that are left

@@ -3,7 +3,7 @@ use Rattle.std.proofs.lemmas.Result.{IfOk-weaker}
 use Rattle.sched_core.specs.Runs.{Run}
 use Rattle.forecast.specs.Forecasts.{Opening}
 use Rattle.forecast.specs.Holding.{state_at}
-use Rattle.forecast.specs.Listing.{IsMarked}
+use Rattle.sched_core.specs.Listing.{IsMarked}
 use Rattle.forecast.specs.Texts.{IsForecast, IsText}
 use Rattle.forecast.proofs.Held.{held_count, held_text}
 use Rattle.forecast.proofs.forecast.Forecast.text.Goals as goal

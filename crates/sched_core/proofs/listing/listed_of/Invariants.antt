@@ -1,5 +1,5 @@
-use Rattle.forecast.specs.Listing.{AreListed, IsMarked}
-use Rattle.forecast.proofs.text.listed_of.Given as goal
+use Rattle.sched_core.specs.Listing.{AreListed, IsMarked}
+use Rattle.sched_core.proofs.listing.listed_of.Given as goal
 
 -- the marked ones of the derivations so far are listed
 abbrev pub invariant-loop-number : goal.invariant-loop-number

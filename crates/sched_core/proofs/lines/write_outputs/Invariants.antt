@@ -1,7 +1,7 @@
 use Rattle.std.proofs.Common.{◌≡◌, ◌++◌, codes, drop}
 use Rattle.std.specs.List.{flat_map}
 use Rattle.sched_core.specs.Reports.{path_line}
-use Rattle.forecast.proofs.text.write_outputs.Given as goal
+use Rattle.sched_core.proofs.lines.write_outputs.Given as goal
 
 -- what is written, and the lines of the outputs that are left
 abbrev pub invariant-paths : goal.invariant-paths

@@ -1,4 +1,4 @@
--- What the code lists for the text of a forecast, and the text that it makes.
+-- The derivations that the code lists by path, and what it writes of them.
 use Rattle.std.proofs.Common.{◌≡◌, ◌∙◌, ◌⊎◌, inl, inr, ⊎_elim, ℕ, ◌+◌, ◌<◌, Bool, true, false, nat_eq, List, [], ◌∷◌, ◌++◌, map, Some, refl, sym, ap, subst, arith}
 use Rattle.std.specs.Prelude.{All, Contains, flat_map, slice_get}
 use Rattle.std.specs.Cmp.Lexicographic.{nat_list_eq_equiv, pointwise, slice_cmp}
@@ -17,14 +17,11 @@ use Rattle.nix_names.proofs.Lists.{All-from_contains, Contains-from_map, Contain
 use Rattle.nix_names.proofs.RisingLists.{rising_sorted}
 use Rattle.drv_graph.specs.Loading.{AreDistinct}
 use Rattle.drv_graph.specs.Nodes.{Node, paths_of}
-use Rattle.drv_graph.specs.Plans.{Graph}
 use Rattle.drv_graph.proofs.Gathering.{sorted_map}
 use Rattle.drv_graph.proofs.PathLists.{distinct_push, same_place}
-use Rattle.sched_core.specs.Reports.{AreByPath, outputs_at, path_at}
-use Rattle.sched_core.specs.declared.reason.State.{State}
-use Rattle.forecast.specs.Listing.{AreListed, AreWithin, HasItsPath, IsMarked, listed_paths, numbers_of}
-use Rattle.forecast.specs.Texts.{IsText, line_at}
-use Rattle.forecast.specs.declared.text.Listed.{Listed}
+use Rattle.sched_core.specs.Reports.{AreByPath, path_at}
+use Rattle.sched_core.specs.Listing.{AreListed, AreWithin, HasItsPath, IsMarked, listed_paths, numbers_of}
+use Rattle.sched_core.specs.declared.listing.Listed.{Listed}
 
 -- ---- the marked ones of the derivations before a number
 
@@ -168,23 +165,15 @@ by_path_within nodes marks count listed by_path =
     (λ l has. ((by_path.just l.number).0
     (Contains-map (λ (m : Listed). m.number) listed l has)).0)
 
--- ---- the text
+-- ---- what is written
 
--- the lines that are written are the text
-pub text_made : (graph : Graph) (is_such : ℕ → Type 0) (state : ℕ → State)
-    (listed : List Listed) (start lines text : List ℕ)
-    → AreByPath graph.nodes is_such (numbers_of listed) → start ≡ []
-    → lines ≡ start ++ flat_map (λ (l : Listed). line_at graph.nodes state l.number) listed
-    → text ≡ lines ++ flat_map (outputs_at graph.nodes state) graph.roots
-    → IsText graph is_such state text
-text_made graph is_such state listed start lines text by_path empty first all = record {
-  wanted = numbers_of listed;
-  by_path = by_path;
-  is_text =
-      let line : ℕ → List ℕ = line_at graph.nodes state in
-      let outputs = flat_map (outputs_at graph.nodes state) graph.roots in
-      let lines_are : lines ≡ flat_map line (numbers_of listed) =
-      first ∙ ap (λ (s : List ℕ). s ++ flat_map (λ (l : Listed). line l.number) listed) empty
-      ∙ sym (flat_map-map line (λ (l : Listed). l.number) listed) in
-      all ∙ ap (λ (ls : List ℕ). ls ++ outputs) lines_are;
-}
+-- the lines of listed derivations, with others behind them, are those of their numbers
+pub lines_made : (line : ℕ → List ℕ) (others : List ℕ) (listed : List Listed)
+    (start lines text : List ℕ) → start ≡ []
+    → lines ≡ start ++ flat_map (λ (l : Listed). line l.number) listed → text ≡ lines ++ others
+    → text ≡ flat_map line (numbers_of listed) ++ others
+lines_made line others listed start lines text empty first all =
+    let lines_are : lines ≡ flat_map line (numbers_of listed) =
+    first ∙ ap (λ (s : List ℕ). s ++ flat_map (λ (l : Listed). line l.number) listed) empty
+    ∙ sym (flat_map-map line (λ (l : Listed). l.number) listed) in
+    all ∙ ap (λ (ls : List ℕ). ls ++ others) lines_are

@@ -3,10 +3,10 @@ use Rattle.std.specs.Cmp.Lexicographic.{slice_cmp}
 use Rattle.std.specs.Ordering.{is_lt, nat_cmp}
 use Rattle.std.proofs.lemmas.Cmp.{nat_list_cmp_total}
 use Rattle.std.proofs.lemmas.List.Sorted.{answers_always, ranks_by}
-use Rattle.forecast.specs.Listing.{IsMarked}
-use Rattle.forecast.specs.declared.text.Listed.{Listed}
-use Rattle.forecast.proofs.Listings.{by_path_within, listed_by_path}
-use Rattle.forecast.proofs.text.by_path.Goals as goal
+use Rattle.sched_core.specs.Listing.{IsMarked}
+use Rattle.sched_core.specs.declared.listing.Listed.{Listed}
+use Rattle.sched_core.proofs.Listings.{by_path_within, listed_by_path}
+use Rattle.sched_core.proofs.listing.marked_by_path.Goals as goal
 
 pub returns-clause-by_path : goal.returns-clause-by_path
 returns-clause-by_path c =

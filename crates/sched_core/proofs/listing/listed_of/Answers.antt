@@ -1,9 +1,9 @@
 use Rattle.std.proofs.Common.{◌∙◌, ap, refl}
 use Rattle.std.specs.Global.{Vec}
-use Rattle.forecast.specs.declared.text.Listed.{Listed}
-use Rattle.forecast.proofs.Listings.{listed_none, listed_new, listed_skip}
-use Rattle.forecast.proofs.text.listed_of.Goals.{then-marks-number+in_ok-push, else-marks-number}
-use Rattle.forecast.proofs.text.listed_of.Goals as goal
+use Rattle.sched_core.specs.declared.listing.Listed.{Listed}
+use Rattle.sched_core.proofs.Listings.{listed_none, listed_new, listed_skip}
+use Rattle.sched_core.proofs.listing.listed_of.Goals.{then-marks-number+in_ok-push, else-marks-number}
+use Rattle.sched_core.proofs.listing.listed_of.Goals as goal
 
 pub loop-number-init : goal.loop-number-init
 loop-number-init c = rw c.new-listed.ensures.items (listed_none c.args.plan.now.nodes c.args.marks.now)

@@ -1,9 +1,9 @@
--- How the code lists the derivations that have a line in a forecast.
+-- How the code lists the derivations of which a text tells.
 use Rattle.std.specs.Prelude.{◌≡◌, ◌<◌, ◌↔◌, Bool, true, false, ℕ, List, Some, map, slice_get, All, Contains}
 use Rattle.std.specs.List.{slice_index_or}
 use Rattle.drv_graph.specs.Loading.{AreDistinct}
 use Rattle.drv_graph.specs.Nodes.{Node, paths_of}
-use Rattle.forecast.specs.declared.text.Listed.{Listed}
+use Rattle.sched_core.specs.declared.listing.Listed.{Listed}
 
 abbrev pub numbers_of : List Listed → List ℕ
 numbers_of listed = map (λ (l : Listed). l.number) listed
