@@ -76,5 +76,5 @@ pub use reason::{Event, Reason, Refusal, State};
 pub use standing::Standing;
 pub use standings::standings_of;
 pub use verdict::examine;
-pub use wanted::wanted_of;
+pub use wanted::{mark, wanted_of};
 pub use words::write_refusal;

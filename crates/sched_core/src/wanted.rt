@@ -36,8 +36,8 @@ fn is_free(standing: Standing) -> bool
     matches!(standing, Standing::Free)
 }
 
-// Marks the derivations with these numbers.
-fn mark(wanted: &mut [bool], numbers: &[usize])
+/// Sets the marks at these numbers, and no others. Costs a step for each number.
+pub fn mark(wanted: &mut [bool], numbers: &[usize])
     requires { All (λ number. number < length wanted.old) numbers.now }
     ensures count { length wanted.new ≡ length wanted.old }
     ensures each { (d : _) → (slice_index_or wanted.new d false ≡ true)
