@@ -1,4 +1,5 @@
 pub mod Aside
+pub mod Drawn
 pub mod Foretelling
 pub mod Held
 pub mod Passing

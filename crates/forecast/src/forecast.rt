@@ -3,8 +3,10 @@ ghost use Rattle.std.specs.Prelude.{◌≡◌, ◌<◌, IfErr, IfOk, length};
 ghost use Rattle.sched_core.specs.declared.fault.BookFault.TheVariants.{NoMemory};
 ghost use Rattle.forecast.specs.Forecasts.{foretold};
 ghost use Rattle.forecast.specs.Holding.{state_of};
+ghost use Rattle.forecast.specs.Pictures.{IsPicture};
 ghost use Rattle.forecast.specs.Texts.{IsForecast, is_whole};
 
+use crate::picture::picture_of;
 use crate::prospect::{Prospect, prospect_at};
 use crate::prospects::prospects_of;
 use crate::text::text_of;
@@ -107,5 +109,18 @@ impl Forecast {
     {
         let alloc = *self.wanted.allocator();
         text_of(alloc, &self.plan, &self.wanted, &self.prospects)
+    }
+
+    /// The picture of the forecast, as a graph in Graphviz's language: a node for each wanted
+    /// derivation, by path, labelled by its name, filled by whether it is built, reused or refused,
+    /// with a double border where it is a root; then an edge from each to each input that it waits
+    /// for, labelled by the outputs that it uses where they aren't just `out`. `NoMemory`, the only
+    /// fault, where memory is refused. Costs what `text` costs, and a step for each edge.
+    pub fn picture(&self) -> Result<Vec<u8>, BookFault>
+        ensures ok { IfOk result (λ text. IsPicture self.now.run self.now.entries text.items) }
+        ensures err { IfErr result (λ fault. fault ≡ NoMemory) }
+    {
+        let alloc = *self.wanted.allocator();
+        picture_of(alloc, &self.plan, &self.wanted, &self.prospects)
     }
 }

@@ -6,11 +6,14 @@
 //! | `prospect` | what is foretold of a derivation |
 //! | `prospects` | what is foretold of all, by one pass in the order of the plan |
 //! | `text` | the text of a forecast |
+//! | `picture`, `edges` | the picture of a forecast |
 //! | `laws` | laws over the definitions that contracts cite |
 #![tactic(auto)]
 
+mod edges;
 mod forecast;
 pub mod laws;
+mod picture;
 mod prospect;
 mod prospects;
 mod text;
