@@ -4,7 +4,7 @@ _nix_realise_options() {
     case $1 in
         check | add-drv) echo "--store-dir --help" ;;
         add-text) echo "--store-dir --journal --help" ;;
-        plan) echo "--store-dir --journal --system --help" ;;
+        plan) echo "--store-dir --journal --system --dot --help" ;;
         realise) echo "--store-dir --journal --system --jobs --help" ;;
         help) ;;
         *) echo "--help --version" ;;

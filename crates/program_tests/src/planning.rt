@@ -16,7 +16,21 @@ const STRANGER: &str =
     "Derive([(\"out\",\"\",\"\",\"\")],[],[],\"aarch64-linux\",\"/bin/sh\",[\"-c\",\
     \"> $out\"],[(\"out\",\"\")])";
 
-static ROWS: [Row; 3] = [
+// The draft of a derivation with two outputs.
+const PAIR: &str =
+    "Derive([(\"dev\",\"\",\"\",\"\"),(\"out\",\"\",\"\",\"\")],[],[],\"x86_64-linux\",\
+    \"/bin/sh\",[\"-c\",\"> $out; > $dev\"],[(\"dev\",\"\"),(\"out\",\"\")])";
+
+// The drafts of users of it: of both its outputs, and of `out` alone.
+const USER_OF_BOTH: &str =
+    "Derive([(\"out\",\"\",\"\",\"\")],[(\"<it>\",[\"dev\",\"out\"])],[],\"x86_64-linux\",\
+    \"/bin/sh\",[\"-c\",\"> $out; : <try>\"],[(\"out\",\"\")])";
+
+const USER_OF_OUT: &str =
+    "Derive([(\"out\",\"\",\"\",\"\")],[(\"<it>\",[\"out\"])],[],\"x86_64-linux\",\
+    \"/bin/sh\",[\"-c\",\"> $out; : <try>\"],[(\"out\",\"\")])";
+
+static ROWS: [Row; 5] = [
     // Nothing is made by `plan`; once all is built, all is reused.
     Row {
         name: "plan-before-and-behind-a-run",
@@ -61,6 +75,78 @@ static ROWS: [Row; 3] = [
                 0,
             ),
             Step::Left(2),
+        ],
+    },
+    // A graph has the same derivations: what is built, with an edge to its input and the outputs
+    // that it uses; what is reused; what is refused for a cause of its own and waits for nothing.
+    Row {
+        name: "plan-as-a-graph",
+        steps: &[
+            Step::Put("it", PAIR),
+            Step::Twins("it", ("input", PAIR), ("user", USER_OF_BOTH)),
+            Step::Run(
+                "nix_realise plan --dot --store-dir <dir> <user>",
+                "digraph plan {\n\
+                    \x20 \"<input>\" [label=\"it.drv\", style=filled, fillcolor=palegreen];\n\
+                    \x20 \"<user>\" [label=\"it.drv\", style=filled, fillcolor=palegreen, \
+                    peripheries=2];\n\
+                    \x20 \"<user>\" -> \"<input>\" [label=\"dev, out\"];\n\
+                    }\n",
+                "",
+                0,
+            ),
+            Step::Run(
+                "nix_realise plan --dot --store-dir <dir> --system aarch64-linux <user>",
+                "digraph plan {\n\
+                    \x20 \"<user>\" [label=\"it.drv\", style=filled, fillcolor=lightcoral, \
+                    peripheries=2];\n\
+                    }\n",
+                "",
+                1,
+            ),
+            Step::Run(
+                "nix_realise realise --store-dir <dir> <input>",
+                "built <input>\noutput <input.dev>\noutput <input.out>\n",
+                "",
+                0,
+            ),
+            Step::Run(
+                "nix_realise plan --store-dir <dir> --dot <input> <user>",
+                "digraph plan {\n\
+                    \x20 \"<input>\" [label=\"it.drv\", style=filled, fillcolor=lightgrey, \
+                    peripheries=2];\n\
+                    \x20 \"<user>\" [label=\"it.drv\", style=filled, fillcolor=palegreen, \
+                    peripheries=2];\n\
+                    \x20 \"<user>\" -> \"<input>\" [label=\"dev, out\"];\n\
+                    }\n",
+                "",
+                0,
+            ),
+        ],
+    },
+    // The output `out` alone is not named. Standard output refuses each byte in turn.
+    Row {
+        name: "plan-as-a-graph-of-out",
+        steps: &[
+            Step::Put("it", PAIR),
+            Step::Twins("it", ("input", PAIR), ("user", USER_OF_OUT)),
+            Step::Run(
+                "nix_realise plan --dot --store-dir <dir> <user>",
+                "digraph plan {\n\
+                    \x20 \"<input>\" [label=\"it.drv\", style=filled, fillcolor=palegreen];\n\
+                    \x20 \"<user>\" [label=\"it.drv\", style=filled, fillcolor=palegreen, \
+                    peripheries=2];\n\
+                    \x20 \"<user>\" -> \"<input>\";\n\
+                    }\n",
+                "",
+                0,
+            ),
+            Step::Room(
+                "nix_realise plan --dot --store-dir <dir> <user>",
+                9,
+                "nix_realise: run: Unwritable\n",
+                3,
+            ),
         ],
     },
     // The faults of `realise`, in its order; a refused line is told.

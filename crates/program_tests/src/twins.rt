@@ -166,6 +166,7 @@ impl Scene {
     ) -> Result<String, Fail> {
         let number = format!(in rt.alloc(); "{number}")?;
         let draft = replaced(rt.alloc(), draft, "<try>", number.as_str())?;
+        let draft = self.said(rt.alloc(), draft.as_str())?;
         put_draft(rt, self.site.folder.as_str(), name, draft.as_str())
     }
 }

@@ -79,6 +79,7 @@ const PLAN: &str = "Tells what realise would report if every builder made its ou
     \x20     --store-dir <D>  The store folder, in paths and on disk [default: /nix/store]\n\
     \x20     --journal <F>    The journal file [default: realiser-journal in the store folder]\n\
     \x20     --system <S>     The system for which derivations are built [default: x86_64-linux]\n\
+    \x20     --dot            Print the same as a graph in Graphviz's language\n\
     \x20 -h, --help           Print help\n\
     ";
 

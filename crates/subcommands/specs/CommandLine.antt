@@ -2,7 +2,7 @@
 -- (the documentation of clap 4, `Command` and `Arg`).
 use Rattle.std.specs.Prelude.{ℕ, List, [], ◌∷◌, Some, true, pos, codes}
 use Rattle.clap.specs.Words.{App, Rule, new_app, new_rule, with_rule, with_subcommand}
-use Rattle.clap.specs.declared.builder.action.ArgAction.TheVariants.{Append}
+use Rattle.clap.specs.declared.builder.action.ArgAction.TheVariants.{Append, SetTrue}
 use Rattle.clap.specs.declared.builder.value_parser.ValueParser.TheVariants.{Signed}
 
 -- an option with one value
@@ -32,6 +32,13 @@ jobs_option = record (option_or (codes "jobs") (codes "1")) {
   parser = Some (Signed (pos 1) (pos 64));
 }
 
+-- an option without a value
+abbrev pub flag : (name : List ℕ) → Rule
+flag name = record (new_rule name) { long = Some name; action = Some SetTrue }
+
+abbrev pub dot_flag : Rule
+dot_flag = flag (codes "dot")
+
 -- words of which there is one or more
 abbrev pub drv_words : Rule
 drv_words = record (required_word (codes "DRV")) { action = Some Append }
@@ -51,18 +58,16 @@ add_drv_line =
     (with_rule (with_rule (new_app (codes "add-drv")) store_dir_option)
     (required_word (codes "NAME"))) (required_word (codes "FILE"))
 
+-- a subcommand over a run, by its name, with the options that each such has
+abbrev pub run_options : (name : List ℕ) → App
+run_options name =
+    with_rule (with_rule (with_rule (new_app name) store_dir_option) journal_option) system_option
+
 abbrev pub plan_line : App
-plan_line =
-    with_rule
-    (with_rule (with_rule (with_rule (new_app (codes "plan")) store_dir_option) journal_option)
-    system_option) drv_words
+plan_line = with_rule (with_rule (run_options (codes "plan")) dot_flag) drv_words
 
 abbrev pub realise_line : App
-realise_line =
-    with_rule
-    (with_rule
-    (with_rule (with_rule (with_rule (new_app (codes "realise")) store_dir_option) journal_option)
-    system_option) jobs_option) drv_words
+realise_line = with_rule (with_rule (run_options (codes "realise")) jobs_option) drv_words
 
 -- the program, which has a version and wants a subcommand
 abbrev pub top_line : App

@@ -1,12 +1,14 @@
 -- How a run of `plan` ends: its status, and what standard output got.
-use Rattle.std.specs.Prelude.{◌≡◌, ◌⊎◌, ℕ, List, Option, Result, Ok, Err, if◌then◌else◌}
+use Rattle.std.specs.Prelude.{◌≡◌, ◌⊎◌, Bool, true, false, ℕ, List, Option, Result, Ok, Err, if◌then◌else◌}
 use Rattle.std.specs.Io.KnownBytes.{Appends}
 use Rattle.valid_table.specs.declared.entry.Entry.{Entry}
 use Rattle.sched_core.specs.Runs.{Run as RunOver}
+use Rattle.forecast.specs.Pictures.{IsPicture}
 use Rattle.forecast.specs.Texts.{IsForecast, is_whole}
 use Rattle.subcommands.specs.AddedText.{FileBytes}
 use Rattle.subcommands.specs.Folders.{may_give}
 use Rattle.subcommands.specs.Tasks.{IsTaking}
+use Rattle.subcommands.specs.declared.options.PlanRequest.{PlanRequest}
 use Rattle.subcommands.specs.declared.options.RunRequest.{RunRequest}
 use Rattle.subcommands.specs.declared.status.Status.{Status}
 use Rattle.subcommands.specs.declared.status.Status.TheVariants.{Done, Unrealised}
@@ -22,28 +24,34 @@ over request task = record { graph = task.plan; system = request.system.now }
 abbrev pub whole_status : RunOver → (opening : List Entry) → Status
 whole_status run opening = if is_whole run opening then Done else Unrealised
 
--- How it ends over a plan and a journal: standard output gets the forecast, or nothing for want of
--- memory.
-abbrev pub ForecastEnds : RunRequest → Task → (before after : Option (List ℕ))
+-- what is printed of the forecast of a run that opens with these entries: its text, or its picture
+-- where a graph is asked for
+abbrev pub IsPrinted : (dot : Bool) → RunOver → (opening : List Entry) → List ℕ → Type 0
+IsPrinted false run opening text = IsForecast run opening text
+IsPrinted true run opening text = IsPicture run opening text
+
+-- How it ends over a plan and a journal: standard output gets what is printed of the forecast, or
+-- nothing for want of memory.
+abbrev pub ForecastEnds : PlanRequest → Task → (before after : Option (List ℕ))
     → Result Status Stop → Type 0
 ForecastEnds request task before after (Ok status) =
-    ((text : List ℕ) × IsForecast (over request task) task.journal.entries text
+    ((text : List ℕ) × IsPrinted request.dot (over request.run task) task.journal.entries text
     × Appends before after text)
-    × (status ≡ whole_status (over request task) task.journal.entries)
+    × (status ≡ whole_status (over request.run task) task.journal.entries)
 ForecastEnds request task before after (Err NoMemory) = after ≡ before
 ForecastEnds request task before after (Err Unwritable) = Unit {0}
 ForecastEnds request task before after (Err stop) = ⊥
 
 -- How it ends, by what the journal file gave. Nothing is printed where the request is refused.
-abbrev pub PlanEndsBy : RunRequest → (gave : FileBytes) → (before after : Option (List ℕ))
+abbrev pub PlanEndsBy : PlanRequest → (gave : FileBytes) → (before after : Option (List ℕ))
     → Result Status Stop → Type 0
 PlanEndsBy request gave before after result =
     ((stop : Stop) × (result ≡ Err stop) × (after ≡ before)
-    × IsTaking (λ _ answer. may_give answer) request gave (Err stop))
-    ⊎ ((task : Task) × IsTaking (λ _ answer. may_give answer) request gave (Ok task)
+    × IsTaking (λ _ answer. may_give answer) request.run gave (Err stop))
+    ⊎ ((task : Task) × IsTaking (λ _ answer. may_give answer) request.run gave (Ok task)
     × ForecastEnds request task before after result)
 
 -- how it ends: nothing is known of what the journal file gave
-abbrev pub PlanEnds : RunRequest → (before after : Option (List ℕ)) → Result Status Stop → Type 0
+abbrev pub PlanEnds : PlanRequest → (before after : Option (List ℕ)) → Result Status Stop → Type 0
 PlanEnds request before after result =
     (gave : FileBytes) × PlanEndsBy request gave before after result

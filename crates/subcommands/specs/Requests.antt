@@ -1,13 +1,15 @@
 -- What a command line asks for: the subcommand that `clap` meets, and its words and options, with
 -- the defaults where none stand (the documentation of clap 4, `ArgMatches`).
-use Rattle.std.specs.Prelude.{◌≡◌, ℕ, List, [], Option, Some, None, codes, map, option_map}
+use Rattle.std.specs.Prelude.{◌≡◌, Bool, false, ℕ, List, [], Option, Some, None, codes, map, option_map}
 use Rattle.std.specs.Prelude.{unwrap_or}
 use Rattle.std.specs.Str.Parse.{IsNumeral, digits_value, without_leading_plus}
 use Rattle.clap.specs.Words.{Row, all_of, first_of, one_of, subcommand_of}
+use Rattle.nix_names.specs.Names.{same_bytes}
 use Rattle.subcommands.specs.CommandLine.{command_line}
 use Rattle.subcommands.specs.declared.options.AddDrvRequest.{AddDrvRequest}
 use Rattle.subcommands.specs.declared.options.AddTextRequest.{AddTextRequest}
 use Rattle.subcommands.specs.declared.options.CheckRequest.{CheckRequest}
+use Rattle.subcommands.specs.declared.options.PlanRequest.{PlanRequest}
 use Rattle.subcommands.specs.declared.options.RealiseRequest.{RealiseRequest}
 use Rattle.subcommands.specs.declared.options.RunRequest.{RunRequest}
 use Rattle.subcommands.specs.declared.options.Request.{Request}
@@ -29,6 +31,15 @@ word_in name rows = unwrap_or (first_of name rows) []
 -- the words DRV, in their order
 abbrev pub drvs_in : List Row → List (List ℕ)
 drvs_in rows = unwrap_or (all_of (codes "DRV") rows) []
+
+-- whether this is what a flag that was given has for a value
+abbrev pub is_yes : Option (List ℕ) → Bool
+is_yes (Some text) = same_bytes text (codes "true")
+is_yes None = false
+
+-- whether a graph is asked for
+abbrev pub dot_in : List Row → Bool
+dot_in rows = is_yes (first_of (codes "dot") rows)
 
 -- the text is this number in decimal
 abbrev pub IsNumber : Option (List ℕ) → ℕ → Type 0
@@ -55,12 +66,18 @@ pub record IsAddDrv (rows : List Row) (request : AddDrvRequest) : Type 0 where
   pub name : request.name.now ≡ word_in (codes "NAME") rows
   pub file : request.file.now ≡ word_in (codes "FILE") rows
 
--- what is asked of `plan`, and of `realise` beside the number of its builders
+-- what is asked of `plan` beside the form of its text, and of `realise` beside the number of its
+-- builders
 pub record IsRun (rows : List Row) (request : RunRequest) : Type 0 where
   pub store_dir : request.store_dir.now ≡ store_dir_in rows
   pub journal : option_map (λ f. f.now) request.journal ≡ first_of (codes "journal") rows
   pub system : request.system.now ≡ system_in rows
   pub drvs : map (λ w. w.now) request.drvs.items ≡ drvs_in rows
+
+-- what is asked of `plan`
+pub record IsPlanned (rows : List Row) (request : PlanRequest) : Type 0 where
+  pub run : IsRun rows request.run
+  pub dot : request.dot ≡ dot_in rows
 
 -- what is asked of `realise`
 pub record IsRealise (rows : List Row) (request : RealiseRequest) : Type 0 where
@@ -72,7 +89,7 @@ abbrev pub IsAskedBy : (name : List ℕ) → List Row → Request → Type 0
 IsAskedBy name rows (Check request) = (name ≡ codes "check") × IsCheck rows request
 IsAskedBy name rows (AddText request) = (name ≡ codes "add-text") × IsAddText rows request
 IsAskedBy name rows (AddDrv request) = (name ≡ codes "add-drv") × IsAddDrv rows request
-IsAskedBy name rows (Plan request) = (name ≡ codes "plan") × IsRun rows request
+IsAskedBy name rows (Plan request) = (name ≡ codes "plan") × IsPlanned rows request
 IsAskedBy name rows (Realise request) = (name ≡ codes "realise") × IsRealise rows request
 
 -- the same of the subcommand that was met, if there is one

@@ -2,8 +2,8 @@
 ghost use Rattle.std.specs.Prelude.{◌≡◌, IfOk, false};
 ghost use Rattle.clap.specs.Words.{app_of, new_app, rule_of, with_subcommand};
 ghost use Rattle.subcommands.specs.CommandLine.{add_drv_line, add_text_line, check_line};
-ghost use Rattle.subcommands.specs.CommandLine.{command_line, drv_words, jobs_option};
-ghost use Rattle.subcommands.specs.CommandLine.{journal_option, plan_line, realise_line};
+ghost use Rattle.subcommands.specs.CommandLine.{command_line, dot_flag, drv_words, jobs_option};
+ghost use Rattle.subcommands.specs.CommandLine.{journal_option, plan_line, realise_line, run_options};
 ghost use Rattle.subcommands.specs.CommandLine.{store_dir_option};
 ghost use Rattle.subcommands.specs.CommandLine.{system_option, top_line};
 ghost use Rattle.subcommands.specs.CommandLine.{required_word};
@@ -21,6 +21,8 @@ pub const JOURNAL: &str = "journal";
 pub const SYSTEM: &str = "system";
 
 pub const JOBS: &str = "jobs";
+
+pub const DOT: &str = "dot";
 
 pub const DRVS: &str = "DRV";
 
@@ -129,31 +131,36 @@ fn add_drv_command<'a>(alloc: Global) -> Result<Command<'a>, AllocError>
 fn plan_command<'a>(alloc: Global) -> Result<Command<'a>, AllocError>
     ensures { IfOk result (λ command. app_of command ≡ plan_line) }
 {
-    subcommand(
+    run_command(
         alloc,
         PLAN,
         "Tells what realise would report if every builder made its outputs",
-    )
-    .arg(store_dir(alloc))?
-    .arg(journal(alloc))?
-    .arg(system(alloc))?
-    .arg(drvs(alloc, "Paths of derivations whose outputs are wanted"))
+    )?
+    .arg(dot(alloc))?
+    .arg(wanted_drvs(alloc))
 }
 
 // The subcommand `realise`.
 fn realise_command<'a>(alloc: Global) -> Result<Command<'a>, AllocError>
     ensures { IfOk result (λ command. app_of command ≡ realise_line) }
 {
-    subcommand(
+    run_command(
         alloc,
         REALISE,
         "Builds what is wanted of derivations, and tells what became of it",
-    )
-    .arg(store_dir(alloc))?
-    .arg(journal(alloc))?
-    .arg(system(alloc))?
+    )?
     .arg(jobs(alloc))?
-    .arg(drvs(alloc, "Paths of derivations whose outputs are wanted"))
+    .arg(wanted_drvs(alloc))
+}
+
+// A subcommand that is over a run, with the options that each such has.
+fn run_command<'a>(alloc: Global, name: &'a str, about: &'a str) -> Result<Command<'a>, AllocError>
+    ensures { IfOk result (λ command. app_of command ≡ run_options name.entry.now) }
+{
+    subcommand(alloc, name, about)
+        .arg(store_dir(alloc))?
+        .arg(journal(alloc))?
+        .arg(system(alloc))
 }
 
 // A subcommand without arguments.
@@ -210,6 +217,17 @@ fn jobs<'a>(alloc: Global) -> Arg<'a>
         .value_parser(clap::value_parser!(u8).range(1..=64))
 }
 
+// The flag that asks for a graph.
+fn dot<'a>(alloc: Global) -> Arg<'a>
+    ensures rule { rule_of result ≡ dot_flag }
+    ensures local { result.global ≡ false }
+{
+    Arg::new(alloc, DOT)
+        .long(DOT)
+        .help("Print the same as a graph in Graphviz's language")
+        .action(ArgAction::SetTrue)
+}
+
 // The words that are paths of derivations, one or more.
 fn drvs<'a>(alloc: Global, help: &'a str) -> Arg<'a>
     ensures rule { rule_of result ≡ drv_words }
@@ -219,6 +237,14 @@ fn drvs<'a>(alloc: Global, help: &'a str) -> Arg<'a>
         .help(help)
         .required(true)
         .action(ArgAction::Append)
+}
+
+// The words that are paths of derivations of which the outputs are wanted.
+fn wanted_drvs<'a>(alloc: Global) -> Arg<'a>
+    ensures rule { rule_of result ≡ drv_words }
+    ensures local { result.global ≡ false }
+{
+    drvs(alloc, "Paths of derivations whose outputs are wanted")
 }
 
 // A word that has to be given.

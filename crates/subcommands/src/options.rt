@@ -11,7 +11,7 @@ pub enum Request<'a> {
     /// `add-drv`: a draft is filled and put into the store.
     AddDrv(AddDrvRequest<'a>),
     /// `plan`: it is foretold what `realise` would report.
-    Plan(RunRequest<'a>),
+    Plan(PlanRequest<'a>),
     /// `realise`: the outputs of derivations are made valid.
     Realise(RealiseRequest<'a>),
 }
@@ -61,6 +61,15 @@ pub struct RunRequest<'a> {
     /// The paths of the derivations whose outputs are wanted, as they were given and in their
     /// order.
     pub drvs: Vec<&'a str>,
+}
+
+/// The words of `plan`.
+#[derive(Debug, Drop)]
+pub struct PlanRequest<'a> {
+    /// What the run would be over.
+    pub run: RunRequest<'a>,
+    /// Whether the forecast is printed as a graph in Graphviz's language.
+    pub dot: bool,
 }
 
 /// The words of `realise`.

@@ -1,10 +1,9 @@
 //! The subcommand `plan`.
 ghost use Rattle.std.specs.Prelude.{◌≡◌, IfErr, IfOk};
-ghost use Rattle.forecast.specs.Texts.{IsForecast};
-ghost use Rattle.subcommands.specs.Planning.{ForecastEnds, PlanEnds, over, whole_status};
+ghost use Rattle.subcommands.specs.Planning.{ForecastEnds, IsPrinted, PlanEnds, over, whole_status};
 ghost use Rattle.subcommands.specs.declared.stop.Stop.TheVariants.{NoMemory};
 
-use crate::options::RunRequest;
+use crate::options::{PlanRequest, RunRequest};
 use crate::printing::print_bytes;
 use crate::status::Status;
 use crate::stop::Stop;
@@ -17,29 +16,29 @@ use std::io::Write;
 use std::rt::Files;
 
 /// Prints what `realise` would report for the request, if each builder that it starts made its
-/// outputs. The plan is loaded, then the journal is read; what is refused is told. Nothing is
-/// written but to standard output, and nothing is started.
-pub fn plan<'a, R, O>(rt: &R, request: &RunRequest<'a>, out: &mut O) -> Result<Status, Stop<'a>>
+/// outputs, as a report or as a graph. The plan is loaded, then the journal is read; what is refused
+/// is told. Nothing is written but to standard output, and nothing is started.
+pub fn plan<'a, R, O>(rt: &R, request: &PlanRequest<'a>, out: &mut O) -> Result<Status, Stop<'a>>
 where
     R: Files + AllocGlobal,
     O: Write,
     ensures { PlanEnds request.now (O.contents out.old) (O.contents out.new) result }
 {
-    let (_, task) = taken(rt, request)?;
+    let (_, task) = taken(rt, &request.run)?;
     print_forecast(rt.alloc(), request, task, out)
 }
 
 // Prints the forecast of a run over a task.
 fn print_forecast<'a, O: Write>(
     alloc: Global,
-    request: &RunRequest<'a>,
+    request: &PlanRequest<'a>,
     task: Task,
     out: &mut O,
 ) -> Result<Status, Stop<'a>>
     ensures { ForecastEnds request.now task (O.contents out.old) (O.contents out.new) result }
 {
-    let forecast = forecast_of(alloc, request, task)?;
-    let text = text_of(&forecast)?;
+    let forecast = forecast_of(alloc, &request.run, task)?;
+    let text = text_of(&forecast, request.dot)?;
     match print_bytes(&text, out) {
         Ok(()) => Ok(whole_status(&forecast)),
         Err(_) => Err(Stop::Unwritable),
@@ -65,16 +64,29 @@ fn forecast_of<'a>(
     }
 }
 
-// The text of a forecast.
-fn text_of<'a>(forecast: &Forecast) -> Result<Vec<u8>, Stop<'a>>
+// What is printed of a forecast.
+fn text_of<'a>(forecast: &Forecast, dot: bool) -> Result<Vec<u8>, Stop<'a>>
     ensures ok { IfOk result
-        (λ text. IsForecast forecast.now.run forecast.now.entries text.items) }
+        (λ text. IsPrinted dot forecast.now.run forecast.now.entries text.items) }
     ensures err { IfErr result (λ stop. stop ≡ NoMemory) }
 {
-    match forecast.text() {
+    match printed(forecast, dot) {
         Ok(text) => Ok(text),
         Err(BookFault::NoMemory) => Err(Stop::NoMemory),
         Err(_) => unreachable!(),
+    }
+}
+
+// The text of a forecast, or its picture.
+fn printed(forecast: &Forecast, dot: bool) -> Result<Vec<u8>, BookFault>
+    ensures ok { IfOk result
+        (λ text. IsPrinted dot forecast.now.run forecast.now.entries text.items) }
+    ensures err { IfErr result (λ fault. fault ≡ BookFault.NoMemory) }
+{
+    if dot {
+        forecast.picture()
+    } else {
+        forecast.text()
     }
 }
 

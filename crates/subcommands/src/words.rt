@@ -3,16 +3,16 @@ ghost use Rattle.std.specs.Prelude.{◌≡◌, IfErr, IfOk, IfSome, codes, map, 
 ghost use Rattle.clap.specs.Words.{first_of, found_of, kind_of, one_of, rows_of};
 ghost use Rattle.subcommands.specs.ProgramEndings.{IsAsked, IsOwnFault, IsUsageFault};
 ghost use Rattle.subcommands.specs.Requests.{IsAddDrv, IsAddText, IsAskedBy, IsCheck, IsNumber};
-ghost use Rattle.subcommands.specs.Requests.{IsRealise, IsRun, drvs_in, store_dir_in};
+ghost use Rattle.subcommands.specs.Requests.{IsPlanned, IsRealise, IsRun, dot_in, drvs_in, store_dir_in};
 ghost use Rattle.subcommands.specs.Requests.{system_in, word_in};
 
 use crate::command::{
-    ADD_DRV, ADD_TEXT, CHECK, DEFAULT_STORE_DIR, DEFAULT_SYSTEM, DRVS, FILE, JOBS, JOURNAL, NAME,
-    PLAN, REALISE, STORE_DIR, SYSTEM, command,
+    ADD_DRV, ADD_TEXT, CHECK, DEFAULT_STORE_DIR, DEFAULT_SYSTEM, DOT, DRVS, FILE, JOBS, JOURNAL,
+    NAME, PLAN, REALISE, STORE_DIR, SYSTEM, command,
 };
 use crate::jobs::Jobs;
 use crate::options::{
-    AddDrvRequest, AddTextRequest, CheckRequest, RealiseRequest, Request, RunRequest,
+    AddDrvRequest, AddTextRequest, CheckRequest, PlanRequest, RealiseRequest, Request, RunRequest,
 };
 use clap::error::ErrorKind;
 use clap::{ArgMatches, Error};
@@ -45,7 +45,7 @@ fn subcommand_request<'a>(
         CHECK => Ok(Request::Check(check_request(alloc, found)?)),
         ADD_TEXT => Ok(Request::AddText(add_text_request(found))),
         ADD_DRV => Ok(Request::AddDrv(add_drv_request(found))),
-        PLAN => Ok(Request::Plan(run_request(alloc, found)?)),
+        PLAN => Ok(Request::Plan(plan_request(alloc, found)?)),
         REALISE => Ok(Request::Realise(realise_request(alloc, found)?)),
         _ => Err(no_subcommand(alloc)?),
     }
@@ -111,6 +111,16 @@ fn add_drv_request<'a>(found: &ArgMatches<'a>) -> AddDrvRequest<'a>
     }
 }
 
+// What the matches of `plan` say.
+fn plan_request<'a>(alloc: Global, found: &ArgMatches<'a>) -> Result<PlanRequest<'a>, AllocError>
+    ensures { IfOk result (IsPlanned (rows_of (found_of found.now))) }
+{
+    Ok(PlanRequest {
+        run: run_request(alloc, found)?,
+        dot: has_dot(found),
+    })
+}
+
 // What the matches of `realise` say.
 fn realise_request<'a>(alloc: Global, found: &ArgMatches<'a>) -> Result<RealiseRequest<'a>, Error>
     ensures ok { IfOk result (IsRealise (rows_of (found_of found.now))) }
@@ -123,7 +133,7 @@ fn realise_request<'a>(alloc: Global, found: &ArgMatches<'a>) -> Result<RealiseR
     Ok(RealiseRequest { run, jobs })
 }
 
-// What the matches of `plan` say, and those of `realise` beside the number of builders.
+// What the matches of `plan` and of `realise` say of what a run is over.
 fn run_request<'a>(alloc: Global, found: &ArgMatches<'a>) -> Result<RunRequest<'a>, AllocError>
     ensures { IfOk result (IsRun (rows_of (found_of found.now))) }
 {
@@ -158,6 +168,17 @@ fn journal_of<'a>(found: &ArgMatches<'a>) -> Option<&'a str>
         ≡ first_of (codes "journal") (rows_of (found_of found.now)) }
 {
     found.get_str(JOURNAL)
+}
+
+// Whether the matches ask for a graph.
+#[tactic(auto, using(crate::proofs::Rows::first_row))]
+fn has_dot(found: &ArgMatches<'_>) -> bool
+    ensures { result ≡ dot_in (rows_of (found_of found.now)) }
+{
+    match found.get_str(DOT) {
+        Some(text) => text == "true",
+        None => false,
+    }
 }
 
 // The word with this id.
