@@ -1,0 +1,236 @@
+"""The builders of `tests/hostile-builders`: what each does, and what is stated of its run."""
+
+import dataclasses
+import os
+import sys
+
+BUILT = ("built DRV\noutput OUT\n", 0)
+AGAIN = ("reused DRV\noutput OUT\n", 0)
+UNWRITABLE = ("", 3, "nix_realise: journal: Unwritable\n")
+UNREADABLE = ("", 3, "nix_realise: journal: Unreadable\n")
+
+
+def failed(reason):
+    """A run whose one derivation failed."""
+    return (f"failed DRV: {reason}\n", 1)
+
+
+READ_FAULT = failed("ReadFault")
+TOO_LARGE = failed("TooLarge")
+
+
+@dataclasses.dataclass
+class Case:
+    """A builder. In its script $F is a folder outside of the store folder, and $W a folder there
+    that no run may touch; where $F/well is there, it makes its output well, and that is all."""
+
+    name: str
+    script: str
+    first: tuple = BUILT
+    # What the run tells that comes next, once $F/well is there.
+    second: tuple = None
+    # What stands at the output behind the first run: a kind of the script's KINDS; None for any.
+    stands: str = None
+    # Any of these first answers is right, beside `first`.
+    also: tuple = ()
+    # Names of the store folder that the builder itself makes or changes beside its output.
+    beside: tuple = ()
+    # What is done between the two runs, with the site.
+    between: object = None
+    # The status of the first run where no answer comes.
+    killed: bool = False
+    # Whether only the superuser can do so.
+    root: bool = False
+    # Whether it runs on a disk of one megabyte.
+    small: bool = False
+    # Whether strace can name all paths, and no child keeps it waiting.
+    traced: bool = True
+    # Whether a child of the builder has to run still when the first run has ended.
+    stays: bool = False
+
+    def next(self):
+        if self.second:
+            return self.second
+        return AGAIN if self.first == BUILT else BUILT
+
+
+def levels(count):
+    return f"p=$out; mkdir $p; for i in $(seq 2 {count}); do p=$p/d; mkdir $p; done"
+
+
+def entries(count):
+    return f"mkdir $out; cd $out; seq {count} | xargs touch"
+
+
+# Ends well where nothing is open but the three standard streams.
+FILES = """
+import os, sys
+def is_open(number):
+    try:
+        return bool(os.fstat(number))
+    except OSError:
+        return False
+sys.exit([number for number in range(1024) if is_open(number)] != [0, 1, 2])
+"""
+LONG = 'import os; [(os.mkdir("n" * 255), os.chdir("n" * 255)) for _ in range(20)]'
+BIND = 'import os,socket; os.chdir(os.environ["D"]); socket.socket(socket.AF_UNIX).bind("s")'
+SOCKET = f"D=$(mktemp -d $F/XXXXXX); export D; {sys.executable} -c '{BIND}'; mv $D/s $at"
+CHILD = " & echo $! >> $F/children; "
+LOOP = "(for i in $(seq {0}); do [ -e $F/stop ] && break; {1}; done)" + CHILD
+JOURNAL = "$NIX_STORE/realiser-journal"
+
+
+def kinds():
+    """What is neither a file nor a folder, at an output and in one."""
+    made = {
+        "link to a file": "ln -s $W/file $at",
+        "link to a folder": "ln -s $W $at",
+        "link to nothing": "ln -s $W/none $at",
+        "link to itself": "ln -s $at $at",
+        "pipe": "mkfifo $at",
+        "socket": SOCKET,
+        "device": "mknod $at c 1 3",
+    }
+    for name, script in made.items():
+        stands = name.split()[0]
+        root = name == "device"
+        yield Case(name, f"at=$out; {script}", READ_FAULT, stands=stands, root=root)
+        inner = f"mkdir $out; echo x > $out/a; at=$out/b; {script}"
+        yield Case(name + " in a folder", inner, READ_FAULT, stands="folder", root=root)
+
+
+def limits():
+    """Outputs at a limit, and past it."""
+    yield Case("65,536 entries", entries(65536), stands="folder")
+    yield Case("65,537 entries", entries(65537), TOO_LARGE, stands="folder")
+    yield Case("100,000 entries", entries(100000), TOO_LARGE, stands="folder")
+    yield Case("64 MiB", "truncate -s 67108864 $out", stands="file")
+    yield Case("64 MiB and a byte", "truncate -s 67108865 $out", TOO_LARGE, stands="file")
+    two = "mkdir $out; truncate -s 67108864 $out/a; echo > $out/b"
+    yield Case("64 MiB and a byte in two files", two, TOO_LARGE, stands="folder")
+    yield Case("32 levels", levels(32), stands="folder")
+    yield Case("33 levels", levels(33), TOO_LARGE, stands="folder")
+    deep = "mkdir $out; cd $out; for i in $(seq 200); do mkdir d; cd d; done"
+    yield Case("200 levels", deep, TOO_LARGE, stands="folder")
+    in_build = "for i in $(seq 200); do mkdir d; cd d; : > f; done; echo made > $out"
+    yield Case("200 levels in the build folder", in_build)
+    long = "n=$(printf %0255d 7); mkdir $out; cd $out; mkdir $n; echo x > $n/$n"
+    yield Case("names of 255 bytes", long, stands="folder")
+    longer = f"mkdir $out; cd $out; {sys.executable} -c '{LONG}'"
+    yield Case("a path of 5,000 bytes", longer, READ_FAULT, stands="folder", traced=False)
+    stray = "mkdir $out; : > $out/$(printf 'a\\377')"
+    yield Case("a name that is not UTF-8", stray, READ_FAULT, stands="folder")
+    odd = "mkdir $out; : > \"$out/a b\"; : > \"$out/$(printf 'c\\nd\\\\')\"; : > $out/-rf"
+    yield Case("names with spaces, newlines and dashes", odd, stands="folder")
+    yield Case("nothing", "exit 0", failed('MissingOutput("out")'))
+    yield Case("a file without permissions", "echo x > $out; chmod 0 $out", also=(READ_FAULT,))
+
+
+def ends():
+    """Builders that end otherwise, or go on."""
+    yield Case("an exit status", "echo x > $out; exit 77", failed("ExitStatus(77)"), stands="file")
+    yield Case("a signal", "echo x > $out; kill -9 $$", failed("Killed"), stands="file")
+    ignores = "s='INT TERM HUP QUIT PIPE USR1'; trap '' $s; for s in $s; do kill -$s $$; done; "
+    yield Case("signals that are ignored", ignores + "echo made > $out", stands="file")
+    outlives = "trap '' HUP TERM INT; " + LOOP.format(6000, "echo x >> $F/late; sleep 0.05")
+    more = {"stands": "file", "traced": False}
+    yield Case("a child that stays", outlives + "echo made > $out", stays=True, **more)
+    late = "(until [ -e $F/well ]; do sleep 0.05; done; echo late > $out; : > $F/late)" + CHILD
+    late += "echo made > $out"
+    yield Case("a child that changes the output later", late, between=wait_late, **more)
+    kills = "kill -9 $PPID; sleep 0.2; echo late > $out"
+    yield Case("the death of the program", kills, killed=True, second=BUILT, between=wait_a_little)
+    fds = f"{sys.executable} -c '{FILES}' && echo made > $out"
+    yield Case("a look at its open files", fds, stands="file")
+    unseen = "cat; head -c 300000 /dev/zero; echo x >&2; echo > $out"
+    yield Case("input and words that nobody sees", unseen)
+
+
+def beside():
+    """Builders that write beside their outputs."""
+    names = (".nix_realise-0", ".nix_realise-left-0", "beside", ".build-7")
+    script = "".join(f"echo mine > $NIX_STORE/{name}; " for name in names)
+    yield Case("files beside the output", script + "echo made > $out", beside=names)
+    yield Case("another journal", f"echo garbage > {JOURNAL}; echo made > $out")
+    yield Case("no journal", f"rm {JOURNAL}; echo made > $out")
+    linked = f"rm {JOURNAL}; ln -s $W/file {JOURNAL}; echo made > $out"
+    yield Case("a link for the journal", linked)
+    for name, make in (("folder", "mkdir"), ("pipe", "mkfifo")):
+        script = f"rm {JOURNAL}; {make} {JOURNAL}; echo made > $out"
+        own = ("realiser-journal",)
+        yield Case(f"a {name} for the journal", script, UNWRITABLE, second=UNREADABLE, beside=own)
+    gone = "cd /; rm -rf $NIX_BUILD_TOP; echo made > $out"
+    yield Case("no build folder", gone)
+    for name, at in (("a link for the build folder", "$W"), ("a dangling link for it", "$W/none")):
+        script = f"cd /; rm -rf $NIX_BUILD_TOP; ln -s {at} $NIX_BUILD_TOP; "
+        yield Case(name, script + "echo made > $out")
+    links = "ln -s $W link; ln -s $W/file file; mkdir d; ln -s $W d/link; ln $W/file hard; "
+    yield Case("links in the build folder", links + "echo made > $out")
+    yield Case("a hard link for the output", "ln $W/file $out", stands="file")
+
+
+def swaps():
+    """Links that come and go while the program reads or removes."""
+    any_answer = (READ_FAULT, TOO_LARGE, failed('MissingOutput("out")'), BUILT)
+    read = {"also": any_answer, "between": stop}
+    removed = {"beside": ("*",), "between": stop}
+    many = "mkdir -p $out/d; for i in $(seq 300); do : > $out/d/$i; : > $out/$i; done; "
+    yield Case("a link for the output while it is read", many + swapping("$out"), **read)
+    yield Case("a link in the output while it is read", many + swapping("$out/d"), **read)
+    fill = "for i in $(seq 300); do mkdir -p d/$i; : > d/$i/f; done; echo made > $out; "
+    top = swapping("$NIX_BUILD_TOP")
+    yield Case("a link for the build folder while it is removed", fill + top, **removed)
+    yield Case("a link in the build folder while it is removed", fill + swapping("d"), **removed)
+    keep = many + swapping("$out/d") + "sleep 0.1; exit 5"
+    five = failed("ExitStatus(5)")
+    yield Case("a link in an old output while it is removed", keep, five, beside=("*",))
+    grow = "echo > $out; " + LOOP.format(400, "head -c 500000 /dev/zero >> $out")
+    yield Case("a file that grows", grow, **read)
+
+
+SWAP = """
+import contextlib, os, sys
+at, moved, watched, stop, rounds = sys.argv[1:]
+for number in range(int(rounds)):
+    if number % 50 == 0 and os.path.exists(stop):
+        break
+    for act, words in ((os.rename, (at, moved)), (os.symlink, (watched, at)), (os.unlink, (at,)),
+                       (os.rename, (moved, at))):
+        with contextlib.suppress(OSError):
+            act(*words)
+"""
+
+
+def swapping(at):
+    """What puts a link to the watched folder at a place and takes it away again, many times."""
+    return f"{sys.executable} -c '{SWAP}' {at} $F/moved $W $F/stop $(cat $F/rounds)" + CHILD
+
+
+def small_disks():
+    """Builders that fill a small disk."""
+    fills = "cat /dev/zero > $out"
+    more = {"second": BUILT, "also": (failed("ExitStatus(1)"),), "small": True}
+    yield Case("a full disk by the output", fills, UNWRITABLE, **more)
+    fills = "cat /dev/zero > big; exit 9"
+    yield Case("a full disk by the build folder", fills, failed("ExitStatus(9)"), small=True)
+
+
+def wait_late(site):
+    """Waits until a child has changed the output."""
+    site.until((site.outside / "late").exists)
+
+
+def wait_a_little(site):
+    """Waits until the builder of a killed program has ended."""
+    site.until(lambda: os.path.exists(site.output))
+
+
+def stop(site):
+    """Has the children end, and waits for them."""
+    site.stop()
+
+
+def cases():
+    """All of them."""
+    for group in (ends, beside, kinds, limits, swaps, small_disks):
+        yield from group()

@@ -1,0 +1,232 @@
+"""The scenes of `tests/refused-calls` for `plan` and `realise`."""
+
+import os
+import re
+
+from refused_scenes import FIRST_LINE, JOURNAL, Scene
+from scenes import contents, draft, put
+
+SCRIPTS = {
+    "first": "echo first > $out",
+    "second": "mkdir -p $out/sub junk/deep; echo a > $out/a; echo b > $out/sub/b;"
+    " : > junk/deep/f; : > junk/g",
+    "third": "mkdir junk; : > junk/f; echo third > $out",
+}
+REASONS = "(NoStart|ReadFault|MissingOutput\\(\"out\"\\)|ExitStatus\\(\\d+\\)|OutOfMemory|Killed)"
+
+
+class Runs(Scene):
+    """Three derivations: the second uses the first, and the third's output is there, an old one."""
+
+    def prepare(self):
+        self.drv, self.out = {}, {}
+        for name, script in SCRIPTS.items():
+            inputs = [(self.drv["first"], "out")] if name == "second" else []
+            text = draft(script, inputs=inputs)
+            self.drv[name], outputs = put(self.program, self.store, name, text)
+            self.out[name] = outputs["out"]
+            base = os.path.basename(self.drv[name])
+            self.old_files[base] = open(self.drv[name]).read()
+        self.old_files[JOURNAL] = FIRST_LINE + f"A {self.store}/{'a' * 32}-x -\n"
+        self.old_files[os.path.basename(self.out["third"]) + "/old/file"] = "old\n"
+        self.old_files[".build-0/old/file"] = "old\n"
+
+    def drvs(self):
+        return list(self.drv.values())
+
+    def common(self):
+        """The words behind the subcommand's."""
+        return ["--store-dir", self.store, self.drv["second"], self.drv["third"]]
+
+    def place_of(self, calls, at):
+        path = calls[at].path
+        if path in self.drv.values():
+            return "derivation"
+        return "journal read" if path == str(self.journal) else ""
+
+    def report(self, words):
+        """The report where each derivation has such a line, and the roots such outputs."""
+        rows = sorted((self.drv[name], word) for name, word in words.items())
+        lines = []
+        for drv, word in rows:
+            word, colon, reason = word.partition(":")
+            lines.append(f"{word} {drv}{colon}{reason}\n")
+        for name in ("second", "third"):
+            if words[name].split(":")[0] in ("built", "reused", "build", "reuse"):
+                lines.append(f"output {self.out[name]}\n")
+        return "".join(lines)
+
+
+class Plan(Runs):
+    """`plan` of all three."""
+
+    subcommand = name = "plan"
+
+    def command(self):
+        return ["plan", *self.common()]
+
+    def good(self):
+        return 0, self.report({name: "build" for name in SCRIPTS}), ""
+
+
+class Realise(Runs):
+    """`realise` of all three by one worker."""
+
+    subcommand = name = "realise"
+    jobs = 1
+
+    def command(self):
+        return ["realise", "--jobs", self.jobs, *self.common()]
+
+    def good(self):
+        return 0, self.report({name: "built" for name in SCRIPTS}), ""
+
+    def of_output(self, path):
+        """The derivation whose output, or a part of it, lies at a path."""
+        for name, output in self.out.items():
+            if path == output or path.startswith(output + "/"):
+                return name
+        return None
+
+    def derivation_of(self, calls, at):
+        """The derivation that a call's thread works for."""
+        for call in reversed(calls[: at + 1]):
+            if call.thread == calls[at].thread and self.of_output(call.path):
+                return self.of_output(call.path)
+        return None
+
+    def has_started(self, calls, at):
+        """Whether the call's thread has started the builder of its derivation."""
+        name = self.derivation_of(calls, at)
+        for call in reversed(calls[:at]):
+            if call.thread == calls[at].thread and call.kind == "spawn" and not call.is_refused:
+                return self.derivation_of(calls, calls.index(call)) == name
+        return False
+
+    def place_of(self, calls, at):
+        call = calls[at]
+        path = call.path.split(" > ")[-1]
+        if call.kind in ("print", "wait", "thread"):
+            return {"print": "", "wait": "end", "thread": self.threads()}[call.kind]
+        if path in self.drv.values():
+            return "derivation"
+        made = [c.kind for c in calls[: at + 1]].count("create")
+        if path == str(self.journal) and call.kind != "rename":
+            looks = [c.path for c in calls[: at + 1] if c.kind == "look"].count(path)
+            return ("journal read", "journal tried", "journal written")[looks - 1]
+        if path == str(self.journal) or "/.nix_realise-" in path:
+            return "journal tried" if made == 1 else "journal written"
+        if call.kind in ("make-folder", "spawn") or path == "/dev/null":
+            return "start"
+        if self.has_started(calls, at):
+            return "output" if self.of_output(path) else "build folder"
+        return "taken place" if self.is_taken(path) else "free place"
+
+    def threads(self):
+        return "only" if self.jobs == 1 else "one of two"
+
+    def is_taken(self, path):
+        """Whether something lay at a place of the store folder before the run."""
+        return os.path.relpath(path, self.store).split("/")[0] in self.laid
+
+    def told_of(self, told, calls, at):
+        if told in ("NoStart", "ReadFault") and at is not None:
+            failed = self.derivation_of(calls, at)
+            words = {name: "built" for name in SCRIPTS}
+            words[failed] = f"failed: {told}"
+            if failed == "first":
+                words["second"] = f"refused: InputNotRealised({self.drv['first']})"
+            self.failed = failed
+            return 1, self.report(words), ""
+        self.failed = None
+        return super().told_of(told, calls, at)
+
+    def is_again(self, out):
+        # The first one is not wanted where the second is valid.
+        rows = [f"((built|reused) {re.escape(drv)}\n)?" for drv in sorted(self.drv.values())]
+        rows += [f"output {re.escape(self.out[name])}\n" for name in ("second", "third")]
+        return re.fullmatch("".join(rows), out) is not None
+
+    def is_stated(self, told):
+        status, out, err = told
+        row = f"((built|reused) {{0}}|failed {{0}}: {REASONS}"
+        row += "|refused {0}: InputNotRealised\\(.*\\))\n"
+        rows = [row.format(re.escape(drv)) for drv in sorted(self.drv.values())]
+        rows += [f"(output {re.escape(self.out[name])}\n)?" for name in ("second", "third")]
+        if out and not err:
+            is_bad = re.search("^(failed|refused) ", out, re.M) is not None
+            return re.fullmatch("".join(rows), out) is not None and status == int(is_bad)
+        return super().is_stated(told)
+
+    def journal_of(self, found):
+        """The entries of the journal, and whether those of before stand first."""
+        text = found[JOURNAL][1].decode() if JOURNAL in found else ""
+        old = self.old_files[JOURNAL]
+        entries = re.split("^(?=[AD] )", text[len(old) :], flags=re.M)
+        return text.startswith(old), sorted(entry for entry in entries if entry)
+
+    def names_of(self, found, name):
+        """What stands at an output."""
+        base = os.path.basename(self.out[name])
+        return {n: e[:2] for n, e in found.items() if n == base or n.startswith(base + "/")}
+
+    def strays(self, found, stands):
+        is_last = isinstance(stands, dict)
+        stray = [name for name in self.rest(found, stands) if name not in self.left]
+        is_behind, entries = self.journal_of(found)
+        if not is_behind:
+            stray.append(JOURNAL)
+        last = self.last or contents(found)
+        _, all_entries = self.journal_of(last)
+        by_drv = {e.split()[1]: e for e in all_entries}
+        known = {name: by_drv.get(drv) in entries for name, drv in self.drv.items()}
+        if any(entry not in all_entries for entry in entries):
+            stray.append(JOURNAL)
+        for name in SCRIPTS:
+            held, new = self.names_of(found, name), self.names_of(last, name)
+            has_begun = stands in ("new", "outputs") or is_last or known[name]
+            if has_begun and held != new:
+                stray.append(self.out[name])
+            if stands in ("old", "left") and held != self.names_of(self.laid, name):
+                stray.append(self.out[name])
+        wanted = self.wanted(stands, is_last)
+        if wanted is not None and wanted != {name for name in SCRIPTS if known[name]}:
+            stray.append(f"{JOURNAL} registers {sorted(name for name in SCRIPTS if known[name])}")
+        return sorted(stray)
+
+    def wanted(self, stands, is_last):
+        """The derivations that the journal has to know."""
+        if stands in ("old", "left", "outputs"):
+            return set()
+        if stands == "new" or is_last:
+            return set(SCRIPTS)
+        if stands == "less":
+            lost = {"first", "second"} if self.failed == "first" else {self.failed}
+            return set(SCRIPTS) - lost
+        return None
+
+    def rest(self, found, stands):
+        """Names beside the outputs and the journal that are new, or gone, or changed."""
+        stray = []
+        for name in set(found) | set(self.laid):
+            if name == JOURNAL or self.of_output(str(self.store / name)):
+                continue
+            is_own = re.match(r"\.build-[012](/|$)|\.nix_realise-(left-)?[0-4](/|$)", name)
+            if is_own and stands in (None, "left"):
+                if name in found:
+                    self.left.add(name)
+                continue
+            if is_own and name in self.laid and stands == "old":
+                continue
+            if is_own and name not in found:
+                continue
+            if found.get(name) != self.laid.get(name):
+                stray.append(name)
+        return stray
+
+
+class RealiseByTwo(Realise):
+    """The same by two workers."""
+
+    name = "realise by two"
+    jobs = 2

@@ -1,0 +1,120 @@
+"""What the scripts that run the program share: derivations, runs, and what stands in a folder."""
+
+import errno
+import os
+import pathlib
+import shutil
+import stat
+import subprocess
+import sys
+
+HERE = pathlib.Path(__file__).resolve().parent
+sys.path.insert(0, str(HERE.parent / "bench"))
+from store_paths import text_path  # noqa: E402,F401
+
+BUILT = HERE.parent / "crates/nix_realise/out/nix_realise"
+PATH = ("PATH", "/usr/sbin:/usr/bin:/sbin:/bin")
+
+
+def program_of(words):
+    """The program's path: the first word that is no option, else the one that was built here."""
+    given = [word for word in words if not word.startswith("--")]
+    program = pathlib.Path(given[0] if given else BUILT).resolve()
+    if not os.access(program, os.X_OK):
+        sys.exit(f"{program} is not there: build it by (cd crates/nix_realise && rt run -- --help)")
+    return str(program)
+
+
+def number_of(words, option, default):
+    """The number behind an option --NAME=NUMBER."""
+    for word in words:
+        if word.startswith(option + "="):
+            return int(word[len(option) + 1 :])
+    return default
+
+
+def quoted(text):
+    """A string of the derivations' language."""
+    escapes = {'"': '\\"', "\\": "\\\\", "\n": "\\n", "\r": "\\r", "\t": "\\t"}
+    return '"' + "".join(escapes.get(letter, letter) for letter in text) + '"'
+
+
+def listed(texts):
+    """A list of the derivations' language."""
+    return "[" + ",".join(texts) + "]"
+
+
+def draft(script, outputs=("out",), inputs=()):
+    """A draft whose builder is a shell over a script; inputs are pairs of a path and an output."""
+    entries = dict([PATH, *((name, "") for name in outputs)])
+    parts = [
+        listed(f'({quoted(name)},"","","")' for name in sorted(outputs)),
+        listed(f"({quoted(path)},{listed([quoted(name)])})" for path, name in sorted(inputs)),
+        "[]",
+        quoted("x86_64-linux"),
+        quoted("/bin/sh"),
+        listed([quoted("-c"), quoted(script)]),
+        listed(f"({quoted(key)},{quoted(value)})" for key, value in sorted(entries.items())),
+    ]
+    return "Derive(" + ",".join(parts) + ")"
+
+
+def run(words, **more):
+    """Runs a command, and gives its status, and what it wrote, as texts."""
+    ran = subprocess.run(words, capture_output=True, timeout=900, check=False, **more)
+    out, err = (text.decode(errors="surrogateescape") for text in (ran.stdout, ran.stderr))
+    return ran.returncode, out, err
+
+
+def put(program, store, name, text):
+    """Writes a draft's derivation to the store folder; gives its path and those of its outputs."""
+    file = store.parent / "draft"
+    file.write_text(text)
+    status, out, err = run([program, "add-drv", "--store-dir", store, name, file])
+    assert status == 0, (name, status, err)
+    path = out.strip()
+    front = pathlib.Path(path).read_text().split("],[")[0]
+    outputs = {row.split('"')[1]: row.split('"')[3] for row in front.split("(")[2:]}
+    return path, outputs
+
+
+def entry_of(path):
+    """What lies at a path: its kind, permissions, number, time of change, and what it holds."""
+    found = os.lstat(path)
+    holds = b""
+    if stat.S_ISREG(found.st_mode):
+        with open(path, "rb") as file:
+            holds = file.read()
+    elif stat.S_ISLNK(found.st_mode):
+        holds = os.readlink(path)
+    return found.st_mode, holds, found.st_ino, found.st_mtime_ns
+
+
+def snapshot(folder):
+    """All that stands below a folder, by its path there, but what goes away meanwhile, and what
+    no path reaches."""
+    found = {}
+    for place, folders, files in os.walk(folder):
+        for name in folders + files:
+            path = os.path.join(place, name)
+            try:
+                found[os.path.relpath(path, folder)] = entry_of(path)
+            except OSError as error:
+                if error.errno not in (errno.ENOENT, errno.ENOTDIR, errno.ENAMETOOLONG):
+                    raise
+    return found
+
+
+def contents(found):
+    """Kinds, permissions and what is held, without numbers and times."""
+    return {name: entry[:2] for name, entry in found.items()}
+
+
+def empty(folder):
+    """Removes all that is in a folder."""
+    for name in os.listdir(folder):
+        path = os.path.join(folder, name)
+        if os.path.isdir(path) and not os.path.islink(path):
+            shutil.rmtree(path)
+        else:
+            os.unlink(path)
