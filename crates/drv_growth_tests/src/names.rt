@@ -10,6 +10,9 @@ const EMPTY: &[u8] = b"/nix/store/wi0sw9r4p5prk7acm7i0z1b97h75faw7-empty";
 
 const HASH: &[u8] = b"wi0sw9r4p5prk7acm7i0z1b97h75faw7";
 
+// The characters `wi0sw9r4`.
+const KEY: u64 = 0x7769_3073_7739_7234;
+
 // SHA-256 of nothing (FIPS 180-4): its text, and its bytes folded.
 const NOTHING: &[u8] = b"sha256:e3b0c44298fc1c149afbf4c8996fb92427ae41e4649b934ca495991b7852b855";
 
@@ -151,6 +154,7 @@ fn is_path_told(alloc: Global, path: &StorePath) -> bool {
         && path.as_str().as_bytes() == EMPTY
         && path.hash_part() == HASH
         && path.name() == b"empty".as_slice()
+        && path.key() == KEY
 }
 
 // The same of those on digests and names.

@@ -12,6 +12,9 @@ const EMPTY: &[u8] = b"/nix/store/wi0sw9r4p5prk7acm7i0z1b97h75faw7-empty";
 
 const EMPTY_HASH: &[u8] = b"wi0sw9r4p5prk7acm7i0z1b97h75faw7";
 
+// The characters `wi0sw9r4`.
+const EMPTY_KEY: u64 = 0x7769_3073_7739_7234;
+
 fn nothing() -> [u8; 32] {
     let mut digest = [0; 32];
     let _ = hex::decode_to_slice(NOTHING, &mut digest);
@@ -67,7 +70,10 @@ fn texts_of_paths(rt: HostRuntime) -> Result<(), Fail> {
 }
 
 fn is_empty_path(path: &StorePath) -> bool {
-    path.text() == EMPTY && path.hash_part() == EMPTY_HASH && path.name() == b"empty".as_slice()
+    path.text() == EMPTY
+        && path.hash_part() == EMPTY_HASH
+        && path.name() == b"empty".as_slice()
+        && path.key() == EMPTY_KEY
 }
 
 // The path in `/nix/store` with this text.

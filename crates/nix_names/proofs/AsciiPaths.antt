@@ -36,7 +36,7 @@ among (x ∷ xs) b below found =
     ]
 
 -- a base-32 digit is ASCII
-digit_is_ascii : (b : ℕ) → is_digit b ≡ true → b < 128
+pub digit_is_ascii : (b : ℕ) → is_digit b ≡ true → b < 128
 digit_is_ascii b h = among alphabet b refl h
 
 -- a letter and a decimal digit are ASCII

@@ -9,6 +9,7 @@ pub mod Base32Texts
 pub mod DigestPairs
 pub mod DigestTexts
 pub mod FirstElements
+pub mod Keys
 pub mod Lists
 pub mod PathBytes
 pub mod PathDigests

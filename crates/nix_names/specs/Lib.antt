@@ -3,6 +3,7 @@ pub mod Base32
 pub mod Digests
 pub mod Faults
 pub mod Firsts
+pub mod Keys
 pub mod Names
 pub mod Rising
 pub mod StorePaths

@@ -9,6 +9,7 @@ ghost use Rattle.std.specs.Hash as fed;
 ghost use Rattle.std.specs.Ordering.{nat_cmp, as_partial_cmp};
 ghost use Rattle.std.proofs.Common.{refl, rules};
 ghost use Rattle.nix_names.specs.Answers.{Answers};
+ghost use Rattle.nix_names.specs.Keys.{key_of};
 ghost use Rattle.nix_names.specs.Names.{is_name};
 ghost use Rattle.nix_names.specs.StorePaths.{IsPathOf, IsStorePath, base_fault, base_of, hash_part_of, is_hash_part, name_of, path_fault, path_text};
 
@@ -22,7 +23,7 @@ use std::cmp::Ordering;
 use std::hash::{Hash, Hasher};
 use std::marker::Model;
 use std::str;
-use std::sync::ArcSlice;
+use std::sync::Arc;
 
 // The length of a hash part, in bytes.
 const HASH_PART_LEN: usize = 32;
@@ -31,18 +32,27 @@ const HASH_PART_LEN: usize = 32;
 /// all copies of the path share, in any threads: a path takes 8 bytes beside it.
 #[derive(Debug, Drop)]
 pub struct StorePath {
-    text: ArcSlice<u8>,
+    shared: Arc<PathText>,
 }
 
 impl Model for StorePath {
-    ghost use Rattle.std.specs.Prelude.{List, ℕ};
+    ghost use Rattle.std.specs.Prelude.{◌≡◌, List, ℕ};
+    ghost use Rattle.nix_names.specs.Keys.{key_of};
     ghost use Rattle.nix_names.specs.StorePaths.{IsStorePath};
 
     ghost Value = { List ℕ };
 
-    ghost view = { λ path. path.text.items.value.items };
+    ghost view = { λ path. path.shared.value.text.items };
 
-    ghost invariant = { λ path. IsStorePath path.text.items.value.items };
+    ghost invariant = { λ path. IsStorePath path.shared.value.text.items
+        × (path.shared.value.key ≡ key_of path.shared.value.text.items) };
+}
+
+// The text of a path and its key, which stands where the copies are counted.
+#[derive(Debug, Drop)]
+struct PathText {
+    text: Vec<u8>,
+    key: u64,
 }
 
 impl StorePath {
@@ -51,7 +61,7 @@ impl StorePath {
         ensures value { result.now ≡ self.now }
         ensures is_path { IsStorePath self.now }
     {
-        self.text.as_slice()
+        &self.shared.text
     }
 
     /// The whole path as a string, since its bytes are ASCII. Costs one pass.
@@ -83,6 +93,15 @@ impl StorePath {
         &self.base()[HASH_PART_LEN + 1..]
     }
 
+    /// The first eight characters of the hash part as one number, of which the first counts most.
+    /// Of two paths of one folder, the one with the lesser key is the lesser. Costs no look at the
+    /// text.
+    pub fn key(&self) -> u64
+        ensures { result ≡ key_of self.now }
+    {
+        self.shared.key
+    }
+
     // All behind the last slash.
     fn base(&self) -> &[u8]
         ensures value { result.now ≡ base_of self.now }
@@ -98,7 +117,7 @@ impl StorePath {
         ensures same { IfOk result (λ path. path ≡ self.now) }
     {
         Ok(StorePath {
-            text: self.text.clone()?,
+            shared: self.shared.clone()?,
         })
     }
 }
@@ -171,9 +190,29 @@ pub fn known_path(alloc: Global, text: &[u8]) -> Result<StorePath, AllocError>
     requires { IsStorePath text.now }
     ensures { IfOk result (λ path. path ≡ text.now) }
 {
+    keyed_path(alloc, Vec::from_slice(alloc, text)?)
+}
+
+// The path of a text, with its key.
+fn keyed_path(alloc: Global, text: Vec<u8>) -> Result<StorePath, AllocError>
+    requires { IsStorePath text.items }
+    ensures { IfOk result (λ path. path ≡ text.items) }
+{
+    let key = key_of(&text);
     Ok(StorePath {
-        text: ArcSlice::from_slice(alloc, text)?,
+        shared: Arc::new(alloc, PathText { text, key })?,
     })
+}
+
+// The key of a path's text.
+fn key_of(text: &[u8]) -> u64
+    requires { IsStorePath text.now }
+    ensures { result ≡ key_of text.now }
+{
+    match text[base_place(text)..].first_chunk::<8>() {
+        Some(first) => u64::from_be_bytes(*first),
+        None => unreachable!(),
+    }
 }
 
 // The path of the folder with this hash part and name.
@@ -188,9 +227,7 @@ pub fn join_path(
     ensures { IfOk result (λ path. path ≡ path_text dir.now hash.now name.now) }
 {
     let text = join_text(alloc, dir.text(), hash, name)?;
-    Ok(StorePath {
-        text: ArcSlice::from_vec(text)?,
-    })
+    keyed_path(alloc, text)
 }
 
 // The text of the path of a folder with this hash part and name.

@@ -1,21 +1,20 @@
 -- Keys that rise strictly: the texts that they stand for do.
-use Rattle.std.proofs.Common.{◌≡◌, ◌⊎◌, ◌<◌, ◌≤◌, ◌+◌, ◌*◌, ℕ, List, [], ◌∷◌, ◌++◌, All, Option, Some, ap, ap₂, arith, drop, get_or, inl, inr, is_some, length, nat_eq, refl, subst, suc, sym, take, true, zero, ◌∙◌}
+use Rattle.std.proofs.Common.{◌≡◌, ◌⊎◌, ◌<◌, ◌≤◌, ◌+◌, ℕ, List, [], ◌∷◌, ◌++◌, All, Option, Some, ap, ap₂, arith, drop, get_or, inl, inr, is_some, length, nat_eq, refl, subst, suc, sym, take, true, zero, ◌∙◌}
 use Rattle.std.specs.Cmp.Lexicographic.{pointwise, slice_cmp}
 use Rattle.std.specs.Int.{from_be_bytes, w64}
 use Rattle.std.specs.List.{AllByRecursion, slice_get}
 use Rattle.std.specs.List.Sorted.{IsPermutation}
 use Rattle.std.specs.Map.{keys_of}
 use Rattle.std.specs.Option.{unwrap_or}
-use Rattle.std.specs.Ordering.{nat_cmp, ordering_then}
-use Rattle.std.specs.declared.cmp.Ordering.{Ordering}
-use Rattle.std.specs.declared.cmp.Ordering.TheVariants.{Equal, Less}
-use Rattle.std.proofs.lemmas.Bool.{cases_lt, false≢true, le-ltb, lt-ltb}
-use Rattle.std.proofs.lemmas.Cmp.{nat_eq_equiv}
+use Rattle.std.specs.Ordering.{nat_cmp}
+use Rattle.std.specs.declared.cmp.Ordering.TheVariants.{Less}
+use Rattle.std.proofs.lemmas.Bool.{false≢true}
 use Rattle.std.proofs.lemmas.List.{append_assoc, drop_all, drop_more, get_or-map, length-map, take-append-drop}
 use Rattle.std.proofs.lemmas.List.Elements.{All-append, recursion_from_All}
 use Rattle.std.proofs.lemmas.List.Sorted.{All-permutation}
 use Rattle.std.proofs.lemmas.Option.{get_or_from_slice_get}
 use Rattle.nix_names.specs.Rising.{IsRising}
+use Rattle.nix_names.proofs.Keys.{bytes_less, eight_spelt, same_front}
 use Rattle.nix_names.proofs.RisingLists.{equal_from_eq}
 use Rattle.valid_table.specs.Closing.{path_at, paths_at}
 use Rattle.valid_table.specs.Entries.{paths_of}
@@ -28,86 +27,7 @@ use Rattle.valid_table.proofs.FirstRows.{first_below}
 use Rattle.valid_table.proofs.Linking.{path_stays}
 use Rattle.valid_table.proofs.RowNumbers.{paths_are_keys, row_count}
 
--- ---- numbers of the same many bytes compare as these do
-
--- the number that bytes spell behind a number, of which the first byte counts most
-abbrev spelt : ℕ → List ℕ → ℕ
-spelt n [] = n
-spelt n (b ∷ bs) = spelt (n * 256 + b) bs
-
-abbrev Small : List ℕ → Type 0
-Small bytes = AllByRecursion (λ b. b < 256) bytes
-
-spelt_less : (n m : ℕ) (xs ys : List ℕ) → length xs ≡ length ys → Small xs → Small ys → n < m
-    → spelt n xs < spelt m ys
-spelt_less n m [] [] same of_x of_y less = less
-spelt_less n m [] (y ∷ ys) same of_x of_y less = absurd (omega (arith, same))
-spelt_less n m (x ∷ xs) [] same of_x of_y less = absurd (omega (arith, same))
-spelt_less n m (x ∷ xs) (y ∷ ys) same of_x of_y less =
-    spelt_less (n * 256 + x) (m * 256 + y) xs ys (omega (arith, same)) of_x.1 of_y.1
-    (omega (arith, less, of_x.0))
-
-eight_spelt : (bytes : List ℕ) → length bytes ≡ 8 → from_be_bytes w64 bytes ≡ spelt 0 bytes
-eight_spelt [] is = absurd (omega (arith, is))
-eight_spelt (a ∷ []) is = absurd (omega (arith, is))
-eight_spelt (a ∷ b ∷ []) is = absurd (omega (arith, is))
-eight_spelt (a ∷ b ∷ c ∷ []) is = absurd (omega (arith, is))
-eight_spelt (a ∷ b ∷ c ∷ d ∷ []) is = absurd (omega (arith, is))
-eight_spelt (a ∷ b ∷ c ∷ d ∷ e ∷ []) is = absurd (omega (arith, is))
-eight_spelt (a ∷ b ∷ c ∷ d ∷ e ∷ f ∷ []) is = absurd (omega (arith, is))
-eight_spelt (a ∷ b ∷ c ∷ d ∷ e ∷ f ∷ g ∷ []) is = absurd (omega (arith, is))
-eight_spelt (a ∷ b ∷ c ∷ d ∷ e ∷ f ∷ g ∷ h ∷ []) is = omega arith
-eight_spelt (a ∷ b ∷ c ∷ d ∷ e ∷ f ∷ g ∷ h ∷ i ∷ bytes) is = absurd (omega (arith, is))
-
--- ---- so texts behind one folder compare as their keys do
-
-equal_bytes : (x : ℕ) → nat_cmp x x ≡ Equal
-equal_bytes x = rw (le-ltb x x (omega arith), nat_eq_equiv.refl x) refl
-
-lesser_byte : (x y : ℕ) → x < y → nat_cmp x y ≡ Less
-lesser_byte x y less = rw (lt-ltb x y less) refl
-
-bytes_less : (n : ℕ) (xs ys rest others : List ℕ) → length xs ≡ length ys → Small xs → Small ys
-    → spelt n xs < spelt n ys → slice_cmp nat_cmp (xs ++ rest) (ys ++ others) ≡ Less
-bytes_less n [] [] rest others same of_x of_y less = absurd (omega (arith, less))
-bytes_less n [] (y ∷ ys) rest others same of_x of_y less = absurd (omega (arith, same))
-bytes_less n (x ∷ xs) [] rest others same of_x of_y less = absurd (omega (arith, same))
-bytes_less n (x ∷ xs) (y ∷ ys) rest others same of_x of_y less =
-    elim (cases_lt x y) [
-      | inl below ↦ ap (λ o. ordering_then o tail) (lesser_byte x y below)
-      | inr past ↦ elim (cases_lt y x) [
-        | inl above ↦
-            absurd (omega (
-              arith,
-              less,
-              spelt_less (n * 256 + y) (n * 256 + x) ys xs (sym tails) of_y.1 of_x.1
-                  (omega (arith, above)),
-            ))
-        | inr before ↦
-            level (omega (arith, past, before))
-            (bytes_less (n * 256 + x) xs ys rest others tails of_x.1 of_y.1)
-      ]
-    ]
-  where
-    tail : Ordering
-    tail = slice_cmp nat_cmp (xs ++ rest) (ys ++ others)
-
-    tails : length xs ≡ length ys
-    tails = omega (arith, same)
-
-    level : x ≡ y → (spelt (n * 256 + x) xs < spelt (n * 256 + x) ys → tail ≡ Less)
-        → ordering_then (nat_cmp x y) tail ≡ Less
-    level is next =
-        ap (λ z. ordering_then (nat_cmp x z) tail) (sym is)
-        ∙ ap (λ o. ordering_then o tail) (equal_bytes x)
-        ∙ next (subst (λ z. spelt (n * 256 + x) xs < spelt (n * 256 + z) ys) (sym is) less)
-
-same_front : (front xs ys : List ℕ) → slice_cmp nat_cmp (front ++ xs) (front ++ ys)
-    ≡ slice_cmp nat_cmp xs ys
-same_front [] xs ys = refl
-same_front (b ∷ front) xs ys =
-    ap (λ o. ordering_then o (slice_cmp nat_cmp (front ++ xs) (front ++ ys))) (equal_bytes b)
-    ∙ same_front front xs ys
+-- ---- texts behind one folder compare as their keys do
 
 lesser_key : (folder text other : List ℕ) (k l : ℕ) → IsKey folder text k → IsKey folder other l
     → k < l → slice_cmp nat_cmp text other ≡ Less

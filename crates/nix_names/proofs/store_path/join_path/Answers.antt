@@ -11,10 +11,10 @@ join_text-requires c =
     in
     omega arith
 
-pub invariant_of-result : goal.invariant_of-result
-invariant_of-result c =
+pub keyed_path-requires : goal.keyed_path-requires
+keyed_path-requires c =
     let dir = c.text.ensures in
     stored c.args.dir.now (path_text c.args.dir.now c.args.hash.now c.args.name.now) _ dir.is_dir
     (path_of_parts _ _ _ c.requires.is_hash c.requires.named)
-    (c.in_ok-from_vec.ensures ∙ c.in_ok-text.ensures
+    (c.in_ok-text.ensures
     ∙ ap (λ d. path_text d c.args.hash.now c.args.name.now) dir.value)
