@@ -97,7 +97,8 @@ impl StorePath {
     /// Of two paths of one folder, the one with the lesser key is the lesser. Costs no look at the
     /// text.
     pub fn key(&self) -> u64
-        ensures { result ≡ key_of self.now }
+        ensures value { result ≡ key_of self.now }
+        ensures is_path { IsStorePath self.now }
     {
         self.shared.key
     }
