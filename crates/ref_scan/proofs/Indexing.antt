@@ -1,8 +1,8 @@
 -- The index of hash parts: what its sieve and a search in it tell, and a mark set by it.
 use Rattle.std.proofs.Common.{◌≡◌, ◌≢◌, ◌∙◌, ℕ, ◌+◌, ◌<◌, Bool, true, false, List, [], ◌∷◌, ◌++◌, inl, inr, ⊎_elim, length, get_or, get_or-set_same, get_or-set_other, map, nat_eq, set, refl, sym, ap, subst, arith, Some}
-use Rattle.std.specs.Prelude.{All, Contains, IsTrue, Result, Ok, Err, IsOk, OnOk, slice_index}
+use Rattle.std.specs.Prelude.{All, Contains, IsTrue, Result, Ok, Err, IsOk, OnOk}
 use Rattle.std.specs.Cmp.Lexicographic.{pointwise, slice_cmp, texts_ties}
-use Rattle.std.specs.List.{IsAllAdjacentAnswer, dedup}
+use Rattle.std.specs.List.{dedup}
 use Rattle.std.specs.List.Sorted.{IsBinarySearchResult, IsPermutation, IsSearchInRange, IsSorted}
 use Rattle.std.specs.Ordering.{is_eq, is_lt, nat_cmp, ordering_reverse}
 use Rattle.std.specs.Result.{result_ok}
@@ -12,15 +12,13 @@ use Rattle.std.proofs.lemmas.Cmp.{nat_list_cmp_total, tied_itself}
 use Rattle.std.proofs.lemmas.List.{length-set}
 use Rattle.std.proofs.lemmas.List.Elements.{All-push, Contains-get_or}
 use Rattle.std.proofs.lemmas.List.Sorted.{searchable_from_sorted}
-use Rattle.std.proofs.lemmas.Map.Keys.{Less-from_sorted, sorted_from_all_adjacent}
-use Rattle.nix_names.specs.Base32.{is_digit}
+use Rattle.std.proofs.lemmas.Map.Keys.{Less-from_sorted}
 use Rattle.nix_names.specs.Rising.{IsRising}
 use Rattle.nix_names.specs.StorePaths.{hash_part_of, is_hash_part}
 use Rattle.nix_names.proofs.Lists.{Contains-map}
-use Rattle.nix_names.proofs.RisingLists.{IsBelow, below_from_lt, equal_from_eq, members_of_dedup, not_below_itself, rising_dedup, rising_from_sorted, sorted_from_rising}
-use Rattle.ref_scan.specs.Places.{ArePartsOf, IsPlaceOf, IsSieve, LetsThrough, part_at, slot_of}
+use Rattle.nix_names.proofs.RisingLists.{IsBelow, equal_from_eq, members_of_dedup, not_below_itself, rising_dedup, sorted_from_rising}
+use Rattle.ref_scan.specs.Places.{ArePartsOf, IsPlaceOf, IsSieve, LetsThrough, key_of_part, part_at, slot_of, tag_of}
 use Rattle.ref_scan.specs.Marks.{IsMet, Marked}
-use Rattle.ref_scan.proofs.HashParts.{hash_part_digit}
 
 -- what a call promised at Ok, where it was Ok
 pub on_ok : {T E : Type 0} (r : Result T E) (P : Type 0) → IsOk r → OnOk r P → P
@@ -28,14 +26,6 @@ on_ok (Ok x) P is h = h
 on_ok (Err e) P is h = absurd (false≢true is)
 
 -- ---- parts that rise
-
-pub rising_told : (parts : List (List ℕ)) (answer : Bool)
-    → IsAllAdjacentAnswer (λ x y b. b ≡ is_lt (slice_cmp nat_cmp x y)) parts answer
-    → IsTrue answer → IsRising parts
-rising_told parts true each is =
-    rising_from_sorted parts (sorted_from_all_adjacent nat_list_cmp_total parts []
-    (λ k lt. below_from_lt (get_or parts k []) (get_or parts (k + 1) []) (sym (each k [] lt))))
-rising_told parts false each is = absurd (false≢true is)
 
 -- an earlier part is below a later one
 below_later : (parts : List (List ℕ)) (i j : ℕ) (d : List ℕ) → IsRising parts → i < j
@@ -125,46 +115,55 @@ parts_sorted paths parts sorted value each moved ordered =
 
 -- ---- the sieve
 
--- a sieve of so many slots lets a part through
-abbrev pub Sieves : ℕ → List ℕ → List ℕ → Type 0
-Sieves slots sieve part = LetsThrough (get_or sieve (slot_of slots part) 0) (slice_index part 27)
+-- a sieve of so many slots lets a key through
+abbrev pub Sieves : ℕ → List ℕ → ℕ → Type 0
+Sieves slots sieve key = LetsThrough (get_or sieve (slot_of slots key) 0) (tag_of key)
 
-pub stopped : (parts : List (List ℕ)) (sieve window : List ℕ) → IsSieve parts sieve
-    → ¬ Sieves (length sieve) sieve window → Contains parts window → ⊥
-stopped parts sieve window sieved none has =
-    none (subst (Sieves (length sieve) sieve) has.2 (sieved.each has.0 window has.1))
+-- the key of a part is one of the keys
+key_within : (parts : List (List ℕ)) (keys window : List ℕ) → keys ≡ map key_of_part parts
+    → Contains parts window → Contains keys (key_of_part window)
+key_within parts keys window is has =
+    subst (λ ks. Contains ks (key_of_part window)) (sym is)
+    (Contains-map key_of_part parts window has)
 
-tag_some : (part : List ℕ) → IsTrue (is_hash_part part) → slice_index part 27 ≢ 0
-tag_some part is zero =
-    let digit : is_digit (slice_index part 27) ≡ true = hash_part_digit part is 27 (omega arith) in
-    false≢true (subst (λ b. is_digit b ≡ true) zero digit)
+pub stopped :
+    (parts : List (List ℕ)) (keys sieve window : List ℕ) (key : ℕ) →
+    keys ≡ map key_of_part parts →
+    key ≡ key_of_part window →
+    IsSieve keys sieve →
+    ¬ Sieves (length sieve) sieve key →
+    Contains parts window → ⊥
+stopped parts keys sieve window key is of_window sieved none has =
+    let within = key_within parts keys window is has in
+    let here = within.2 ∙ sym of_window in
+    none (subst (Sieves (length sieve) sieve) here
+    (sieved.each within.0 (key_of_part window) within.1))
 
 pub sieve_more :
-    (parts : List (List ℕ)) (sieve part : List ℕ) (slots slot new : ℕ) →
-    slot ≡ slot_of slots part →
+    (keys sieve : List ℕ) (key slots slot new : ℕ) →
+    slot ≡ slot_of slots key →
     slot < length sieve →
-    All (λ p. IsTrue (is_hash_part p)) parts →
-    LetsThrough new (slice_index part 27) →
+    LetsThrough new (tag_of key) →
     ((other : ℕ) → other ≢ 0 → LetsThrough (get_or sieve slot 0) other → LetsThrough new other) →
-    All (Sieves slots sieve) parts →
-    All (Sieves slots (set sieve slot new)) (parts ++ part ∷ [])
-sieve_more parts sieve part slots slot new is fits are here stays before =
+    All (Sieves slots sieve) keys →
+    All (Sieves slots (set sieve slot new)) (keys ++ key ∷ [])
+sieve_more keys sieve key slots slot new is fits here stays before =
     let set_here = get_or-set_same sieve slot new 0 fits in
-    All-push (Sieves slots (set sieve slot new)) parts part
+    All-push (Sieves slots (set sieve slot new)) keys key
     (λ k d lt.
-    let q = get_or parts k d in
+    let q = get_or keys k d in
     ⊎_elim
     (λ (e : slot_of slots q ≡ slot).
-    subst (λ n. LetsThrough (get_or (set sieve slot new) n 0) (slice_index q 27)) (sym e)
-    (subst (λ v. LetsThrough v (slice_index q 27)) (sym set_here)
-    (stays (slice_index q 27) (tag_some q (are k d lt))
-    (subst (λ n. LetsThrough (get_or sieve n 0) (slice_index q 27)) e (before k d lt)))))
+    subst (λ n. LetsThrough (get_or (set sieve slot new) n 0) (tag_of q)) (sym e)
+    (subst (λ v. LetsThrough v (tag_of q)) (sym set_here)
+    (stays (tag_of q) (λ zero. absurd (omega (arith, zero)))
+    (subst (λ n. LetsThrough (get_or sieve n 0) (tag_of q)) e (before k d lt)))))
     (λ (ne : slot_of slots q ≡ slot → ⊥).
-    subst (λ v. LetsThrough v (slice_index q 27))
+    subst (λ v. LetsThrough v (tag_of q))
     (sym (get_or-set_other sieve slot (slot_of slots q) new 0 ne)) (before k d lt))
     (cases_eq (slot_of slots q) slot))
-    (subst (λ n. LetsThrough (get_or (set sieve slot new) n 0) (slice_index part 27)) is
-    (subst (λ v. LetsThrough v (slice_index part 27)) (sym set_here) here))
+    (subst (λ n. LetsThrough (get_or (set sieve slot new) n 0) (tag_of key)) is
+    (subst (λ v. LetsThrough v (tag_of key)) (sym set_here) here))
 
 -- ---- a mark
 

@@ -4,6 +4,7 @@ pub mod Folders
 pub mod HashParts
 pub mod Indexing
 pub mod Pieces
+pub mod RisingKeys
 pub mod Rooms
 pub mod Scanning
 pub mod Seams

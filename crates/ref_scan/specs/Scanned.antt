@@ -2,12 +2,13 @@
 use Rattle.std.specs.Prelude.{◌≡◌, ◌↔◌, ◌<◌, ℕ, Bool, List, [], ◌∷◌, ◌++◌, length}
 use Rattle.ref_scan.specs.Kept.{last_bytes}
 use Rattle.ref_scan.specs.Marks.{IsMet}
-use Rattle.ref_scan.specs.Places.{AreHashParts, IsSieve, part_at}
+use Rattle.ref_scan.specs.Places.{ArePartsOf, part_at}
 use Rattle.ref_scan.specs.Scan.{OccursIn}
 
--- The hash parts that are sought, whether they stand as their paths do, the lists of bytes that a
--- cut ended, and the list that goes on.
+-- The permitted paths, the hash parts that are sought, whether these stand as the paths do, the
+-- lists of bytes that a cut ended, and the list that goes on.
 pub record Sought : Type 0 where
+  pub permitted : List (List ℕ)
   pub parts : List (List ℕ)
   pub in_order : Bool
   pub ended : List (List ℕ)
@@ -15,10 +16,8 @@ pub record Sought : Type 0 where
 
 -- Just those parts have a mark that stand within a list; the last bytes of the present list are
 -- kept.
-pub record Scanned (sought : Sought) (sieve : List ℕ) (met : List Bool) (tail : List ℕ)
-    : Type 0 where
-  pub are_parts : AreHashParts sought.parts
-  pub sieved : IsSieve sought.parts sieve
+pub record Scanned (sought : Sought) (met : List Bool) (tail : List ℕ) : Type 0 where
+  pub of_paths : ArePartsOf sought.permitted sought.parts sought.in_order
   pub count : length met ≡ length sought.parts
   pub marks : (k : ℕ) → k < length sought.parts
       → IsMet met k ↔ OccursIn (part_at sought.parts k) (sought.ended ++ sought.present ∷ [])

@@ -1,13 +1,12 @@
 //! Which hash part a window of 32 bytes is, told at once for any window.
-ghost use Rattle.std.specs.Prelude.{◌≡◌, ◌≢◌, ◌⊎◌, ◌<◌, ℕ, All, IfOk, IsTrue, length, map, slice_index, slice_index_or};
-ghost use Rattle.std.specs.Cmp.Lexicographic.{slice_cmp};
-ghost use Rattle.std.specs.Ordering.{is_lt, nat_cmp};
-ghost use Rattle.nix_names.specs.Rising.{IsRising};
-ghost use Rattle.nix_names.specs.StorePaths.{hash_part_of, is_hash_part};
-ghost use Rattle.ref_scan.specs.Places.{ArePartsOf, IsPlaceOf, IsSieve, LetsThrough, slot_of};
+ghost use Rattle.std.specs.Prelude.{◌≡◌, ◌≢◌, ◌⊎◌, ◌<◌, [], ℕ, All, IfOk, IsTrue, false, length, map};
+ghost use Rattle.nix_names.specs.Keys.{key_of};
+ghost use Rattle.nix_names.specs.StorePaths.{IsStorePath, hash_part_of, is_hash_part};
+ghost use Rattle.ref_scan.specs.Places.{ArePartsOf, IsPlaceOf, IsSieve, LetsThrough, NumbersRise, key_of_part, mixed, slot_of, tag_of};
 
 use nix_names::StorePath;
 use std::alloc::{AllocError, Global};
+use std::marker::Model;
 
 // The slots of a sieve for each part, and the most slots.
 const SLOTS_A_PART: usize = 16;
@@ -19,58 +18,190 @@ const NONE: u8 = 0;
 
 const ALL: u8 = 255;
 
-// The hash parts of some paths, strictly rising, behind a sieve that few other windows pass.
+// The hash parts of some paths, behind a sieve that few other windows pass. Where the keys of the
+// paths rise strictly, as those of one folder's paths nearly always do, a part is found by its key,
+// and a path's text is looked at only where a window has its key. Else the parts stand apart,
+// sorted.
 #[derive(Drop)]
 pub(crate) struct Index {
-    pub(crate) parts: Vec<[u8; 32]>,
-    // Whether each part stands at the place of its path.
-    pub(crate) in_order: bool,
+    paths: Vec<StorePath>,
+    keys: Vec<u64>,
+    apart: Vec<[u8; 32]>,
+    in_order: bool,
     sieve: Vec<u8>,
+}
+
+impl Model for Index {
+    ghost use Rattle.ref_scan.specs.Places.{Indexed, IsIndex, parts_told};
+
+    ghost Value = { Indexed };
+
+    ghost view = { λ index. record {
+      permitted = index.paths.items;
+      parts = parts_told index.in_order index.paths.items index.apart.items;
+      in_order = index.in_order;
+    } };
+
+    ghost invariant = { λ index. IsIndex index.in_order index.paths.items index.keys.items
+        index.apart.items index.sieve.items };
 }
 
 impl Index {
     // The parts of these paths.
     pub(crate) fn new(alloc: Global, paths: &[StorePath]) -> Result<Index, AllocError>
+        ensures permitted { IfOk result (λ index. index.permitted ≡ paths.now) }
         ensures parts { IfOk result
-            (λ index. ArePartsOf paths.now index.parts.items index.in_order) }
-        ensures sieved { IfOk result (λ index. IsSieve index.parts.items index.sieve.items) }
+            (λ index. ArePartsOf paths.now index.parts index.in_order) }
     {
-        let (parts, in_order) = rising_parts(alloc, paths)?;
-        let sieve = sieve_of(alloc, &parts)?;
+        let keys = keys_of(alloc, paths)?;
+        if are_rising(&keys) {
+            Index::by_key(alloc, paths, keys)
+        } else {
+            Index::by_part(alloc, paths)
+        }
+    }
+
+    // The parts of paths whose keys rise strictly.
+    fn by_key(alloc: Global, paths: &[StorePath], keys: Vec<u64>) -> Result<Index, AllocError>
+        requires are_paths { All IsStorePath paths.now }
+        requires keys { keys.items ≡ map key_of paths.now }
+        requires rising { NumbersRise keys.items }
+        ensures permitted { IfOk result (λ index. index.permitted ≡ paths.now) }
+        ensures parts { IfOk result
+            (λ index. ArePartsOf paths.now index.parts index.in_order) }
+    {
+        let sieve = sieve_of(alloc, &keys)?;
         Ok(Index {
-            parts,
-            in_order,
+            paths: copies(alloc, paths)?,
+            keys,
+            apart: Vec::new(alloc),
+            in_order: true,
             sieve,
         })
+    }
+
+    // The parts of any paths.
+    fn by_part(alloc: Global, paths: &[StorePath]) -> Result<Index, AllocError>
+        ensures permitted { IfOk result (λ index. index.permitted ≡ paths.now) }
+        ensures parts { IfOk result
+            (λ index. ArePartsOf paths.now index.parts index.in_order) }
+    {
+        let apart = sorted_parts(alloc, paths)?;
+        let keys = keys_of_parts(alloc, &apart)?;
+        let sieve = sieve_of(alloc, &keys)?;
+        Ok(Index {
+            paths: copies(alloc, paths)?,
+            keys,
+            apart,
+            in_order: false,
+            sieve,
+        })
+    }
+
+    // The paths, as they were given.
+    pub(crate) fn paths(&self) -> &[StorePath]
+        ensures { result.now ≡ self.now.permitted }
+    {
+        &self.paths
+    }
+
+    // Whether each part stands at the place of its path.
+    pub(crate) fn is_in_order(&self) -> bool
+        ensures { result ≡ self.now.in_order }
+    {
+        self.in_order
+    }
+
+    // How many parts are sought.
+    pub(crate) fn len(&self) -> usize
+        ensures { result ≡ length self.now.parts }
+    {
+        self.keys.len()
     }
 
     // The place of a window that is one of the parts.
     #[inline(always)]
     pub(crate) fn place_of(&self, window: &[u8; 32]) -> Option<usize>
-        requires rising { IsRising self.now.parts.items }
-        requires sieved { IsSieve self.now.parts.items self.now.sieve.items }
-        ensures { IsPlaceOf self.now.parts.items window.now result }
+        ensures { IsPlaceOf self.now.parts window.now result }
     {
-        let held = self.sieve[slot_of(self.sieve.len(), window)];
-        if held != tag_of(window) && held != ALL {
+        let key = key_of(window);
+        let held = self.sieve[slot_of(self.sieve.len(), key)];
+        if held != tag_of(key) && held != ALL {
             return None;
         }
-        self.parts.binary_search(window).ok()
+        self.place_behind(window, key)
+    }
+
+    // The same of a window whose key passed the sieve.
+    fn place_behind(&self, window: &[u8; 32], key: u64) -> Option<usize>
+        requires { key ≡ key_of_part window.now }
+        ensures { IsPlaceOf self.now.parts window.now result }
+    {
+        if self.in_order {
+            self.place_by_key(window, key)
+        } else {
+            self.apart.binary_search(window).ok()
+        }
+    }
+
+    // The same where the parts stand as the paths do.
+    fn place_by_key(&self, window: &[u8; 32], key: u64) -> Option<usize>
+        requires in_order { IsTrue self.now.in_order }
+        requires key { key ≡ key_of_part window.now }
+        ensures { IsPlaceOf self.now.parts window.now result }
+    {
+        let place = self.keys.binary_search(&key).ok()?;
+        if self.paths[place].hash_part() == window.as_slice() {
+            Some(place)
+        } else {
+            None
+        }
     }
 }
 
-// The parts of these paths, strictly rising, and whether each stands at the place of its path. Parts
-// that rise as they come are not sorted.
-fn rising_parts(alloc: Global, paths: &[StorePath]) -> Result<(Vec<[u8; 32]>, bool), AllocError>
-    ensures { IfOk result (λ parts. ArePartsOf paths.now parts.0.items parts.1) }
+// The same paths once more.
+fn copies(alloc: Global, paths: &[StorePath]) -> Result<Vec<StorePath>, AllocError>
+    ensures { IfOk result (λ copies. copies.items ≡ paths.now) }
+{
+    let mut copies = Vec::with_capacity(alloc, paths.len())?;
+    for path in paths {
+        copies.push(path.copy(alloc)?)?;
+    }
+    Ok(copies)
+}
+
+// The key of each path.
+fn keys_of(alloc: Global, paths: &[StorePath]) -> Result<Vec<u64>, AllocError>
+    ensures keys { IfOk result (λ keys. keys.items ≡ map key_of paths.now) }
+    ensures are_paths { IfOk result (λ _. All IsStorePath paths.now) }
+{
+    let mut keys = Vec::with_capacity(alloc, paths.len())?;
+    for path in paths {
+        keys.push(path.key())?;
+    }
+    Ok(keys)
+}
+
+// Whether each key is below the next one.
+fn are_rising(keys: &[u64]) -> bool
+    ensures { IsTrue result → NumbersRise keys.now }
+{
+    for place in 1..keys.len() {
+        if keys[place] <= keys[place - 1] {
+            return false;
+        }
+    }
+    true
+}
+
+// The hash parts of the paths, strictly rising.
+fn sorted_parts(alloc: Global, paths: &[StorePath]) -> Result<Vec<[u8; 32]>, AllocError>
+    ensures { IfOk result (λ parts. ArePartsOf paths.now parts.items false) }
 {
     let mut parts = parts_of(alloc, paths)?;
-    if are_rising(&parts) {
-        return Ok((parts, true));
-    }
     parts.sort_unstable();
     parts.dedup();
-    Ok((parts, false))
+    Ok(parts)
 }
 
 // The hash part of each path.
@@ -85,27 +216,26 @@ fn parts_of(alloc: Global, paths: &[StorePath]) -> Result<Vec<[u8; 32]>, AllocEr
     Ok(parts)
 }
 
-// Whether each part is below the next one.
-fn are_rising(parts: &[[u8; 32]]) -> bool
-    ensures { IsTrue result → IsRising parts.now }
+// The key of each part.
+fn keys_of_parts(alloc: Global, parts: &[[u8; 32]]) -> Result<Vec<u64>, AllocError>
+    ensures { IfOk result (λ keys. keys.items ≡ map key_of_part parts.now) }
 {
-    parts.is_sorted_by(
-        |one: &[u8; 32], next: &[u8; 32]| -> bool
-            ensures { result ≡ is_lt (slice_cmp nat_cmp one.now next.now) }
-        { one.cmp(next).is_lt() },
-    )
+    let mut keys = Vec::with_capacity(alloc, parts.len())?;
+    for part in parts {
+        keys.push(key_of(part))?;
+    }
+    Ok(keys)
 }
 
-// A sieve for these parts.
-fn sieve_of(alloc: Global, parts: &[[u8; 32]]) -> Result<Vec<u8>, AllocError>
-    requires { All (λ part. IsTrue (is_hash_part part)) parts.now }
-    ensures { IfOk result (λ sieve. IsSieve parts.now sieve.items) }
+// A sieve for these keys.
+fn sieve_of(alloc: Global, keys: &[u64]) -> Result<Vec<u8>, AllocError>
+    ensures { IfOk result (λ sieve. IsSieve keys.now sieve.items) }
 {
-    let slots = slot_count(parts.len());
+    let slots = slot_count(keys.len());
     let mut sieve = vec![in alloc; NONE; slots]?;
-    for part in parts {
-        let slot = slot_of(slots, part);
-        sieve[slot] = both(sieve[slot], tag_of(part));
+    for key in keys {
+        let slot = slot_of(slots, *key);
+        sieve[slot] = both(sieve[slot], tag_of(*key));
     }
     Ok(sieve)
 }
@@ -132,26 +262,41 @@ fn slot_count(parts: usize) -> usize
         .next_power_of_two()
 }
 
-// The slot of a window in a sieve of so many, by its last four bytes.
+// A key, mixed so that each of its bits counts in the high ones.
 #[inline(always)]
-fn slot_of(slots: usize, window: &[u8; 32]) -> usize
-    requires { 0 < slots }
-    ensures value { result ≡ slot_of slots window.now }
-    ensures within { result < slots }
+fn mixed(key: u64) -> u64
+    ensures { result ≡ mixed key }
 {
-    let last = usize::from(window[28])
-        + 37 * usize::from(window[29])
-        + 1369 * usize::from(window[30])
-        + 50_653 * usize::from(window[31]);
-    last & (slots - 1)
+    key.wrapping_mul(0x9e37_79b9_7f4a_7c15)
 }
 
-// The byte before those, which tells windows of one slot apart.
+// The slot of a key in a sieve of so many.
 #[inline(always)]
-fn tag_of(window: &[u8; 32]) -> u8
-    ensures { result ≡ slice_index window.now 27 }
+fn slot_of(slots: usize, key: u64) -> usize
+    requires { 0 < slots }
+    ensures value { result ≡ slot_of slots key }
+    ensures within { result < slots }
 {
-    window[27]
+    (mixed(key) >> 44) as usize & (slots - 1)
+}
+
+// What tells keys of one slot apart, mostly.
+#[inline(always)]
+fn tag_of(key: u64) -> u8
+    ensures { result ≡ tag_of key }
+{
+    ((mixed(key) >> 36) % 128) as u8 + 1
+}
+
+// The key of a window.
+#[inline(always)]
+fn key_of(window: &[u8; 32]) -> u64
+    ensures { result ≡ key_of_part window.now }
+{
+    match window.first_chunk::<8>() {
+        Some(first) => u64::from_be_bytes(*first),
+        None => unreachable!(),
+    }
 }
 
 // The hash part of a path.

@@ -1,8 +1,7 @@
 //! Which hash parts stand within the bytes that were fed.
-ghost use Rattle.std.specs.Prelude.{◌≡◌, ◌↔◌, ◌++◌, ◌∷◌, ◌<◌, [], IfOk, IsTrue, length, slice_index_or};
+ghost use Rattle.std.specs.Prelude.{◌≡◌, ◌↔◌, ◌++◌, ◌∷◌, ◌<◌, [], ℕ, List, Contains, IfOk, IsTrue, length, slice_index_or};
 ghost use Rattle.nix_names.specs.Rising.{IsRising};
-ghost use Rattle.nix_names.specs.StorePaths.{hash_part_of};
-ghost use Rattle.ref_scan.specs.Places.{ArePartsOf};
+ghost use Rattle.nix_names.specs.StorePaths.{hash_part_of, is_hash_part};
 ghost use Rattle.ref_scan.specs.Scan.{IsFoundIn, OccursIn};
 
 use crate::fault::ScanFault;
@@ -30,7 +29,8 @@ impl Model for Marks {
     ghost Value = { Sought };
 
     ghost view = { λ m. record {
-      parts = m.index.parts.items;
+      permitted = m.index.permitted;
+      parts = m.index.parts;
       in_order = m.index.in_order;
       ended = m.fed.ended;
       present = m.fed.present;
@@ -38,22 +38,23 @@ impl Model for Marks {
 
     ghost invariant = { λ m. Scanned
         (record {
-          parts = m.index.parts.items;
+          permitted = m.index.permitted;
+          parts = m.index.parts;
           in_order = m.index.in_order;
           ended = m.fed.ended;
           present = m.fed.present;
         })
-        m.index.sieve.items m.met.items m.tail.items };
+        m.met.items m.tail.items };
 }
 
 impl Marks {
     // No mark; the hash parts of these paths are sought, and the first list begins.
     pub(crate) fn new(alloc: Global, paths: &[StorePath]) -> Result<Marks, AllocError>
-        ensures parts { IfOk result (λ marks. ArePartsOf paths.now marks.parts marks.in_order) }
+        ensures permitted { IfOk result (λ marks. marks.permitted ≡ paths.now) }
         ensures fed { IfOk result (λ marks. (marks.ended ≡ []) × (marks.present ≡ [])) }
     {
         let index = Index::new(alloc, paths)?;
-        let met = vec![in alloc; false; index.parts.len()]?;
+        let met = vec![in alloc; false; index.len()]?;
         Ok(Marks {
             index,
             met,
@@ -82,34 +83,37 @@ impl Marks {
         self.fed = self.fed.cut();
     }
 
-    // Those of the paths whose hash part stands within a list.
-    pub(crate) fn found_among(&self, paths: &[StorePath]) -> Result<Vec<StorePath>, ScanFault>
-        requires rising { IsRising paths.now }
-        requires parts { ArePartsOf paths.now self.now.parts self.now.in_order }
-        ensures { IfOk result
-            (λ found. IsFoundIn (self.now.ended ++ self.now.present ∷ []) paths.now found.items) }
+    // Those of the permitted paths whose hash part stands within a list.
+    pub(crate) fn found(&self) -> Result<Vec<StorePath>, ScanFault>
+        requires { IsRising self.now.permitted }
+        ensures found { IfOk result
+            (λ found. IsFoundIn (self.now.ended ++ self.now.present ∷ []) self.now.permitted
+            found.items) }
+        ensures are_parts { (path : List ℕ) → Contains self.now.permitted path
+            → IsTrue (is_hash_part (hash_part_of path)) }
     {
         let alloc = *self.met.allocator();
         let mut found = Vec::new(alloc);
-        for (number, path) in paths.iter().enumerate() {
-            if self.is_met(number, paths) {
+        for (number, path) in self.index.paths().iter().enumerate() {
+            if self.is_met(number, path) {
                 found.push(path.copy(alloc)?)?;
             }
         }
         Ok(found)
     }
 
-    // Whether the hash part of the path of this number stands within a list.
-    fn is_met(&self, number: usize, paths: &[StorePath]) -> bool
-        requires parts { ArePartsOf paths.now self.now.parts self.now.in_order }
-        requires number { number < length paths.now }
-        ensures { IsTrue result ↔ OccursIn (hash_part_of (slice_index_or paths.now number []))
+    // Whether the hash part of a path, which is the permitted one of this number, stands within a
+    // list.
+    fn is_met(&self, number: usize, path: &StorePath) -> bool
+        requires number { number < length self.now.permitted }
+        requires path { path.now ≡ slice_index_or self.now.permitted number [] }
+        ensures { IsTrue result ↔ OccursIn (hash_part_of path.now)
             (self.now.ended ++ self.now.present ∷ []) }
     {
-        if self.index.in_order {
+        if self.index.is_in_order() {
             return self.met[number];
         }
-        match self.index.place_of(&part_of(&paths[number])) {
+        match self.index.place_of(&part_of(path)) {
             Some(place) => self.met[place],
             None => false,
         }

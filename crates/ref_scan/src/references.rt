@@ -28,7 +28,7 @@ pub fn scan(
 {
     let mut marks = Marks::new(alloc, permitted)?;
     feed_tree(&mut marks, tree);
-    marks.found_among(permitted)
+    marks.found()
 }
 
 // Feeds each file and each entry's name as a list of its own.

@@ -19,25 +19,22 @@ use std::marker::Model;
 /// among all hash parts at once. It keeps at most 31 bytes from one piece to the next.
 #[derive(Drop)]
 pub struct Scanner {
-    permitted: Vec<StorePath>,
     marks: Marks,
 }
 
 impl Model for Scanner {
     ghost use Rattle.nix_names.specs.Rising.{IsRising};
     ghost use Rattle.ref_scan.specs.Feed.{Feed};
-    ghost use Rattle.ref_scan.specs.Places.{ArePartsOf};
 
     ghost Value = { Feed };
 
     ghost view = { λ s. record {
-      permitted = s.permitted.items;
+      permitted = s.marks.permitted;
       ended = s.marks.ended;
       present = s.marks.present;
     } };
 
-    ghost invariant = { λ s. IsRising s.permitted.items
-        × ArePartsOf s.permitted.items s.marks.parts s.marks.in_order };
+    ghost invariant = { λ s. IsRising s.marks.permitted };
 }
 
 impl Scanner {
@@ -50,7 +47,6 @@ impl Scanner {
             (λ scanner. scanner ≡ record { permitted = permitted.now; ended = []; present = [] }) }
     {
         Ok(Scanner {
-            permitted: copies(alloc, permitted)?,
             marks: Marks::new(alloc, permitted)?,
         })
     }
@@ -80,17 +76,6 @@ impl Scanner {
         ensures are_parts { (path : List ℕ) → Contains self.permitted path
             → IsTrue (is_hash_part (hash_part_of path)) }
     {
-        self.marks.found_among(&self.permitted)
+        self.marks.found()
     }
-}
-
-// The same paths once more.
-fn copies(alloc: Global, paths: &[StorePath]) -> Result<Vec<StorePath>, ScanFault>
-    ensures { IfOk result (λ copies. copies.items ≡ paths.now) }
-{
-    let mut copies = Vec::with_capacity(alloc, paths.len())?;
-    for path in paths {
-        copies.push(path.copy(alloc)?)?;
-    }
-    Ok(copies)
 }

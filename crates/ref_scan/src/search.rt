@@ -1,6 +1,6 @@
 //! The search of some bytes for all hash parts at once.
 ghost use Rattle.std.specs.Prelude.{◌≡◌, ◌≤◌, length};
-ghost use Rattle.ref_scan.specs.Places.{AreHashParts, IsSieve};
+ghost use Rattle.ref_scan.specs.Places.{AreHashParts};
 ghost use Rattle.ref_scan.specs.Marks.{Marked, Searched};
 
 use crate::alphabet::last_foreign;
@@ -9,10 +9,9 @@ use crate::index::Index;
 // Marks each part that stands somewhere within the bytes. Looks at each window of 32 bytes from its
 // end, goes on behind a byte outside the alphabet, and looks at no byte twice.
 pub(crate) fn search(index: &Index, met: &mut [bool], bytes: &[u8])
-    requires are_parts { AreHashParts index.now.parts.items }
-    requires sieved { IsSieve index.now.parts.items index.now.sieve.items }
-    requires count { length met.old ≡ length index.now.parts.items }
-    ensures { Searched index.now.parts.items met.old met.new bytes.now }
+    requires are_parts { AreHashParts index.now.parts }
+    requires count { length met.old ≡ length index.now.parts }
+    ensures { Searched index.now.parts met.old met.new bytes.now }
 {
     let mut start = 0;
     let mut known = 0;
@@ -31,10 +30,9 @@ pub(crate) fn search(index: &Index, met: &mut [bool], bytes: &[u8])
 // Marks a window that is a part.
 #[inline(always)]
 fn mark(index: &Index, met: &mut [bool], window: &[u8; 32])
-    requires are_parts { AreHashParts index.now.parts.items }
-    requires sieved { IsSieve index.now.parts.items index.now.sieve.items }
-    requires count { length met.old ≡ length index.now.parts.items }
-    ensures { Marked index.now.parts.items met.old met.new window.now }
+    requires are_parts { AreHashParts index.now.parts }
+    requires count { length met.old ≡ length index.now.parts }
+    ensures { Marked index.now.parts met.old met.new window.now }
 {
     if let Some(place) = index.place_of(window) {
         met[place] = true;

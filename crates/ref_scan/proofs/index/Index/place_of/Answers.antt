@@ -1,8 +1,24 @@
-use Rattle.ref_scan.proofs.Indexing.{place_told}
+use Rattle.std.proofs.Common.{◌∙◌, ap, arith, inl, inr, length, map, sym, ⊎_elim, ◌≡◌, ◌<◌, get_or}
+use Rattle.std.proofs.lemmas.List.{get_or_default}
+use Rattle.ref_scan.specs.Places.{key_of_part, slot_of, tag_of}
+use Rattle.ref_scan.proofs.Indexing.{stopped}
 use Rattle.ref_scan.proofs.index.Index.place_of.Goals as goal
 
-pub returns : goal.returns
-returns c = rw (c.ok.ensures.value, ← c.deref.ensures.value)
-    (place_told c.deref.result.now c.args.window.now c.binary_search.result
-    (rw c.deref.ensures.value c.requires.rising) c.binary_search.ensures.bound
-    c.binary_search.ensures.position)
+pub returns-then-held : goal.returns-then-held
+returns-then-held c =
+    let s = c.self.inside in
+    let key = c.key_of-key.result in
+    let slot = c.slot_of.result in
+    let told = ap (λ v. v.parts) c.self.view_is in
+    let many : c.len.result ≡ length s.sieve.items = omega (arith, c.len.ensures, s.sieve.ok) in
+    let slot_is : slot ≡ slot_of (length s.sieve.items) key = c.slot_of.ensures.value
+    ∙ ap (λ n. slot_of n key) many in
+    let fits : slot < length s.sieve.items = omega (arith, c.slot_of.ensures.within, many) in
+    let held : get_or s.sieve.items (slot_of (length s.sieve.items) key) 0 ≡ c.index-held.result.now =
+    ap (λ n. get_or s.sieve.items n 0) (sym slot_is)
+    ∙ sym (c.index-held.ensures ∙ get_or_default s.sieve.items slot c.index-held.result.now 0 fits) in
+    stopped c.args.self.now.parts s.keys.items s.sieve.items c.args.window.now key
+    (c.self.invariant.of_parts ∙ ap (map key_of_part) told) c.key_of-key.ensures
+    c.self.invariant.sieved
+    (⊎_elim (λ tag. c.if-held-tag_of.true (sym held ∙ tag ∙ sym c.tag_of.ensures))
+    (λ all. c.if-held.true (sym held ∙ all)))

@@ -1,5 +1,5 @@
 use Rattle.std.proofs.Common.{◌≡◌, take}
-use Rattle.ref_scan.proofs.scanner.copies.Given as goal
+use Rattle.ref_scan.proofs.index.copies.Given as goal
 
 abbrev pub invariant-loop-path : goal.invariant-loop-path
 invariant-loop-path l = l.copies.items ≡ take l.path-index l.paths

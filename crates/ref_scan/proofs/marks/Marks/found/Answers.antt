@@ -6,8 +6,8 @@ use Rattle.nix_names.specs.StorePaths.{hash_part_of}
 use Rattle.nix_names.proofs.RisingLists.{rising_take}
 use Rattle.ref_scan.specs.Scan.{OccursIn}
 use Rattle.ref_scan.proofs.Findings.{found_one, found_no_more, taken_with}
-use Rattle.ref_scan.proofs.marks.Marks.found_among.Goals as goal
-use Rattle.ref_scan.proofs.marks.Marks.found_among.Goals.{then-is_met+in_ok-copy+in_ok-push, else-is_met}
+use Rattle.ref_scan.proofs.marks.Marks.found.Goals as goal
+use Rattle.ref_scan.proofs.marks.Marks.found.Goals.{then-is_met+in_ok-copy+in_ok-push, else-is_met}
 
 pub loop-number-preserved : goal.loop-number-preserved
 loop-number-preserved c =

@@ -1,0 +1,179 @@
+-- Keys of paths that rise strictly: their hash parts do, and a search for a key tells a part.
+use Rattle.std.proofs.Common.{◌≡◌, ◌∙◌, ℕ, zero, suc, ◌+◌, ◌<◌, ◌≤◌, true, List, [], ◌∷◌, length, get_or, inl, inr, is_some, map, refl, sym, ap, subst, arith, None, Some}
+use Rattle.std.specs.Prelude.{All, Contains, IsTrue, Result, Ok, Err}
+use Rattle.std.specs.List.{AllByRecursion}
+use Rattle.std.specs.List.Sorted.{IsBinarySearchResult}
+use Rattle.std.specs.Ordering.{nat_cmp}
+use Rattle.std.specs.Option.{unwrap_or}
+use Rattle.std.specs.Result.{result_ok}
+use Rattle.std.proofs.lemmas.Bool.{cases_lt, false≢true}
+use Rattle.std.proofs.lemmas.List.{get_or-map, get_or_default, length-map}
+use Rattle.std.proofs.lemmas.List.Elements.{recursion_from_All}
+use Rattle.std.proofs.lemmas.List.Sorted.{searched}
+use Rattle.nix_names.specs.Keys.{key_of}
+use Rattle.nix_names.specs.Rising.{IsRising}
+use Rattle.nix_names.specs.StorePaths.{IsStorePath, hash_part_of, is_hash_part}
+use Rattle.nix_names.proofs.Keys.{lesser_hash_part}
+use Rattle.nix_names.proofs.PathTexts.{hash_part_of_is}
+use Rattle.ref_scan.specs.Places.{ArePartsOf, NumbersRise, key_of_part, part_at}
+use Rattle.ref_scan.proofs.Indexing.{parts_as_paths}
+
+-- ---- numbers that rise
+
+-- an earlier number is below a later one
+number_below : (ns : List ℕ) (i j : ℕ) → NumbersRise ns → i < j → j < length ns
+    → get_or ns i 0 < get_or ns j 0
+number_below ns i zero rises before within = absurd (omega (arith, before))
+number_below ns i (suc j) rises before within =
+    let after : j + 1 ≡ suc j = omega arith in
+    let next : get_or ns j 0 < get_or ns (suc j) 0 = subst (λ k. get_or ns j 0 < get_or ns k 0) after
+    (rises j (omega (arith, within))) in
+    elim (cases_lt i j) [
+      | inl far ↦ omega (arith, next, number_below ns i j rises far (omega (arith, within)))
+      | inr near ↦
+          let same : i ≡ j = omega (arith, near, before) in
+          omega (arith, next, ap (λ k. get_or ns k 0) same)
+    ]
+
+-- no number is above a later one
+pub not_above : (ns : List ℕ) → NumbersRise ns → (i j : ℕ) → i ≤ j → j < length ns
+    → get_or ns i 0 ≤ get_or ns j 0
+not_above ns rises i j le within = elim (cases_lt i j) [
+  | inl before ↦ omega (arith, number_below ns i j rises before within)
+  | inr past ↦
+      let same : i ≡ j = omega (arith, le, past) in omega (arith, ap (λ k. get_or ns k 0) same)
+]
+
+-- no number stands twice
+one_number : (ns : List ℕ) (i j : ℕ) → NumbersRise ns → i < length ns → j < length ns
+    → get_or ns i 0 ≡ get_or ns j 0 → i ≡ j
+one_number ns i j rises lt lt' same = elim (cases_lt i j) [
+  | inl before ↦ absurd (omega (arith, same, number_below ns i j rises before lt'))
+  | inr past ↦ elim (cases_lt j i) [
+    | inl behind ↦ absurd (omega (arith, same, number_below ns j i rises behind lt))
+    | inr not ↦ omega (arith, past, not)
+  ]
+]
+
+-- ---- the hash parts of paths
+
+rising_by_keys : (paths : List (List ℕ)) → AllByRecursion IsStorePath paths
+    → NumbersRise (map key_of paths) → IsRising (map hash_part_of paths)
+rising_by_keys [] are rises = tt
+rising_by_keys (p ∷ []) are rises = tt
+rising_by_keys (p ∷ q ∷ paths) are rises = (
+  lesser_hash_part p q are.0 are.1.0 (rises 0 (omega arith)),
+  rising_by_keys (q ∷ paths) are.1 (λ k lt.
+      let after : suc k + 1 ≡ suc (k + 1) = omega arith in
+      subst (λ n. get_or (map key_of (q ∷ paths)) k 0 < get_or (map key_of (p ∷ q ∷ paths)) n 0) after
+      (rises (suc k) (omega (arith, lt)))),
+)
+
+pub parts_by_key : (paths : List (List ℕ)) (keys : List ℕ) → All IsStorePath paths
+    → keys ≡ map key_of paths → NumbersRise keys → ArePartsOf paths (map hash_part_of paths) true
+parts_by_key paths keys are is rises =
+    parts_as_paths paths (map hash_part_of paths) refl each
+    (rising_by_keys paths (recursion_from_All IsStorePath paths are) (subst NumbersRise is rises))
+  where
+    each : All (λ part. IsTrue (is_hash_part part)) (map hash_part_of paths)
+    each k d lt =
+        let within = length-map paths hash_part_of in
+        let inside : k < length paths = omega (arith, lt, within) in
+        subst (λ part. IsTrue (is_hash_part part)) (sym (get_or-map hash_part_of paths k [] d inside))
+        (hash_part_of_is (get_or paths k []) (are k [] inside))
+
+pub keys_of_parts : (paths : List (List ℕ)) → map key_of paths ≡ map key_of_part (map hash_part_of paths)
+keys_of_parts [] = refl
+keys_of_parts (p ∷ paths) = ap (λ ks. key_of p ∷ ks) (keys_of_parts paths)
+
+-- ---- a search for a key
+
+-- the key of a part that stands among the parts
+key_at : (parts : List (List ℕ)) (keys window : List ℕ) → keys ≡ map key_of_part parts
+    → Contains parts window
+    → (k : ℕ) × (k < length keys) × (part_at parts k ≡ window) × (get_or keys k 0 ≡ key_of_part window)
+key_at parts keys window is has =
+    let k = has.0 in
+    let part : part_at parts k ≡ window = get_or_default parts k [] window has.1 ∙ has.2 in
+    (
+      k,
+      omega (arith, has.1, ap length is, length-map parts key_of_part),
+      part,
+      ap (λ ks. get_or ks k 0) is ∙ get_or-map key_of_part parts k [] 0 has.1 ∙ ap key_of_part part,
+    )
+
+pub key_missing :
+    (parts : List (List ℕ)) (keys window : List ℕ) (key place : ℕ) →
+    keys ≡ map key_of_part parts →
+    key ≡ key_of_part window →
+    NumbersRise keys →
+    IsBinarySearchResult (λ y. nat_cmp y key) keys (Err place) →
+    Contains parts window → ⊥
+key_missing parts keys window key place is of_window rises apart has =
+    let at = key_at parts keys window is has in
+    let sides = searched keys key (Err place) apart (not_above keys rises) in
+    elim (cases_lt at.0 place) [
+      | inl before ↦ absurd (omega (arith, at.3, of_window, sides.1 at.0 before))
+      | inr behind ↦ absurd (omega (arith, at.3, of_window, sides.2 at.0 behind at.1))
+    ]
+
+pub other_part :
+    (parts : List (List ℕ)) (keys window : List ℕ) (key place : ℕ) →
+    keys ≡ map key_of_part parts →
+    key ≡ key_of_part window →
+    NumbersRise keys →
+    place < length keys →
+    get_or keys place 0 ≡ key →
+    (part_at parts place ≡ window → ⊥) →
+    Contains parts window → ⊥
+other_part parts keys window key place is of_window rises within found other has =
+    let at = key_at parts keys window is has in
+    let same : at.0 ≡ place = one_number keys at.0 place rises at.1 within
+    (at.3 ∙ sym of_window ∙ sym found) in
+    other (ap (part_at parts) (sym same) ∙ at.2)
+
+-- what a search for a key tells, where it tells no place and where it tells one
+pub none_found :
+    (parts : List (List ℕ)) (keys window : List ℕ) (key : ℕ) (found : Result ℕ ℕ) →
+    keys ≡ map key_of_part parts →
+    key ≡ key_of_part window →
+    NumbersRise keys →
+    IsBinarySearchResult (λ y. nat_cmp y key) keys found →
+    None ≡ result_ok found →
+    Contains parts window → ⊥
+none_found parts keys window key (Ok k) is of_window rises here none =
+    absurd (false≢true (ap is_some none))
+none_found parts keys window key (Err place) is of_window rises apart none =
+    key_missing parts keys window key place is of_window rises apart
+
+pub one_found :
+    (keys : List ℕ) (key place : ℕ) (found : Result ℕ ℕ) →
+    NumbersRise keys →
+    IsBinarySearchResult (λ y. nat_cmp y key) keys found →
+    Some place ≡ result_ok found →
+    (place < length keys) × (get_or keys place 0 ≡ key)
+one_found keys key place (Ok k) rises here some =
+    subst (λ n. (n < length keys) × (get_or keys n 0 ≡ key)) (sym (ap (λ o. unwrap_or o 0) some))
+    (searched keys key (Ok k) here (not_above keys rises))
+one_found keys key place (Err k) rises here some = absurd (false≢true (sym (ap is_some some)))
+
+-- the part at the place of a key is that of its path
+pub part_at_key :
+    (paths parts : List (List ℕ)) (keys path : List ℕ) (place : ℕ) →
+    map hash_part_of paths ≡ parts →
+    keys ≡ map key_of_part parts →
+    place < length keys →
+    path ≡ get_or paths place path →
+    (place < length parts) × (part_at parts place ≡ hash_part_of path)
+part_at_key paths parts keys path place are is within here =
+    let long = ap length is in
+    let lengths = length-map parts key_of_part in
+    let inside : place < length parts = omega (arith, long, lengths, within) in
+    let of_paths = ap length are in
+    let all = length-map paths hash_part_of in
+    let below : place < length paths = omega (arith, inside, of_paths, all) in
+    (
+      inside,
+      ap (λ ps. part_at ps place) (sym are) ∙ get_or-map hash_part_of paths place path [] below
+      ∙ ap hash_part_of (sym here),
+    )
