@@ -94,8 +94,7 @@ key_at : (parts : List (List ℕ)) (keys window : List ℕ) → keys ≡ map key
     → (k : ℕ) × (k < length keys) × (part_at parts k ≡ window) × (get_or keys k 0 ≡ key_of_part window)
 key_at parts keys window is has =
     let k = has.0 in
-    let part : part_at parts k ≡ window = get_or_default parts k [] window has.1 ∙ has.2 in
-    (
+    let part : part_at parts k ≡ window = get_or_default parts k [] window has.1 ∙ has.2 in (
       k,
       omega (arith, has.1, ap length is, length-map parts key_of_part),
       part,
@@ -171,9 +170,8 @@ part_at_key paths parts keys path place are is within here =
     let inside : place < length parts = omega (arith, long, lengths, within) in
     let of_paths = ap length are in
     let all = length-map paths hash_part_of in
-    let below : place < length paths = omega (arith, inside, of_paths, all) in
-    (
+    let below : place < length paths = omega (arith, inside, of_paths, all) in (
       inside,
       ap (λ ps. part_at ps place) (sym are) ∙ get_or-map hash_part_of paths place path [] below
-      ∙ ap hash_part_of (sym here),
+          ∙ ap hash_part_of (sym here),
     )

@@ -6,14 +6,15 @@ use Rattle.std.proofs.lemmas.List.{get_or-replicate, length-map, length-replicat
 use Rattle.nix_names.specs.StorePaths.{hash_part_of, is_hash_part}
 use Rattle.ref_scan.specs.Kept.{last_bytes}
 use Rattle.ref_scan.specs.Marks.{IsMet, Searched}
-use Rattle.ref_scan.specs.Places.{AreHashParts, ArePartsOf, IsPlaceOf, IsSieve, part_at}
+use Rattle.ref_scan.specs.Places.{ArePartsOf, IsPlaceOf, part_at}
 use Rattle.ref_scan.specs.Scan.{OccursIn, Within}
 use Rattle.ref_scan.specs.Scanned.{Scanned, Sought}
 use Rattle.ref_scan.proofs.Pieces.{Any-none, Any-left, Any-last, Any-last_cases, not_in_none, occurs_before_none}
 use Rattle.ref_scan.proofs.Seams.{within_joined, joined_within}
 
-abbrev pub sought_of : List (List ℕ) → Bool → List (List ℕ) → List ℕ → Sought
-sought_of parts in_order ended present = record {
+abbrev pub sought_of : List (List ℕ) → List (List ℕ) → Bool → List (List ℕ) → List ℕ → Sought
+sought_of permitted parts in_order ended present = record {
+  permitted = permitted;
   parts = parts;
   in_order = in_order;
   ended = ended;
@@ -30,46 +31,44 @@ unmarked n k =
     (cases_lt k n)
 
 pub scanned_new :
-    (parts : List (List ℕ)) (in_order : Bool) (sieve : List ℕ) (met : List Bool) (n : ℕ) →
-    AreHashParts parts →
-    IsSieve parts sieve →
+    (permitted parts : List (List ℕ)) (in_order : Bool) (met : List Bool) (n : ℕ) →
+    ArePartsOf permitted parts in_order →
     met ≡ replicate n false →
     n ≡ length parts →
-    Scanned (sought_of parts in_order [] []) sieve met []
-scanned_new parts in_order sieve met n are_parts sieved none many = record {
-  are_parts = are_parts;
-  sieved = sieved;
+    Scanned (sought_of permitted parts in_order [] []) met []
+scanned_new permitted parts in_order met n of_paths none many = record {
+  of_paths = of_paths;
   count = ap length none ∙ length-replicate n false ∙ many;
   marks = λ k at.
       let P = Within (part_at parts k) in (
         λ m. absurd (false≢true (sym (ap (λ l. get_or l k false) none ∙ unmarked n k) ∙ m)),
         λ h. absurd (⊎_elim (λ none'. Any-none P none')
-            (not_in_none (part_at parts k) (are_parts.each k [] at)) (Any-last_cases P [] [] h)),
+            (not_in_none (part_at parts k) (of_paths.are_parts.each k [] at))
+            (Any-last_cases P [] [] h)),
       );
   kept = refl;
 }
 
 pub scanned_fed :
-    (parts ended : List (List ℕ)) (in_order : Bool) (present piece seam sieve : List ℕ)
+    (permitted parts ended : List (List ℕ)) (in_order : Bool) (present piece seam : List ℕ)
     (met one two : List Bool) (tail after : List ℕ) →
-    Scanned (sought_of parts in_order ended present) sieve met tail →
+    Scanned (sought_of permitted parts in_order ended present) met tail →
     seam ≡ tail ++ take 31 piece →
     Searched parts met one seam →
     Searched parts one two piece →
     after ≡ last_bytes (present ++ piece) →
-    Scanned (sought_of parts in_order ended (present ++ piece)) sieve two after
-scanned_fed parts ended in_order present piece seam sieve met one two tail after before is first
+    Scanned (sought_of permitted parts in_order ended (present ++ piece)) two after
+scanned_fed permitted parts ended in_order present piece seam met one two tail after before is first
     second kept =
     let whole : seam ≡ last_bytes present ++ take 31 piece = is
     ∙ ap (λ l. l ++ take 31 piece) before.kept in
     record {
-      are_parts = before.are_parts;
-      sieved = before.sieved;
+      of_paths = before.of_paths;
       count = second.count ∙ first.count ∙ before.count;
       marks = λ k at.
           let part = part_at parts k in
           let P = Within part in
-          let is_part = before.are_parts.each k [] at in
+          let is_part = before.of_paths.are_parts.each k [] at in
           let here : P present ⊎ (P (last_bytes present ++ take 31 piece) ⊎ P piece)
           → Any P (ended ++ (present ++ piece) ∷ []) =
           λ h. Any-last P ended (present ++ piece) (joined_within part present piece h) in (
@@ -100,30 +99,29 @@ scanned_fed parts ended in_order present piece seam sieve met one two tail after
     }
 
 pub scanned_cut :
-    (parts ended : List (List ℕ)) (in_order : Bool) (present sieve : List ℕ) (met : List Bool)
+    (permitted parts ended : List (List ℕ)) (in_order : Bool) (present : List ℕ) (met : List Bool)
     (tail : List ℕ) →
-    Scanned (sought_of parts in_order ended present) sieve met tail →
-    Scanned (sought_of parts in_order (ended ++ present ∷ []) []) sieve met []
-scanned_cut parts ended in_order present sieve met tail before = record {
-  are_parts = before.are_parts;
-  sieved = before.sieved;
+    Scanned (sought_of permitted parts in_order ended present) met tail →
+    Scanned (sought_of permitted parts in_order (ended ++ present ∷ []) []) met []
+scanned_cut permitted parts ended in_order present met tail before = record {
+  of_paths = before.of_paths;
   count = before.count;
   marks = λ k at.
       let part = part_at parts k in (
         λ m. Any-left (Within part) (ended ++ present ∷ []) ([] ∷ []) ((before.marks k at).0 m),
         λ h. (before.marks k at).1 (occurs_before_none part (ended ++ present ∷ [])
-            (before.are_parts.each k [] at) h),
+            (before.of_paths.are_parts.each k [] at) h),
       );
   kept = refl;
 }
 
 -- the mark of a part's place tells whether the part occurs
 pub met_at :
-    (sought : Sought) (sieve : List ℕ) (met : List Bool) (tail part : List ℕ) (place : ℕ) →
-    Scanned sought sieve met tail →
+    (sought : Sought) (met : List Bool) (tail part : List ℕ) (place : ℕ) →
+    Scanned sought met tail →
     IsPlaceOf sought.parts part (Some place) →
     IsMet met place ↔ OccursIn part (sought.ended ++ sought.present ∷ [])
-met_at sought sieve met tail part place scanned at =
+met_at sought met tail part place scanned at =
     subst (λ p. IsMet met place ↔ OccursIn p (sought.ended ++ sought.present ∷ [])) at.1
     (scanned.marks place at.0)
 

@@ -92,28 +92,37 @@ impl Marks {
         ensures are_parts { (path : List ℕ) → Contains self.now.permitted path
             → IsTrue (is_hash_part (hash_part_of path)) }
     {
+        self.found_among(self.index.paths())
+    }
+
+    // The same, of the permitted paths at hand.
+    fn found_among(&self, paths: &[StorePath]) -> Result<Vec<StorePath>, ScanFault>
+        requires permitted { paths.now ≡ self.now.permitted }
+        requires rising { IsRising paths.now }
+        ensures { IfOk result
+            (λ found. IsFoundIn (self.now.ended ++ self.now.present ∷ []) paths.now found.items) }
+    {
         let alloc = *self.met.allocator();
         let mut found = Vec::new(alloc);
-        for (number, path) in self.index.paths().iter().enumerate() {
-            if self.is_met(number, path) {
+        for (number, path) in paths.iter().enumerate() {
+            if self.is_met(number, paths) {
                 found.push(path.copy(alloc)?)?;
             }
         }
         Ok(found)
     }
 
-    // Whether the hash part of a path, which is the permitted one of this number, stands within a
-    // list.
-    fn is_met(&self, number: usize, path: &StorePath) -> bool
-        requires number { number < length self.now.permitted }
-        requires path { path.now ≡ slice_index_or self.now.permitted number [] }
-        ensures { IsTrue result ↔ OccursIn (hash_part_of path.now)
+    // Whether the hash part of the permitted path of this number stands within a list.
+    fn is_met(&self, number: usize, paths: &[StorePath]) -> bool
+        requires permitted { paths.now ≡ self.now.permitted }
+        requires number { number < length paths.now }
+        ensures { IsTrue result ↔ OccursIn (hash_part_of (slice_index_or paths.now number []))
             (self.now.ended ++ self.now.present ∷ []) }
     {
         if self.index.is_in_order() {
             return self.met[number];
         }
-        match self.index.place_of(&part_of(path)) {
+        match self.index.place_of(&part_of(&paths[number])) {
             Some(place) => self.met[place],
             None => false,
         }

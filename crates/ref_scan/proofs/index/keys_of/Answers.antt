@@ -1,7 +1,6 @@
 use Rattle.std.proofs.Common.{◌∙◌, ◌++◌, ◌∷◌, [], arith, ap, map, sym, take}
 use Rattle.std.proofs.lemmas.List.{map-append}
 use Rattle.std.proofs.lemmas.List.Elements.{All-push}
-use Rattle.std.specs.Prelude.{All}
 use Rattle.nix_names.specs.Keys.{key_of}
 use Rattle.nix_names.specs.StorePaths.{IsStorePath}
 use Rattle.ref_scan.proofs.Findings.{taken_with}

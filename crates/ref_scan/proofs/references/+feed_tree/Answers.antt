@@ -7,6 +7,7 @@ use Rattle.ref_scan.proofs.references.+feed_tree.Goals as goal
 pub loop-name-init : goal.loop-name-init
 loop-name-init t c =
     record {
+      permitted = refl;
       parts = refl;
       in_order = refl;
       ended = ap (λ l. c.args.marks.now.ended ++ l)
@@ -24,12 +25,13 @@ loop-name-preserved t c =
     let name = c.deref-in-loop-name.result.now in
     let rest = pieces_below (drop (c.loop-name.name-index + 1) items) in
     let ahead = left_from items c.loop-name.name-index member (omega arith) c.loop-name-item.is in
-    let fed = c.feed_tree.ensures ∙ ap (λ f. sought_of f.parts f.in_order (f.ended ++ pieces member.tree) [])
+    let fed = c.feed_tree.ensures ∙ ap (λ f. sought_of f.permitted f.parts f.in_order (f.ended ++ pieces member.tree) [])
     c.feed_list-in-loop-name.ensures in
     let whole = ap (λ n. old.ended ++ (n ∷ (pieces member.tree ++ rest)))
     c.deref-in-loop-name.ensures.value ∙ ap (λ l. old.ended ++ pieces_below l) (sym ahead)
     ∙ held.ended in
     record {
+      permitted = ap (λ f. f.permitted) fed ∙ held.permitted;
       parts = ap (λ f. f.parts) fed ∙ held.parts;
       in_order = ap (λ f. f.in_order) fed ∙ held.in_order;
       ended = ap (λ f. f.ended ++ rest) fed ∙ member_fed old.ended (pieces member.tree) rest _

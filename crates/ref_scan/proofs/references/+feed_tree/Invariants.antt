@@ -8,6 +8,7 @@ decreases-feed_tree l = goal.size-feed_tree l
 
 abbrev pub invariant-loop-name : goal.invariant-loop-name
 invariant-loop-name l = record {
+  permitted : l.marks.permitted ≡ l.initial.marks.permitted;
   parts : l.marks.parts ≡ l.initial.marks.parts;
   in_order : l.marks.in_order ≡ l.initial.marks.in_order;
   ended : l.marks.ended ++ pieces_below (drop l.name-index l.name-items) ≡ l.initial.marks.ended

@@ -4,6 +4,7 @@ use Rattle.ref_scan.proofs.references.feed_pieces.Given as goal
 
 abbrev pub invariant-loop-piece : goal.invariant-loop-piece
 invariant-loop-piece l = record {
+  permitted : l.marks.permitted ≡ l.initial.marks.permitted;
   parts : l.marks.parts ≡ l.initial.marks.parts;
   in_order : l.marks.in_order ≡ l.initial.marks.in_order;
   ended : l.marks.ended ≡ l.initial.marks.ended;

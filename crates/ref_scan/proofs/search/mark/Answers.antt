@@ -5,13 +5,13 @@ use Rattle.ref_scan.proofs.search.mark.Goals as goal
 
 pub bounds-met-place : goal.bounds-met-place
 bounds-met-place c =
-    let at = subst (IsPlaceOf c.args.index.now.parts.items c.args.window.now) c.in-Some.is
+    let at = subst (IsPlaceOf c.args.index.now.parts c.args.window.now) c.in-Some.is
     c.place_of.ensures in
     omega (arith, at.0, c.requires.count)
 
 pub returns-in-Some : goal.returns-in-Some
 returns-in-Some c =
-    let at = subst (IsPlaceOf c.args.index.now.parts.items c.args.window.now) c.in-Some.is
+    let at = subst (IsPlaceOf c.args.index.now.parts c.args.window.now) c.in-Some.is
     c.place_of.ensures in
-    marked_one c.args.index.now.parts.items c.args.met.now c.args.window.now c.in-Some.place
+    marked_one c.args.index.now.parts c.args.met.now c.args.window.now c.in-Some.place
     c.requires.are_parts.rising c.requires.count at

@@ -16,7 +16,7 @@ loop-window-preserved-in-Some-last_foreign c =
       inside = omega (arith, c.in-Some.ensures.cases.enough, length-drop start bytes, foreign.0);
       known = omega arith;
       so_far =
-          searching_past c.args.index.now.parts.items c.args.met.now c.loop-window.met bytes start place
+          searching_past c.args.index.now.parts c.args.met.now c.loop-window.met bytes start place
           c.requires.are_parts.each held.so_far foreign.0
           (foreign_at bytes c.in-Some.window.now start place c.in-Some.ensures.cases.same foreign.0
           foreign.1);
@@ -33,9 +33,9 @@ loop-window-preserved c =
       inside = omega (arith, c.in-Some.ensures.cases.enough, length-drop start bytes);
       known = omega arith;
       so_far =
-          searching_next c.args.index.now.parts.items c.args.met.now c.loop-window.met c.mark.new.met
+          searching_next c.args.index.now.parts c.args.met.now c.loop-window.met c.mark.new.met
           bytes start c.requires.are_parts.each held.so_far
-          (subst (Marked c.args.index.now.parts.items c.loop-window.met c.mark.new.met) window
+          (subst (Marked c.args.index.now.parts c.loop-window.met c.mark.new.met) window
           c.mark.ensures);
     }
 
@@ -44,5 +44,5 @@ returns c =
     let bytes = c.args.bytes.now in
     let start = c.loop-window.start in
     let left = ap length (take_rest bytes start) in
-    searching_end c.args.index.now.parts.items c.args.met.now c.loop-window.met bytes start
+    searching_end c.args.index.now.parts c.args.met.now c.loop-window.met bytes start
     c.requires.are_parts.each c.loop-window.invariant.so_far (omega (arith, c.in_default.ensures.cases))

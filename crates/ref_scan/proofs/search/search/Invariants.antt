@@ -6,7 +6,7 @@ abbrev pub invariant-loop-window : goal.invariant-loop-window
 invariant-loop-window l = record {
   inside : l.start ≤ length l.bytes;
   known : l.known ≤ 31;
-  so_far : Searching l.index.parts.items l.initial.met l.met l.bytes l.start;
+  so_far : Searching l.index.parts l.initial.met l.met l.bytes l.start;
 }
 
 abbrev pub decreases-loop-window : goal.decreases-loop-window

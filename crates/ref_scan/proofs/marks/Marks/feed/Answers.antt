@@ -19,16 +19,16 @@ invariant_of-self c =
     let same' = written two
     (drop (length two) (take s.met.len (one ++ drop (length one) s.met.items))) s.met.len long'
     in
-    let first = subst (λ met. Searched s.index.parts.items met one seam) lent
-    (subst (Searched s.index.parts.items c.deref_mut.result.now one) c.as_slice-2.ensures.value
+    let first = subst (λ met. Searched s.index.parts met one seam) lent
+    (subst (Searched s.index.parts c.deref_mut.result.now one) c.as_slice-2.ensures.value
     c.search.ensures) in
-    let second = subst (λ met. Searched s.index.parts.items met two piece) lent' c.search-2.ensures in
+    let second = subst (λ met. Searched s.index.parts met two piece) lent' c.search-2.ensures in
     let seam_is : seam ≡ s.tail.items ++ take 31 piece = c.seam-seam.ensures
     ∙ ap (λ l. l ++ take 31 piece) c.as_slice.ensures.value in
     let kept = c.tail_behind-self-inside.ensures s.fed.present
     (c.as_slice-3.ensures.value ∙ seam_is ∙ ap (λ l. l ++ take 31 piece) c.self.invariant.kept)
     in
     rw (same', c.and-self-inside.ensures.0, c.and-self-inside.ensures.1)
-    (scanned_fed s.index.parts.items s.fed.ended s.index.in_order s.fed.present piece seam
-    s.index.sieve.items s.met.items one two s.tail.items c.tail_behind-self-inside.result.items
+    (scanned_fed s.index.permitted s.index.parts s.fed.ended s.index.in_order s.fed.present piece seam
+    s.met.items one two s.tail.items c.tail_behind-self-inside.result.items
     c.self.invariant seam_is first second kept)
