@@ -9,7 +9,7 @@ use Rattle.std.proofs.lemmas.Bool.{cases_lt, false≢true}
 use Rattle.std.proofs.lemmas.List.{map-append}
 use Rattle.std.proofs.lemmas.List.Elements.{All-contains, All-head, All-nil, All-push, All-tail, Contains-append_left, Contains-push}
 use Rattle.std.proofs.lemmas.List.Folds.{flat_map-map}
-use Rattle.std.proofs.lemmas.List.Sorted.{All-permutation, Contains-permutation, IsPermutation-map, IsPermutation-sym}
+use Rattle.std.proofs.lemmas.List.Sorted.{All-permutation, Contains-permutation, IsPermutation-map, IsPermutation-sym, IsPermutation-trans}
 use Rattle.std.proofs.lemmas.Map.Keys.{IsDistinct-IsPermutation}
 use Rattle.std.proofs.lemmas.Option.{get_or_from_slice_get}
 use Rattle.nix_names.specs.Rising.{IsRising}
@@ -20,7 +20,8 @@ use Rattle.drv_graph.specs.Nodes.{Node, paths_of}
 use Rattle.drv_graph.proofs.Gathering.{sorted_map}
 use Rattle.drv_graph.proofs.PathLists.{distinct_push, same_place}
 use Rattle.sched_core.specs.Reports.{AreByPath, path_at}
-use Rattle.sched_core.specs.Listing.{AreListed, AreWithin, HasItsPath, IsMarked, listed_paths, numbers_of}
+use Rattle.sched_core.specs.Listing.{AreListed, AreWithin, HasItsPath, IsMarked, listed_behind, listed_paths, numbers_of}
+use Rattle.sched_core.specs.declared.listing.Keyed.{Keyed}
 use Rattle.sched_core.specs.declared.listing.Listed.{Listed}
 
 -- ---- the marked ones of the derivations before a number
@@ -108,16 +109,17 @@ listed_push nodes marks n listed one distinct is at marked are = record {
     paths : listed_paths (listed ++ one ∷ []) ≡ listed_paths listed ++ one.path.now ∷ []
     paths = map-append (λ (l : Listed). l.path.now) listed (one ∷ [])
 
--- the same where the list with it is another's name
-pub listed_new : (nodes : List Node) (marks : List Bool) (n : ℕ) (listed more : List Listed)
-    (one : Listed) → AreDistinct (paths_of nodes)
-    → one.number ≡ n → slice_get (paths_of nodes) n ≡ Some one.path.now
+-- the same behind keys
+pub keyed_new : (nodes : List Node) (marks : List Bool) (n : ℕ) (keyed more : List Keyed)
+    (one : Keyed) → AreDistinct (paths_of nodes)
+    → one.listed.number ≡ n → slice_get (paths_of nodes) n ≡ Some one.listed.path.now
     → slice_index_or marks n false ≡ true
-    → more ≡ listed ++ one ∷ [] → AreListed nodes (IsMarked marks n) listed
-    → AreListed nodes (IsMarked marks (n + 1)) more
-listed_new nodes marks n listed more one distinct is at marked more_is are =
-    subst (AreListed nodes (IsMarked marks (n + 1))) (sym more_is)
-    (listed_push nodes marks n listed one distinct is at marked are)
+    → more ≡ keyed ++ one ∷ [] → AreListed nodes (IsMarked marks n) (listed_behind keyed)
+    → AreListed nodes (IsMarked marks (n + 1)) (listed_behind more)
+keyed_new nodes marks n keyed more one distinct is at marked more_is are =
+    subst (AreListed nodes (IsMarked marks (n + 1)))
+    (sym (ap listed_behind more_is ∙ map-append (λ (k : Keyed). k.listed) keyed (one ∷ [])))
+    (listed_push nodes marks n (listed_behind keyed) one.listed distinct is at marked are)
 
 -- ---- by path
 
@@ -133,7 +135,7 @@ paths_are nodes (l ∷ listed) each =
     (paths_are nodes listed (All-tail (HasItsPath nodes) l listed each))
 
 -- sorted by path they rise
-pub listed_by_path : (nodes : List Node) (is_such : ℕ → Type 0) (listed sorted : List Listed)
+listed_by_path : (nodes : List Node) (is_such : ℕ → Type 0) (listed sorted : List Listed)
     → AreListed nodes is_such listed → IsPermutation listed sorted
     → IsSortedBy (λ (a b : Listed). is_lt (slice_cmp nat_cmp a.path.now b.path.now)) sorted
     → AreByPath nodes is_such (numbers_of sorted)
@@ -156,6 +158,18 @@ listed_by_path nodes is_such listed sorted are moved ordered = record {
       (paths_are nodes sorted
       (All-permutation (HasItsPath nodes) listed sorted moved are.each)) rises;
 }
+
+-- so they do where they were sorted by key before
+pub keyed_by_path : (nodes : List Node) (is_such : ℕ → Type 0) (keyed by_key : List Keyed)
+    (listed sorted : List Listed) → AreListed nodes is_such (listed_behind keyed)
+    → IsPermutation keyed by_key → listed ≡ listed_behind by_key → IsPermutation listed sorted
+    → IsSortedBy (λ (a b : Listed). is_lt (slice_cmp nat_cmp a.path.now b.path.now)) sorted
+    → AreByPath nodes is_such (numbers_of sorted)
+keyed_by_path nodes is_such keyed by_key listed sorted are by is moved ordered =
+    listed_by_path nodes is_such (listed_behind keyed) sorted are
+    (IsPermutation-trans (listed_behind keyed) listed sorted
+    (subst (IsPermutation (listed_behind keyed)) (sym is)
+    (IsPermutation-map (λ (k : Keyed). k.listed) keyed by_key by)) moved) ordered
 
 -- those by path are derivations of the plan
 pub by_path_within : (nodes : List Node) (marks : List Bool) (count : ℕ) (listed : List Listed)

@@ -3,6 +3,7 @@ use Rattle.std.specs.Prelude.{◌≡◌, ◌<◌, ◌↔◌, Bool, true, false, 
 use Rattle.std.specs.List.{slice_index_or}
 use Rattle.drv_graph.specs.Loading.{AreDistinct}
 use Rattle.drv_graph.specs.Nodes.{Node, paths_of}
+use Rattle.sched_core.specs.declared.listing.Keyed.{Keyed}
 use Rattle.sched_core.specs.declared.listing.Listed.{Listed}
 
 abbrev pub numbers_of : List Listed → List ℕ
@@ -10,6 +11,10 @@ numbers_of listed = map (λ (l : Listed). l.number) listed
 
 abbrev pub listed_paths : List Listed → List (List ℕ)
 listed_paths listed = map (λ (l : Listed). l.path.now) listed
+
+-- the derivations behind their keys
+abbrev pub listed_behind : List Keyed → List Listed
+listed_behind keyed = map (λ (k : Keyed). k.listed) keyed
 
 -- a derivation is listed with its path
 abbrev pub HasItsPath : List Node → Listed → Type 0

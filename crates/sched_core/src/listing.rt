@@ -1,7 +1,7 @@
 //! The derivations of a plan of which a text tells, by path.
 ghost use Rattle.std.specs.Prelude.{◌≡◌, IfOk, length};
 ghost use Rattle.drv_graph.specs.SoundGraphs.{IsSound};
-ghost use Rattle.sched_core.specs.Listing.{AreListed, AreWithin, IsMarked, numbers_of};
+ghost use Rattle.sched_core.specs.Listing.{AreListed, AreWithin, IsMarked, listed_behind, numbers_of};
 ghost use Rattle.sched_core.specs.Reports.{AreByPath};
 
 use drv_graph::Plan;
@@ -15,6 +15,13 @@ pub struct Listed<'a> {
     pub path: &'a StorePath,
     /// Its number in the plan.
     pub number: usize,
+}
+
+// A derivation of which a text tells, behind the key of its path.
+#[derive(Drop)]
+struct Keyed<'a> {
+    key: u64,
+    listed: Listed<'a>,
 }
 
 /// The marked derivations of a plan, in the order of their paths: the mark of each stands at its
@@ -31,28 +38,42 @@ pub fn marked_by_path<'a>(
         (numbers_of listed.items)) }
     ensures within { IfOk result (λ listed. AreWithin (length plan.now.nodes) listed.items) }
 {
-    let mut listed = listed_of(alloc, plan, marks)?;
+    let mut keyed = keyed_of(alloc, plan, marks)?;
+    keyed.sort_unstable_by_key(|one| one.key);
+    let mut listed = listed_of(alloc, &keyed)?;
+    // The paths of one folder are in order already, unless keys are equal: then this is one pass.
+    // The keys were sorted before, since most texts stand far apart in memory.
     listed.sort_unstable_by(|a, b| a.path.cmp(b.path));
     Ok(listed)
 }
 
-// The marked derivations, in the order of the plan.
-fn listed_of<'a>(
-    alloc: Global,
-    plan: &'a Plan,
-    marks: &[bool],
-) -> Result<Vec<Listed<'a>>, AllocError>
+// The marked derivations, each behind its key, in the order of the plan.
+fn keyed_of<'a>(alloc: Global, plan: &'a Plan, marks: &[bool]) -> Result<Vec<Keyed<'a>>, AllocError>
     requires { length marks.now ≡ length plan.now.nodes }
     ensures { IfOk result
-        (λ listed. AreListed plan.now.nodes (IsMarked marks.now (length plan.now.nodes))
-        listed.items) }
+        (λ keyed. AreListed plan.now.nodes (IsMarked marks.now (length plan.now.nodes))
+        (listed_behind keyed.items)) }
 {
-    let mut listed = Vec::new(alloc);
+    let mut keyed = Vec::new(alloc);
     for number in 0..plan.len() {
         if marks[number] {
             let path = plan.path(number);
-            listed.push(Listed { path, number })?;
+            let key = path.key();
+            let listed = Listed { path, number };
+            keyed.push(Keyed { key, listed })?;
         }
+    }
+    Ok(keyed)
+}
+
+// The derivations behind their keys, in their order.
+fn listed_of<'a>(alloc: Global, keyed: &[Keyed<'a>]) -> Result<Vec<Listed<'a>>, AllocError>
+    ensures { IfOk result (λ listed. listed.items ≡ listed_behind keyed.now) }
+{
+    let mut listed = Vec::with_capacity(alloc, keyed.len())?;
+    for one in keyed {
+        let Listed { path, number } = one.listed;
+        listed.push(Listed { path, number })?;
     }
     Ok(listed)
 }

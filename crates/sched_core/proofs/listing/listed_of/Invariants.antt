@@ -1,6 +1,7 @@
-use Rattle.sched_core.specs.Listing.{AreListed, IsMarked}
+use Rattle.std.proofs.Common.{◌≡◌, take}
+use Rattle.sched_core.specs.Listing.{listed_behind}
 use Rattle.sched_core.proofs.listing.listed_of.Given as goal
 
--- the marked ones of the derivations so far are listed
-abbrev pub invariant-loop-number : goal.invariant-loop-number
-invariant-loop-number l = AreListed l.plan.nodes (IsMarked l.marks l.number) l.listed.items
+-- those so far are listed
+abbrev pub invariant-loop-one : goal.invariant-loop-one
+invariant-loop-one l = l.listed.items ≡ listed_behind (take l.one-index l.keyed)
