@@ -69,6 +69,24 @@ class Plan(Runs):
         return 0, self.report({name: "build" for name in SCRIPTS}), ""
 
 
+class PlanDot(Plan):
+    """The same as a graph."""
+
+    name = "plan --dot"
+
+    def command(self):
+        return ["plan", "--dot", *self.common()]
+
+    def good(self):
+        lines = ["digraph plan {"]
+        for drv, name in sorted((drv, name) for name, drv in self.drv.items()):
+            border = "" if name == "first" else ", peripheries=2"
+            look = f'label="{name}.drv", style=filled, fillcolor=palegreen{border}'
+            lines.append(f'  "{drv}" [{look}];')
+        lines.append(f'  "{self.drv["second"]}" -> "{self.drv["first"]}";')
+        return 0, "\n".join([*lines, "}", ""]), ""
+
+
 class Realise(Runs):
     """`realise` of all three by one worker."""
 

@@ -362,9 +362,9 @@ class Help(Scene):
 
 def scenes(program, folder, only):
     """All scenes, or those of these names, each laid anew in the one store folder."""
-    from refused_runs import Plan, Realise, RealiseByTwo
+    from refused_runs import Plan, PlanDot, Realise, RealiseByTwo
 
-    kinds = [Check, AddText, AddTextFresh, AddTextValid, AddDrv, Plan, Realise, RealiseByTwo]
-    for kind in [*kinds, Words, Help]:
+    kinds = [Check, AddText, AddTextFresh, AddTextValid, AddDrv]
+    for kind in [*kinds, Plan, PlanDot, Realise, RealiseByTwo, Words, Help]:
         if not only or kind.name in only:
             yield kind(program, folder)

@@ -2,6 +2,7 @@
 #![tactic(auto)]
 
 ghost use Rattle.std.specs.Prelude.{◌≡◌, ◌⊎◌, IfOk, map, string_bytes};
+ghost use Rattle.std.specs.Io.Buffered.{writer_inner};
 ghost use Rattle.subcommands.specs.ProgramEndings.{ProgramEnds};
 
 use process_build::{Builders, ByProcesses, Progress, Watching};
@@ -42,9 +43,22 @@ where
     E: Write,
 {
     match BufWriter::new(rt.alloc(), io::writer(rt)) {
-        Ok(mut out) => run_arguments(rt, make, &mut out, err),
+        Ok(mut out) => {
+            let status = run_arguments(rt, make, &mut out, err);
+            let_go(out);
+            status
+        }
         Err(_) => print_no_memory(err),
     }
+}
+
+// Gives the writer behind a buffer as it stands. What is still in the buffer was refused, and is not
+// offered again.
+fn let_go<W: Write + Drop>(buffer: BufWriter<W>) -> W
+    ensures { result ≡ writer_inner buffer }
+{
+    let (to, _refused) = buffer.into_parts();
+    to
 }
 
 // Runs the program on the arguments of the process.

@@ -18,6 +18,10 @@ IsNotFound error = error_kind error ≡ kind.NotFound
 abbrev pub IsTaken : Error → Type 0
 IsTaken error = error_kind error ≡ kind.AlreadyExists
 
+-- a signal came between, and the call did nothing
+abbrev pub IsInterruption : Error → Type 0
+IsInterruption error = error_kind error ≡ kind.Interrupted
+
 -- what an error means: each of these three exactly for its kind, and `Other` for all the rest
 abbrev pub IsFailure : Error → Failure → Type 0
 IsFailure error failure =

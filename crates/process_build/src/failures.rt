@@ -1,5 +1,6 @@
-//! What an error of the system means at a path.
-ghost use Rattle.std.specs.Prelude.{◌≡◌};
+//! What an error of the system means: at a path, and for the call that it ended.
+ghost use Rattle.std.specs.Prelude.{◌≡◌, ◌↔◌, IsTrue};
+ghost use Rattle.process_build.specs.Errors.{IsInterruption};
 
 use std::alloc::AllocError;
 use std::io;
@@ -41,4 +42,12 @@ impl From<io::Error> for Failure {
             _ => Failure::Other,
         }
     }
+}
+
+/// Whether a call that ended with an error is made again: a signal came between, and nothing was
+/// done.
+pub fn is_made_again(error: &io::Error) -> bool
+    ensures { IsTrue result ↔ IsInterruption error.now }
+{
+    error.kind() == ErrorKind::Interrupted
 }

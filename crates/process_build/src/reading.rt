@@ -3,6 +3,7 @@ ghost use Rattle.std.specs.Prelude.{◌≡◌, ◌≤◌, IfErr, IfOk, length};
 ghost use Rattle.std.specs.Fs.{file_type};
 ghost use Rattle.process_build.specs.Answers.{IsNodeAt, IsNodeOf, IsNoNode};
 
+use crate::failures::is_made_again;
 use crate::reasons::read_fault;
 use ref_scan::{MAX_DEPTH, MAX_ENTRIES, MAX_FILE_BYTES, Member, Tree};
 use sched_core::{Job, Reason};
@@ -192,7 +193,7 @@ fn read_once<F: Read>(file: &mut F, buffer: &mut [u8]) -> io::Result<usize>
 {
     for _ in 0..u64::MAX {
         match file.read(buffer) {
-            Err(error) if error.kind() == ErrorKind::Interrupted => {}
+            Err(error) if is_made_again(&error) => {}
             answer => return answer,
         }
     }

@@ -7,12 +7,15 @@ ghost use Rattle.process_build.specs.BuilderCalls.{program_of, Runs};
 
 use crate::call::Call;
 use crate::environment::{set_environment, settings};
+use crate::failures::is_made_again;
 use crate::folders::BuildFolder;
 use crate::reasons::{no_start, read_fault};
 use sched_core::Reason;
 use std::alloc::{AllocError, Global};
+use std::io;
+use std::io::ErrorKind;
 use std::os::unix::process::CommandExt;
-use std::process::{Command, Processes, Stdio};
+use std::process::{Child, Command, Processes, Stdio};
 
 /// Runs a builder in its folder, and gives its exit status, none where a signal ended it. It waits
 /// for the builder alone, and not for what that one has started. `NoStart` where it can't be
@@ -25,9 +28,21 @@ pub fn run_builder<P: Processes>(
     call: &Call<'_>,
 ) -> Result<Option<i32>, Reason> {
     let mut command = command(alloc, store_dir, folder, call)?;
-    let mut builder = command.spawn(processes).map_err(no_start)?;
+    let mut builder = start(&mut command, processes).map_err(no_start)?;
     let status = builder.wait().map_err(read_fault)?;
     Ok(status.code())
+}
+
+// Starts a builder, or tries anew where a signal came between, as at the opening of its empty input:
+// then none was started.
+fn start<P: Processes>(command: &mut Command, processes: &P) -> io::Result<Child<P::Started>> {
+    for _ in 0..u64::MAX {
+        match command.spawn(processes) {
+            Err(error) if is_made_again(&error) => {}
+            answer => return answer,
+        }
+    }
+    Err(io::Error::from(ErrorKind::Interrupted))
 }
 
 // The command that runs a builder in its folder, in silence.

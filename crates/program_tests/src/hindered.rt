@@ -1,4 +1,5 @@
-//! Runs whose reads and writes are short, and runs in whose way another process gets.
+//! Runs whose reads and writes are short, runs that a signal interrupts, and runs in whose way another
+//! process gets.
 use crate::calls::{DRAFT, ran};
 use crate::double::{Double, Event};
 use crate::running::{Host, Outcome};
@@ -6,6 +7,7 @@ use crate::scene::Scene;
 use crate::steps::Step;
 use process_build::{Builders, ByProcesses};
 use std::alloc::Global;
+use std::io::ErrorKind;
 use std::process;
 use std::process::Processes;
 use std::test::Fail;
@@ -14,6 +16,8 @@ use std::test::Fail;
 enum Way {
     // Each read and each write takes one byte at most.
     Short,
+    // A signal interrupts a call.
+    Interrupts(usize),
     // Right before a call another process writes a file with a text.
     Writes(usize, &'static str, &'static str),
     // It removes a file.
@@ -116,7 +120,51 @@ static SHORT: [Row; 4] = [
     },
 ];
 
-// The numbers are those of the calls in `calls`.
+// The numbers, here and below, are those of the calls in `calls`. A call that a signal interrupts is
+// made again, and nothing else comes of a run: one builder is started.
+static INTERRUPTED: [Row; 4] = [
+    Row {
+        name: "interrupted-start",
+        before: &[PUT],
+        line: REALISE,
+        way: Way::Interrupts(12),
+        told: BUILT,
+        after: &[
+            Step::Holds("<any.out>", "made\n"),
+            Step::Holds(JOURNAL, WITH_OUTPUT),
+            Step::Left(4),
+        ],
+    },
+    Row {
+        name: "interrupted-read-of-an-output",
+        before: &[PUT],
+        line: REALISE,
+        way: Way::Interrupts(16),
+        told: BUILT,
+        after: &[Step::Holds(JOURNAL, WITH_OUTPUT), Step::Left(4)],
+    },
+    Row {
+        name: "interrupted-read-of-a-derivation",
+        before: &[PUT],
+        line: CHECK,
+        way: Way::Interrupts(3),
+        told: ("ok <any>\n", "", 0),
+        after: &[],
+    },
+    Row {
+        name: "interrupted-write-of-a-text",
+        before: &[FILE, TEXT],
+        line: ADD,
+        way: Way::Interrupts(7),
+        told: GREETED,
+        after: &[
+            Step::Holds("<text>", "hello\n"),
+            Step::Holds(JOURNAL, WITH_TEXT),
+            Step::Left(3),
+        ],
+    },
+];
+
 static READ: [Row; 5] = [
     // A derivation's file is removed behind the look at it, or written anew: what is read counts.
     Row {
@@ -316,14 +364,15 @@ static LINKED: [Row; 5] = [
     },
 ];
 
-fn tables() -> [&'static [Row]; 5] {
-    [&SHORT, &READ, &WRITTEN, &RUN, &LINKED]
+fn tables() -> [&'static [Row]; 6] {
+    [&SHORT, &INTERRUPTED, &READ, &WRITTEN, &RUN, &LINKED]
 }
 
 // What gets in the way, in a scene.
 fn event_of(alloc: Global, scene: &Scene, way: &Way) -> Result<Event, Fail> {
     match way {
         Way::Short => Ok(Event::Short),
+        Way::Interrupts(number) => Ok(Event::Refused(*number, ErrorKind::Interrupted)),
         Way::Writes(number, file, text) => {
             let file = scene.said(alloc, file)?;
             Ok(Event::Written(*number, file, scene.said(alloc, text)?))

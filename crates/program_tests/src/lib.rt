@@ -16,7 +16,7 @@
 //! | `starts`, `folders`, `outputs` | a builder's start, its folder, what is read of its outputs |
 //! | `places` | what is no regular file, and the permissions of a new file |
 //! | `calls`, `leases` | the calls of the system, each refused; those of each lease |
-//! | `hindered` | short reads and writes, and other processes that get in the way |
+//! | `hindered` | short reads and writes, signals, and other processes that get in the way |
 //! | `double` | a runtime that notes calls, and lets something happen beside them |
 //! | `steps`, `scene` | the steps of which most rows are made, and how they are taken |
 //! | `texts`, `files`, `commands`, `sites` | paths, files, command lines and builders of a step |
