@@ -12,6 +12,10 @@ use Rattle.drv_graph.proofs.Leaving.{checking_right, leaving_clash, leaving_kept
 use Rattle.drv_graph.proofs.OwnOutputs.{own_outputs}
 use Rattle.drv_graph.proofs.found.leave.Goals as goal
 
+pub check_visit-requires-clause-kept : goal.check_visit-requires-clause-kept
+check_visit-requires-clause-kept c =
+    subst AreKept (sym c.deref.ensures.value) c.requires.found.kept
+
 pub output_paths-requires : goal.output_paths-requires
 output_paths-requires c =
     let lent = parts_outputs c.parts-parts.result.now c.args.visit.drv c.deref-2.result.now
