@@ -3,11 +3,12 @@
 -- the most significant first.
 use Rattle.std.specs.Prelude.{◌≡◌, ◌+◌, ◌*◌, ◌/◌, ◌%◌, ◌^◌, ◌<◌, ◌==◌, not, Bool, ℕ, zero, suc, List, [], ◌∷◌, length, map, reverse, slice_index, codes, nat_lt, Option, Some, None, if◌then◌else◌}
 use Rattle.std.specs.List.{list_any, position, position_or_len, All}
+use Rattle.nix_names.specs.Bytes.{Bytes}
 use Rattle.nix_names.specs.declared.fault.NameFault.{NameFault}
 use Rattle.nix_names.specs.declared.fault.NameFault.TheVariants.{BadLength, BadChar, Overflow}
 
 -- the digits' characters, those of 0 to 31: no e, o, t or u
-abbrev pub alphabet : List ℕ
+abbrev pub alphabet : Bytes
 alphabet = codes "0123456789abcdfghijklmnpqrsvwxyz"
 
 -- the character of a digit
@@ -29,7 +30,7 @@ text_len n = (8 * n + 4) / 5
 
 -- A text stands for some bytes: it has their count of characters, and read as digits it is their
 -- number.
-pub record StandsFor (text bytes : List ℕ) : Type 0 where
+pub record StandsFor (text bytes : Bytes) : Type 0 where
   pub digits : List ℕ
   pub spelled : text ≡ map digit_char (reverse digits)
   pub below : All (λ d. d < 32) digits
@@ -42,7 +43,7 @@ digits_of base zero n = []
 digits_of base (suc k) n = n % base ∷ digits_of base k (n / base)
 
 -- the text of some bytes
-unfoldable pub base32 : List ℕ → List ℕ
+unfoldable pub base32 : Bytes → Bytes
 base32 bytes = map digit_char (reverse (digits_of 32 (text_len (length bytes)) (number 256 bytes)))
 
 -- the digit of a character, or 32 where it is none of the alphabet
@@ -50,7 +51,7 @@ unfoldable pub digit_of : ℕ → ℕ
 digit_of c = position_or_len (λ a. a == c) alphabet
 
 -- the number that a text's digits write
-abbrev pub text_number : List ℕ → ℕ
+abbrev pub text_number : Bytes → ℕ
 text_number text = number 32 (reverse (map digit_of text))
 
 -- what is wrong first with digits' first bad place, their number and the number that is too large,
@@ -61,7 +62,7 @@ digits_fault None value limit = if nat_lt value limit then None else Some Overfl
 
 -- what is wrong first with a text as the text of n bytes, if anything: its length, its first
 -- character that is no digit, its number
-abbrev pub base32_fault : List ℕ → ℕ → Option NameFault
+abbrev pub base32_fault : Bytes → ℕ → Option NameFault
 base32_fault text n =
     if not (length text == text_len n) then Some BadLength
     else digits_fault (position (λ c. not (is_digit c)) text) (text_number text) (256 ^ n)

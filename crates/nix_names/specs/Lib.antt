@@ -1,5 +1,6 @@
 pub mod Answers
 pub mod Base32
+pub mod Bytes
 pub mod Digests
 pub mod Faults
 pub mod Firsts
