@@ -46,7 +46,7 @@ impl From<io::Error> for Failure {
 
 /// Whether a call that ended with an error is made again: a signal came between, and nothing was
 /// done.
-pub fn is_made_again(error: &io::Error) -> bool
+pub(crate) fn is_made_again(error: &io::Error) -> bool
     ensures { IsTrue result ↔ IsInterruption error.now }
 {
     error.kind() == ErrorKind::Interrupted

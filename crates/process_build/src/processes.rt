@@ -7,7 +7,7 @@ use crate::call::Call;
 use crate::folders::BuildFolder;
 use crate::reading::read_outputs;
 use crate::reasons::{no_room, no_start};
-use crate::removal::clear;
+use crate::removal::Clearing;
 use crate::start::run_builder;
 use sched_core::{Answer, Job, Reason};
 use std::alloc::{AllocError, Global};
@@ -18,10 +18,11 @@ use store_run::{Build, Watch};
 
 /// Builds each job by a process of its own, in a folder of its own within the store folder.
 ///
-/// What lies at the job's output paths and at the build folder's is removed first, or moved aside
-/// where it can't be removed. The builder then runs in the build folder, its standard input empty,
-/// what it prints not shown. Where its exit status is 0, what it left at the output paths is read.
-/// The build folder is removed at the end, or moved aside.
+/// The job's output paths and the build folder's are cleared first: a file, a link or an empty folder
+/// is removed, anything else is moved aside. The builder then runs in the build folder. Its standard
+/// input is empty, and what it prints is not shown. If its exit status is 0, what it left at the
+/// output paths is read. At the end the build folder is cleared in the same way, and what was moved
+/// aside is removed.
 #[derive(Drop)]
 pub struct ProcessBuild<'a, R, P> {
     rt: &'a R,
@@ -84,9 +85,11 @@ impl<R: Files + AllocGlobal, P: Processes> Build for ProcessBuild<'_, R, P> {
         let alloc = self.rt.alloc();
         let call = Call::of(alloc, job)?;
         let folder = BuildFolder::new(alloc, self.store_dir.as_str(), number)?;
-        let answer = self.build(&folder, &call, job);
-        // The answer stands, be the folder removed or not.
-        let _ = clear(self.rt, self.store_dir.as_str(), folder.path());
+        let mut clearing = Clearing::new(self.rt, self.store_dir.as_str());
+        let answer = self.build(&folder, &call, job, &mut clearing);
+        // The answer stands, whether the folder can be removed or not.
+        let _ = clearing.clear(folder.path());
+        clearing.finish();
         answer
     }
 }
@@ -100,10 +103,16 @@ impl<R, P> Watch for ProcessBuild<'_, R, P> {
 
 impl<R: Files + AllocGlobal, P: Processes> ProcessBuild<'_, R, P> {
     // Makes room, runs the builder, and reads what it left, if its exit status is 0.
-    fn build(&self, folder: &BuildFolder, call: &Call<'_>, job: &Job) -> Result<Answer, Reason>
+    fn build(
+        &self,
+        folder: &BuildFolder,
+        call: &Call<'_>,
+        job: &Job,
+        clearing: &mut Clearing<'_, R>,
+    ) -> Result<Answer, Reason>
         ensures { IfOk result (IsAnswerOf job.now) }
     {
-        self.make_room(folder, job)?;
+        self.make_room(folder, job, clearing)?;
         let alloc = self.rt.alloc();
         let status = run_builder(alloc, self.processes, self.store_dir.as_str(), folder, call)?;
         let trees = match status {
@@ -114,9 +123,14 @@ impl<R: Files + AllocGlobal, P: Processes> ProcessBuild<'_, R, P> {
     }
 
     // Clears the places of the job's outputs and of the build folder, and makes the folder.
-    fn make_room(&self, folder: &BuildFolder, job: &Job) -> Result<(), Reason> {
+    fn make_room(
+        &self,
+        folder: &BuildFolder,
+        job: &Job,
+        clearing: &mut Clearing<'_, R>,
+    ) -> Result<(), Reason> {
         for place in folder.places(self.rt.alloc(), job)? {
-            clear(self.rt, self.store_dir.as_str(), place).map_err(no_room)?;
+            clearing.clear(place).map_err(no_room)?;
         }
         fs::create_dir(self.rt, folder.path()).map_err(no_start)
     }

@@ -8,15 +8,45 @@ use std::fs::Metadata;
 use std::rt::Files;
 use std::{fs, io};
 
-/// Takes away what lies at a path of the store folder, if anything does. A link is removed, and not
-/// what it leads to; a folder is removed with all that is in it. What can't be removed is moved
-/// aside, to a name of the store folder that begins with `.nix_realise-left-`. No permissions are
-/// changed.
-pub fn clear<R: Files + AllocGlobal>(rt: &R, store_dir: &str, path: &str) -> Result<(), Failure> {
-    if is_gone(remove(rt, path))? {
-        return Ok(());
+/// Clears paths of a store folder for one lease. What takes long to remove is moved aside at once and
+/// removed at the end.
+#[derive(Drop)]
+pub struct Clearing<'a, R> {
+    rt: &'a R,
+    store_dir: &'a str,
+    aside: Vec<String>,
+}
+
+impl<'a, R: Files + AllocGlobal> Clearing<'a, R> {
+    /// Nothing is cleared yet.
+    pub fn new(rt: &'a R, store_dir: &'a str) -> Clearing<'a, R> {
+        Clearing {
+            rt,
+            store_dir,
+            aside: Vec::new(rt.alloc()),
+        }
     }
-    move_aside(rt, store_dir, path)
+
+    /// Takes away what lies at a path, if anything does. A file, a link or an empty folder is removed.
+    /// Anything else, for example a folder that holds something, is moved aside, to a name of the store
+    /// folder that begins with `.nix_realise-left-`. No link is followed, and no permissions are
+    /// changed.
+    pub fn clear(&mut self, path: &str) -> Result<(), Failure> {
+        if is_gone(remove(self.rt, path))? {
+            return Ok(());
+        }
+        self.aside.reserve(1)?;
+        let aside = move_aside(self.rt, self.store_dir, path)?;
+        self.aside.push(aside)?;
+        Ok(())
+    }
+
+    /// Removes what was moved aside, with all that is in it. What can't be removed stays there.
+    pub fn finish(&self) {
+        for aside in &self.aside {
+            let _ = fs::remove_dir_all(self.rt, aside.as_str());
+        }
+    }
 }
 
 // Whether nothing is left at a path, by what its removal gave.
@@ -31,22 +61,26 @@ fn is_gone(removed: Result<(), Failure>) -> Result<bool, Failure>
     }
 }
 
-// Removes what lies at a path, a folder with all that is in it.
+// Removes a file, a link or an empty folder.
 fn remove<R: Files + AllocGlobal>(rt: &R, path: &str) -> Result<(), Failure> {
     if fs::symlink_metadata(rt, path)?.is_dir() {
-        fs::remove_dir_all(rt, path)?;
+        fs::remove_dir(rt, path)?;
     } else {
         fs::remove_file(rt, path)?;
     }
     Ok(())
 }
 
-// Moves what lies at a path to the first name for such things that is free.
-fn move_aside<R: Files + AllocGlobal>(rt: &R, store_dir: &str, path: &str) -> Result<(), Failure> {
+// Moves what lies at a path to the first name for such things that is free, and tells that path.
+fn move_aside<R: Files + AllocGlobal>(
+    rt: &R,
+    store_dir: &str,
+    path: &str,
+) -> Result<String, Failure> {
     for number in 0..u64::MAX {
         let aside = aside_path(rt.alloc(), store_dir, number)?;
         if moves_to(rt, path, aside.as_str())? {
-            return Ok(());
+            return Ok(aside);
         }
     }
     Err(Failure::Other)
@@ -58,8 +92,6 @@ fn moves_to<R: Files + AllocGlobal>(rt: &R, path: &str, aside: &str) -> Result<b
         return Ok(false);
     }
     let Err(error) = fs::rename(rt, path, aside) else {
-        // It is tried once more, now that no one finds it by its old path; it may stay there.
-        let _ = remove(rt, aside);
         return Ok(true);
     };
     // Another worker may have taken the name.
@@ -83,7 +115,7 @@ fn is_there(asked: io::Result<Metadata>) -> Result<bool, Failure>
     }
 }
 
-// The path with this number for what can't be removed.
+// The path with this number for what is moved aside.
 fn aside_path(alloc: Global, store_dir: &str, number: u64) -> Result<String, AllocError>
     ensures { IfOk result (λ path. string_bytes path ≡ aside_of store_dir.now number) }
 {

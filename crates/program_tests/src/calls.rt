@@ -22,14 +22,14 @@ const KINDS: [ErrorKind; 5] = [
     ErrorKind::Other,
 ];
 
-// What stands before a run, its command line, the calls of a good run, each in a line, and for each
+// What stands before a run, its command line, the calls of a good run, each in a line, in parts, and for each
 // call what comes of the run where it is refused: a letter for each kind. The first letters are of
 // the good run. Behind a run with status 2 or 3 the last steps are taken: they find what it kept.
 struct Row {
     name: &'static str,
     before: &'static [Step],
     line: &'static str,
-    calls: &'static str,
+    calls: &'static [&'static str],
     refusals: &'static [&'static [u8; 5]],
     kept: &'static [Step],
 }
@@ -84,7 +84,7 @@ static ADDING: [Row; 4] = [
         name: "calls-check",
         before: &[PUT],
         line: "nix_realise check --store-dir <dir> <any>",
-        calls: "stat <any>\nopen <any>\nread \nread \n",
+        calls: &["stat <any>\nopen <any>\nread \nread \n"],
         refusals: &[b"kkkkk", b"BBBMB", b"BBBMB", b"BBBMB", b"BBBMB"],
         kept: &[],
     },
@@ -92,10 +92,12 @@ static ADDING: [Row; 4] = [
         name: "calls-add-text",
         before: &[FILE, TEXT],
         line: "nix_realise add-text --store-dir <dir> greeting <dir>/file",
-        calls: "open <dir>/file\nread \nread \nstat <dir>/realiser-journal\n\
+        calls: &[
+            "open <dir>/file\nread \nread \nstat <dir>/realiser-journal\n\
             lstat <text>\ncreate <dir>/.nix_realise-0\nwrite \nsync \nrename <text>\n\
             lstat <dir>/realiser-journal\ncreate <dir>/.nix_realise-0\nwrite \nsync \n\
             rename <dir>/realiser-journal\n",
+        ],
         refusals: &[
             b"ttttt", b"FFFMF", b"FFFMF", b"FFFMF", b"tRRMR", b"twwmw", b"wtwmw", b"wwwmw",
             b"wwwmw", b"wwwmw", b"tjjmj", b"jtjmj", b"jjjmj", b"jjjmj", b"jjjmj",
@@ -107,11 +109,13 @@ static ADDING: [Row; 4] = [
         name: "calls-add-text-behind",
         before: &[FILE, TEXT, Step::Write(JOURNAL, EMPTY_JOURNAL)],
         line: "nix_realise add-text --store-dir <dir> greeting <dir>/file",
-        calls: "open <dir>/file\nread \nread \nstat <dir>/realiser-journal\n\
+        calls: &[
+            "open <dir>/file\nread \nread \nstat <dir>/realiser-journal\n\
             open <dir>/realiser-journal\nread \nread \n\
             lstat <text>\ncreate <dir>/.nix_realise-0\nwrite \nsync \nrename <text>\n\
             lstat <dir>/realiser-journal\ncreate <dir>/.nix_realise-0\nfchmod \nwrite \nsync \n\
             rename <dir>/realiser-journal\n",
+        ],
         refusals: &[
             b"ttttt", b"FFFMF", b"FFFMF", b"FFFMF", b"tRRMR", b"tRRMR", b"RRRMR", b"RRRMR",
             b"twwmw", b"wtwmw", b"wwwmw", b"wwwmw", b"wwwmw", b"tjjmj", b"jtjmj", b"jjjmj",
@@ -123,8 +127,10 @@ static ADDING: [Row; 4] = [
         name: "calls-add-drv",
         before: &[Step::Write("<dir>/draft", DRAFT), PUT],
         line: "nix_realise add-drv --store-dir <dir> any <dir>/draft",
-        calls: "open <dir>/draft\nread \nread \nlstat <any>\ncreate <dir>/.nix_realise-0\n\
+        calls: &[
+            "open <dir>/draft\nread \nread \nlstat <any>\ncreate <dir>/.nix_realise-0\n\
             fchmod \nwrite \nsync \nrename <any>\n",
+        ],
         refusals: &[
             b"aaaaa", b"fffMf", b"fffMf", b"fffMf", b"aWWMW", b"WaWMW", b"WWWMW", b"WWWMW",
             b"WWWMW", b"WWWMW",
@@ -133,28 +139,70 @@ static ADDING: [Row; 4] = [
     },
 ];
 
-static RUN: [Row; 1] = [Row {
-    name: "calls-realise",
-    before: &[PUT],
-    line: "nix_realise realise --store-dir <dir> <any>",
-    calls: "stat <any>\nopen <any>\nread \nread \nstat <dir>/realiser-journal\n\
-        lstat <dir>/realiser-journal\ncreate <dir>/.nix_realise-0\n\
-        unlink <dir>/.nix_realise-0\nlstat <any.out>\nlstat <dir>/.build-0\n\
-        mkdir <dir>/.build-0\nspawn cd \"<dir>/.build-0\" && env -i \
-        HOME=\"/homeless-shelter\" NIX_BUILD_TOP=\"<dir>/.build-0\" NIX_STORE=\"<dir>\" \
-        PATH=\"/path-not-set\" PWD=\"<dir>/.build-0\" TEMP=\"<dir>/.build-0\" \
-        TEMPDIR=\"<dir>/.build-0\" TMP=\"<dir>/.build-0\" TMPDIR=\"<dir>/.build-0\" \
-        k=\"v\" out=\"<any.out>\" \"/bin/sh\" \"-c\" \"echo made > $out\" Stdio { .. } \
-        Stdio { .. } Stdio { .. }\nwait \nlstat <any.out>\nopen <any.out>\nread \nread \n\
-        lstat <dir>/.build-0\nremove <dir>/.build-0\nlstat <dir>/realiser-journal\n\
-        create <dir>/.nix_realise-0\nwrite \nsync \nrename <dir>/realiser-journal\n",
-    refusals: &[
-        b"rrrrr", b"DDDMD", b"DDDMD", b"DDDMD", b"DDDMD", b"rRRMR", b"rJJMJ", b"JrJMJ", b"JJJMJ",
-        b"rNNON", b"rNNON", b"NNNON", b"NNNON", b"XXXOX", b"0XXOX", b"XXXOX", b"XXXOX", b"XXXOX",
-        b"rrrrr", b"rrrrr", b"rJJMJ", b"JrJMJ", b"JJJMJ", b"JJJMJ", b"JJJMJ",
-    ],
-    kept: &[NO_JOURNAL],
-}];
+// The calls of `realise` before it builds anything: the plan and the journal are read, and it is tried
+// out whether a journal can be written.
+const OPENED: &str = "stat <any>\nopen <any>\nread \nread \nstat <dir>/realiser-journal\n\
+    lstat <dir>/realiser-journal\ncreate <dir>/.nix_realise-0\nunlink <dir>/.nix_realise-0\n";
+
+// Those that build `any` once its paths are clear.
+const BUILT: &str = "mkdir <dir>/.build-0\nspawn cd \"<dir>/.build-0\" && env -i \
+    HOME=\"/homeless-shelter\" NIX_BUILD_TOP=\"<dir>/.build-0\" NIX_STORE=\"<dir>\" \
+    PATH=\"/path-not-set\" PWD=\"<dir>/.build-0\" TEMP=\"<dir>/.build-0\" \
+    TEMPDIR=\"<dir>/.build-0\" TMP=\"<dir>/.build-0\" TMPDIR=\"<dir>/.build-0\" k=\"v\" \
+    out=\"<any.out>\" \"/bin/sh\" \"-c\" \"echo made > $out\" Stdio { .. } Stdio { .. } \
+    Stdio { .. }\nwait \nlstat <any.out>\nopen <any.out>\nread \nread \n";
+
+// Those that write the journal.
+const WRITTEN: &str = "lstat <dir>/realiser-journal\ncreate <dir>/.nix_realise-0\nwrite \nsync \n\
+    rename <dir>/realiser-journal\n";
+
+static RUN: [Row; 2] = [
+    Row {
+        name: "calls-realise",
+        before: &[PUT],
+        line: "nix_realise realise --store-dir <dir> <any>",
+        calls: &[
+            OPENED,
+            "lstat <any.out>\nlstat <dir>/.build-0\n",
+            BUILT,
+            "lstat <dir>/.build-0\nrmdir <dir>/.build-0\n",
+            WRITTEN,
+        ],
+        refusals: &[
+            b"rrrrr", b"DDDMD", b"DDDMD", b"DDDMD", b"DDDMD", b"rRRMR", b"rJJMJ", b"JrJMJ",
+            b"JJJMJ", b"rNNON", b"rNNON", b"NNNON", b"NNNON", b"XXXOX", b"0XXOX", b"XXXOX",
+            b"XXXOX", b"XXXOX", b"rrrrr", b"rrrrr", b"rJJMJ", b"JrJMJ", b"JJJMJ", b"JJJMJ",
+            b"JJJMJ",
+        ],
+        kept: &[NO_JOURNAL],
+    },
+    // A folder in the build folder's place is moved aside before the builder starts, and removed
+    // after its end.
+    Row {
+        name: "calls-realise-over-a-folder",
+        before: &[
+            PUT,
+            Step::Folder("<dir>/.build-0"),
+            Step::Write("<dir>/.build-0/left", "left"),
+        ],
+        line: "nix_realise realise --store-dir <dir> <any>",
+        calls: &[
+            OPENED,
+            "lstat <any.out>\nlstat <dir>/.build-0\nrmdir <dir>/.build-0\n\
+                lstat <dir>/.nix_realise-left-0\nrename <dir>/.nix_realise-left-0\n",
+            BUILT,
+            "lstat <dir>/.build-0\nrmdir <dir>/.build-0\nremove <dir>/.nix_realise-left-0\n",
+            WRITTEN,
+        ],
+        refusals: &[
+            b"rrrrr", b"DDDMD", b"DDDMD", b"DDDMD", b"DDDMD", b"rRRMR", b"rJJMJ", b"JrJMJ",
+            b"JJJMJ", b"rNNON", b"NNNON", b"NrrOr", b"rNNON", b"NNNON", b"NNNON", b"NNNON",
+            b"XXXOX", b"0XXOX", b"XXXOX", b"XXXOX", b"XXXOX", b"rrrrr", b"rrrrr", b"rrrrr",
+            b"rJJMJ", b"JrJMJ", b"JJJMJ", b"JJJMJ", b"JJJMJ",
+        ],
+        kept: &[NO_JOURNAL],
+    },
+];
 
 fn adding() -> &'static [Row] {
     &ADDING
@@ -209,6 +257,15 @@ where
     Ok(run_by(double, make, &words))
 }
 
+// The calls of a row's good run.
+fn calls_of(alloc: Global, scene: &Scene, row: &Row) -> Result<String, Fail> {
+    let mut calls = String::new(alloc);
+    for part in row.calls {
+        calls.push_str(scene.said(alloc, part)?.as_str())?;
+    }
+    Ok(calls)
+}
+
 // Whether what was to come of a case came: what the run wrote and its status, these calls where
 // none was refused, and the status 0 of the same run once more.
 fn came<R: Host>(
@@ -220,7 +277,7 @@ fn came<R: Host>(
     let (out, err, status) = told(case.letter);
     let out = scene.said(rt.alloc(), out)?;
     let err = scene.said(rt.alloc(), err)?;
-    let wanted = scene.said(rt.alloc(), case.row.calls)?;
+    let wanted = calls_of(rt.alloc(), scene, case.row)?;
     let is_told = first.out.as_slice() == out.as_bytes()
         && first.err.as_slice() == err.as_bytes()
         && first.status == status;

@@ -48,7 +48,7 @@ const LEASE: &str = "lstat <it.out>\nlstat <build>\nmkdir <build>\nspawn cd \"<b
     PATH=\"/path-not-set\" PWD=\"<build>\" TEMP=\"<build>\" TEMPDIR=\"<build>\" \
     TMP=\"<build>\" TMPDIR=\"<build>\" k=\"<it>\" out=\"<it.out>\" \"/bin/sh\" \"-c\" \
     \"echo made > $out\" Stdio { .. } Stdio { .. } Stdio { .. }\nlstat <it.out>\nopen <it.out>\n\
-    lstat <build>\nremove <build>\n";
+    lstat <build>\nrmdir <build>\n";
 
 // The last calls of a run, which no lease makes: the journal is written.
 const END: &str = "lstat <dir>/realiser-journal\ncreate <dir>/.nix_realise-0\nwrite \nsync \n\
