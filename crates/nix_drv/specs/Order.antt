@@ -3,37 +3,40 @@
 use Rattle.std.specs.Prelude.{◌≡◌, ℕ, ◌+◌, ◌≤◌, ◌⊎◌, Bool, true, false, not, ◌||◌, if◌then◌else◌, List, [], ◌∷◌, length, Option, Some, None, map}
 use Rattle.std.specs.Cmp.Lexicographic.{slice_cmp}
 use Rattle.std.specs.Ordering.{nat_cmp, is_lt}
+use Rattle.nix_names.specs.Bytes.{Bytes}
 use Rattle.nix_names.specs.Rising.{IsRising}
 use Rattle.nix_drv.specs.Grammar.{ListOrder, Rising, Free, Grammar, Fixed, Str, Then, Many, Value, text}
 
--- a value of the grammar has a key
+-- whether the values of a grammar have a key: whether a string is in them outside lists
 abbrev pub has_key : Grammar → Bool
 has_key (Fixed bytes) = false
 has_key Str = true
 has_key (Then a b) = has_key a || has_key b
 has_key (Many order g) = false
 
--- an element's key: its first string
-abbrev pub key : (g : Grammar) → Value g → List ℕ
+-- an element's key: its first string, or no bytes where it has none
+abbrev pub key : (g : Grammar) → Value g → Bytes
 key (Fixed bytes) v = []
 key Str v = v
 key (Then a b) v = if has_key a then key a v.0 else key b v.1
 key (Many order g) vs = []
 
--- a list of bytes comes before another
-abbrev pub is_less : List ℕ → List ℕ → Bool
+-- whether some bytes come before others, compared byte by byte
+abbrev pub is_less : (a b : Bytes) → Bool
 is_less a b = is_lt (slice_cmp nat_cmp a b)
 
--- an element with this key may not stand behind one with the key before it, if there is one
-abbrev pub breaks : ListOrder → Option (List ℕ) → List ℕ → Bool
+-- whether an element with key k breaks the order of its list, in which the element before it, if
+-- there is one, has the key `before`
+abbrev pub breaks : ListOrder → (before : Option Bytes) → (k : Bytes) → Bool
 breaks Free before k = false
 breaks Rising None k = false
 breaks Rising (Some before) k = not (is_less before k)
 
--- among elements of which the first stands at p, behind one with the key before it, the one at the
--- place breaks the order, or something within one does
-abbrev pub IsViolationAmong : {A : Type 0} → ListOrder → (A → List ℕ) → (A → List ℕ)
-    → (ℕ → A → ℕ → Type 0) → Option (List ℕ) → ℕ → List A → ℕ → Type 0
+-- The place is that of a violation among some elements of a list: of one that breaks the order, or
+-- of a violation within one. The text of the first of them begins at p, and the element before it,
+-- if there is one, has the key `before`.
+abbrev pub IsViolationAmong : {A : Type 0} → ListOrder → (key_of text_of : A → Bytes)
+    → (ℕ → A → ℕ → Type 0) → (before : Option Bytes) → (p : ℕ) → List A → (place : ℕ) → Type 0
 IsViolationAmong order key_of text_of Within before p [] place = ⊥
 IsViolationAmong order key_of text_of Within before p (v ∷ vs) place =
     ((breaks order before (key_of v) ≡ true) × (place ≡ p))
@@ -41,9 +44,9 @@ IsViolationAmong order key_of text_of Within before p (v ∷ vs) place =
     ⊎ IsViolationAmong order key_of text_of Within (Some (key_of v)) (p + length (text_of v) + 1) vs
     place
 
--- in the text of the value, which stands at p, the element at the place breaks the order of its
--- list
-unfoldable pub IsViolation : (g : Grammar) → ℕ → Value g → ℕ → Type 0
+-- The place is that of a violation in the text of a value, which begins at p: of an element that
+-- breaks the order of its list.
+unfoldable pub IsViolation : (g : Grammar) → (p : ℕ) → Value g → (place : ℕ) → Type 0
 IsViolation (Fixed bytes) p v place = ⊥
 IsViolation Str p v place = ⊥
 IsViolation (Then a b) p v place = IsViolation a p v.0 place
@@ -55,22 +58,22 @@ IsViolation (Many order g) p vs place = IsViolationAmong order (key g) (text g) 
 abbrev pub InOrder : (g : Grammar) → Value g → Type 0
 InOrder g v = (place : ℕ) → IsViolation g 0 v place → ⊥
 
--- the first element of the text that breaks the order of its list stands at the place
+-- The place is that of the first violation in the text of a value.
 pub record IsFirstViolation (g : Grammar) (v : Value g) (place : ℕ) : Type 0 where
   pub is_violation : IsViolation g 0 v place
   pub least : (other : ℕ) → IsViolation g 0 v other → place ≤ other
 
--- the keys of a list may stand so
-abbrev pub MayStand : ListOrder → List (List ℕ) → Type 0
+-- the keys of a list's elements rise, where the list must rise
+abbrev pub MayStand : ListOrder → List Bytes → Type 0
 MayStand Free ks = Unit {0}
 MayStand Rising ks = IsRising ks
 
--- each element has the property
+-- each element of a list has a property
 abbrev pub Each : {A : Type 0} → (A → Type 0) → List A → Type 0
 Each P [] = Unit {0}
 Each P (v ∷ vs) = P v × Each P vs
 
--- the keys of each list that must rise do so, and those of the lists within its elements
+-- in a value, the keys of each list that must rise do so, also in the lists within elements
 unfoldable pub KeysRise : (g : Grammar) → Value g → Type 0
 KeysRise (Fixed bytes) v = Unit {0}
 KeysRise Str v = Unit {0}

@@ -1,6 +1,7 @@
 -- What the public calls answer, and the numbers of the faults.
-use Rattle.std.specs.Prelude.{◌≡◌, ℕ, ◌<◌, ◌≤◌, ◌⊎◌, List, length, Vec, Result, Ok, Err}
+use Rattle.std.specs.Prelude.{◌≡◌, ℕ, ◌<◌, ◌≤◌, ◌⊎◌, length, Vec, Result, Ok, Err}
 use Rattle.std.specs.declared.alloc.Global.{Global}
+use Rattle.nix_names.specs.Bytes.{Bytes}
 use Rattle.nix_drv.specs.declared.fault.DrvFault.{DrvFault}
 use Rattle.nix_drv.specs.declared.fault.DrvFault.TheVariants.{NoMemory, Syntax, Order, TooLong, TextPathMismatch, NotADrvName, NotSorted, BadReference}
 use Rattle.nix_drv.specs.Grammar.{IsLongestFront}
@@ -11,11 +12,12 @@ use Rattle.nix_drv.specs.Derivation.{Drv, drv_value, derivation_form, IsLooseTex
 abbrev pub max_len : ℕ
 max_len = 4194304
 
--- A derivation exactly where the bytes are its text and not too many. Else too many; or no text of
--- the language with its order rules left out, with the length of the longest beginning that can
--- still become one; or a text that breaks them, with the place of the first element that does; or
--- memory was refused.
-abbrev pub IsReading : List ℕ → Result Drv DrvFault → Type 0
+-- What reading answers for some bytes. It is a derivation exactly where the bytes are its text and
+-- are within the limit. Else it is one of these faults: the bytes are too many; they are no text of
+-- the language, even without its order rules, and the longest beginning that more bytes can
+-- complete to a text has this length; they are a text that breaks an order rule, and the first
+-- element that does so is at this place; or memory was refused.
+abbrev pub IsReading : Bytes → Result Drv DrvFault → Type 0
 IsReading input (Ok drv) = (length input ≤ max_len) × IsDrvText drv input
 IsReading input (Err TooLong) = max_len < length input
 IsReading input (Err (Syntax place)) = (length input ≤ max_len)
@@ -23,10 +25,7 @@ IsReading input (Err (Syntax place)) = (length input ≤ max_len)
 IsReading input (Err (Order place)) = (length input ≤ max_len)
     × ((drv : Drv) × IsLooseText drv input × IsFirstViolation derivation_form (drv_value drv) place)
 IsReading input (Err NoMemory) = length input ≤ max_len
-IsReading input (Err NotSorted) = ⊥
-IsReading input (Err (TextPathMismatch expected)) = ⊥
-IsReading input (Err NotADrvName) = ⊥
-IsReading input (Err (BadReference text)) = ⊥
+IsReading input (Err other) = ⊥
 
 -- the derivation of the parts exactly where they keep the order rules
 abbrev pub IsMaking : Drv → Result Drv DrvFault → Type 0
@@ -45,7 +44,7 @@ IsCopying drv (Err fault) = fault ≡ NoMemory
 
 -- reading a derivation's text within the limit answers that derivation, unless memory is refused
 abbrev pub ReadsBack : Type 0
-ReadsBack = (drv : Drv) (text : List ℕ) (answer : Result Drv DrvFault) → IsDrvText drv text
+ReadsBack = (drv : Drv) (text : Bytes) (answer : Result Drv DrvFault) → IsDrvText drv text
     → length text ≤ max_len → IsReading text answer → (answer ≡ Ok drv) ⊎ (answer ≡ Err NoMemory)
 
 -- a fault's number in the table of faults

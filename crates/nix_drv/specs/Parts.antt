@@ -1,6 +1,7 @@
--- A derivation's parts as contracts see them.
-use Rattle.std.specs.Prelude.{ℕ, List, map, Vec}
+-- What contracts say of a derivation's parts: the lists of bytes in the program's structures.
+use Rattle.std.specs.Prelude.{ℕ, map, Vec}
 use Rattle.std.specs.declared.alloc.Global.{Global}
+use Rattle.nix_names.specs.Bytes.{Bytes, Path}
 use Rattle.nix_drv.specs.declared.derivation.Output.{Output as OutputStruct}
 use Rattle.nix_drv.specs.declared.derivation.Input.{Input as InputStruct}
 use Rattle.nix_drv.specs.declared.derivation.EnvEntry.{EnvEntry as EnvEntryStruct}
@@ -9,12 +10,15 @@ use Rattle.nix_drv.specs.declared.forms.Build.{Build}
 use Rattle.nix_drv.specs.Grammar.{Value}
 use Rattle.nix_drv.specs.Derivation.{Output, Input, EnvEntry, Drv, output_value, input_value, entry_value, build_form, derivation_form}
 
-abbrev pub bytes_of : Vec ℕ Global → List ℕ
+-- the bytes of a vector
+abbrev pub bytes_of : Vec ℕ Global → Bytes
 bytes_of v = v.items
 
-abbrev pub path_of : InputStruct → List ℕ
+-- the path of an input derivation
+abbrev pub path_of : InputStruct → Path
 path_of i = i.path.items
 
+-- the output that a structure holds
 abbrev pub output_of : OutputStruct → Output
 output_of o = record {
   name = o.name.items;
@@ -23,12 +27,15 @@ output_of o = record {
   hash = o.hash.items;
 }
 
+-- the input derivation that a structure holds
 abbrev pub input_of : InputStruct → Input
 input_of i = record { path = i.path.items; names = map bytes_of i.names.items }
 
+-- the entry of the environment that a structure holds
 abbrev pub entry_of : EnvEntryStruct → EnvEntry
 entry_of e = record { key = e.key.items; value = e.value.items }
 
+-- the derivation of some parts
 abbrev pub drv_of : Parts → Drv
 drv_of p = record {
   outputs = map output_of p.outputs.items;
@@ -40,7 +47,8 @@ drv_of p = record {
   env = map entry_of p.env.items;
 }
 
--- the parts as a value of the language, with each list in one step
+-- The system, builder, arguments and environment of some parts as a value of their form. It is
+-- equal to `build_value (drv_of p)`, but has one `map` over each list.
 abbrev pub parts_build : Parts → Value build_form
 parts_build p = (
   p.system.items,
@@ -59,7 +67,7 @@ parts_build p = (
   ),
 )
 
--- how it is built, by itself, as such a value
+-- the same of the structure that holds just these
 abbrev pub build_of : Build → Value build_form
 build_of b = (
   b.system.items,
@@ -78,6 +86,7 @@ build_of b = (
   ),
 )
 
+-- some parts as a value of a derivation's form, with one `map` over each list
 abbrev pub parts_value : Parts → Value derivation_form
 parts_value p = (
   tt,
