@@ -42,8 +42,8 @@ derivation_form =
     (Then (Many Rising input_form)
     (Then comma (Then (Many Rising Str) (Then comma build_form))))))
 
--- An output. Its path is empty in a draft. Where its content is fixed, `algo` says how it is hashed,
--- as `r:sha256`, and `hash` is its hash in hexadecimal digits; else both are empty.
+-- An output. Its path is empty in a draft. Where its content is fixed, `algo` says how it is
+-- hashed, as `r:sha256`, and `hash` is its hash in hexadecimal digits; else both are empty.
 pub record Output : Type 0 where
   pub name : Name
   pub path : Path

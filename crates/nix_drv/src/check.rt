@@ -15,11 +15,12 @@ use crate::text_paths::named_text_path;
 use nix_names::{NameFault, StoreDir, StorePath, is_drv_name, parse_path};
 use std::alloc::Global;
 
-/// The derivation whose text these bytes are, which stand at the path. In this order: `NotADrvName`
-/// where the path's name does not end in `.drv` behind at least one byte, `TooLong`, `Syntax` and
-/// `Order` as `read` answers them, `BadReference` with the first input derivation or source that is
-/// no path of the folder, `TextPathMismatch` with the text's own path where that is another path.
-/// Costs one reading, one SHA-256 over the bytes and one sort of the references.
+/// The derivation whose text the bytes at this path are. Tests these in order, and answers the
+/// first fault: `NotADrvName` where the path's name does not end in `.drv` behind at least one
+/// byte; `TooLong`, `Syntax` and `Order` as `read` does; `BadReference` with the first input
+/// derivation or source that is no path of the folder; `TextPathMismatch` with the text's own path
+/// where that is another path. Costs one reading, one SHA-256 over the bytes and one sort of the
+/// references.
 pub fn check_text(
     alloc: Global,
     dir: &StoreDir,
@@ -40,7 +41,7 @@ pub fn check_text(
     Ok(drv)
 }
 
-// The path in the folder at which a derivation's text stands, under a name.
+// The own path of a derivation's text in the folder, under a name.
 fn own_path(
     alloc: Global,
     dir: &StoreDir,
@@ -58,9 +59,9 @@ fn own_path(
     Ok(named_text_path(alloc, dir, name, bytes, &refs)?)
 }
 
-/// The paths of a derivation's inputs and sources, as references of its text: rising, each once.
-/// `BadReference` with the first that is no path of the folder. Costs one copy of the paths and one
-/// sort.
+/// The references of a derivation's text: the paths of its input derivations and its sources, in
+/// rising order, each once. Answers `BadReference` with the first that is no path of the folder.
+/// Costs one copy of the paths and one sort.
 pub fn references(
     alloc: Global,
     dir: &StoreDir,
@@ -79,7 +80,7 @@ pub fn references(
     Ok(refs)
 }
 
-// Adds the paths that are the elements' keys.
+// Adds the paths that are the keys of these elements.
 fn add_paths<T: Element>(
     alloc: Global,
     dir: &StoreDir,
@@ -99,7 +100,7 @@ fn add_paths<T: Element>(
     Ok(())
 }
 
-// The path of the folder that a text spells.
+// The text as a path of the folder.
 fn parse_reference(alloc: Global, dir: &StoreDir, text: &[u8]) -> Result<StorePath, DrvFault>
     ensures ok { IfOk result (λ path. (path ≡ text.now) × IsPathOf dir.now text.now) }
     ensures err { IfErr result (IsStrayFault dir.now (text.now ∷ [])) }

@@ -34,7 +34,7 @@ pub struct Output {
 /// A derivation of which another one uses outputs.
 #[derive(Debug, Drop)]
 pub struct Input {
-    /// The store path of its text.
+    /// The store path of the file that holds its text.
     pub path: Vec<u8>,
     /// The names of the outputs that are used.
     pub names: Vec<Vec<u8>>,
@@ -43,7 +43,9 @@ pub struct Input {
 /// An entry of the builder's environment.
 #[derive(Debug, Drop)]
 pub struct EnvEntry {
+    /// The variable's name.
     pub key: Vec<u8>,
+    /// The variable's value.
     pub value: Vec<u8>,
 }
 
@@ -60,19 +62,20 @@ pub struct Parts {
     pub builder: Vec<u8>,
     /// The builder's arguments.
     pub args: Vec<Vec<u8>>,
+    /// The builder's environment.
     pub env: Vec<EnvEntry>,
 }
 
 impl Parts {
-    /// The same parts again.
+    /// A copy of the parts.
     pub fn copy(&self, alloc: Global) -> Result<Parts, AllocError>
         ensures { IfOk result (λ copy. drv_of copy ≡ drv_of self.now) }
     {
         copy_parts(alloc, self)
     }
 
-    /// The text of the parts as they stand, in order or not, with these input derivations in place
-    /// of their own. Takes time in proportion to the text.
+    /// The text of the parts, whether or not they are in order, with these input derivations in
+    /// place of their own. Takes time in proportion to the text.
     pub fn text_with_inputs(&self, alloc: Global, inputs: &[Input]) -> Result<Vec<u8>, AllocError>
         ensures { IfOk result
             (λ bytes. IsLooseText (record (drv_of self.now) { inputs = map input_of inputs.now })
@@ -84,8 +87,9 @@ impl Parts {
     }
 }
 
-/// A derivation, seen as its lists of bytes. It keeps the order rules: outputs rise strictly by
-/// name, inputs by path, the names of each input, sources, and the environment by key.
+/// A derivation. It keeps the order rules: outputs rise strictly by name, input derivations by
+/// path, the environment by key, and the sources and the names of each input by their bytes.
+/// Contracts see it as its lists of bytes.
 #[derive(Debug, Drop)]
 pub struct Derivation {
     parts: Parts,
@@ -106,8 +110,8 @@ impl Model for Derivation {
 }
 
 impl Derivation {
-    // The derivation of the parts, or the place in their text of the first element that breaks
-    // the order of its list.
+    // The derivation of the parts, or the place in their text of the first element that breaks the
+    // order of its list.
     pub(crate) fn in_order(parts: Parts) -> Result<Derivation, usize>
         ensures { IsOrdering (drv_of parts) result }
     {
@@ -128,7 +132,7 @@ impl Derivation {
         }
     }
 
-    /// The same derivation again. Answers `DrvFault::NoMemory` where memory is refused, and no
+    /// A copy of the derivation. Answers `DrvFault::NoMemory` where memory is refused, and no
     /// other fault.
     pub fn copy(&self, alloc: Global) -> Result<Derivation, DrvFault>
         ensures { IsCopying self.now result }
@@ -154,7 +158,7 @@ impl Derivation {
         &self.parts
     }
 
-    /// The parts, in order, which `new` takes again.
+    /// The parts, in order, from which `new` makes the same derivation.
     pub fn into_parts(self) -> Parts
         ensures parts { drv_of result ≡ self }
         ensures in_order { InOrder derivation_form (drv_value self) }
@@ -213,7 +217,7 @@ impl Derivation {
     }
 
     /// The place of the output with this name among the outputs, if there is one. Takes no memory,
-    /// and compares names some log2(n) times, n being the number of outputs.
+    /// and compares some log2(n) names, where n is the number of outputs.
     pub fn output_place(&self, name: &[u8]) -> Option<usize>
         ensures found { IsPlaceOf (output_names self.now) name.now result }
         ensures rising { IsRising (output_names self.now) }
@@ -227,8 +231,9 @@ impl Derivation {
         }
     }
 
-    /// Whether the input derivation with this number is used by its output with this name. Takes no
-    /// memory, and compares names some log2(n) times, n being the number of that input's names.
+    /// Whether this derivation uses the output with this name of the input derivation with this
+    /// number. Takes no memory, and compares some log2(n) names, where n is the number of that
+    /// input's names.
     pub fn uses(&self, input: usize, name: &[u8]) -> bool
         requires { input < length self.now.inputs }
         ensures { IfSome (slice_get self.now.inputs input)
@@ -243,7 +248,8 @@ impl Derivation {
         }
     }
 
-    /// The place of the entry with this key in the environment, if there is one, in the same way.
+    /// The place of the entry with this key in the environment, if there is one. Takes no memory,
+    /// and compares some log2(n) keys, where n is the number of entries.
     pub fn env_place(&self, key: &[u8]) -> Option<usize>
         ensures found { IsPlaceOf (env_keys self.now) key.now result }
         ensures rising { IsRising (env_keys self.now) }

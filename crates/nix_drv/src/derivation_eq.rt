@@ -1,4 +1,4 @@
-//! Equality of derivations and of their parts.
+//! Equality of derivations, outputs, inputs and entries of the environment.
 ghost use Rattle.std.specs.Prelude.{◌≡◌, map, nat_eq};
 ghost use Rattle.std.specs.Cmp.Lexicographic.{pointwise};
 ghost use Rattle.nix_drv.specs.Equality.{same_build, same_entry, same_input, same_output, same_paths, same_program};
@@ -85,49 +85,49 @@ impl Eq for Derivation {
     ghost laws = { same_drv_laws };
 }
 
-// Whether derivations have the same outputs, inputs and sources.
+// Whether two derivations have the same outputs, inputs and sources.
 fn has_same_paths(a: &Derivation, b: &Derivation) -> bool
     ensures { result ≡ same_paths a.now b.now }
 {
     same_outputs(a, b) && same_inputs(a, b) && same_texts(a.sources(), b.sources())
 }
 
-// Whether derivations are built in the same way.
+// Whether two derivations have the same system, builder, arguments and environment.
 fn is_built_alike(a: &Derivation, b: &Derivation) -> bool
     ensures { result ≡ same_build a.now b.now }
 {
     has_same_program(a, b) && same_texts(a.args(), b.args()) && same_env(a, b)
 }
 
-// Whether derivations are built by the same program, on the same kind of machine.
+// Whether two derivations have the same system and builder.
 fn has_same_program(a: &Derivation, b: &Derivation) -> bool
     ensures { result ≡ same_program a.now b.now }
 {
     a.system() == b.system() && a.builder() == b.builder()
 }
 
-// Whether derivations have the same outputs.
+// Whether two derivations have the same outputs.
 fn same_outputs(a: &Derivation, b: &Derivation) -> bool
     ensures { result ≡ pointwise same_output a.now.outputs b.now.outputs }
 {
     a.outputs() == b.outputs()
 }
 
-// Whether derivations have the same inputs.
+// Whether two derivations have the same inputs.
 fn same_inputs(a: &Derivation, b: &Derivation) -> bool
     ensures { result ≡ pointwise same_input a.now.inputs b.now.inputs }
 {
     a.inputs() == b.inputs()
 }
 
-// Whether derivations have the same environment.
+// Whether two derivations have the same environment.
 fn same_env(a: &Derivation, b: &Derivation) -> bool
     ensures { result ≡ pointwise same_entry a.now.env b.now.env }
 {
     a.env() == b.env()
 }
 
-// Whether lists of texts are the same.
+// Whether two lists have the same texts in the same order.
 fn same_texts(a: &[Vec<u8>], b: &[Vec<u8>]) -> bool
     ensures { result ≡ pointwise (pointwise nat_eq) (map bytes_of a.now) (map bytes_of b.now) }
 {

@@ -1,4 +1,4 @@
-//! What stands in the lists of a derivation, and the lists.
+//! The lists of a derivation, and what their elements have in common.
 
 ghost use Rattle.std.specs.Prelude.{◌≡◌, ◌++◌, IfOk, OnOk, map, option_map};
 ghost use Rattle.nix_drv.specs.Grammar.{Grammar, Value, Free, Many, text, IsClear};
@@ -12,22 +12,24 @@ use crate::fault::Stop;
 use crate::reading::fixed_of;
 use std::alloc::{AllocError, Global};
 
-// An element of a list: how it is read, written and ordered.
+// An element of a list, which can be read, written, copied and compared by its key.
 pub(crate) trait Element {
+    // The form of its text.
     ghost form: { Grammar };
 
+    // The element as a value of the form.
     ghost value: { Self → Value form };
 
-    // What the elements of its list may have to rise by.
+    // The bytes by which the elements of a list that must rise are compared.
     fn key(&self) -> &[u8]
         ensures { result.now ≡ key_of form (value self.now) };
 
-    // The element at the head of the bytes, and those behind it.
+    // The element at the head of the bytes, and the bytes behind it.
     fn read(alloc: Global, bytes: &[u8]) -> Result<(Self, &[u8]), Stop>
         ensures { Gives (λ x. (value x.0, x.1.now)) result (read_of form bytes.now) };
 
-    // The place behind the element's text where it stands at the place, or the place of the
-    // first element within it that breaks the order of its list.
+    // The place behind the element's text, which begins at this place, or the place of the first
+    // element within it that breaks the order of its list.
     fn pass(&self, place: usize) -> Result<usize, usize>
         ensures { result ≡ pass_of form place (value self.now) };
 
@@ -35,10 +37,11 @@ pub(crate) trait Element {
     fn write(&self, out: &mut Vec<u8>) -> Result<(), AllocError>
         ensures { OnOk result (out.new.items ≡ out.old.items ++ text form (value self.now)) };
 
-    // An element of the same bytes.
+    // A copy of the element.
     fn copy(&self, alloc: Global) -> Result<Self, AllocError>
         ensures { IfOk result (λ copy. value copy ≡ value self.now) };
 
+    // The form is clear, and its first byte tells an element from the end of a list.
     ghost clear: { IsClear (Many Free form) };
 }
 
@@ -49,12 +52,13 @@ pub(crate) enum Order {
     Free,
 }
 
-// What stands behind an element.
+// What follows an element: a comma, or the end of the list.
 enum Next {
     Comma,
     End,
 }
 
+// What the head of the bytes is, and the bytes behind it.
 fn next_of(bytes: &[u8]) -> Result<(Next, &[u8]), Stop>
     ensures { Gives (λ x. (x.0, x.1.now)) result (sign_at bytes.now) }
 {
@@ -66,7 +70,7 @@ fn next_of(bytes: &[u8]) -> Result<(Next, &[u8]), Stop>
     }
 }
 
-// The list at the head of the bytes, and those behind it.
+// The list at the head of the bytes, and the bytes behind it.
 pub(crate) fn read_list<T: Element + Drop>(
     alloc: Global,
     bytes: &[u8],
@@ -81,7 +85,8 @@ pub(crate) fn read_list<T: Element + Drop>(
     }
 }
 
-// The elements of a list at the head of the bytes, one at least, and the bytes behind the list.
+// The elements of a list of one or more elements, and the bytes behind the list. The bytes begin
+// behind the list's first bracket.
 fn read_elements<T: Element + Drop>(alloc: Global, bytes: &[u8]) -> Result<(Vec<T>, &[u8]), Stop>
     ensures { Gives (λ x. (map T.value x.0.items, x.1.now)) result
         (elements_of (read_of T.form) bytes.now) }
@@ -98,7 +103,8 @@ fn read_elements<T: Element + Drop>(alloc: Global, bytes: &[u8]) -> Result<(Vec<
     }
 }
 
-// Whether an element with this key breaks the order behind one with the key before it.
+// Whether an element with this key breaks the order of its list. The element before it, if there is
+// one, has the key `before`.
 fn breaks(order: Order, before: Option<&[u8]>, key: &[u8]) -> bool
     ensures { result ≡ breaks_of (order_of order) (option_map (λ k. k.now) before.entry) key.now }
 {
@@ -108,8 +114,8 @@ fn breaks(order: Order, before: Option<&[u8]>, key: &[u8]) -> bool
     }
 }
 
-// The place behind the list's text where it stands at the place, or the place of its first
-// element that breaks an order. A place past the last number of the machine is that number.
+// The place behind the list's text, which begins at this place, or the place of the first element
+// that breaks the order of its list. A place above `usize::MAX` counts as `usize::MAX`.
 #[tactic(auto, unfolding(crate::specs::Passing::pass))]
 pub(crate) fn pass_list<T: Element>(order: Order, items: &[T], place: usize) -> Result<usize, usize>
     ensures { result ≡ pass_of (Many (order_of order) T.form) place (map T.value items.now) }
@@ -144,7 +150,7 @@ pub(crate) fn write_list<T: Element>(items: &[T], out: &mut Vec<u8>) -> Result<(
     out.extend_from_slice(b"]")
 }
 
-// Adds a comma and the element's text for each.
+// Adds a comma and the element's text for each of these elements.
 fn write_others<T: Element>(others: &[T], out: &mut Vec<u8>) -> Result<(), AllocError>
     ensures { OnOk result
         (out.new.items ≡ out.old.items ++ others_text (text T.form) (map T.value others.now)) }
@@ -156,7 +162,7 @@ fn write_others<T: Element>(others: &[T], out: &mut Vec<u8>) -> Result<(), Alloc
     Ok(())
 }
 
-// A list of the same elements.
+// A list of copies of the elements.
 pub(crate) fn copy_list<T: Element + Drop>(alloc: Global, items: &[T]) -> Result<Vec<T>, AllocError>
     ensures { IfOk result (λ copies. map T.value copies.items ≡ map T.value items.now) }
 {

@@ -1,9 +1,9 @@
-//! The bytes that strings spell by an escape.
+//! The bytes that strings write by an escape.
 
 ghost use Rattle.std.specs.Prelude.{false, ◌≡◌, ◌≤◌, ℕ, ◌<◌, true, is_some, length, position, slice_index};
 ghost use Rattle.nix_drv.specs.Strings.{is_plain, letter, unescaped};
 
-// The letter of the byte's escape, where it takes one.
+// The letter of the byte's escape, if the byte has an escape.
 pub(crate) fn letter_of(byte: u8) -> Option<u8>
     ensures { result ≡ letter byte }
 {
@@ -17,7 +17,7 @@ pub(crate) fn letter_of(byte: u8) -> Option<u8>
     }
 }
 
-// The byte whose escape has the letter.
+// The byte whose escape has the letter, if there is one.
 pub(crate) fn unescape(letter: u8) -> Option<u8>
     ensures { result ≡ unescaped letter }
 {
@@ -31,15 +31,15 @@ pub(crate) fn unescape(letter: u8) -> Option<u8>
     }
 }
 
-// The place of the first byte that takes an escape.
+// The place of the first byte that has an escape, if there is one.
 fn escape_place(bytes: &[u8]) -> Option<usize>
     ensures { result ≡ position (λ b. is_some (letter b)) bytes.now }
 {
     bytes.iter().position(|byte| letter_of(*byte).is_some())
 }
 
-// How many bytes from the first on are plain: where a byte follows them, it takes an escape.
-// Looks at no byte behind that one.
+// The number of bytes before the first that has an escape, or of all bytes where none has one.
+// Looks at no byte behind that first one.
 pub(crate) fn plain_len(bytes: &[u8]) -> usize
     ensures within { result ≤ length bytes.now }
     ensures plain { (k : ℕ) → k < result → is_plain (slice_index bytes.now k) ≡ true }

@@ -1,4 +1,4 @@
-//! Why bytes are no derivation, or none that stands at its own path.
+//! Why bytes are no derivation, or not at the derivation's own path.
 ghost use Rattle.std.specs.Prelude.{◌≡◌};
 ghost use Rattle.nix_drv.specs.Outcome.{number_of};
 
@@ -12,18 +12,18 @@ pub enum DrvFault {
     /// Memory was refused.
     #[error("memory was refused")]
     NoMemory,
-    /// The bytes are no text of the language. The place is the length of their longest
-    /// beginning that can still become one.
+    /// The bytes are no text of the language. The place is the length of their longest beginning
+    /// that more bytes can complete to a text.
     #[error("the text is no derivation from byte {0} on")]
     Syntax(usize),
-    /// The element at the place isn't greater than the one before it, as its list demands. It is
+    /// The element at the place isn't greater than the one before it, but its list must rise. It is
     /// the first such element of the text.
     #[error("the element at byte {0} is out of order")]
     Order(usize),
     /// The text is longer than 4,194,304 bytes.
     #[error("the text has more than 4,194,304 bytes")]
     TooLong,
-    /// The text's own path, which is not the path at which it stands.
+    /// The text is not at its own path, which is this one.
     #[error("the derivation stands at another path than its own")]
     TextPathMismatch(StorePath),
     /// The path's name is not that of a derivation's file.
@@ -32,7 +32,7 @@ pub enum DrvFault {
     /// The parts break an order rule.
     #[error("the parts are not sorted")]
     NotSorted,
-    /// The first reference that is no path of the store folder, as it stands in the text.
+    /// A reference is no path of the store folder. This is the first such reference of the text.
     #[error("a reference is not a path of the store folder")]
     BadReference(Vec<u8>),
 }
@@ -80,7 +80,8 @@ impl<T: Drop> From<AllocFailed<T>> for DrvFault {
 pub(crate) enum Stop {
     // Memory was refused.
     NoMemory,
-    // So many bytes lie behind the longest beginning that can still become a text.
+    // The bytes are no text. This is the number of bytes behind the longest beginning that more
+    // bytes can complete to a text.
     Left(usize),
 }
 

@@ -1,4 +1,4 @@
-//! How the elements of a derivation's lists stand in its text.
+//! How the parts of a derivation are read, written, copied and tested for their order.
 
 ghost use Rattle.std.specs.Prelude.{◌≡◌, ◌++◌, ◌∷◌, IfOk, OnOk, map};
 ghost use Rattle.std.proofs.Common.{rules};
@@ -19,7 +19,7 @@ use crate::reading::{fixed_of, str_of};
 use crate::writing::{pass_str, write_string};
 use std::alloc::{AllocError, Global};
 
-// A string behind the bytes that are wanted.
+// The string behind the wanted bytes, and the bytes behind it.
 #[tactic(auto, unfolding(crate::specs::Behind::string_behind))]
 fn read_str<'a>(alloc: Global, wanted: &[u8], bytes: &'a [u8]) -> Result<(Vec<u8>, &'a [u8]), Stop>
     ensures { Gives (λ x. (x.0.items, x.1.now)) result (string_behind wanted.now bytes.now) }
@@ -28,7 +28,7 @@ fn read_str<'a>(alloc: Global, wanted: &[u8], bytes: &'a [u8]) -> Result<(Vec<u8
     str_of(alloc, rest)
 }
 
-// Two strings with a comma between, behind the bytes that are wanted.
+// Two strings, with a comma between them, behind the wanted bytes, and the bytes behind them.
 #[tactic(auto, unfolding(crate::specs::Behind::strings_behind))]
 fn read_strs<'a>(
     alloc: Global,
@@ -43,7 +43,7 @@ fn read_strs<'a>(
     Ok(((first, second), rest))
 }
 
-// A list behind the bytes that are wanted.
+// The list behind the wanted bytes, and the bytes behind it.
 #[tactic(auto, unfolding(crate::specs::Behind::list_behind))]
 fn read_items<'a, T: Element + Drop>(
     alloc: Global,
@@ -67,7 +67,7 @@ fn write_str_behind(mark: &[u8], bytes: &[u8], out: &mut Vec<u8>) -> Result<(), 
     write_string(out, bytes)
 }
 
-// Adds the mark and the strings' texts with a comma between.
+// Adds the mark and the texts of both strings, with a comma between them.
 fn write_strs_behind(
     mark: &[u8],
     first: &[u8],
@@ -256,7 +256,7 @@ impl Element for Output {
     ghost clear = { Prim.search rules };
 }
 
-// How a derivation is built.
+// The system, builder, arguments and environment of a derivation.
 #[derive(Drop)]
 struct Build {
     system: Vec<u8>,
@@ -265,7 +265,7 @@ struct Build {
     env: Vec<EnvEntry>,
 }
 
-// How it is built, behind a comma.
+// The system, builder, arguments and environment behind a comma, and the bytes behind them.
 fn read_build(alloc: Global, bytes: &[u8]) -> Result<(Build, &[u8]), Stop>
     ensures { Gives
         (λ x. ((tt, build_of x.0), x.1.now)) result (read_of (Then comma build_form) bytes.now) }
@@ -303,8 +303,8 @@ pub(crate) fn read_parts(alloc: Global, bytes: &[u8]) -> Result<(Parts, &[u8]), 
     Ok((parts, rest))
 }
 
-// The place behind the text of how it is built, which stands at the place, or the place in it of
-// the first element that breaks the order of its list.
+// The place behind the text of the system, builder, arguments and environment, which begins at this
+// place, or the place in it of the first element that breaks the order of its list.
 #[tactic(auto, unfolding(crate::specs::Passing::pass))]
 fn pass_build(parts: &Parts, place: usize) -> Result<usize, usize>
     ensures { result ≡ pass_of build_form place (parts_build parts.now) }
@@ -316,8 +316,8 @@ fn pass_build(parts: &Parts, place: usize) -> Result<usize, usize>
     Ok(at.saturating_add(1))
 }
 
-// The place behind the parts' text, or the place in it of the first element that breaks the
-// order of its list.
+// The place behind the parts' text, or the place in it of the first element that breaks the order
+// of its list.
 #[tactic(auto, unfolding(crate::specs::Passing::pass))]
 pub(crate) fn pass_parts(parts: &Parts) -> Result<usize, usize>
     ensures { result ≡ pass_of derivation_form 0 (parts_value parts.now) }
@@ -328,7 +328,7 @@ pub(crate) fn pass_parts(parts: &Parts) -> Result<usize, usize>
     pass_build(parts, at.saturating_add(1))
 }
 
-// Adds a comma and the text of how it is built.
+// Adds a comma and the text of the system, builder, arguments and environment.
 fn write_build(parts: &Parts, out: &mut Vec<u8>) -> Result<(), AllocError>
     ensures { OnOk result
         (out.new.items ≡ out.old.items ++ 44 ∷ text build_form (parts_build parts.now)) }
@@ -357,7 +357,7 @@ pub(crate) fn write_parts(
     write_build(parts, out)
 }
 
-// How the parts are built, again.
+// A copy of the system, builder, arguments and environment of the parts.
 fn copy_build(alloc: Global, parts: &Parts) -> Result<Build, AllocError>
     ensures { IfOk result (λ copy. build_of copy ≡ parts_build parts.now) }
 {
@@ -369,7 +369,7 @@ fn copy_build(alloc: Global, parts: &Parts) -> Result<Build, AllocError>
     })
 }
 
-// The same parts.
+// A copy of the parts.
 pub(crate) fn copy_parts(alloc: Global, parts: &Parts) -> Result<Parts, AllocError>
     ensures { IfOk result (λ copy. parts_value copy ≡ parts_value parts.now) }
 {

@@ -1,4 +1,4 @@
-//! What holds of texts, of answers and of own paths, proved over the definitions.
+//! Laws of texts, answers and own paths, proved from the definitions that contracts use.
 
 ghost use Rattle.nix_drv.specs.Grammar.{Grammar, IsClear};
 ghost use Rattle.nix_drv.specs.Laws.{HasOneTextEach, HasOneValueEach, HasNoTextWithin, OrderMeansRising, FrontsAreBeginnings, HasOneDerivationEach, HasNoDerivationWithin, HasOneReading, HasOneCheck};
@@ -7,8 +7,8 @@ ghost use Rattle.nix_drv.specs.Equality.{EqualDerivationsAreSame};
 ghost use Rattle.nix_drv.specs.Outcome.{ReadsBack};
 ghost use Rattle.nix_drv.specs.OwnPath.{HasOneOwnPath};
 
-/// A value has one text, a text one value, and no text begins another, in every clear grammar.
-/// The language of derivations is one.
+/// In every clear grammar, each value has one text, each text has one value, and no text begins
+/// another. The grammar of derivations is clear.
 pub fn texts_tell_values()
     ensures one_text { (g : Grammar) → HasOneTextEach g }
     ensures one_value { (g : Grammar) → IsClear g → HasOneValueEach g }
@@ -16,21 +16,22 @@ pub fn texts_tell_values()
     ensures derivations { IsClear derivation_form }
 {}
 
-/// A front of a grammar is just a beginning of some value's text: the longest front of an input is
-/// its longest beginning with which a text begins.
+/// Some bytes are a front of a grammar exactly where the text of some value begins with them. So
+/// the longest front of an input is its longest beginning with which a text begins.
 pub fn fronts_are_beginnings()
     ensures { (g : Grammar) → FrontsAreBeginnings g }
 {}
 
-/// Two derivations have no text in common, and no derivation's text begins another's, whether or
-/// not they keep the order rules.
+/// No two derivations have the same text, and no derivation's text begins another's, whether or not
+/// they keep the order rules.
 pub fn texts_tell_derivations()
     ensures one_derivation { HasOneDerivationEach }
     ensures none_within { HasNoDerivationWithin }
 {}
 
-/// Two answers that the contract of `read` allows for one input are the same, and two that the
-/// contract of `check_text` allows for bytes at a path say the same, want of memory apart.
+/// Two answers that the contract of `read` allows for one input are the same. Two answers that the
+/// contract of `check_text` allows for the same bytes at a path say the same. Want of memory is
+/// excepted in both.
 pub fn inputs_have_one_answer()
     ensures reading { HasOneReading }
     ensures check { HasOneCheck }
@@ -42,8 +43,8 @@ pub fn order_means_rising()
     ensures { (g : Grammar) → OrderMeansRising g }
 {}
 
-/// What `read` may answer for the text that `write` gives of a derivation, within the limit, is
-/// that derivation or want of memory.
+/// For a derivation's text within the limit, the contract of `read` allows no answer but that
+/// derivation and want of memory.
 pub fn written_texts_are_read_back()
     ensures { ReadsBack }
 {}

@@ -2,18 +2,18 @@
 //!
 //! | Module | What is in it |
 //! |---|---|
-//! | `derivation`, `derivation_eq` | a derivation's parts, in order, and when two are equal |
-//! | `reading` | bytes as a derivation |
-//! | `writing` | a derivation as bytes |
-//! | `escapes` | the bytes that strings spell by an escape |
+//! | `derivation`, `derivation_eq` | a derivation and its parts, and when two are equal |
+//! | `reading` | reading a derivation from its text |
+//! | `writing` | writing a derivation's text |
+//! | `escapes` | the bytes that strings write by an escape |
 //! | `element` | lists of elements: reading, ordering and writing them |
-//! | `forms` | the elements of a derivation's lists |
+//! | `forms` | reading, writing and copying a derivation's parts |
 //! | `text_paths` | the store path of a text with references |
 //! | `check` | whether a derivation stands at its own path |
 //! | `source` | where the bytes of derivations come from |
 //! | `listing` | a source that is a list of files in memory |
-//! | `fault` | why bytes are no derivation, or stand at another path |
-//! | `laws` | laws over the definitions that contracts cite |
+//! | `fault` | why bytes are no derivation, or not at its own path |
+//! | `laws` | laws of the definitions that contracts use |
 #![tactic(auto)]
 
 mod check;

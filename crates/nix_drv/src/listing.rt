@@ -10,15 +10,17 @@ use nix_names::StorePath;
 use std::alloc::Global;
 use std::marker::Model;
 
-/// A file of a list: its path's text and its bytes.
+/// A file of a list.
 #[derive(Debug, Drop)]
 pub struct ListedFile {
+    /// The text of its path.
     pub path: Vec<u8>,
+    /// Its content.
     pub bytes: Vec<u8>,
 }
 
-/// A list of files in memory, of which chosen fetches fail as a device does. Of several files at
-/// one path the first is fetched.
+/// A list of files in memory. Chosen fetches fail as those of a broken device do. Of several files
+/// at one path the first is fetched.
 #[derive(Debug, Drop)]
 pub struct ListSource {
     files: IndexMap<Vec<u8>, Vec<u8>>,
@@ -42,8 +44,8 @@ impl Model for ListSource {
 }
 
 impl ListSource {
-    /// The source with these files, of which the fetches with these numbers fail, counted from 0.
-    /// Answers `NoMemory` where memory is refused, and no other fault. Costs one entry by hash for
+    /// The source with these files. The fetches with these numbers, counted from 0, fail. Answers
+    /// `NoMemory` where memory is refused, and no other fault. Costs one entry of a hash table for
     /// each file.
     pub fn new(
         alloc: Global,
@@ -61,7 +63,7 @@ impl ListSource {
         })
     }
 
-    /// How many fetches failed, at most `u64::MAX`.
+    /// The number of fetches that failed, at most `u64::MAX`.
     pub fn failures(&self) -> u64
         ensures { result ≡ self.now.failures }
     {
@@ -107,8 +109,8 @@ impl DrvSource for ListSource {
     }
 }
 
-// The bytes of the first file at each path. The files go in from the last to the first, since a
-// path keeps the bytes that come last.
+// The bytes of the first file at each path. The files go in from the last to the first, since the
+// map keeps the bytes that went in last for a path.
 fn by_path(
     alloc: Global,
     mut files: Vec<ListedFile>,
@@ -125,7 +127,7 @@ fn by_path(
     Ok(by_path)
 }
 
-// The bytes at the path.
+// The bytes at the path, if there are any.
 fn bytes_at<'a>(files: &'a IndexMap<Vec<u8>, Vec<u8>>, path: &[u8]) -> Option<&'a [u8]>
     ensures { option_copied result ≡ bytes_at (entries_of files.now.entries) path.now }
 {

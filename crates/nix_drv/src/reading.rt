@@ -12,10 +12,10 @@ use crate::fault::{DrvFault, Stop};
 use crate::forms::read_parts;
 use std::alloc::Global;
 
-/// How many bytes a derivation's text may have.
+/// The greatest number of bytes that a derivation's text may have.
 pub const MAX_LEN: usize = 4_194_304;
 
-// The bytes behind those that are wanted.
+// The bytes behind the wanted ones, with which the bytes must begin.
 pub(crate) fn fixed_of<'a>(bytes: &'a [u8], wanted: &[u8]) -> Result<&'a [u8], Stop>
     ensures { Gives (λ rest. (tt, rest.now)) result (fixed_at wanted.now bytes.now) }
 {
@@ -32,6 +32,7 @@ pub(crate) fn fixed_of<'a>(bytes: &'a [u8], wanted: &[u8]) -> Result<&'a [u8], S
     Ok(rest)
 }
 
+// The byte whose escape has the letter at the head of the bytes, and the bytes behind the letter.
 fn escape_of(bytes: &[u8]) -> Result<(Option<u8>, &[u8]), Stop>
     ensures { Gives (λ x. (x.0, x.1.now)) result (escape_at bytes.now) }
 {
@@ -44,6 +45,7 @@ fn escape_of(bytes: &[u8]) -> Result<(Option<u8>, &[u8]), Stop>
     }
 }
 
+// The first byte of the rest of a string, or none at its last quote, and the bytes behind it.
 fn byte_of(bytes: &[u8]) -> Result<(Option<u8>, &[u8]), Stop>
     ensures { Gives (λ x. (x.0, x.1.now)) result (byte_at bytes.now) }
 {
@@ -58,7 +60,7 @@ fn byte_of(bytes: &[u8]) -> Result<(Option<u8>, &[u8]), Stop>
     }
 }
 
-// The string at the head of the bytes, and those behind it.
+// The string at the head of the bytes, and the bytes behind it.
 #[tactic(auto, unfolding(crate::specs::Reading::read))]
 pub(crate) fn str_of(alloc: Global, bytes: &[u8]) -> Result<(Vec<u8>, &[u8]), Stop>
     ensures { Gives (λ x. (x.0.items, x.1.now)) result (read Str bytes.now) }
@@ -67,7 +69,7 @@ pub(crate) fn str_of(alloc: Global, bytes: &[u8]) -> Result<(Vec<u8>, &[u8]), St
     spelled_of(alloc, rest)
 }
 
-// The bytes that are spelled up to a string's last quote, and those behind it.
+// The string whose first quote is just before the bytes, and the bytes behind its last quote.
 fn spelled_of(alloc: Global, bytes: &[u8]) -> Result<(Vec<u8>, &[u8]), Stop>
     ensures { Gives (λ x. (x.0.items, x.1.now)) result (bytes_at false bytes.now) }
 {
@@ -89,8 +91,8 @@ fn spelled_of(alloc: Global, bytes: &[u8]) -> Result<(Vec<u8>, &[u8]), Stop>
 /// The derivation whose text the bytes are.
 ///
 /// Answers `DrvFault::TooLong` for more than `MAX_LEN` bytes, else `DrvFault::Syntax` where the
-/// bytes aren't in the language with its order rules left out, else `DrvFault::Order` where they
-/// break one. Passes over the bytes once and over the value once.
+/// bytes aren't in the language, even without its order rules, else `DrvFault::Order` where they
+/// break an order rule. Passes over the bytes once and over the value once.
 pub fn read(alloc: Global, input: &[u8]) -> Result<Derivation, DrvFault>
     ensures { IsReading input.now result }
 {

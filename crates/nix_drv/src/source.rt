@@ -9,7 +9,7 @@ use thiserror::Error;
 /// Why a source gave no bytes.
 #[derive(Clone, Copy, Debug, PartialEq, Eq, Error)]
 pub enum SourceFault {
-    /// The source has nothing at the path.
+    /// The source has no file at the path.
     #[error("there is no such file")]
     Missing,
     /// The source's device failed.
@@ -53,15 +53,15 @@ impl<T: Drop> From<AllocFailed<T>> for SourceFault {
     }
 }
 
-/// A source of derivations' bytes by their paths.
+/// A source of the files of derivations, by their paths.
 pub trait DrvSource {
     // The answers that may be given for a path.
     ghost gives: { Self → List ℕ → Answer → Type 0 };
-    // How often the device failed.
+    // The number of times that the device failed.
     ghost failures: { Self → ℕ };
 
-    /// The bytes at the path. `Missing` where there are none, `Device` where the device failed,
-    /// which is counted. Which answers may be given stays the same.
+    /// The bytes at the path. Answers `Missing` where there are none, and `Device` where the device
+    /// failed, which is counted. A fetch does not change which answers may be given.
     fn fetch(&mut self, alloc: Global, path: &StorePath) -> Result<Vec<u8>, SourceFault>
         ensures keeps { GivesSame (gives self.old) (gives self.new) }
         ensures given { IsGiven (gives self.old path.now) result }

@@ -9,9 +9,10 @@ use nix_names::{NameFault, StoreDir, StorePath, is_name, make_named_path};
 use sha2::{Digest, Sha256};
 use std::alloc::{AllocError, Global};
 
-/// The path of a text in a store folder: its name, its bytes, and its references in rising order,
-/// each once. `BadName` where the name is none. Costs one SHA-256 over the bytes, one over the
-/// fingerprint, which holds the references, and one copy of the references.
+/// The path of a text in a store folder, from its name, its bytes, and its references in rising
+/// order, each once. Answers `BadName` where the name is not that of a store path. Costs one
+/// SHA-256 over the bytes, one over the fingerprint, which holds the references, and one copy of
+/// the references.
 pub fn text_path(
     alloc: Global,
     dir: &StoreDir,
@@ -29,7 +30,7 @@ pub fn text_path(
     Ok(named_text_path(alloc, dir, name, bytes, refs)?)
 }
 
-/// The path of `text_path`, of a name that is known to be one. Costs the same.
+/// The same as `text_path`, for a name that is known to be that of a store path. Costs the same.
 #[tactic(auto, unfolding(crate::specs::OwnPath::text_path))]
 pub fn named_text_path(
     alloc: Global,

@@ -10,7 +10,7 @@ use crate::escapes::{letter_of, plain_len};
 use crate::fault::DrvFault;
 use std::alloc::{AllocError, Global};
 
-// Adds the byte as a string spells it.
+// Adds the text that the byte has within a string.
 fn write_byte(out: &mut Vec<u8>, byte: u8) -> Result<(), AllocError>
     ensures { OnOk result (out.new.items ≡ out.old.items ++ spelling byte) }
 {
@@ -20,8 +20,8 @@ fn write_byte(out: &mut Vec<u8>, byte: u8) -> Result<(), AllocError>
     }
 }
 
-/// Adds a string as a derivation's text spells it, with its quotes. Takes time in proportion to the
-/// bytes. Want of memory is its only fault.
+/// Adds the text that a string has in a derivation's text, with its quotes. Takes time in
+/// proportion to the bytes. Want of memory is its only fault.
 pub fn write_string(out: &mut Vec<u8>, bytes: &[u8]) -> Result<(), AllocError>
     ensures { OnOk result (out.new.items ≡ out.old.items ++ string_text bytes.now) }
 {
@@ -39,7 +39,7 @@ pub fn write_string(out: &mut Vec<u8>, bytes: &[u8]) -> Result<(), AllocError>
     out.extend_from_slice(b"\"")
 }
 
-// How many of the bytes take an escape.
+// The number of the bytes that have an escape.
 fn escapes_in(bytes: &[u8]) -> usize
     ensures { result ≡ count_by (λ b. is_some (letter b)) bytes.now }
 {
@@ -49,7 +49,8 @@ fn escapes_in(bytes: &[u8]) -> usize
         .count()
 }
 
-// The place behind the string's text where it stands at the place.
+// The place behind the string's text, which begins at this place. A place above `usize::MAX` counts
+// as `usize::MAX`.
 pub(crate) fn pass_str(bytes: &[u8], place: usize) -> usize
     ensures { result ≡ behind place (length (string_text bytes.now)) }
 {
@@ -59,7 +60,7 @@ pub(crate) fn pass_str(bytes: &[u8], place: usize) -> usize
         .saturating_add(2)
 }
 
-/// The derivation's one text. Answers `DrvFault::NoMemory` where memory is refused, and no other
+/// The derivation's text. Answers `DrvFault::NoMemory` where memory is refused, and no other
 /// fault. Takes time in proportion to the bytes.
 pub fn write(alloc: Global, derivation: &Derivation) -> Result<Vec<u8>, DrvFault>
     ensures { IsWriting derivation.now result }
