@@ -2,6 +2,7 @@
 use Rattle.std.specs.Prelude.{◌≡◌, ◌<◌, Bool, true, false, ⊤, ℕ, List, length, All, Contains, slice_get, Some, Result, Ok, Err, Vec}
 use Rattle.std.specs.List.{AllZip}
 use Rattle.std.specs.declared.alloc.Global.{Global}
+use Rattle.nix_names.specs.Bytes.{Bytes, Dir, Path, Name, Hash}
 use Rattle.nix_names.specs.Firsts.{IsFirstWhere}
 use Rattle.nix_names.specs.declared.digest.Digest.{Digest}
 use Rattle.nix_drv.specs.Derivation.{Drv, Output, EnvEntry}
@@ -9,7 +10,7 @@ use Rattle.drv_graph.specs.Expected.{IsExpected}
 use Rattle.drv_graph.specs.Kinds.{HasKind, AreMixed, IsAddressed, IsFixed, IsUnknown}
 use Rattle.drv_graph.specs.Outputs.{AreSound, IsKnownUse, IsOutputsCheck, IsThePath, IsThePathOrEmpty, IsWellNamed, Use, uses}
 use Rattle.drv_graph.specs.declared.kinds.Kind.{Kind}
-use Rattle.drv_graph.specs.declared.kinds.Kind.TheVariants.{Addressed, Fixed}
+use Rattle.drv_graph.specs.declared.kinds.Kind.TheVariants.{Fixed}
 use Rattle.drv_graph.specs.declared.kinds.Method.{Method}
 use Rattle.drv_graph.specs.declared.fault.OutputFault.{OutputFault}
 use Rattle.drv_graph.specs.declared.fault.OutputFault.TheVariants.{NoMemory, MixedOutputs, UnknownMethod, BadName, UnknownOutput, OutputMismatch, EnvMismatch}
@@ -25,24 +26,14 @@ IsNotFixed output = (method : Method) (digest : Digest) → IsFixed output metho
 -- the fault names this output as one with no known method
 abbrev pub NamesUnknown : Output → OutputFault → Type 0
 NamesUnknown o (UnknownMethod output) = output.items ≡ o.name
-NamesUnknown o MixedOutputs = ⊥
-NamesUnknown o NoMemory = ⊥
-NamesUnknown o BadName = ⊥
-NamesUnknown o (UnknownOutput input output) = ⊥
-NamesUnknown o (OutputMismatch output expected) = ⊥
-NamesUnknown o (EnvMismatch output) = ⊥
+NamesUnknown o fault = ⊥
 
 -- the kind of a fixed output, or the fault that it has no known method
 abbrev pub IsFixedKind : Output → Result Kind OutputFault → Type 0
-IsFixedKind o (Ok Addressed) = ⊥
 IsFixedKind o (Ok (Fixed method digest)) = IsFixed o method digest
 IsFixedKind o (Err (UnknownMethod output)) = IsNotFixed o × (output.items ≡ o.name)
 IsFixedKind o (Err NoMemory) = ⊤
-IsFixedKind o (Err MixedOutputs) = ⊥
-IsFixedKind o (Err BadName) = ⊥
-IsFixedKind o (Err (UnknownOutput input output)) = ⊥
-IsFixedKind o (Err (OutputMismatch output expected)) = ⊥
-IsFixedKind o (Err (EnvMismatch output)) = ⊥
+IsFixedKind o result = ⊥
 
 -- what is wrong with the kind of a derivation's outputs
 abbrev pub IsKindFault : Drv → OutputFault → Type 0
@@ -50,20 +41,13 @@ IsKindFault drv MixedOutputs = AreMixed drv
 IsKindFault drv (UnknownMethod output) = (AreMixed drv → ⊥)
     × ((o : Output) × Contains drv.outputs o × IsUnknown o × (output.items ≡ o.name))
 IsKindFault drv NoMemory = AreMixed drv → ⊥
-IsKindFault drv BadName = ⊥
-IsKindFault drv (UnknownOutput input output) = ⊥
-IsKindFault drv (OutputMismatch output expected) = ⊥
-IsKindFault drv (EnvMismatch output) = ⊥
+IsKindFault drv fault = ⊥
 
 -- what is wrong with the names of some outputs
-abbrev pub IsNameFault : (name : List ℕ) → List Output → OutputFault → Type 0
+abbrev pub IsNameFault : (name : Name) → List Output → OutputFault → Type 0
 IsNameFault name outputs BadName = (o : Output) × Contains outputs o × (IsWellNamed name o → ⊥)
 IsNameFault name outputs NoMemory = ⊤
-IsNameFault name outputs MixedOutputs = ⊥
-IsNameFault name outputs (UnknownMethod output) = ⊥
-IsNameFault name outputs (UnknownOutput input output) = ⊥
-IsNameFault name outputs (OutputMismatch output expected) = ⊥
-IsNameFault name outputs (EnvMismatch output) = ⊥
+IsNameFault name outputs fault = ⊥
 
 -- what is wrong with some uses of outputs
 abbrev pub IsUseFault : List Use → OutputFault → Type 0
@@ -71,14 +55,10 @@ IsUseFault used (UnknownOutput input output) =
     (u : Use) × IsFirstWhere (λ other. IsKnownUse other → ⊥) used u × (input ≡ u.input)
     × (output.items ≡ u.output)
 IsUseFault used NoMemory = ⊤
-IsUseFault used MixedOutputs = ⊥
-IsUseFault used (UnknownMethod output) = ⊥
-IsUseFault used BadName = ⊥
-IsUseFault used (OutputMismatch output expected) = ⊥
-IsUseFault used (EnvMismatch output) = ⊥
+IsUseFault used fault = ⊥
 
 -- what a derivation's kind, its outputs' names and its uses are, or what is wrong with them first
-abbrev pub IsSoundCheck : (name : List ℕ) → Drv → (used : List Drv) → Result Kind OutputFault
+abbrev pub IsSoundCheck : (name : Name) → Drv → (used : List Drv) → Result Kind OutputFault
     → Type 0
 IsSoundCheck name drv used (Ok kind) = AreSound name drv used kind
 IsSoundCheck name drv used (Err MixedOutputs) = AreMixed drv
@@ -89,25 +69,24 @@ IsSoundCheck name drv used (Err (UnknownOutput input output)) =
     (kind : Kind) × HasKind drv kind × All (IsWellNamed name) drv.outputs
     × IsUseFault (uses drv.inputs used) (UnknownOutput input output)
 IsSoundCheck name drv used (Err NoMemory) = AreMixed drv → ⊥
-IsSoundCheck name drv used (Err (OutputMismatch output expected)) = ⊥
-IsSoundCheck name drv used (Err (EnvMismatch output)) = ⊥
+IsSoundCheck name drv used result = ⊥
 
 -- how a value stands to the expected path: in a draft it may be empty
-abbrev pub FitsIn : (in_draft : Bool) → (value path : List ℕ) → Type 0
+abbrev pub FitsIn : (in_draft : Bool) → (value : Bytes) → (path : Path) → Type 0
 FitsIn false value path = IsThePath value path
 FitsIn true value path = IsThePathOrEmpty value path
 
 -- some outputs fit the paths beside them, up to a place
-abbrev pub FitBefore : (Fits : Output → List ℕ → Type 0) → List Output → (paths : List (List ℕ))
+abbrev pub FitBefore : (Fits : Output → Path → Type 0) → List Output → (paths : List Path)
     → (place : ℕ) → Type 0
 FitBefore Fits outputs paths place =
-    (k : ℕ) (o : Output) (path : List ℕ) → k < place → slice_get outputs k ≡ Some o
+    (k : ℕ) (o : Output) (path : Path) → k < place → slice_get outputs k ≡ Some o
     → slice_get paths k ≡ Some path → Fits o path
 
 -- An output and the path beside it are the first of which something is wrong, where those before
 -- them fit.
-pub record IsFirstPair (Fits Wrong : Output → List ℕ → Type 0) (outputs : List Output)
-    (paths : List (List ℕ)) (o : Output) (path : List ℕ) : Type 0 where
+pub record IsFirstPair (Fits Wrong : Output → Path → Type 0) (outputs : List Output)
+    (paths : List Path) (o : Output) (path : Path) : Type 0 where
   pub place : ℕ
   pub is_output : slice_get outputs place ≡ Some o
   pub is_path : slice_get paths place ≡ Some path
@@ -115,97 +94,71 @@ pub record IsFirstPair (Fits Wrong : Output → List ℕ → Type 0) (outputs : 
   pub before : FitBefore Fits outputs paths place
 
 -- an output's path fits the one beside it
-abbrev pub PathFits : (in_draft : Bool) → Output → (path : List ℕ) → Type 0
+abbrev pub PathFits : (in_draft : Bool) → Output → (path : Path) → Type 0
 PathFits in_draft output path = FitsIn in_draft output.path path
 
 -- an entry of the environment under a name doesn't fit a path
-abbrev pub HasMisfit : (in_draft : Bool) → List EnvEntry → (name path : List ℕ) → Type 0
+abbrev pub HasMisfit : (in_draft : Bool) → List EnvEntry → (name : Name) → (path : Path) → Type 0
 HasMisfit in_draft env name path = (entry : EnvEntry) × Contains env entry × (entry.key ≡ name)
     × (FitsIn in_draft entry.value path → ⊥)
 
 -- there is none under an output's name
-abbrev pub EntriesFit : (in_draft : Bool) → List EnvEntry → Output → (path : List ℕ) → Type 0
+abbrev pub EntriesFit : (in_draft : Bool) → List EnvEntry → Output → (path : Path) → Type 0
 EntriesFit in_draft env output path = HasMisfit in_draft env output.name path → ⊥
 
 -- what is wrong with the paths of some outputs
-abbrev pub IsPathFault : (in_draft : Bool) → List Output → (paths : List (List ℕ)) → OutputFault
+abbrev pub IsPathFault : (in_draft : Bool) → List Output → (paths : List Path) → OutputFault
     → Type 0
 IsPathFault in_draft outputs paths (OutputMismatch output expected) =
     (o : Output) × IsFirstPair (PathFits in_draft) (λ p path. PathFits in_draft p path → ⊥) outputs
     paths o expected × (output.items ≡ o.name)
 IsPathFault in_draft outputs paths NoMemory = ⊤
-IsPathFault in_draft outputs paths MixedOutputs = ⊥
-IsPathFault in_draft outputs paths (UnknownMethod output) = ⊥
-IsPathFault in_draft outputs paths BadName = ⊥
-IsPathFault in_draft outputs paths (UnknownOutput input output) = ⊥
-IsPathFault in_draft outputs paths (EnvMismatch output) = ⊥
+IsPathFault in_draft outputs paths fault = ⊥
 
 -- what is wrong with the entries of the environment under the names of some outputs
-abbrev pub IsEnvFault : (in_draft : Bool) → List EnvEntry → List Output → (paths : List (List ℕ))
+abbrev pub IsEnvFault : (in_draft : Bool) → List EnvEntry → List Output → (paths : List Path)
     → OutputFault → Type 0
 IsEnvFault in_draft env outputs paths (EnvMismatch output) =
-    (o : Output) × (path : List ℕ) × IsFirstPair (EntriesFit in_draft env)
+    (o : Output) × (path : Path) × IsFirstPair (EntriesFit in_draft env)
     (λ p beside. HasMisfit in_draft env p.name beside) outputs paths o path
     × (output.items ≡ o.name)
 IsEnvFault in_draft env outputs paths NoMemory = ⊤
-IsEnvFault in_draft env outputs paths MixedOutputs = ⊥
-IsEnvFault in_draft env outputs paths (UnknownMethod output) = ⊥
-IsEnvFault in_draft env outputs paths BadName = ⊥
-IsEnvFault in_draft env outputs paths (UnknownOutput input output) = ⊥
-IsEnvFault in_draft env outputs paths (OutputMismatch output expected) = ⊥
+IsEnvFault in_draft env outputs paths fault = ⊥
 
 -- what is wrong first with the values in a derivation's text that must be paths
-abbrev pub IsValueFault : (in_draft : Bool) → Drv → (paths : List (List ℕ)) → OutputFault → Type 0
+abbrev pub IsValueFault : (in_draft : Bool) → Drv → (paths : List Path) → OutputFault → Type 0
 IsValueFault in_draft drv paths (OutputMismatch output expected) =
     IsPathFault in_draft drv.outputs paths (OutputMismatch output expected)
 IsValueFault in_draft drv paths (EnvMismatch output) =
     FitBefore (PathFits in_draft) drv.outputs paths (length drv.outputs)
     × IsEnvFault in_draft drv.env drv.outputs paths (EnvMismatch output)
 IsValueFault in_draft drv paths NoMemory = ⊤
-IsValueFault in_draft drv paths MixedOutputs = ⊥
-IsValueFault in_draft drv paths (UnknownMethod output) = ⊥
-IsValueFault in_draft drv paths BadName = ⊥
-IsValueFault in_draft drv paths (UnknownOutput input output) = ⊥
+IsValueFault in_draft drv paths fault = ⊥
 
 -- the fault is that an input has no output with this name
-abbrev pub IsUnknownOutput : (path name : List ℕ) → OutputFault → Type 0
+abbrev pub IsUnknownOutput : (path : Path) → (name : Name) → OutputFault → Type 0
 IsUnknownOutput path name (UnknownOutput input output) = (input ≡ path) × (output.items ≡ name)
-IsUnknownOutput path name NoMemory = ⊥
-IsUnknownOutput path name MixedOutputs = ⊥
-IsUnknownOutput path name (UnknownMethod output) = ⊥
-IsUnknownOutput path name BadName = ⊥
-IsUnknownOutput path name (OutputMismatch output expected) = ⊥
-IsUnknownOutput path name (EnvMismatch output) = ⊥
+IsUnknownOutput path name fault = ⊥
 
 -- the fault is that the output with this name has another path than this one
-abbrev pub IsMismatch : (name path : List ℕ) → OutputFault → Type 0
+abbrev pub IsMismatch : (name : Name) → (path : Path) → OutputFault → Type 0
 IsMismatch name path (OutputMismatch output expected) = (output.items ≡ name) × (expected ≡ path)
-IsMismatch name path NoMemory = ⊥
-IsMismatch name path MixedOutputs = ⊥
-IsMismatch name path (UnknownMethod output) = ⊥
-IsMismatch name path BadName = ⊥
-IsMismatch name path (UnknownOutput input output) = ⊥
-IsMismatch name path (EnvMismatch output) = ⊥
+IsMismatch name path fault = ⊥
 
 -- the fault is that the entry under this output's name has another value than its path
-abbrev pub IsEnvMismatch : (name : List ℕ) → OutputFault → Type 0
+abbrev pub IsEnvMismatch : (name : Name) → OutputFault → Type 0
 IsEnvMismatch name (EnvMismatch output) = output.items ≡ name
-IsEnvMismatch name NoMemory = ⊥
-IsEnvMismatch name MixedOutputs = ⊥
-IsEnvMismatch name (UnknownMethod output) = ⊥
-IsEnvMismatch name BadName = ⊥
-IsEnvMismatch name (UnknownOutput input output) = ⊥
-IsEnvMismatch name (OutputMismatch output expected) = ⊥
+IsEnvMismatch name fault = ⊥
 
 -- the paths are those that are expected of a derivation's outputs
-abbrev pub AreExpected : (dir name : List ℕ) → Kind → Drv → (hashes : List (List ℕ))
-    → (paths : List (List ℕ)) → Type 0
+abbrev pub AreExpected : (dir : Dir) → (name : Name) → Kind → Drv → (hashes : List Hash)
+    → (paths : List Path) → Type 0
 AreExpected dir name kind drv hashes paths = AllZip (IsExpected dir name kind drv hashes)
     drv.outputs paths
 
 -- the kind and the expected paths of a derivation's outputs, or what the check of them answers
-abbrev pub IsExpecting : (in_draft : Bool) → (dir name : List ℕ) → Drv → (used : List Drv)
-    → (hashes : List (List ℕ)) → Result (Kind × Vec (List ℕ) Global) OutputFault → Type 0
+abbrev pub IsExpecting : (in_draft : Bool) → (dir : Dir) → (name : Name) → Drv → (used : List Drv)
+    → (hashes : List Hash) → Result (Kind × Vec Path Global) OutputFault → Type 0
 IsExpecting in_draft dir name drv used hashes (Ok found) =
     IsOutputsCheck (FitsIn in_draft) dir name drv used hashes (Ok found.0)
     × AreExpected dir name found.0 drv hashes found.1.items

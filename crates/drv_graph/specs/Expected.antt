@@ -1,7 +1,8 @@
 -- *Expected path*: the paths that a derivation's outputs must have (Nix manual, "Complete Store
 -- Path Calculation" and "Store Derivation"; Dolstra's thesis, sections 5.1 and 5.4).
-use Rattle.std.specs.Prelude.{◌≡◌, ◌-◌, true, ℕ, List, ◌++◌, length, take, codes, if◌then◌else◌}
+use Rattle.std.specs.Prelude.{◌≡◌, ◌-◌, true, List, ◌++◌, length, take, codes, if◌then◌else◌}
 use Rattle.sha2.specs.Sha256.{sha256}
+use Rattle.nix_names.specs.Bytes.{Bytes, Dir, Path, Name, Hash}
 use Rattle.nix_names.specs.Digests.{bytes_of, text_of}
 use Rattle.nix_names.specs.declared.digest.Digest.{Digest}
 use Rattle.nix_names.specs.Names.{same_bytes}
@@ -13,25 +14,25 @@ use Rattle.drv_graph.specs.declared.kinds.Method.TheVariants.{Flat, Recursive}
 use Rattle.drv_graph.specs.Modulo.{IsModuloText}
 
 -- the name of the derivation whose text stands at this path: the name of its file without `.drv`
-abbrev pub drv_name_of : List ℕ → List ℕ
+abbrev pub drv_name_of : Path → Name
 drv_name_of path = take (length (name_of path) - 4) (name_of path)
 
 -- the name of an output's path: that of its derivation, and for another output than `out` a dash
 -- and the output's name behind it
-abbrev pub path_name : (name output : List ℕ) → List ℕ
+abbrev pub path_name : (name output : Name) → Name
 path_name name output = if same_bytes output (codes "out") then name else name ++ codes "-"
     ++ output
 
 -- what a flat fixed path is made of
-abbrev pub flat_text : Digest → List ℕ
+abbrev pub flat_text : Digest → Bytes
 flat_text digest = codes "fixed:out:" ++ text_of digest ++ codes ":"
 
 -- the path of an output of the derivation with this name and kind, in a folder, by the hashes of
 -- the inputs
-abbrev pub IsExpected : (dir name : List ℕ) → Kind → Drv → (hashes : List (List ℕ)) → Output
-    → (path : List ℕ) → Type 0
+abbrev pub IsExpected : (dir : Dir) → (name : Name) → Kind → Drv → (hashes : List Hash) → Output
+    → (path : Path) → Type 0
 IsExpected dir name Addressed drv hashes output path =
-    (bytes : List ℕ) × IsModuloText drv hashes true bytes
+    (bytes : Bytes) × IsModuloText drv hashes true bytes
     × (path ≡ store_path (codes "output:" ++ output.name) (sha256 bytes) dir
     (path_name name output.name))
 IsExpected dir name (Fixed Flat digest) drv hashes output path = path

@@ -1,6 +1,7 @@
 -- What the steps of filling a draft answer.
 use Rattle.std.specs.Prelude.{◌≡◌, ◌≢◌, ◌<◌, ◌≤◌, ◌⊎◌, ℕ, List, length, All, IsTrue, Vec, Ok, Err}
 use Rattle.std.specs.declared.alloc.Global.{Global}
+use Rattle.nix_names.specs.Bytes.{Bytes, Dir, Path, Hash}
 use Rattle.nix_names.specs.Names.{is_name}
 use Rattle.nix_names.specs.StorePaths.{IsPathOf}
 use Rattle.nix_drv.specs.Checked.{IsFirstStray}
@@ -29,72 +30,72 @@ IsNameRefused name fault = ((fault ≡ NoMemory) × IsTrue (is_name name))
     ⊎ ((fault ≡ Name) × (AreNames name → ⊥))
 
 -- one of the paths is none of the folder, or memory was refused
-abbrev pub IsStrayRefused : (dir : List ℕ) → (paths : List (List ℕ)) → GraphFault → Type 0
+abbrev pub IsStrayRefused : (dir : Dir) → (paths : List Path) → GraphFault → Type 0
 IsStrayRefused dir paths fault = (fault ≡ NoMemory)
     ⊎ ((text : Vec ℕ Global) × (fault ≡ Draft (Text (BadReference text)))
     × IsFirstStray dir paths text.items)
 
 -- What is known of the file of a filled derivation before the draft is filled: its name and its
 -- references.
-pub record IsTarget (dir name : List ℕ) (draft : Drv) (target : Target) : Type 0 where
+pub record IsTarget (dir : Dir) (name : List ℕ) (draft : Drv) (target : Target) : Type 0 where
   pub names : AreNames name
   pub file : target.file.items ≡ file_name name
   pub in_store : All (IsPathOf dir) (paths_of draft)
   pub refs : IsReferencesOf (paths_of draft) target.refs.items
 
 -- a name is none, or else a reference is none
-abbrev pub IsTargetRefused : (dir name : List ℕ) → Drv → GraphFault → Type 0
+abbrev pub IsTargetRefused : (dir : Dir) → (name : List ℕ) → Drv → GraphFault → Type 0
 IsTargetRefused dir name draft fault = IsNameRefused name fault
     ⊎ (AreNames name × IsStrayRefused dir (paths_of draft) fault)
 
 -- The derivations that a draft uses, and their modulo hashes, are among some nodes.
-pub record AreUsed (nodes : List Node) (draft : Drv) (used : List Drv) (hashes : List (List ℕ))
+pub record AreUsed (nodes : List Node) (draft : Drv) (used : List Drv) (hashes : List Hash)
     : Type 0 where
   pub are_used : AreDrvsOf nodes (inputs_of draft) used
   pub are_hashes : AreHashes nodes (inputs_of draft) hashes
 
 -- the outputs of a draft are right, and their expected paths are these
-abbrev pub AreDraftPaths : (dir name : List ℕ) → Drv → (used : List Drv)
-    → (hashes paths : List (List ℕ)) → Type 0
+abbrev pub AreDraftPaths : (dir : Dir) → (name : List ℕ) → Drv → (used : List Drv)
+    → (hashes : List Hash) → (paths : List Path) → Type 0
 AreDraftPaths dir name draft used hashes paths =
     (kind : Kind) × IsOutputsCheck IsThePathOrEmpty dir name draft used hashes (Ok kind)
     × AreExpected dir name kind draft hashes paths
 
 -- something is wrong with the outputs of a draft, or memory was refused
-abbrev pub AreOutputsRefused : (dir name : List ℕ) → Drv → (used : List Drv)
-    → (hashes : List (List ℕ)) → GraphFault → Type 0
+abbrev pub AreOutputsRefused : (dir : Dir) → (name : List ℕ) → Drv → (used : List Drv)
+    → (hashes : List Hash) → GraphFault → Type 0
 AreOutputsRefused dir name draft used hashes fault =
     (fault ≡ NoMemory)
     ⊎ ((of : OutputFault) × (fault ≡ Draft (Outputs of)) × (of ≢ NoRoom)
     × IsOutputsCheck IsThePathOrEmpty dir name draft used hashes (Err of))
 
 -- A draft is filled behind its inputs, which are among some nodes.
-pub record IsFilledBehind (dir name : List ℕ) (nodes : List Node) (draft filled : Drv)
+pub record IsFilledBehind (dir : Dir) (name : List ℕ) (nodes : List Node) (draft filled : Drv)
     : Type 0 where
   pub used : List Drv
-  pub hashes : List (List ℕ)
+  pub hashes : List Hash
   pub behind : AreUsed nodes draft used hashes
   pub kind : Kind
   pub right : IsOutputsCheck IsThePathOrEmpty dir name draft used hashes (Ok kind)
   pub filled_is : IsFilled (IsExpected dir name kind draft hashes) draft filled
 
 -- something is wrong with the outputs of a draft behind its inputs, or memory was refused
-abbrev pub IsFillRefused : (dir name : List ℕ) → (nodes : List Node) → Drv → GraphFault → Type 0
+abbrev pub IsFillRefused : (dir : Dir) → (name : List ℕ) → (nodes : List Node) → Drv → GraphFault → Type 0
 IsFillRefused dir name nodes draft fault =
     (fault ≡ NoMemory)
-    ⊎ ((used : List Drv) × (hashes : List (List ℕ)) × AreUsed nodes draft used hashes
+    ⊎ ((used : List Drv) × (hashes : List Hash) × AreUsed nodes draft used hashes
     × AreOutputsRefused dir name draft used hashes fault)
 
 -- the text of a derivation has too many bytes, or memory was refused
 abbrev pub IsTextRefused : Drv → GraphFault → Type 0
 IsTextRefused drv fault = (fault ≡ NoMemory)
     ⊎ ((fault ≡ Draft (Text TooLong))
-    × ((bytes : List ℕ) × IsDrvText drv bytes × (max_len < length bytes)))
+    × ((bytes : Bytes) × IsDrvText drv bytes × (max_len < length bytes)))
 
 -- The path of a derivation's text, by the name of its file and its references.
-pub record IsTextPath (dir file : List ℕ) (refs : List (List ℕ)) (drv : Drv) (path : List ℕ)
+pub record IsTextPath (dir : Dir) (file : List ℕ) (refs : List Path) (drv : Drv) (path : Path)
     : Type 0 where
-  pub bytes : List ℕ
+  pub bytes : Bytes
   pub is_text : IsDrvText drv bytes
   pub within : length bytes ≤ max_len
   pub is_path : path ≡ text_path dir file bytes refs

@@ -3,13 +3,14 @@
 -- this product's own).
 use Rattle.std.specs.Prelude.{◌≡◌, ◌≢◌, ◌<◌, ◌≤◌, ◌++◌, ℕ, List, length, codes, Contains, IsTrue, Result, Ok, Err}
 use Rattle.std.specs.List.{AllZip}
+use Rattle.nix_names.specs.Bytes.{Bytes, Dir, Path, Hash}
 use Rattle.nix_names.specs.Names.{is_name}
 use Rattle.nix_drv.specs.Checked.{IsFirstStray}
 use Rattle.nix_drv.specs.Derivation.{Drv, EnvEntry, IsDrvText, Output}
 use Rattle.nix_drv.specs.Outcome.{max_len}
 use Rattle.nix_drv.specs.OwnPath.{IsOwnPath, paths_of}
 use Rattle.nix_drv.specs.Sources.{Answer}
-use Rattle.nix_drv.specs.declared.fault.DrvFault.TheVariants.{NoMemory as NoSpace, Syntax, Order, TooLong, TextPathMismatch, NotADrvName, NotSorted, BadReference}
+use Rattle.nix_drv.specs.declared.fault.DrvFault.TheVariants.{TooLong, BadReference}
 use Rattle.drv_graph.specs.Expected.{IsExpected}
 use Rattle.drv_graph.specs.declared.kinds.Kind.{Kind}
 use Rattle.drv_graph.specs.Loading.{IsTrueAt}
@@ -20,11 +21,11 @@ use Rattle.drv_graph.specs.Plans.{AreDrvsOf, Graph, IsPlan, IsReached, MayUse}
 use Rattle.drv_graph.specs.declared.fault.GraphFault.{GraphFault}
 use Rattle.drv_graph.specs.declared.fault.GraphFault.TheVariants.{NoMemory, At, Draft, Name}
 use Rattle.drv_graph.specs.declared.fault.NodeFault.{NodeFault}
-use Rattle.drv_graph.specs.declared.fault.NodeFault.TheVariants.{Unreadable, TooMany, Text, Cycle, Outputs, OutputClash}
+use Rattle.drv_graph.specs.declared.fault.NodeFault.TheVariants.{Text, Outputs}
 use Rattle.drv_graph.specs.declared.fault.OutputFault.TheVariants.{NoMemory as NoRoom}
 
 -- An output with its expected path; only an empty path is changed.
-pub record IsFilledOutput (Expected : Output → List ℕ → Type 0) (draft filled : Output)
+pub record IsFilledOutput (Expected : Output → Path → Type 0) (draft filled : Output)
     : Type 0 where
   pub name : filled.name ≡ draft.name
   pub algo : filled.algo ≡ draft.algo
@@ -41,7 +42,7 @@ pub record IsFilledEntry (outputs : List Output) (draft filled : EnvEntry) : Typ
   pub other : (Contains (names_of outputs) draft.key → ⊥) → filled.value ≡ draft.value
 
 -- A draft with its outputs' expected paths in its empty places, and nothing else changed.
-pub record IsFilled (Expected : Output → List ℕ → Type 0) (draft filled : Drv) : Type 0 where
+pub record IsFilled (Expected : Output → Path → Type 0) (draft filled : Drv) : Type 0 where
   pub outputs : AllZip (IsFilledOutput Expected) draft.outputs filled.outputs
   pub inputs : filled.inputs ≡ draft.inputs
   pub sources : filled.sources ≡ draft.sources
@@ -59,18 +60,18 @@ abbrev pub AreNames : List ℕ → Type 0
 AreNames name = IsTrue (is_name name) × IsTrue (is_name (file_name name))
 
 -- What the check of a draft's outputs may answer, behind a plan of its inputs.
-pub record MayFill (dir : List ℕ) (gives : List ℕ → Answer → Type 0) (name : List ℕ) (draft : Drv)
+pub record MayFill (dir : Dir) (gives : Path → Answer → Type 0) (name : List ℕ) (draft : Drv)
     : Type 0 where
   pub graph : Graph
   pub is_plan : IsPlan dir gives (inputs_of draft) graph
   pub used : List Drv
-  pub hashes : List (List ℕ)
+  pub hashes : List Hash
   pub are_used : AreDrvsOf graph.nodes (inputs_of draft) used
   pub are_hashes : AreHashes graph.nodes (inputs_of draft) hashes
 
 -- The filled derivation of a draft, and its text.
-pub record IsFilledText (dir : List ℕ) (gives : List ℕ → Answer → Type 0) (name : List ℕ)
-    (draft filled : Drv) (bytes : List ℕ) : Type 0 where
+pub record IsFilledText (dir : Dir) (gives : Path → Answer → Type 0) (name : List ℕ)
+    (draft filled : Drv) (bytes : Bytes) : Type 0 where
   pub behind : MayFill dir gives name draft
   pub kind : Kind
   pub right : IsOutputsCheck IsThePathOrEmpty dir name draft behind.used behind.hashes (Ok kind)
@@ -78,40 +79,31 @@ pub record IsFilledText (dir : List ℕ) (gives : List ℕ → Answer → Type 0
   pub is_text : IsDrvText filled bytes
 
 -- a draft's references are all in the folder
-abbrev pub AreInStore : (dir : List ℕ) → Drv → Type 0
-AreInStore dir draft = (text : List ℕ) → IsFirstStray dir (paths_of draft) text → ⊥
+abbrev pub AreInStore : (dir : Dir) → Drv → Type 0
+AreInStore dir draft = (text : Bytes) → IsFirstStray dir (paths_of draft) text → ⊥
 
 -- the fault is true of the draft, or of its filled text
-abbrev pub IsTrueOfDraft : (dir : List ℕ) → (gives : List ℕ → Answer → Type 0) → (name : List ℕ)
+abbrev pub IsTrueOfDraft : (dir : Dir) → (gives : Path → Answer → Type 0) → (name : List ℕ)
     → Drv → NodeFault → Type 0
 IsTrueOfDraft dir gives name draft (Text (BadReference text)) =
     IsFirstStray dir (paths_of draft) text.items
 IsTrueOfDraft dir gives name draft (Text TooLong) = AreInStore dir draft
-    × ((filled : Drv) × (bytes : List ℕ) × IsFilledText dir gives name draft filled bytes
+    × ((filled : Drv) × (bytes : Bytes) × IsFilledText dir gives name draft filled bytes
     × (max_len < length bytes))
-IsTrueOfDraft dir gives name draft (Text NoSpace) = ⊥
-IsTrueOfDraft dir gives name draft (Text (Syntax place)) = ⊥
-IsTrueOfDraft dir gives name draft (Text (Order place)) = ⊥
-IsTrueOfDraft dir gives name draft (Text (TextPathMismatch path)) = ⊥
-IsTrueOfDraft dir gives name draft (Text NotADrvName) = ⊥
-IsTrueOfDraft dir gives name draft (Text NotSorted) = ⊥
 IsTrueOfDraft dir gives name draft (Outputs fault) =
     AreInStore dir draft × (fault ≢ NoRoom)
     × ((behind : MayFill dir gives name draft)
     × IsOutputsCheck IsThePathOrEmpty dir name draft behind.used behind.hashes (Err fault))
-IsTrueOfDraft dir gives name draft Unreadable = ⊥
-IsTrueOfDraft dir gives name draft TooMany = ⊥
-IsTrueOfDraft dir gives name draft Cycle = ⊥
-IsTrueOfDraft dir gives name draft OutputClash = ⊥
+IsTrueOfDraft dir gives name draft fault = ⊥
 
 -- What filling a draft under a name answers: the filled derivation with the path of its text, or
 -- the first that is wrong of the name, the draft's references, its inputs, its outputs and its
 -- filled text. Want of memory comes only under a name.
-abbrev pub IsFilling : (dir : List ℕ) → (gives : List ℕ → Answer → Type 0) → (name : List ℕ) → Drv
-    → Result (Drv × List ℕ) GraphFault → Type 0
+abbrev pub IsFilling : (dir : Dir) → (gives : Path → Answer → Type 0) → (name : List ℕ) → Drv
+    → Result (Drv × Path) GraphFault → Type 0
 IsFilling dir gives name draft (Ok made) =
     AreNames name × AreInStore dir draft
-    × ((bytes : List ℕ) × IsFilledText dir gives name draft made.0 bytes × (length bytes ≤ max_len)
+    × ((bytes : Bytes) × IsFilledText dir gives name draft made.0 bytes × (length bytes ≤ max_len)
     × IsOwnPath dir (file_name name) made.0 bytes made.1)
 IsFilling dir gives name draft (Err Name) = AreNames name → ⊥
 IsFilling dir gives name draft (Err (At path fault)) =

@@ -1,7 +1,8 @@
 -- The kinds of a derivation's outputs (Nix manual, "Store Derivation": input-addressed and fixed
 -- content-addressed outputs; Dolstra's thesis, section 5.4). Which methods of a fixed output are
 -- taken is this product's own.
-use Rattle.std.specs.Prelude.{◌≡◌, ⊤, ℕ, List, [], ◌∷◌, ◌⊎◌, codes, All, Contains}
+use Rattle.std.specs.Prelude.{◌≡◌, ⊤, [], ◌∷◌, ◌⊎◌, codes, All, Contains}
+use Rattle.nix_names.specs.Bytes.{Bytes}
 use Rattle.nix_names.specs.Digests.{IsDigest, algorithm_of, digits_of, name_of}
 use Rattle.nix_names.specs.declared.digest.Algorithm.TheVariants.{Sha256}
 use Rattle.nix_names.specs.declared.digest.Digest.{Digest}
@@ -12,7 +13,7 @@ use Rattle.drv_graph.specs.declared.kinds.Method.{Method}
 use Rattle.drv_graph.specs.declared.kinds.Method.TheVariants.{Flat, Recursive}
 
 -- a method with a digest's algorithm, as an output's text has them
-abbrev pub algo_of : Method → Digest → List ℕ
+abbrev pub algo_of : Method → Digest → Bytes
 algo_of Flat digest = name_of (algorithm_of digest)
 algo_of Recursive digest = codes "r:sha256"
 

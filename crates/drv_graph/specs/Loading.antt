@@ -3,6 +3,7 @@
 use Rattle.std.specs.Prelude.{◌≡◌, ◌≢◌, ◌⊎◌, ◌<◌, ⊤, ℕ, List, length, nat_eq, All, Contains, Result, Ok, Err}
 use Rattle.std.specs.Cmp.Lexicographic.{pointwise}
 use Rattle.std.specs.List.{IsDistinct}
+use Rattle.nix_names.specs.Bytes.{Bytes, Dir, Path}
 use Rattle.nix_drv.specs.Checked.{IsCheck}
 use Rattle.nix_drv.specs.Derivation.{Drv}
 use Rattle.nix_drv.specs.Sources.{Answer, most_failures}
@@ -11,7 +12,7 @@ use Rattle.nix_drv.specs.declared.source.SourceFault.TheVariants.{Missing, Devic
 use Rattle.drv_graph.specs.Nodes.{Node, paths_of}
 use Rattle.drv_graph.specs.Plans.{AreLawful, AreTwins, Graph, IsPlan, IsReached, Leads, MayAnswer, MayStand, MayUse, ShareOutput}
 use Rattle.drv_graph.specs.declared.fault.GraphFault.{GraphFault}
-use Rattle.drv_graph.specs.declared.fault.GraphFault.TheVariants.{NoMemory, At, Draft, Name}
+use Rattle.drv_graph.specs.declared.fault.GraphFault.TheVariants.{NoMemory, At}
 use Rattle.drv_graph.specs.declared.fault.NodeFault.{NodeFault}
 use Rattle.drv_graph.specs.declared.fault.NodeFault.TheVariants.{Unreadable, TooMany, Text, Cycle, Outputs, OutputClash}
 use Rattle.drv_graph.specs.declared.fault.OutputFault.{OutputFault}
@@ -23,26 +24,26 @@ abbrev pub max_nodes : ℕ
 max_nodes = 65536
 
 -- lists of bytes are different, each from each
-abbrev pub AreDistinct : List (List ℕ) → Type 0
+abbrev pub AreDistinct : List Path → Type 0
 AreDistinct paths = IsDistinct (pointwise nat_eq) paths
 
 -- More paths are reached than a plan may have.
-pub record ReachTooMany (Step : List ℕ → List ℕ → Type 0) (roots : List (List ℕ)) : Type 0 where
-  pub paths : List (List ℕ)
+pub record ReachTooMany (Step : (user input : Path) → Type 0) (roots : List Path) : Type 0 where
+  pub paths : List Path
   pub distinct : AreDistinct paths
   pub many : max_nodes < length paths
   pub reached : All (IsReached Step roots) paths
 
 -- A path is reached from itself.
-pub record IsOnCycle (Step : List ℕ → List ℕ → Type 0) (path : List ℕ) : Type 0 where
-  pub user : List ℕ
-  pub steps : List (List ℕ)
+pub record IsOnCycle (Step : (user input : Path) → Type 0) (path : Path) : Type 0 where
+  pub user : Path
+  pub steps : List Path
   pub leads : Leads Step path user steps
   pub closes : Step user path
 
 -- What the check of the outputs at a path may answer, behind its inputs: they are what the source
 -- may give, nothing is wrong with them, and with this one they are within the limit.
-pub record MayCheck (dir : List ℕ) (gives : List ℕ → Answer → Type 0) (path : List ℕ)
+pub record MayCheck (dir : Dir) (gives : Path → Answer → Type 0) (path : Path)
     (answer : Result Kind OutputFault) : Type 0 where
   pub drv : Drv
   pub stands : MayStand dir gives path drv
@@ -55,8 +56,8 @@ pub record MayCheck (dir : List ℕ) (gives : List ℕ → Answer → Type 0) (p
 
 -- The outputs of the derivation at the path are right, and it shares an output path with another
 -- derivation, which is reached too, was checked before, and is no twin of it.
-pub record Clashes (dir : List ℕ) (gives : List ℕ → Answer → Type 0) (roots : List (List ℕ))
-    (path : List ℕ) : Type 0 where
+pub record Clashes (dir : Dir) (gives : Path → Answer → Type 0) (roots : List Path)
+    (path : Path) : Type 0 where
   pub kind : Kind
   pub checked : MayCheck dir gives path (Ok kind)
   pub earlier : Node
@@ -67,42 +68,34 @@ pub record Clashes (dir : List ℕ) (gives : List ℕ → Answer → Type 0) (ro
   pub no_twin : AreTwins earlier.drv checked.drv → ⊥
 
 -- the fault is true of the path, by answers that the source may give
-abbrev pub IsTrueAt : (dir : List ℕ) → (gives : List ℕ → Answer → Type 0) → (roots : List (List ℕ))
-    → (path : List ℕ) → NodeFault → Type 0
+abbrev pub IsTrueAt : (dir : Dir) → (gives : Path → Answer → Type 0) → (roots : List Path)
+    → (path : Path) → NodeFault → Type 0
 IsTrueAt dir gives roots path Unreadable = gives path (Err Missing) ⊎ gives path (Err Device)
-IsTrueAt dir gives roots path TooMany = ((bytes : List ℕ) × gives path (Ok bytes))
+IsTrueAt dir gives roots path TooMany = ((bytes : Bytes) × gives path (Ok bytes))
     × ReachTooMany (MayUse dir gives) roots
 IsTrueAt dir gives roots path (Text fault) = (fault ≢ NoSpace)
-    × ((bytes : List ℕ) × gives path (Ok bytes) × IsCheck dir path bytes (Err fault))
+    × ((bytes : Bytes) × gives path (Ok bytes) × IsCheck dir path bytes (Err fault))
 IsTrueAt dir gives roots path Cycle = IsOnCycle (MayUse dir gives) path
 IsTrueAt dir gives roots path (Outputs fault) = (fault ≢ NoRoom)
     × MayCheck dir gives path (Err fault)
 IsTrueAt dir gives roots path OutputClash = Clashes dir gives roots path
 
 -- what loading answers for some roots
-abbrev pub IsLoading : (dir : List ℕ) → (gives : List ℕ → Answer → Type 0) → (roots : List (List ℕ))
+abbrev pub IsLoading : (dir : Dir) → (gives : Path → Answer → Type 0) → (roots : List Path)
     → Result Graph GraphFault → Type 0
 IsLoading dir gives roots (Ok graph) = IsPlan dir gives roots graph
 IsLoading dir gives roots (Err (At path fault)) = IsReached (MayUse dir gives) roots path
     × IsTrueAt dir gives roots path fault
 IsLoading dir gives roots (Err NoMemory) = ⊤
-IsLoading dir gives roots (Err (Draft fault)) = ⊥
-IsLoading dir gives roots (Err Name) = ⊥
+IsLoading dir gives roots result = ⊥
 
 -- how often the device failed rose, or stands at the greatest count
 abbrev pub HasRisen : (before after : ℕ) → Type 0
 HasRisen before after = (before < after) ⊎ (after ≡ most_failures)
 
 -- A derivation that could not be read is missing, or the device failed at it, which was counted.
-abbrev pub IsCountedFault : (gives : List ℕ → Answer → Type 0) → (before after : ℕ) → GraphFault
+abbrev pub IsCountedFault : (gives : Path → Answer → Type 0) → (before after : ℕ) → GraphFault
     → Type 0
 IsCountedFault gives before after (At path Unreadable) = gives path (Err Missing)
     ⊎ (gives path (Err Device) × HasRisen before after)
-IsCountedFault gives before after (At path TooMany) = ⊤
-IsCountedFault gives before after (At path (Text fault)) = ⊤
-IsCountedFault gives before after (At path Cycle) = ⊤
-IsCountedFault gives before after (At path (Outputs fault)) = ⊤
-IsCountedFault gives before after (At path OutputClash) = ⊤
-IsCountedFault gives before after NoMemory = ⊤
-IsCountedFault gives before after (Draft fault) = ⊤
-IsCountedFault gives before after Name = ⊤
+IsCountedFault gives before after fault = ⊤

@@ -1,23 +1,24 @@
 -- The texts behind *Modulo hash* (Nix manual, "Derivation paths: hash modulo"; Dolstra's thesis,
 -- section 5.4): a derivation's text in which each input derivation stands by its own hash, with or
 -- without the paths of the outputs. That inputs of one hash become one entry is this product's own.
-use Rattle.std.specs.Prelude.{◌≡◌, ◌↔◌, Bool, ℕ, List, [], ◌∷◌, map, All, Contains, if◌then◌else◌}
+use Rattle.std.specs.Prelude.{◌≡◌, ◌↔◌, Bool, List, [], ◌∷◌, map, All, Contains, if◌then◌else◌}
 use Rattle.std.specs.List.{list_any}
 use Rattle.hex.specs.Hex.{encode_lower}
+use Rattle.nix_names.specs.Bytes.{Bytes, Path, Name, Hash}
 use Rattle.nix_names.specs.Names.{same_bytes}
 use Rattle.nix_names.specs.Rising.{IsRising}
 use Rattle.nix_drv.specs.Derivation.{Drv, Output, Input, EnvEntry, derivation_form, drv_value}
 use Rattle.nix_drv.specs.Grammar.{text}
 
 -- input derivations with hashes, in hex digits, in the place of their paths
-abbrev pub replaced : List Input → (hashes : List (List ℕ)) → List Input
+abbrev pub replaced : List Input → (hashes : List Hash) → List Input
 replaced [] hashes = []
 replaced (input ∷ inputs) [] = []
 replaced (input ∷ inputs) (hash ∷ hashes) = record { path = encode_lower hash; names = input.names }
     ∷ replaced inputs hashes
 
 -- some input with this path names this output
-pub record IsNamed (inputs : List Input) (path name : List ℕ) : Type 0 where
+pub record IsNamed (inputs : List Input) (path : Path) (name : Name) : Type 0 where
   pub input : Input
   pub is_input : Contains inputs input
   pub is_path : input.path ≡ path
@@ -28,17 +29,17 @@ pub record IsNamed (inputs : List Input) (path name : List ℕ) : Type 0 where
 pub record IsUnited (given united : List Input) : Type 0 where
   pub rising : IsRising (map (λ (i : Input). i.path) united)
   pub names_rise : All (λ (i : Input). IsRising i.names) united
-  pub paths : (path : List ℕ)
+  pub paths : (path : Path)
       → (Contains (map (λ (i : Input). i.path) united) path
       ↔ Contains (map (λ (i : Input). i.path) given) path)
-  pub names : (path name : List ℕ) → (IsNamed united path name ↔ IsNamed given path name)
+  pub names : (path : Path) (name : Name) → (IsNamed united path name ↔ IsNamed given path name)
 
 -- the names of outputs
-abbrev pub names_of : List Output → List (List ℕ)
+abbrev pub names_of : List Output → List Name
 names_of outputs = map (λ (o : Output). o.name) outputs
 
 -- an entry of the environment, without its value where its key is one of these names
-abbrev pub masked_entry : (names : List (List ℕ)) → EnvEntry → EnvEntry
+abbrev pub masked_entry : (names : List Name) → EnvEntry → EnvEntry
 masked_entry names entry = if list_any (same_bytes entry.key) names
     then record { key = entry.key; value = [] } else entry
 
@@ -69,7 +70,7 @@ with_inputs drv inputs = record {
 
 -- The bytes are a derivation's modulo text for these hashes of its inputs, in their order, with the
 -- outputs' paths masked or not.
-pub record IsModuloText (drv : Drv) (hashes : List (List ℕ)) (mask : Bool) (bytes : List ℕ)
+pub record IsModuloText (drv : Drv) (hashes : List Hash) (mask : Bool) (bytes : Bytes)
     : Type 0 where
   pub inputs : List Input
   pub united : IsUnited (replaced drv.inputs hashes) inputs
@@ -78,5 +79,5 @@ pub record IsModuloText (drv : Drv) (hashes : List (List ℕ)) (mask : Bool) (by
 
 -- there is one modulo text
 abbrev pub HasOneModuloText : Type 0
-HasOneModuloText = (drv : Drv) (hashes : List (List ℕ)) (mask : Bool) (a b : List ℕ)
+HasOneModuloText = (drv : Drv) (hashes : List Hash) (mask : Bool) (a b : Bytes)
     → IsModuloText drv hashes mask a → IsModuloText drv hashes mask b → a ≡ b

@@ -1,6 +1,7 @@
 -- What is right of a derivation's outputs, and the first thing that is wrong (Nix manual, "Store
 -- Derivation"; the order of faults is this product's own).
-use Rattle.std.specs.Prelude.{◌≡◌, ◌⊎◌, ◌++◌, ℕ, List, [], ◌∷◌, map, All, Contains, IsTrue, Result, Ok, Err}
+use Rattle.std.specs.Prelude.{◌≡◌, ◌⊎◌, ◌++◌, List, [], ◌∷◌, map, All, Contains, IsTrue, Result, Ok, Err}
+use Rattle.nix_names.specs.Bytes.{Bytes, Dir, Path, Name, Hash}
 use Rattle.nix_names.specs.Names.{is_name}
 use Rattle.nix_names.specs.Firsts.{IsFirstWhere}
 use Rattle.nix_drv.specs.Derivation.{Drv, Output, Input, EnvEntry}
@@ -14,8 +15,8 @@ use Rattle.drv_graph.specs.declared.fault.OutputFault.TheVariants.{NoMemory, Mix
 -- One output that a derivation uses: the path of the input derivation, the output's name, and that
 -- derivation.
 pub record Use : Type 0 where
-  pub input : List ℕ
-  pub output : List ℕ
+  pub input : Path
+  pub output : Name
   pub drv : Drv
 
 -- the outputs that are used of some inputs, in the text's order; beside the inputs stand their
@@ -31,35 +32,35 @@ abbrev pub IsKnownUse : Use → Type 0
 IsKnownUse u = Contains (names_of u.drv.outputs) u.output
 
 -- an output's name, and that of its path, are names
-abbrev pub IsWellNamed : (name : List ℕ) → Output → Type 0
+abbrev pub IsWellNamed : (name : Name) → Output → Type 0
 IsWellNamed name output = IsTrue (is_name output.name)
     × IsTrue (is_name (path_name name output.name))
 
 -- how a value in a derivation's text stands to the path that is expected: it is that path; or in a
 -- draft it may be empty
-abbrev pub IsThePath : (value path : List ℕ) → Type 0
+abbrev pub IsThePath : (value : Bytes) → (path : Path) → Type 0
 IsThePath value path = value ≡ path
 
-abbrev pub IsThePathOrEmpty : (value path : List ℕ) → Type 0
+abbrev pub IsThePathOrEmpty : (value : Bytes) → (path : Path) → Type 0
 IsThePathOrEmpty value path = (value ≡ []) ⊎ (value ≡ path)
 
 -- What is right of outputs before their paths are looked at.
-pub record AreSound (name : List ℕ) (drv : Drv) (used : List Drv) (kind : Kind) : Type 0 where
+pub record AreSound (name : Name) (drv : Drv) (used : List Drv) (kind : Kind) : Type 0 where
   pub has_kind : HasKind drv kind
   pub named : All (IsWellNamed name) drv.outputs
   pub known : All IsKnownUse (uses drv.inputs used)
 
 -- each output's path fits the one that is expected
-abbrev pub PathsFit : (Fits : List ℕ → List ℕ → Type 0) → (Expected : Output → List ℕ → Type 0)
+abbrev pub PathsFit : (Fits : Bytes → Path → Type 0) → (Expected : Output → Path → Type 0)
     → Drv → Type 0
 PathsFit Fits Expected drv =
-    All (λ (o : Output). (path : List ℕ) × Expected o path × Fits o.path path) drv.outputs
+    All (λ (o : Output). (path : Path) × Expected o path × Fits o.path path) drv.outputs
 
 -- an entry under the output's name has a value that doesn't fit the path that is expected
-abbrev pub HasOtherEntry : (Fits : List ℕ → List ℕ → Type 0) → (Expected : Output → List ℕ → Type 0)
+abbrev pub HasOtherEntry : (Fits : Bytes → Path → Type 0) → (Expected : Output → Path → Type 0)
     → Drv → Output → Type 0
 HasOtherEntry Fits Expected drv output =
-    (entry : EnvEntry) × (path : List ℕ) × Contains drv.env entry × (entry.key ≡ output.name)
+    (entry : EnvEntry) × (path : Path) × Contains drv.env entry × (entry.key ≡ output.name)
     × Expected output path × (Fits entry.value path → ⊥)
 
 -- What the check of a derivation's outputs answers, by its name, its inputs' derivations and their
@@ -67,8 +68,8 @@ HasOtherEntry Fits Expected drv output =
 -- that is none; the first use of an output that isn't there; the first output with a path that
 -- doesn't fit the expected one; the first output with such an entry. Want of memory may come in
 -- place of any but the first.
-abbrev pub IsOutputsCheck : (Fits : List ℕ → List ℕ → Type 0) → (dir name : List ℕ) → Drv
-    → (used : List Drv) → (hashes : List (List ℕ)) → Result Kind OutputFault → Type 0
+abbrev pub IsOutputsCheck : (Fits : Bytes → Path → Type 0) → (dir : Dir) → (name : Name) → Drv
+    → (used : List Drv) → (hashes : List Hash) → Result Kind OutputFault → Type 0
 IsOutputsCheck Fits dir name drv used hashes (Ok kind) =
     AreSound name drv used kind × PathsFit Fits (IsExpected dir name kind drv hashes) drv
     × All (λ o. HasOtherEntry Fits (IsExpected dir name kind drv hashes) drv o → ⊥) drv.outputs
@@ -86,7 +87,7 @@ IsOutputsCheck Fits dir name drv used hashes (Err (UnknownOutput input output)) 
 IsOutputsCheck Fits dir name drv used hashes (Err (OutputMismatch output expected)) =
     (kind : Kind) × AreSound name drv used kind
     × ((o : Output)
-    × IsFirstWhere (λ (p : Output). (path : List ℕ) × IsExpected dir name kind drv hashes p path
+    × IsFirstWhere (λ (p : Output). (path : Path) × IsExpected dir name kind drv hashes p path
     × (Fits p.path path → ⊥)) drv.outputs o
     × IsExpected dir name kind drv hashes o expected × (output.items ≡ o.name))
 IsOutputsCheck Fits dir name drv used hashes (Err (EnvMismatch output)) =

@@ -2,6 +2,7 @@
 use Rattle.std.specs.Prelude.{◌≡◌, ◌≢◌, ◌≤◌, ◌↔◌, ◌⊎◌, Bool, true, false, ℕ, List, [], ◌∷◌, ◌++◌, length, map, nat_eq, Contains, IsTrue, Option, None, Some, Result, Ok, Err, slice_get}
 use Rattle.std.specs.Cmp.Lexicographic.{pointwise}
 use Rattle.indexmap.specs.IndexMap.{IndexMap, get}
+use Rattle.nix_names.specs.Bytes.{Path}
 use Rattle.drv_graph.specs.Nodes.{output_paths_of}
 use Rattle.drv_graph.specs.Plans.{HaveSamePaths}
 use Rattle.drv_graph.specs.declared.fault.GraphFault.{GraphFault}
@@ -10,30 +11,30 @@ use Rattle.drv_graph.specs.declared.fault.NodeFault.TheVariants.{OutputClash}
 use Rattle.drv_graph.specs.declared.node.PlanNode.{PlanNode}
 
 -- the owner of an output path, by its number
-abbrev pub owned : {S : Type 0} → IndexMap (List ℕ) ℕ S → List ℕ → Option ℕ
+abbrev pub owned : {S : Type 0} → IndexMap Path ℕ S → Path → Option ℕ
 owned owners = get (pointwise nat_eq) owners
 
 -- the output paths of derivations
-abbrev pub outputs_of : List PlanNode → List (List (List ℕ))
+abbrev pub outputs_of : List PlanNode → List (List Path)
 outputs_of kept = map (λ (k : PlanNode). output_paths_of k.drv) kept
 
 -- some paths are just those that the derivation with this number owns
-abbrev pub AreOwnedBy : (owners : List ℕ → Option ℕ) → (number : ℕ) → (outputs : List (List ℕ))
+abbrev pub AreOwnedBy : (owners : Path → Option ℕ) → (number : ℕ) → (outputs : List Path)
     → Type 0
-AreOwnedBy owners number outputs = (path : List ℕ)
+AreOwnedBy owners number outputs = (path : Path)
     → (Contains outputs path ↔ (owners path ≡ Some number))
 
 -- The owners of output paths are right, where the derivations that were left have these outputs: an
 -- owner has its paths, and the outputs of each derivation are just what one owns, which is the
 -- derivation itself or stands before it.
-pub record AreOwners (owners : List ℕ → Option ℕ) (left : List (List (List ℕ))) : Type 0 where
-  pub has : (path : List ℕ) (number : ℕ) → owners path ≡ Some number
-      → (outputs : List (List ℕ)) × (slice_get left number ≡ Some outputs) × Contains outputs path
-  pub of_each : (n : ℕ) (outputs : List (List ℕ)) → slice_get left n ≡ Some outputs
+pub record AreOwners (owners : Path → Option ℕ) (left : List (List Path)) : Type 0 where
+  pub has : (path : Path) (number : ℕ) → owners path ≡ Some number
+      → (outputs : List Path) × (slice_get left number ≡ Some outputs) × Contains outputs path
+  pub of_each : (n : ℕ) (outputs : List Path) → slice_get left n ≡ Some outputs
       → (number : ℕ) × (number ≤ n) × AreOwnedBy owners number outputs
 
 -- the owner of the first of some paths
-abbrev pub first_owner : (owners : List ℕ → Option ℕ) → List (List ℕ) → Option ℕ
+abbrev pub first_owner : (owners : Path → Option ℕ) → List Path → Option ℕ
 first_owner owners [] = None
 first_owner owners (path ∷ paths) = owners path
 
@@ -45,35 +46,35 @@ HasAsMany kept (Some number) count answer =
     × (IsTrue answer ↔ (length node.outputs.items ≡ count))
 
 -- Some paths have this owner now, and each other the one that it had.
-pub record AreEntered (before after : List ℕ → Option ℕ) (paths : List (List ℕ)) (number : ℕ)
+pub record AreEntered (before after : Path → Option ℕ) (paths : List Path) (number : ℕ)
     : Type 0 where
-  pub here : (path : List ℕ) → Contains paths path → after path ≡ Some number
-  pub others : (path : List ℕ) → (Contains paths path → ⊥) → after path ≡ before path
+  pub here : (path : Path) → Contains paths path → after path ≡ Some number
+  pub others : (path : Path) → (Contains paths path → ⊥) → after path ≡ before path
 
 -- what entering paths under a number answers, where each must have had this owner: whether each
 -- had; if so, they are entered
-abbrev pub IsEntering : (before after : List ℕ → Option ℕ) → (owner : Option ℕ)
-    → (paths : List (List ℕ)) → (number : ℕ) → Bool → Type 0
+abbrev pub IsEntering : (before after : Path → Option ℕ) → (owner : Option ℕ)
+    → (paths : List Path) → (number : ℕ) → Bool → Type 0
 IsEntering before after owner paths number true =
-    ((path : List ℕ) → Contains paths path → before path ≡ owner)
+    ((path : Path) → Contains paths path → before path ≡ owner)
     × AreEntered before after paths number
 IsEntering before after owner paths number false =
-    (path : List ℕ) × Contains paths path × (before path ≢ owner)
+    (path : Path) × Contains paths path × (before path ≢ owner)
 
 -- The output paths of the next derivation: one is also that of a derivation that was left, and
 -- those of the two aren't the same.
-pub record IsClash (kept : List PlanNode) (outputs : List (List ℕ)) : Type 0 where
+pub record IsClash (kept : List PlanNode) (outputs : List Path) : Type 0 where
   pub node : PlanNode
   pub is_node : Contains kept node
-  pub output : List ℕ
+  pub output : Path
   pub is_output : Contains (output_paths_of node.drv) output
   pub is_own : Contains outputs output
   pub no_twin : HaveSamePaths (output_paths_of node.drv) outputs → ⊥
 
 -- what entering the outputs of the derivation at a path among their owners answers: the number of
 -- the derivation that owns them
-abbrev pub IsOwning : (kept : List PlanNode) → (path : List ℕ) → (outputs : List (List ℕ))
-    → (owners : List ℕ → Option ℕ) → Result ℕ GraphFault → Type 0
+abbrev pub IsOwning : (kept : List PlanNode) → (path : Path) → (outputs : List Path)
+    → (owners : Path → Option ℕ) → Result ℕ GraphFault → Type 0
 IsOwning kept path outputs owners (Ok number) = AreOwners owners (outputs_of kept ++ outputs ∷ [])
     × AreOwnedBy owners number outputs
 IsOwning kept path outputs owners (Err fault) =

@@ -1,16 +1,17 @@
 -- Paths in the empty places of a draft.
 use Rattle.std.specs.Prelude.{◌≡◌, ℕ, List, [], ◌∷◌, Contains, slice_get, Some}
 use Rattle.std.specs.List.{AllZip}
+use Rattle.nix_names.specs.Bytes.{Bytes, Path, Name}
 use Rattle.nix_drv.specs.Derivation.{Drv, EnvEntry, Output}
 use Rattle.drv_graph.specs.Modulo.{names_of}
 
 -- a value, or the path where the value is empty
-abbrev pub placed : (value path : List ℕ) → List ℕ
+abbrev pub placed : (value : Bytes) → (path : Path) → Bytes
 placed [] path = path
 placed (byte ∷ bytes) path = byte ∷ bytes
 
 -- an output with a path in its place, where that is empty
-abbrev pub placed_output : Output → (path : List ℕ) → Output
+abbrev pub placed_output : Output → (path : Path) → Output
 placed_output output path = record {
   name = output.name;
   path = placed output.path path;
@@ -19,7 +20,7 @@ placed_output output path = record {
 }
 
 -- outputs with these paths in their places, for as many as there are paths
-abbrev pub placed_outputs : List Output → (paths : List (List ℕ)) → List Output
+abbrev pub placed_outputs : List Output → (paths : List Path) → List Output
 placed_outputs outputs [] = outputs
 placed_outputs [] (path ∷ paths) = []
 placed_outputs (output ∷ outputs) (path ∷ paths) = placed_output output path
@@ -27,14 +28,14 @@ placed_outputs (output ∷ outputs) (path ∷ paths) = placed_output output path
 
 -- An entry under one of some names with the path beside that name, where its value is empty;
 -- another as it was.
-pub record IsPlacedEntry (names paths : List (List ℕ)) (draft filled : EnvEntry) : Type 0 where
+pub record IsPlacedEntry (names : List Name) (paths : List Path) (draft filled : EnvEntry) : Type 0 where
   pub key : filled.key ≡ draft.key
-  pub named : (place : ℕ) (path : List ℕ) → slice_get names place ≡ Some draft.key
+  pub named : (place : ℕ) (path : Path) → slice_get names place ≡ Some draft.key
       → slice_get paths place ≡ Some path → filled.value ≡ placed draft.value path
   pub other : (Contains names draft.key → ⊥) → filled.value ≡ draft.value
 
 -- A draft with these paths, one beside each output, in its empty places.
-pub record IsPlaced (paths : List (List ℕ)) (draft filled : Drv) : Type 0 where
+pub record IsPlaced (paths : List Path) (draft filled : Drv) : Type 0 where
   pub outputs : filled.outputs ≡ placed_outputs draft.outputs paths
   pub inputs : filled.inputs ≡ draft.inputs
   pub sources : filled.sources ≡ draft.sources

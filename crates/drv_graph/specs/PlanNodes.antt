@@ -1,6 +1,7 @@
 -- What is kept beside a derivation of a plan.
-use Rattle.std.specs.Prelude.{◌≡◌, ℕ, List, map, All}
+use Rattle.std.specs.Prelude.{◌≡◌, List, map, All}
 use Rattle.std.specs.List.{position_or_len}
+use Rattle.nix_names.specs.Bytes.{Path, Hash}
 use Rattle.nix_drv.specs.Derivation.{Drv}
 use Rattle.nix_drv.specs.declared.derivation.Output.{Output as OutputStruct}
 use Rattle.drv_graph.specs.Kinds.{HasKind}
@@ -19,8 +20,8 @@ abbrev pub nodes_of : List PlanNode → List Node
 nodes_of kept = map node_of kept
 
 -- A hash is the modulo hash of a derivation of this kind, whose inputs are among some nodes.
-pub record HasHash (nodes : List Node) (drv : Drv) (kind : Kind) (hash : List ℕ) : Type 0 where
-  pub of_inputs : List (List ℕ)
+pub record HasHash (nodes : List Node) (drv : Drv) (kind : Kind) (hash : Hash) : Type 0 where
+  pub of_inputs : List Hash
   pub are_hashes : AreHashes nodes (inputs_of drv) of_inputs
   pub is_hash : IsHashBy kind drv of_inputs hash
 
@@ -38,7 +39,7 @@ abbrev pub AreKept : List PlanNode → Type 0
 AreKept kept = All (IsKept (nodes_of kept)) kept
 
 -- the path of an output, as its text has it
-abbrev pub text_path_of : OutputStruct → List ℕ
+abbrev pub text_path_of : OutputStruct → Path
 text_path_of output = output.path.items
 
 -- the derivations of nodes

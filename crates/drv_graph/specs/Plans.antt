@@ -1,6 +1,7 @@
 -- *Plan*: the derivations that some roots reach, inputs before users (Dolstra's thesis, section
 -- 5.4; Nix manual, "Store Derivation").
 use Rattle.std.specs.Prelude.{◌≡◌, ◌≤◌, ◌++◌, ◌⊎◌, ◌↔◌, ⊤, ℕ, List, [], ◌∷◌, length, map, not, filter, All, Contains, Result, Ok, slice_get, Some}
+use Rattle.nix_names.specs.Bytes.{Bytes, Dir, Path, Hash}
 use Rattle.nix_names.specs.Names.{same_bytes}
 use Rattle.nix_drv.specs.Checked.{IsFoundAt}
 use Rattle.nix_drv.specs.Derivation.{Drv, Output}
@@ -18,35 +19,35 @@ pub record Graph : Type 0 where
   pub roots : List ℕ
 
 -- a list of steps leads from one path to another
-abbrev pub Leads : (Step : List ℕ → List ℕ → Type 0) → (from to : List ℕ) → (steps : List (List ℕ))
+abbrev pub Leads : (Step : (user input : Path) → Type 0) → (from to : Path) → (steps : List Path)
     → Type 0
 Leads Step from to [] = from ≡ to
 Leads Step from to (next ∷ steps) = Step from next × Leads Step next to steps
 
 -- A path is reached from one of some roots by a list of steps.
-pub record IsReached (Step : List ℕ → List ℕ → Type 0) (roots : List (List ℕ)) (path : List ℕ)
+pub record IsReached (Step : (user input : Path) → Type 0) (roots : List Path) (path : Path)
     : Type 0 where
-  pub root : List ℕ
+  pub root : Path
   pub is_root : Contains roots root
-  pub steps : List (List ℕ)
+  pub steps : List Path
   pub leads : Leads Step root path steps
 
 -- A step from a user to an input within some nodes.
-pub record Uses (nodes : List Node) (from next : List ℕ) : Type 0 where
+pub record Uses (nodes : List Node) (from next : Path) : Type 0 where
   pub node : Node
   pub is_node : Contains nodes node
   pub is_from : node.path ≡ from
   pub is_input : Contains (inputs_of node.drv) next
 
 -- A source may give, at a path, the text of a derivation whose own path that is.
-pub record MayStand (dir : List ℕ) (gives : List ℕ → Answer → Type 0) (path : List ℕ) (drv : Drv)
+pub record MayStand (dir : Dir) (gives : Path → Answer → Type 0) (path : Path) (drv : Drv)
     : Type 0 where
-  pub bytes : List ℕ
+  pub bytes : Bytes
   pub given : gives path (Ok bytes)
   pub found : IsFoundAt dir path bytes drv path
 
 -- A step from a user to an input by some answer of the source.
-pub record MayUse (dir : List ℕ) (gives : List ℕ → Answer → Type 0) (from next : List ℕ)
+pub record MayUse (dir : Dir) (gives : Path → Answer → Type 0) (from next : Path)
     : Type 0 where
   pub drv : Drv
   pub stands : MayStand dir gives from drv
@@ -55,19 +56,19 @@ pub record MayUse (dir : List ℕ) (gives : List ℕ → Answer → Type 0) (fro
 -- *Plan order*: some paths are left in turn, behind those that were left before. A path that was
 -- left already is passed over; another is left behind its inputs, which are left in their text's
 -- order.
-pub data AreLeft (nodes : List Node) : (before paths after : List (List ℕ)) → Type 0 where
-  none_left : (before : List (List ℕ)) → AreLeft nodes before [] before
-  passed_over : (path : List ℕ) (before paths after : List (List ℕ))
+pub data AreLeft (nodes : List Node) : (before paths after : List Path) → Type 0 where
+  none_left : (before : List Path) → AreLeft nodes before [] before
+  passed_over : (path : Path) (before paths after : List Path)
       → Contains before path → AreLeft nodes before paths after
       → AreLeft nodes before (path ∷ paths) after
-  left_behind_inputs : (node : Node) (before inputs paths after : List (List ℕ))
+  left_behind_inputs : (node : Node) (before inputs paths after : List Path)
       → Contains nodes node → (Contains before node.path → ⊥)
       → AreLeft nodes before (inputs_of node.drv) inputs → (Contains inputs node.path → ⊥)
       → AreLeft nodes (inputs ++ node.path ∷ []) paths after
       → AreLeft nodes before (node.path ∷ paths) after
 
 -- the derivations of some paths stand among some nodes
-abbrev pub AreDrvsOf : (nodes : List Node) → (paths : List (List ℕ)) → List Drv → Type 0
+abbrev pub AreDrvsOf : (nodes : List Node) → (paths : List Path) → List Drv → Type 0
 AreDrvsOf nodes [] [] = ⊤
 AreDrvsOf nodes [] (drv ∷ drvs) = ⊥
 AreDrvsOf nodes (path ∷ paths) [] = ⊥
@@ -75,10 +76,10 @@ AreDrvsOf nodes (path ∷ paths) (drv ∷ drvs) = Contains nodes (record { path 
     × AreDrvsOf nodes paths drvs
 
 -- What the check of a node's outputs may answer, behind other nodes that have its inputs.
-pub record MayAnswer (dir : List ℕ) (before : List Node) (node : Node)
+pub record MayAnswer (dir : Dir) (before : List Node) (node : Node)
     (answer : Result Kind OutputFault) : Type 0 where
   pub used : List Drv
-  pub hashes : List (List ℕ)
+  pub hashes : List Hash
   pub are_used : AreDrvsOf before (inputs_of node.drv) used
   pub are_hashes : AreHashes before (inputs_of node.drv) hashes
   pub check : IsOutputsCheck IsThePath dir (drv_name_of node.path) node.drv used hashes answer
@@ -88,8 +89,8 @@ abbrev pub ShareOutput : Drv → Drv → Type 0
 ShareOutput a b = (x y : Output) × Contains a.outputs x × Contains b.outputs y × (x.path ≡ y.path)
 
 -- two lists have the same paths
-abbrev pub HaveSamePaths : (a b : List (List ℕ)) → Type 0
-HaveSamePaths a b = (path : List ℕ) → (Contains a path ↔ Contains b path)
+abbrev pub HaveSamePaths : (a b : List Path) → Type 0
+HaveSamePaths a b = (path : Path) → (Contains a path ↔ Contains b path)
 
 -- *Twins*: two derivations have the same set of output paths
 abbrev pub AreTwins : Drv → Drv → Type 0
@@ -97,35 +98,35 @@ AreTwins a b = HaveSamePaths (output_paths_of a) (output_paths_of b)
 
 -- *Lawful*: a node's inputs stand before it, its outputs are right, and with each node before it it
 -- shares no output path, or is its twin.
-pub record IsLawful (dir : List ℕ) (before : List Node) (node : Node) : Type 0 where
+pub record IsLawful (dir : Dir) (before : List Node) (node : Node) : Type 0 where
   pub kind : Kind
   pub right : MayAnswer dir before node (Ok kind)
   pub apart : (earlier : Node) → Contains before earlier
       → (ShareOutput earlier.drv node.drv → ⊥) ⊎ AreTwins earlier.drv node.drv
 
 -- each node is lawful behind those before it
-abbrev pub AreLawful : (dir : List ℕ) → List Node → Type 0
+abbrev pub AreLawful : (dir : Dir) → List Node → Type 0
 AreLawful dir nodes = (before after : List Node) (node : Node) → nodes ≡ before ++ node ∷ after
     → IsLawful dir before node
 
 -- the elements of a list, each at its first place
-abbrev pub each_once : List (List ℕ) → List (List ℕ)
+abbrev pub each_once : List Path → List Path
 each_once [] = []
 each_once (x ∷ xs) = x ∷ filter (λ y. not (same_bytes x y)) (each_once xs)
 
 -- the numbers are those of some paths among the nodes
-abbrev pub AreNumbers : List Node → (numbers : List ℕ) → (paths : List (List ℕ)) → Type 0
+abbrev pub AreNumbers : List Node → (numbers : List ℕ) → (paths : List Path) → Type 0
 AreNumbers nodes numbers paths = map (λ n. slice_get (paths_of nodes) n) numbers ≡ map Some paths
 
 -- The plan of some roots, from a source's answers. The nodes are just the paths reached from a root
 -- within the plan, each once.
-pub record IsPlan (dir : List ℕ) (gives : List ℕ → Answer → Type 0) (roots : List (List ℕ))
+pub record IsPlan (dir : Dir) (gives : Path → Answer → Type 0) (roots : List Path)
     (graph : Graph) : Type 0 where
   pub given : All (λ (n : Node). MayStand dir gives n.path n.drv) graph.nodes
   pub in_order : AreLeft graph.nodes [] roots (paths_of graph.nodes)
-  pub reached : (path : List ℕ) → Contains (paths_of graph.nodes) path
+  pub reached : (path : Path) → Contains (paths_of graph.nodes) path
       → IsReached (Uses graph.nodes) roots path
-  pub whole : (path : List ℕ) → IsReached (Uses graph.nodes) roots path
+  pub whole : (path : Path) → IsReached (Uses graph.nodes) roots path
       → Contains (paths_of graph.nodes) path
   pub lawful : AreLawful dir graph.nodes
   pub few : length graph.nodes ≤ 65536

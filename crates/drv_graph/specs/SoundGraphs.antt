@@ -1,6 +1,7 @@
 -- What is right of every plan, whatever its source and its roots.
-use Rattle.std.specs.Prelude.{◌<◌, ◌≤◌, ℕ, List, All, length, nat_eq}
+use Rattle.std.specs.Prelude.{◌<◌, ◌≤◌, All, length, nat_eq}
 use Rattle.std.specs.List.{IsDistinct}
+use Rattle.nix_names.specs.Bytes.{Dir}
 use Rattle.nix_names.specs.StorePaths.{IsDrvPath}
 use Rattle.drv_graph.specs.Nodes.{Node, paths_of}
 use Rattle.drv_graph.specs.PlanNodes.{output_paths_of}
@@ -12,7 +13,7 @@ use Rattle.drv_graph.specs.Loading.{AreDistinct, max_nodes}
 -- derivations, none twice. Each derivation's path is that of a derivation's file, and no two of its
 -- outputs have one path.
 pub record IsSound (graph : Graph) : Type 0 where
-  pub dir : List ℕ
+  pub dir : Dir
   pub lawful : AreLawful dir graph.nodes
   pub distinct : AreDistinct (paths_of graph.nodes)
   pub few : length graph.nodes ≤ max_nodes

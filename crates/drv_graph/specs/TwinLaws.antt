@@ -1,6 +1,7 @@
 -- What holds of twins, the derivations of a plan that have the same set of output paths. Outputs
 -- stand by name, so the lists of two twins may differ in their order.
-use Rattle.std.specs.Prelude.{◌≡◌, ◌↔◌, true, ℕ, List, length, Contains}
+use Rattle.std.specs.Prelude.{◌≡◌, ◌↔◌, true, List, length, Contains}
+use Rattle.nix_names.specs.Bytes.{Hash}
 use Rattle.nix_names.specs.declared.digest.Digest.{Digest}
 use Rattle.nix_drv.specs.Derivation.{Drv}
 use Rattle.drv_graph.specs.Kinds.{HasKind}
@@ -26,8 +27,8 @@ TwinsShareOutputs = (graph : Graph) (a b : Node) → IsSound graph → Contains 
 -- hash, so one entry in the modulo text of a user of both
 abbrev pub FixedTwinsHaveOneHash : Type 0
 FixedTwinsHaveOneHash =
-    (method : Method) (digest : Digest) (a b : Drv) (inputs others : List (List ℕ))
-    (hash other : List ℕ)
+    (method : Method) (digest : Digest) (a b : Drv) (inputs others : List Hash)
+    (hash other : Hash)
     → HasKind a (Fixed method digest) → HasKind b (Fixed method digest) → AreTwins a b
     → IsHashBy (Fixed method digest) a inputs hash → IsHashBy (Fixed method digest) b others other
     → hash ≡ other

@@ -1,12 +1,13 @@
 -- Tests of *Twins*: whether two derivations of a plan are, and which is the first of some.
 use Rattle.std.specs.Prelude.{◌&&◌, Bool, false, ℕ, Option, Some, None, List, slice_get}
 use Rattle.std.specs.List.{list_all, list_any, position_or_len}
+use Rattle.nix_names.specs.Bytes.{Path}
 use Rattle.nix_names.specs.Names.{same_bytes}
 use Rattle.nix_drv.specs.Derivation.{Drv}
 use Rattle.drv_graph.specs.Nodes.{Node, output_paths_of}
 
 -- whether each of some paths is one of others
-abbrev pub are_among : (paths others : List (List ℕ)) → Bool
+abbrev pub are_among : (paths others : List Path) → Bool
 are_among paths others = list_all (λ path. list_any (same_bytes path) others) paths
 
 -- whether two derivations are twins: they have the same set of output paths

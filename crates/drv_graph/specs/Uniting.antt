@@ -1,20 +1,21 @@
 -- How inputs are united: gathered by their paths, and their names sorted.
-use Rattle.std.specs.Prelude.{◌≡◌, ◌↔◌, ◌≢◌, ◌⊎◌, ℕ, List, [], ◌∷◌, ◌++◌, map, Contains}
+use Rattle.std.specs.Prelude.{◌≡◌, ◌↔◌, ◌≢◌, ◌⊎◌, List, [], ◌∷◌, ◌++◌, map, Contains}
+use Rattle.nix_names.specs.Bytes.{Path, Name}
 use Rattle.nix_names.specs.Rising.{IsRising}
 use Rattle.nix_drv.specs.Derivation.{Output, Input}
 use Rattle.drv_graph.specs.Modulo.{IsNamed}
 
 -- the paths of inputs
-abbrev pub input_paths : List Input → List (List ℕ)
+abbrev pub input_paths : List Input → List Path
 input_paths inputs = map (λ (i : Input). i.path) inputs
 
 -- Inputs gathered: each path of the given ones once, in rising order, with all names that it has
 -- there.
 pub record IsGathered (given gathered : List Input) : Type 0 where
   pub rising : IsRising (input_paths gathered)
-  pub paths : (path : List ℕ)
+  pub paths : (path : Path)
       → (Contains (input_paths gathered) path ↔ Contains (input_paths given) path)
-  pub names : (path name : List ℕ) → (IsNamed gathered path name ↔ IsNamed given path name)
+  pub names : (path : Path) (name : Name) → (IsNamed gathered path name ↔ IsNamed given path name)
 
 -- An input's names have gone to the last of some others, which has its path.
 pub record IsJoined (old : List Input) (input : Input) (new : List Input) : Type 0 where
@@ -38,7 +39,7 @@ IsAdded old input new = IsJoined old input new ⊎ IsAppended old input new
 pub record IsNameSorted (old new : Input) : Type 0 where
   pub path : new.path ≡ old.path
   pub rising : IsRising new.names
-  pub names : (name : List ℕ) → (Contains new.names name ↔ Contains old.names name)
+  pub names : (name : Name) → (Contains new.names name ↔ Contains old.names name)
 
 -- an output without its path
 abbrev pub masked_output : Output → Output

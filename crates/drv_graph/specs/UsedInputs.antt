@@ -1,19 +1,20 @@
 -- The inputs of a derivation, in its text's order: their paths, their derivations and their modulo
 -- hashes.
-use Rattle.std.specs.Prelude.{ℕ, List, map}
+use Rattle.std.specs.Prelude.{List, map}
+use Rattle.nix_names.specs.Bytes.{Path, Name, Hash}
 use Rattle.nix_drv.specs.Derivation.{Drv}
 use Rattle.drv_graph.specs.Outputs.{Use}
 use Rattle.drv_graph.specs.declared.outputs.UsedInput.{UsedInput}
 
-abbrev pub paths_of : List UsedInput → List (List ℕ)
+abbrev pub paths_of : List UsedInput → List Path
 paths_of used = map (λ (u : UsedInput). u.path.now) used
 
 abbrev pub drvs_of : List UsedInput → List Drv
 drvs_of used = map (λ (u : UsedInput). u.drv.now) used
 
-abbrev pub hashes_of : List UsedInput → List (List ℕ)
+abbrev pub hashes_of : List UsedInput → List Hash
 hashes_of used = map (λ (u : UsedInput). u.hash) used
 
 -- the uses of an input's outputs with these names
-abbrev pub uses_of : (path : List ℕ) → Drv → (names : List (List ℕ)) → List Use
+abbrev pub uses_of : (path : Path) → Drv → (names : List Name) → List Use
 uses_of path drv names = map (λ name. record { input = path; output = name; drv = drv }) names

@@ -4,6 +4,7 @@ use Rattle.std.specs.Global.{Vec}
 use Rattle.std.specs.Cmp.Lexicographic.{pointwise}
 use Rattle.std.specs.List.{IsDistinct}
 use Rattle.indexmap.specs.IndexMap.{IndexMap, get, keys}
+use Rattle.nix_names.specs.Bytes.{Bytes, Dir, Path, Hash}
 use Rattle.nix_drv.specs.Checked.{IsCheck}
 use Rattle.nix_drv.specs.Derivation.{Drv}
 use Rattle.nix_drv.specs.Sources.{Answer}
@@ -18,7 +19,7 @@ use Rattle.drv_graph.specs.PlanNodes.{AreKept, HasHash, nodes_of}
 use Rattle.drv_graph.specs.declared.kinds.Kind.{Kind}
 use Rattle.drv_graph.specs.declared.outputs.UsedInput.{UsedInput}
 use Rattle.drv_graph.specs.declared.fault.GraphFault.{GraphFault}
-use Rattle.drv_graph.specs.declared.fault.GraphFault.TheVariants.{NoMemory, At, Draft, Name}
+use Rattle.drv_graph.specs.declared.fault.GraphFault.TheVariants.{NoMemory, At}
 use Rattle.drv_graph.specs.declared.fault.NodeFault.{NodeFault}
 use Rattle.drv_graph.specs.declared.fault.NodeFault.TheVariants.{Unreadable, TooMany, Text, Cycle, Outputs, OutputClash}
 use Rattle.drv_graph.specs.declared.fault.OutputFault.{OutputFault}
@@ -32,27 +33,27 @@ use Rattle.drv_graph.specs.declared.node.PlanNode.{PlanNode}
 
 -- what marks say of paths: nothing of one that wasn't met, no number of one that is open, its
 -- number of one that was left
-abbrev pub marked : {S : Type 0} → IndexMap (List ℕ) (Option ℕ) S → List ℕ → Option (Option ℕ)
+abbrev pub marked : {S : Type 0} → IndexMap Path (Option ℕ) S → Path → Option (Option ℕ)
 marked marks = get (pointwise nat_eq) marks
 
 -- One path has this entry now, and each other the one that it had.
-pub record SetsEntry {X : Type 0} (before after : List ℕ → Option X) (path : List ℕ) (entry : X)
+pub record SetsEntry {X : Type 0} (before after : Path → Option X) (path : Path) (entry : X)
     : Type 0 where
   pub here : after path ≡ Some entry
-  pub others : (other : List ℕ) → other ≢ path → after other ≡ before other
+  pub others : (other : Path) → other ≢ path → after other ≡ before other
 
 -- The marks of paths that were left, in their order, and of open ones are right.
-pub record AreMarks (marks : List ℕ → Option (Option ℕ)) (left pending : List (List ℕ))
+pub record AreMarks (marks : Path → Option (Option ℕ)) (left pending : List Path)
     : Type 0 where
-  pub numbered : (path : List ℕ) (number : ℕ)
+  pub numbered : (path : Path) (number : ℕ)
       → (marks path ≡ Some (Some number) ↔ slice_get left number ≡ Some path)
-  pub is_pending : (path : List ℕ) → (marks path ≡ Some None ↔ Contains pending path)
+  pub is_pending : (path : Path) → (marks path ≡ Some None ↔ Contains pending path)
 
 -- a derivation that is open, as the plan's definition has it
 abbrev pub visited : Visit → Node
 visited visit = record { path = visit.path; drv = visit.drv }
 
-abbrev pub pending_of : List Visit → List (List ℕ)
+abbrev pub pending_of : List Visit → List Path
 pending_of visits = map (λ (v : Visit). v.path) visits
 
 -- What is kept of an open derivation is right: the paths of its inputs, and the numbers of the
@@ -63,7 +64,7 @@ pub record IsVisit (nodes : List Node) (visit : Visit) : Type 0 where
       (take (length visit.numbers.items) (inputs_of visit.drv))
 
 -- an open derivation as it is kept when it is left
-abbrev pub kept_visit : Visit → Kind → (hash : List ℕ) → (outputs sources : Vec (List ℕ))
+abbrev pub kept_visit : Visit → Kind → (hash : Hash) → (outputs sources : Vec Path)
     → (first : ℕ) → PlanNode
 kept_visit visit kind hash outputs sources first =
     record {
@@ -78,7 +79,7 @@ kept_visit visit kind hash outputs sources first =
     }
 
 -- What was left is right.
-pub record IsFound (dir : List ℕ) (found : Found) : Type 0 where
+pub record IsFound (dir : Dir) (found : Found) : Type 0 where
   pub kept : AreKept found.nodes.items
   pub distinct : AreDistinct (paths_of (nodes_of found.nodes.items))
   pub lawful : AreLawful dir (nodes_of found.nodes.items)
@@ -87,7 +88,7 @@ pub record IsFound (dir : List ℕ) (found : Found) : Type 0 where
   pub owners : AreOwners (owned found.owners) (outputs_of found.nodes.items)
 
 -- A derivation was left: it is the last node now.
-pub record Leaves (dir : List ℕ) (before after : Found) (visit : Visit) : Type 0 where
+pub record Leaves (dir : Dir) (before after : Found) (visit : Visit) : Type 0 where
   pub nodes : nodes_of after.nodes.items ≡ nodes_of before.nodes.items ++ visited visit ∷ []
   pub found : IsFound dir after
   pub marks : SetsEntry (marked before.marks) (marked after.marks) visit.path
@@ -95,7 +96,7 @@ pub record Leaves (dir : List ℕ) (before after : Found) (visit : Visit) : Type
   pub count : length (keys after.marks) ≡ length (keys before.marks)
 
 -- a fault that is answered where a derivation is left is true of it
-abbrev pub IsLeavingFault : (dir : List ℕ) → (kept : List PlanNode) → Visit → GraphFault → Type 0
+abbrev pub IsLeavingFault : (dir : Dir) → (kept : List PlanNode) → Visit → GraphFault → Type 0
 IsLeavingFault dir kept visit NoMemory = ⊤
 IsLeavingFault dir kept visit (At path (Outputs fault)) = (path ≡ visit.path) × (fault ≢ NoRoom)
     × MayAnswer dir (nodes_of kept) (visited visit) (Err fault)
@@ -104,14 +105,9 @@ IsLeavingFault dir kept visit (At path OutputClash) =
     × ((kind : Kind) × MayAnswer dir (nodes_of kept) (visited visit) (Ok kind))
     × ((other : Node) × Contains (nodes_of kept) other × ShareOutput other.drv visit.drv
     × (AreTwins other.drv visit.drv → ⊥))
-IsLeavingFault dir kept visit (At path Unreadable) = ⊥
-IsLeavingFault dir kept visit (At path TooMany) = ⊥
-IsLeavingFault dir kept visit (At path (Text fault)) = ⊥
-IsLeavingFault dir kept visit (At path Cycle) = ⊥
-IsLeavingFault dir kept visit (Draft fault) = ⊥
-IsLeavingFault dir kept visit Name = ⊥
+IsLeavingFault dir kept visit fault = ⊥
 
-abbrev pub IsLeaving : (dir : List ℕ) → (before after : Found) → Visit → Result ⊤ GraphFault
+abbrev pub IsLeaving : (dir : Dir) → (before after : Found) → Visit → Result ⊤ GraphFault
     → Type 0
 IsLeaving dir before after visit (Ok _) = Leaves dir before after visit
 IsLeaving dir before after visit (Err fault) = IsLeavingFault dir before.nodes.items visit fault
@@ -126,73 +122,60 @@ pub record IsUsed (kept : List PlanNode) (number : ℕ) (used : UsedInput) : Typ
 
 -- what the check of an open derivation's outputs answers: their kind, and the derivation's modulo
 -- hash
-abbrev pub IsChecking : (dir : List ℕ) → (kept : List PlanNode) → Visit
-    → Result (Kind × List ℕ) GraphFault → Type 0
+abbrev pub IsChecking : (dir : Dir) → (kept : List PlanNode) → Visit
+    → Result (Kind × Hash) GraphFault → Type 0
 IsChecking dir kept visit (Ok made) = MayAnswer dir (nodes_of kept) (visited visit) (Ok made.0)
     × HasHash (nodes_of kept) visit.drv made.0 made.1
 IsChecking dir kept visit (Err fault) = IsLeavingFault dir kept visit fault
 
 -- a fault at a path, want of memory aside
-abbrev pub IsFaultAt : (path : List ℕ) → NodeFault → GraphFault → Type 0
+abbrev pub IsFaultAt : (path : Path) → NodeFault → GraphFault → Type 0
 IsFaultAt path fault NoMemory = ⊤
 IsFaultAt path fault (At at found) = (at ≡ path) × (found ≡ fault)
-IsFaultAt path fault (Draft found) = ⊥
-IsFaultAt path fault Name = ⊥
+IsFaultAt path fault other = ⊥
 
 -- what a fault of the outputs at a path becomes; want of memory has no path
-abbrev pub IsOutputFaultAt : (path : List ℕ) → OutputFault → GraphFault → Type 0
+abbrev pub IsOutputFaultAt : (path : Path) → OutputFault → GraphFault → Type 0
 IsOutputFaultAt path fault NoMemory = fault ≡ NoRoom
 IsOutputFaultAt path fault (At at found) = (at ≡ path) × (found ≡ Outputs fault) × (fault ≢ NoRoom)
-IsOutputFaultAt path fault (Draft found) = ⊥
-IsOutputFaultAt path fault Name = ⊥
+IsOutputFaultAt path fault other = ⊥
 
 -- what a fault of the text at a path becomes; want of memory has no path
-abbrev pub IsTextFaultAt : (path : List ℕ) → DrvFault → GraphFault → Type 0
+abbrev pub IsTextFaultAt : (path : Path) → DrvFault → GraphFault → Type 0
 IsTextFaultAt path fault NoMemory = fault ≡ NoSpace
 IsTextFaultAt path fault (At at found) = (at ≡ path) × (found ≡ Text fault) × (fault ≢ NoSpace)
-IsTextFaultAt path fault (Draft found) = ⊥
-IsTextFaultAt path fault Name = ⊥
+IsTextFaultAt path fault other = ⊥
 
 -- a fault that is answered where so many paths were met before, and this one is read, is true of it
-abbrev pub IsReadingFault : (dir : List ℕ) → (gives : List ℕ → Answer → Type 0) → (path : List ℕ)
+abbrev pub IsReadingFault : (dir : Dir) → (gives : Path → Answer → Type 0) → (path : Path)
     → (count : ℕ) → GraphFault → Type 0
 IsReadingFault dir gives path count NoMemory = ⊤
 IsReadingFault dir gives path count (At at Unreadable) = (at ≡ path)
     × (gives path (Err Missing) ⊎ gives path (Err Device))
 IsReadingFault dir gives path count (At at TooMany) = (at ≡ path)
-    × ((bytes : List ℕ) × gives path (Ok bytes)) × (max_nodes ≤ count)
+    × ((bytes : Bytes) × gives path (Ok bytes)) × (max_nodes ≤ count)
 IsReadingFault dir gives path count (At at (Text fault)) = (at ≡ path) × (fault ≢ NoSpace)
-    × (count < max_nodes) × ((bytes : List ℕ) × gives path (Ok bytes) × IsCheck dir path bytes (Err fault))
-IsReadingFault dir gives path count (At at Cycle) = ⊥
-IsReadingFault dir gives path count (At at (Outputs fault)) = ⊥
-IsReadingFault dir gives path count (At at OutputClash) = ⊥
-IsReadingFault dir gives path count (Draft fault) = ⊥
-IsReadingFault dir gives path count Name = ⊥
+    × (count < max_nodes) × ((bytes : Bytes) × gives path (Ok bytes) × IsCheck dir path bytes (Err fault))
+IsReadingFault dir gives path count fault = ⊥
 
 -- what fetching the bytes at a path answers
-abbrev pub IsFetching : (gives : Answer → Type 0) → (path : List ℕ) → Result (Vec ℕ) GraphFault
+abbrev pub IsFetching : (gives : Answer → Type 0) → (path : Path) → Result (Vec ℕ) GraphFault
     → Type 0
 IsFetching gives path (Ok bytes) = gives (Ok bytes.items)
 IsFetching gives path (Err NoMemory) = ⊤
 IsFetching gives path (Err (At at Unreadable)) = (at ≡ path)
     × (gives (Err Missing) ⊎ gives (Err Device))
-IsFetching gives path (Err (At at TooMany)) = ⊥
-IsFetching gives path (Err (At at (Text fault))) = ⊥
-IsFetching gives path (Err (At at Cycle)) = ⊥
-IsFetching gives path (Err (At at (Outputs fault))) = ⊥
-IsFetching gives path (Err (At at OutputClash)) = ⊥
-IsFetching gives path (Err (Draft fault)) = ⊥
-IsFetching gives path (Err Name) = ⊥
+IsFetching gives path result = ⊥
 
 -- what reading the derivation at a path answers
-abbrev pub IsReadingOf : (dir : List ℕ) → (gives : List ℕ → Answer → Type 0) → (path : List ℕ)
+abbrev pub IsReadingOf : (dir : Dir) → (gives : Path → Answer → Type 0) → (path : Path)
     → (count : ℕ) → Result Drv GraphFault → Type 0
 IsReadingOf dir gives path count (Ok drv) = MayStand dir gives path drv × (count < max_nodes)
 IsReadingOf dir gives path count (Err fault) = IsReadingFault dir gives path count fault
 
 -- A derivation was opened, and its path is marked as open.
-pub record Opens {S : Type 0} (dir : List ℕ) (gives : List ℕ → Answer → Type 0)
-    (before after : IndexMap (List ℕ) (Option ℕ) S) (path : List ℕ) (visit : Visit) : Type 0 where
+pub record Opens {S : Type 0} (dir : Dir) (gives : Path → Answer → Type 0)
+    (before after : IndexMap Path (Option ℕ) S) (path : Path) (visit : Visit) : Type 0 where
   pub is_path : visit.path ≡ path
   pub stands : MayStand dir gives path visit.drv
   pub inputs : visit.inputs.items ≡ inputs_of visit.drv
@@ -203,16 +186,16 @@ pub record Opens {S : Type 0} (dir : List ℕ) (gives : List ℕ → Answer → 
   pub count : length (keys after) ≡ length (keys before) + 1
 
 -- what opening the derivation at a path answers
-abbrev pub IsOpening : {S : Type 0} → (dir : List ℕ) → (gives : List ℕ → Answer → Type 0)
-    → (before after : IndexMap (List ℕ) (Option ℕ) S) → (path : List ℕ) → Result Visit GraphFault
+abbrev pub IsOpening : {S : Type 0} → (dir : Dir) → (gives : Path → Answer → Type 0)
+    → (before after : IndexMap Path (Option ℕ) S) → (path : Path) → Result Visit GraphFault
     → Type 0
 IsOpening dir gives before after path (Ok visit) = Opens dir gives before after path visit
 IsOpening dir gives before after path (Err fault) =
     IsReadingFault dir gives path (length (keys before)) fault × AreDistinct (keys before)
 
 -- a fault that is answered where a path is met is true of it
-abbrev pub IsMeetingFault : {S : Type 0} → (dir : List ℕ) → (gives : List ℕ → Answer → Type 0)
-    → (before : IndexMap (List ℕ) (Option ℕ) S) → (path : List ℕ) → GraphFault → Type 0
+abbrev pub IsMeetingFault : {S : Type 0} → (dir : Dir) → (gives : Path → Answer → Type 0)
+    → (before : IndexMap Path (Option ℕ) S) → (path : Path) → GraphFault → Type 0
 IsMeetingFault dir gives before path fault =
     (IsFaultAt path Cycle fault × (marked before path ≡ Some None))
     ⊎ (IsReadingFault dir gives path (length (keys before)) fault × (marked before path ≡ None)
@@ -220,8 +203,8 @@ IsMeetingFault dir gives before path fault =
 
 -- what meeting a path answers: its number where it was left, or the derivation that is opened for
 -- it
-abbrev pub IsMeeting : {S : Type 0} → (dir : List ℕ) → (gives : List ℕ → Answer → Type 0)
-    → (before after : IndexMap (List ℕ) (Option ℕ) S) → (path : List ℕ) → Result Met GraphFault
+abbrev pub IsMeeting : {S : Type 0} → (dir : Dir) → (gives : Path → Answer → Type 0)
+    → (before after : IndexMap Path (Option ℕ) S) → (path : Path) → Result Met GraphFault
     → Type 0
 IsMeeting dir gives before after path (Ok (Done number)) = (after ≡ before)
     × (marked before path ≡ Some (Some number))
@@ -229,9 +212,9 @@ IsMeeting dir gives before after path (Ok (New visit)) = Opens dir gives before 
 IsMeeting dir gives before after path (Err fault) = IsMeetingFault dir gives before path fault
 
 -- The next input of an open derivation was left before: its number is added.
-pub record Advances {S : Type 0} (before after : IndexMap (List ℕ) (Option ℕ) S)
+pub record Advances {S : Type 0} (before after : IndexMap Path (Option ℕ) S)
     (visit next : Visit) : Type 0 where
-  pub input : List ℕ
+  pub input : Path
   pub number : ℕ
   pub is_input : slice_get visit.inputs.items (length visit.numbers.items) ≡ Some input
   pub is_number : marked before input ≡ Some (Some number)
@@ -242,24 +225,24 @@ pub record Advances {S : Type 0} (before after : IndexMap (List ℕ) (Option ℕ
   pub numbers : next.numbers.items ≡ visit.numbers.items ++ number ∷ []
 
 -- The next input of an open derivation is opened.
-pub record Descends {S : Type 0} (dir : List ℕ) (gives : List ℕ → Answer → Type 0)
-    (before after : IndexMap (List ℕ) (Option ℕ) S) (visit next child : Visit) : Type 0 where
-  pub input : List ℕ
+pub record Descends {S : Type 0} (dir : Dir) (gives : Path → Answer → Type 0)
+    (before after : IndexMap Path (Option ℕ) S) (visit next child : Visit) : Type 0 where
+  pub input : Path
   pub is_input : slice_get visit.inputs.items (length visit.numbers.items) ≡ Some input
   pub opens : Opens dir gives before after input child
   pub same : next ≡ visit
 
 -- A fault is true of the next input of an open derivation.
-pub record IsInputFault {S : Type 0} (dir : List ℕ) (gives : List ℕ → Answer → Type 0)
-    (before : IndexMap (List ℕ) (Option ℕ) S) (visit : Visit) (fault : GraphFault) : Type 0 where
-  pub input : List ℕ
+pub record IsInputFault {S : Type 0} (dir : Dir) (gives : Path → Answer → Type 0)
+    (before : IndexMap Path (Option ℕ) S) (visit : Visit) (fault : GraphFault) : Type 0 where
+  pub input : Path
   pub is_input : slice_get visit.inputs.items (length visit.numbers.items) ≡ Some input
   pub is_true : IsMeetingFault dir gives before input fault
 
 -- what meeting the next input of an open derivation answers: the derivation that is opened for it,
 -- if any
-abbrev pub IsStepping : {S : Type 0} → (dir : List ℕ) → (gives : List ℕ → Answer → Type 0)
-    → (before after : IndexMap (List ℕ) (Option ℕ) S) → (visit next : Visit)
+abbrev pub IsStepping : {S : Type 0} → (dir : Dir) → (gives : Path → Answer → Type 0)
+    → (before after : IndexMap Path (Option ℕ) S) → (visit next : Visit)
     → Result (Option Visit) GraphFault → Type 0
 IsStepping dir gives before after visit next (Ok None) = Advances before after visit next
 IsStepping dir gives before after visit next (Ok (Some child)) =
@@ -278,7 +261,7 @@ pub record LeavesNone (before after : Found) : Type 0 where
 
 -- what going on with the innermost open derivation answers; the others, outermost first, stay below
 -- it
-abbrev pub IsGoingOn : (dir : List ℕ) → (gives : List ℕ → Answer → Type 0) → (before after : Found)
+abbrev pub IsGoingOn : (dir : Dir) → (gives : Path → Answer → Type 0) → (before after : Found)
     → (below : List Visit) → (visit : Visit) → (visits : List Visit) → Result ⊤ GraphFault → Type 0
 IsGoingOn dir gives before after below visit visits (Ok _) =
     (HasAllNumbers visit × Leaves dir before after visit × (visits ≡ below))
@@ -293,8 +276,8 @@ IsGoingOn dir gives before after below visit visits (Err fault) =
 
 -- What was left and what is open is right: it is what the source may give, and reached from the
 -- roots.
-pub record IsWalked (dir : List ℕ) (gives : List ℕ → Answer → Type 0) (roots : List (List ℕ))
-    (found : Found) (pending : List (List ℕ)) : Type 0 where
+pub record IsWalked (dir : Dir) (gives : Path → Answer → Type 0) (roots : List Path)
+    (found : Found) (pending : List Path) : Type 0 where
   pub right : IsFound dir found
   pub given : All (λ (n : Node). MayStand dir gives n.path n.drv) (nodes_of found.nodes.items)
   pub reached : All (IsReached (MayUse dir gives) roots) (paths_of (nodes_of found.nodes.items))
@@ -303,23 +286,23 @@ pub record IsWalked (dir : List ℕ) (gives : List ℕ → Answer → Type 0) (r
   pub few : length (keys found.marks) ≤ max_nodes
 
 -- Some derivations are left after others: each path that is asked for, by plan order.
-pub record LeavesInOrder (before after : List Node) (paths : List (List ℕ)) : Type 0 where
+pub record LeavesInOrder (before after : List Node) (paths : List Path) : Type 0 where
   pub more : List Node
   pub grown : after ≡ before ++ more
   pub in_order : (nodes : List Node) → All (Contains nodes) after
       → AreLeft nodes (paths_of before) paths (paths_of after)
 
 -- A root and all that it reaches are left.
-pub record IsVisited (dir : List ℕ) (gives : List ℕ → Answer → Type 0) (roots : List (List ℕ))
-    (root : List ℕ) (before after : Found) (number : ℕ) : Type 0 where
+pub record IsVisited (dir : Dir) (gives : Path → Answer → Type 0) (roots : List Path)
+    (root : Path) (before after : Found) (number : ℕ) : Type 0 where
   pub walked : IsWalked dir gives roots after []
   pub in_order : LeavesInOrder (nodes_of before.nodes.items) (nodes_of after.nodes.items)
       (root ∷ [])
   pub is_number : slice_get (paths_of (nodes_of after.nodes.items)) number ≡ Some root
 
 -- what walking from a root answers
-abbrev pub IsWalking : (dir : List ℕ) → (gives : List ℕ → Answer → Type 0) → (roots : List (List ℕ))
-    → (root : List ℕ) → (before after : Found) → Result ℕ GraphFault → Type 0
+abbrev pub IsWalking : (dir : Dir) → (gives : Path → Answer → Type 0) → (roots : List Path)
+    → (root : Path) → (before after : Found) → Result ℕ GraphFault → Type 0
 IsWalking dir gives roots root before after (Ok number) =
     IsVisited dir gives roots root before after number
 IsWalking dir gives roots root before after (Err fault) = IsLoading dir gives roots (Err fault)
@@ -330,7 +313,7 @@ IsEmptyFound found = (found.nodes.items ≡ []) × (found.marks.entries ≡ [])
     × (found.owners.entries ≡ [])
 
 -- All that roots reach was left, in plan order, and these are the roots' numbers.
-pub record IsReachedAll (dir : List ℕ) (gives : List ℕ → Answer → Type 0) (roots : List (List ℕ))
+pub record IsReachedAll (dir : Dir) (gives : Path → Answer → Type 0) (roots : List Path)
     (found : Found) (numbers : List ℕ) : Type 0 where
   pub walked : IsWalked dir gives roots found []
   pub in_order : (nodes : List Node) → All (Contains nodes) (nodes_of found.nodes.items)
@@ -339,8 +322,8 @@ pub record IsReachedAll (dir : List ℕ) (gives : List ℕ → Answer → Type 0
   pub once : IsDistinct nat_eq numbers
 
 -- what walking from all roots answers
-abbrev pub IsWalkingAll : (dir : List ℕ) → (gives : List ℕ → Answer → Type 0)
-    → (roots : List (List ℕ)) → Result Reached GraphFault → Type 0
+abbrev pub IsWalkingAll : (dir : Dir) → (gives : Path → Answer → Type 0)
+    → (roots : List Path) → Result Reached GraphFault → Type 0
 IsWalkingAll dir gives roots (Ok reached) = IsReachedAll dir gives roots reached.found
     reached.roots.keys
 IsWalkingAll dir gives roots (Err fault) = IsLoading dir gives roots (Err fault)
