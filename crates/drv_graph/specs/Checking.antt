@@ -15,7 +15,7 @@ use Rattle.drv_graph.specs.declared.kinds.Method.{Method}
 use Rattle.drv_graph.specs.declared.fault.OutputFault.{OutputFault}
 use Rattle.drv_graph.specs.declared.fault.OutputFault.TheVariants.{NoMemory, MixedOutputs, UnknownMethod, BadName, UnknownOutput, OutputMismatch, EnvMismatch}
 
--- some output says something of its content
+-- some output isn't input-addressed
 abbrev pub SaysSome : List Output → Type 0
 SaysSome outputs = (o : Output) × Contains outputs o × (IsAddressed o → ⊥)
 
@@ -57,7 +57,8 @@ IsUseFault used (UnknownOutput input output) =
 IsUseFault used NoMemory = ⊤
 IsUseFault used fault = ⊥
 
--- what a derivation's kind, its outputs' names and its uses are, or what is wrong with them first
+-- the kind of a derivation whose outputs are sound, or the first fault in the kind, the outputs'
+-- names and the uses
 abbrev pub IsSoundCheck : (name : Name) → Drv → (used : List Drv) → Result Kind OutputFault
     → Type 0
 IsSoundCheck name drv used (Ok kind) = AreSound name drv used kind
@@ -71,20 +72,19 @@ IsSoundCheck name drv used (Err (UnknownOutput input output)) =
 IsSoundCheck name drv used (Err NoMemory) = AreMixed drv → ⊥
 IsSoundCheck name drv used result = ⊥
 
--- how a value stands to the expected path: in a draft it may be empty
+-- a value is the expected path; in a draft it may also be empty
 abbrev pub FitsIn : (in_draft : Bool) → (value : Bytes) → (path : Path) → Type 0
 FitsIn false value path = IsThePath value path
 FitsIn true value path = IsThePathOrEmpty value path
 
--- some outputs fit the paths beside them, up to a place
+-- each output before a place fits the path at the output's own place
 abbrev pub FitBefore : (Fits : Output → Path → Type 0) → List Output → (paths : List Path)
     → (place : ℕ) → Type 0
 FitBefore Fits outputs paths place =
     (k : ℕ) (o : Output) (path : Path) → k < place → slice_get outputs k ≡ Some o
     → slice_get paths k ≡ Some path → Fits o path
 
--- An output and the path beside it are the first of which something is wrong, where those before
--- them fit.
+-- An output and the path at its place are the first pair that is wrong: each pair before it fits.
 pub record IsFirstPair (Fits Wrong : Output → Path → Type 0) (outputs : List Output)
     (paths : List Path) (o : Output) (path : Path) : Type 0 where
   pub place : ℕ
@@ -93,16 +93,16 @@ pub record IsFirstPair (Fits Wrong : Output → Path → Type 0) (outputs : List
   pub wrong : Wrong o path
   pub before : FitBefore Fits outputs paths place
 
--- an output's path fits the one beside it
+-- an output's path fits this path
 abbrev pub PathFits : (in_draft : Bool) → Output → (path : Path) → Type 0
 PathFits in_draft output path = FitsIn in_draft output.path path
 
--- an entry of the environment under a name doesn't fit a path
+-- an entry of the environment under this name has a value that doesn't fit the path
 abbrev pub HasMisfit : (in_draft : Bool) → List EnvEntry → (name : Name) → (path : Path) → Type 0
 HasMisfit in_draft env name path = (entry : EnvEntry) × Contains env entry × (entry.key ≡ name)
     × (FitsIn in_draft entry.value path → ⊥)
 
--- there is none under an output's name
+-- no entry of the environment under an output's name has such a value
 abbrev pub EntriesFit : (in_draft : Bool) → List EnvEntry → Output → (path : Path) → Type 0
 EntriesFit in_draft env output path = HasMisfit in_draft env output.name path → ⊥
 
@@ -150,13 +150,13 @@ abbrev pub IsEnvMismatch : (name : Name) → OutputFault → Type 0
 IsEnvMismatch name (EnvMismatch output) = output.items ≡ name
 IsEnvMismatch name fault = ⊥
 
--- the paths are those that are expected of a derivation's outputs
+-- the paths are the expected paths of a derivation's outputs, in the outputs' order
 abbrev pub AreExpected : (dir : Dir) → (name : Name) → Kind → Drv → (hashes : List Hash)
     → (paths : List Path) → Type 0
 AreExpected dir name kind drv hashes paths = AllZip (IsExpected dir name kind drv hashes)
     drv.outputs paths
 
--- the kind and the expected paths of a derivation's outputs, or what the check of them answers
+-- the kind and the expected paths of a derivation's outputs, or the fault that their check answers
 abbrev pub IsExpecting : (in_draft : Bool) → (dir : Dir) → (name : Name) → Drv → (used : List Drv)
     → (hashes : List Hash) → Result (Kind × Vec Path Global) OutputFault → Type 0
 IsExpecting in_draft dir name drv used hashes (Ok found) =

@@ -1,4 +1,4 @@
--- What `==` answers of plans.
+-- What `==` answers for plans and their derivations.
 use Rattle.std.specs.Prelude.{◌≡◌, ◌&&◌, ◌↔◌, Bool, IsTrue, nat_eq}
 use Rattle.std.specs.Cmp.{IsEquivalence, and_equiv, on_equiv}
 use Rattle.std.specs.Cmp.Lexicographic.{lists_equiv, nat_list_eq_equiv, pointwise}
@@ -8,28 +8,30 @@ use Rattle.drv_graph.specs.Plans.{Graph}
 use Rattle.drv_graph.specs.PlanNodes.{node_of}
 use Rattle.drv_graph.specs.declared.node.PlanNode.{PlanNode}
 
--- of nodes
+-- whether two nodes have the same path and the same derivation
 abbrev pub same_node : Node → Node → Bool
 same_node a b = pointwise nat_eq a.path b.path && same_drv a.drv b.drv
 
--- of plans
+-- whether two plans have the same roots and the same nodes, in the same order
 abbrev pub same_graph : Graph → Graph → Bool
 same_graph a b = pointwise nat_eq a.roots b.roots && pointwise same_node a.nodes b.nodes
 
--- of nodes with what is kept beside them
+-- whether two derivations of a plan are the same nodes; what is kept beside them isn't compared
 abbrev pub nodes_equal : PlanNode → PlanNode → Bool
 nodes_equal a b = same_node (node_of a) (node_of b)
 
--- each is an equivalence
+-- `same_node` is an equivalence
 pub same_node_laws : IsEquivalence same_node
 same_node_laws = and_equiv (on_equiv (λ (n : Node). n.path) nat_list_eq_equiv)
     (on_equiv (λ (n : Node). n.drv) same_drv_laws)
 
+-- `same_graph` is an equivalence
 pub same_graph_laws : IsEquivalence same_graph
 same_graph_laws =
     and_equiv (on_equiv (λ (g : Graph). g.roots) nat_list_eq_equiv)
     (on_equiv (λ (g : Graph). g.nodes) (lists_equiv same_node_laws))
 
+-- `nodes_equal` is an equivalence
 pub nodes_equal_laws : IsEquivalence nodes_equal
 nodes_equal_laws = on_equiv node_of same_node_laws
 

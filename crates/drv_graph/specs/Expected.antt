@@ -17,18 +17,18 @@ use Rattle.drv_graph.specs.Modulo.{IsModuloText}
 abbrev pub drv_name_of : Path → Name
 drv_name_of path = take (length (name_of path) - 4) (name_of path)
 
--- the name of an output's path: that of its derivation, and for another output than `out` a dash
--- and the output's name behind it
+-- the name of an output's path: the derivation's name; for an output other than `out`, a dash and
+-- the output's name follow it
 abbrev pub path_name : (name output : Name) → Name
 path_name name output = if same_bytes output (codes "out") then name else name ++ codes "-"
     ++ output
 
--- what a flat fixed path is made of
+-- the text whose SHA-256 is the inner digest of a flat fixed output's path
 abbrev pub flat_text : Digest → Bytes
 flat_text digest = codes "fixed:out:" ++ text_of digest ++ codes ":"
 
--- the path of an output of the derivation with this name and kind, in a folder, by the hashes of
--- the inputs
+-- the path is the expected path, in this folder, of an output of the derivation with this name and
+-- kind, whose inputs have these modulo hashes
 abbrev pub IsExpected : (dir : Dir) → (name : Name) → Kind → Drv → (hashes : List Hash) → Output
     → (path : Path) → Type 0
 IsExpected dir name Addressed drv hashes output path =

@@ -11,7 +11,7 @@ use Rattle.drv_graph.specs.Modulo.{IsModuloText}
 use Rattle.drv_graph.specs.declared.kinds.Method.{Method}
 use Rattle.drv_graph.specs.declared.kinds.Method.TheVariants.{Flat, Recursive}
 
--- the digest of a derivation's masked modulo text
+-- The digest is the SHA-256 of a derivation's masked modulo text.
 pub record IsMaskedDigest (drv : Drv) (hashes : List Hash) (digest : Hash) : Type 0 where
   pub bytes : Bytes
   pub is_text : IsModuloText drv hashes true bytes
@@ -22,7 +22,7 @@ abbrev pub output_path : (dir : Dir) → (name : Name) → (inner : Hash) → Ou
 output_path dir name inner output = store_path (codes "output:" ++ output.name) inner dir
     (path_name name output.name)
 
--- the path of a fixed output
+-- the path of a fixed output with this method and digest
 abbrev pub IsFixedPath : (dir : Dir) → (name : Name) → Method → Digest → (path : Path) → Type 0
 IsFixedPath dir name Flat digest path = path ≡ store_path (codes "output:out")
     (sha256 (flat_text digest)) dir name

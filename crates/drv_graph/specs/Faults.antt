@@ -8,7 +8,7 @@ use Rattle.drv_graph.specs.declared.fault.NodeFault.TheVariants.{Unreadable, Too
 use Rattle.drv_graph.specs.declared.fault.GraphFault.{GraphFault}
 use Rattle.drv_graph.specs.declared.fault.GraphFault.TheVariants.{NoMemory as NoRoom, At, Draft, Name}
 
--- a fault's number
+-- the number of a fault of outputs
 abbrev pub output_number_of : OutputFault → ℕ
 output_number_of NoMemory = 9
 output_number_of MixedOutputs = 24
@@ -18,6 +18,7 @@ output_number_of (UnknownOutput input output) = 25
 output_number_of (OutputMismatch output expected) = 23
 output_number_of (EnvMismatch output) = 27
 
+-- the number of a fault of one derivation
 abbrev pub node_number_of : NodeFault → ℕ
 node_number_of Unreadable = 20
 node_number_of TooMany = 22
@@ -26,6 +27,7 @@ node_number_of Cycle = 21
 node_number_of (Outputs fault) = output_number_of fault
 node_number_of OutputClash = 29
 
+-- the number of a fault of a plan or of a draft
 abbrev pub number_of : GraphFault → ℕ
 number_of NoRoom = 9
 number_of (At path fault) = node_number_of fault

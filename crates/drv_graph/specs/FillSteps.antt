@@ -24,12 +24,13 @@ use Rattle.drv_graph.specs.declared.fault.OutputFault.TheVariants.{NoMemory as N
 use Rattle.drv_graph.specs.declared.fill.Target.{Target}
 use Rattle.drv_graph.specs.declared.kinds.Kind.{Kind}
 
--- the name or that of its file is none, or memory was refused for the name of its file
+-- the name, or the name of its file, is no name of a store path; or memory was refused for the name
+-- of the file
 abbrev pub IsNameRefused : (name : List ℕ) → GraphFault → Type 0
 IsNameRefused name fault = ((fault ≡ NoMemory) × IsTrue (is_name name))
     ⊎ ((fault ≡ Name) × (AreNames name → ⊥))
 
--- one of the paths is none of the folder, or memory was refused
+-- the fault has the first of the paths that isn't in the folder, or memory was refused
 abbrev pub IsStrayRefused : (dir : Dir) → (paths : List Path) → GraphFault → Type 0
 IsStrayRefused dir paths fault = (fault ≡ NoMemory)
     ⊎ ((text : Vec ℕ Global) × (fault ≡ Draft (Text (BadReference text)))
@@ -43,12 +44,12 @@ pub record IsTarget (dir : Dir) (name : List ℕ) (draft : Drv) (target : Target
   pub in_store : All (IsPathOf dir) (paths_of draft)
   pub refs : IsReferencesOf (paths_of draft) target.refs.items
 
--- a name is none, or else a reference is none
+-- the name is refused; or the names are right, and a reference is refused
 abbrev pub IsTargetRefused : (dir : Dir) → (name : List ℕ) → Drv → GraphFault → Type 0
 IsTargetRefused dir name draft fault = IsNameRefused name fault
     ⊎ (AreNames name × IsStrayRefused dir (paths_of draft) fault)
 
--- The derivations that a draft uses, and their modulo hashes, are among some nodes.
+-- Among some nodes, these are the derivations of a draft's inputs and their modulo hashes.
 pub record AreUsed (nodes : List Node) (draft : Drv) (used : List Drv) (hashes : List Hash)
     : Type 0 where
   pub are_used : AreDrvsOf nodes (inputs_of draft) used
@@ -69,7 +70,7 @@ AreOutputsRefused dir name draft used hashes fault =
     ⊎ ((of : OutputFault) × (fault ≡ Draft (Outputs of)) × (of ≢ NoRoom)
     × IsOutputsCheck IsThePathOrEmpty dir name draft used hashes (Err of))
 
--- A draft is filled behind its inputs, which are among some nodes.
+-- A draft whose inputs are among some nodes is filled.
 pub record IsFilledBehind (dir : Dir) (name : List ℕ) (nodes : List Node) (draft filled : Drv)
     : Type 0 where
   pub used : List Drv
@@ -79,8 +80,10 @@ pub record IsFilledBehind (dir : Dir) (name : List ℕ) (nodes : List Node) (dra
   pub right : IsOutputsCheck IsThePathOrEmpty dir name draft used hashes (Ok kind)
   pub filled_is : IsFilled (IsExpected dir name kind draft hashes) draft filled
 
--- something is wrong with the outputs of a draft behind its inputs, or memory was refused
-abbrev pub IsFillRefused : (dir : Dir) → (name : List ℕ) → (nodes : List Node) → Drv → GraphFault → Type 0
+-- something is wrong with the outputs of a draft whose inputs are among some nodes, or memory was
+-- refused
+abbrev pub IsFillRefused : (dir : Dir) → (name : List ℕ) → (nodes : List Node) → Drv → GraphFault
+    → Type 0
 IsFillRefused dir name nodes draft fault =
     (fault ≡ NoMemory)
     ⊎ ((used : List Drv) × (hashes : List Hash) × AreUsed nodes draft used hashes
@@ -92,7 +95,7 @@ IsTextRefused drv fault = (fault ≡ NoMemory)
     ⊎ ((fault ≡ Draft (Text TooLong))
     × ((bytes : Bytes) × IsDrvText drv bytes × (max_len < length bytes)))
 
--- The path of a derivation's text, by the name of its file and its references.
+-- The path of a derivation's text, by the name of its file and by its references.
 pub record IsTextPath (dir : Dir) (file : List ℕ) (refs : List Path) (drv : Drv) (path : Path)
     : Type 0 where
   pub bytes : Bytes

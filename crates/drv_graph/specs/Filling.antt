@@ -1,6 +1,6 @@
--- What `fill_outputs` answers: a draft in which each empty place of an output's path has the path
--- that is expected (Nix manual, "Store Derivation"; that values which are right already stay is
--- this product's own).
+-- What `fill_outputs` answers: a draft in which each empty output path is replaced by the expected
+-- path (Nix manual, "Store Derivation"; keeping values that are right already is this product's
+-- own).
 use Rattle.std.specs.Prelude.{◌≡◌, ◌≢◌, ◌<◌, ◌≤◌, ◌++◌, ℕ, List, length, codes, Contains, IsTrue, Result, Ok, Err}
 use Rattle.std.specs.List.{AllZip}
 use Rattle.nix_names.specs.Bytes.{Bytes, Dir, Path, Hash}
@@ -33,8 +33,8 @@ pub record IsFilledOutput (Expected : Output → Path → Type 0) (draft filled 
   pub expected : Expected draft filled.path
   pub kept : IsThePathOrEmpty draft.path filled.path
 
--- An entry of the environment: under an output's name with that output's path, where only an empty
--- value is changed; else as it was.
+-- An entry of the environment. Under an output's name its value is that output's path, and only an
+-- empty value is changed. Under another name the value is as it was.
 pub record IsFilledEntry (outputs : List Output) (draft filled : EnvEntry) : Type 0 where
   pub key : filled.key ≡ draft.key
   pub named : (output : Output) → Contains outputs output → output.name ≡ draft.key
@@ -55,11 +55,12 @@ pub record IsFilled (Expected : Output → Path → Type 0) (draft filled : Drv)
 abbrev pub file_name : List ℕ → List ℕ
 file_name name = name ++ codes ".drv"
 
--- the name and that of its file are names
+-- the name, and the name of its file, are names of store paths
 abbrev pub AreNames : List ℕ → Type 0
 AreNames name = IsTrue (is_name name) × IsTrue (is_name (file_name name))
 
--- What the check of a draft's outputs may answer, behind a plan of its inputs.
+-- A plan of a draft's inputs, by answers that the source may give, and the derivations and the
+-- modulo hashes of these inputs.
 pub record MayFill (dir : Dir) (gives : Path → Answer → Type 0) (name : List ℕ) (draft : Drv)
     : Type 0 where
   pub graph : Graph
@@ -78,7 +79,7 @@ pub record IsFilledText (dir : Dir) (gives : Path → Answer → Type 0) (name :
   pub filled_is : IsFilled (IsExpected dir name kind draft behind.hashes) draft filled
   pub is_text : IsDrvText filled bytes
 
--- a draft's references are all in the folder
+-- a draft's references are all paths of the folder
 abbrev pub AreInStore : (dir : Dir) → Drv → Type 0
 AreInStore dir draft = (text : Bytes) → IsFirstStray dir (paths_of draft) text → ⊥
 
@@ -97,8 +98,8 @@ IsTrueOfDraft dir gives name draft (Outputs fault) =
 IsTrueOfDraft dir gives name draft fault = ⊥
 
 -- What filling a draft under a name answers: the filled derivation with the path of its text, or
--- the first that is wrong of the name, the draft's references, its inputs, its outputs and its
--- filled text. Want of memory comes only under a name.
+-- the first fault in this order: of the name, of the draft's references, of its inputs, of its
+-- outputs, of its filled text. `NoMemory` comes only where `name` is a name of a store path.
 abbrev pub IsFilling : (dir : Dir) → (gives : Path → Answer → Type 0) → (name : List ℕ) → Drv
     → Result (Drv × Path) GraphFault → Type 0
 IsFilling dir gives name draft (Ok made) =

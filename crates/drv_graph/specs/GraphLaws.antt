@@ -12,7 +12,8 @@ HaveOwnPaths nodes = (a b : Node) → Contains nodes a → Contains nodes b → 
 
 -- the nodes at some paths have one list of modulo hashes, where no two nodes have one path
 abbrev pub HaveOneHashEach : Type 0
-HaveOneHashEach = (nodes : List Node) (paths : List Path) (hashes others : List Hash) → HaveOwnPaths nodes
+HaveOneHashEach =
+    (nodes : List Node) (paths : List Path) (hashes others : List Hash) → HaveOwnPaths nodes
     → AreHashes nodes paths hashes → AreHashes nodes paths others → hashes ≡ others
 
 -- an output has one expected path

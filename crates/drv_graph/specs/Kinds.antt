@@ -1,6 +1,6 @@
 -- The kinds of a derivation's outputs (Nix manual, "Store Derivation": input-addressed and fixed
 -- content-addressed outputs; Dolstra's thesis, section 5.4). Which methods of a fixed output are
--- taken is this product's own.
+-- accepted is this product's own.
 use Rattle.std.specs.Prelude.{◌≡◌, ⊤, [], ◌∷◌, ◌⊎◌, codes, All, Contains}
 use Rattle.nix_names.specs.Bytes.{Bytes}
 use Rattle.nix_names.specs.Digests.{IsDigest, algorithm_of, digits_of, name_of}
@@ -12,17 +12,17 @@ use Rattle.drv_graph.specs.declared.kinds.Kind.TheVariants.{Addressed, Fixed}
 use Rattle.drv_graph.specs.declared.kinds.Method.{Method}
 use Rattle.drv_graph.specs.declared.kinds.Method.TheVariants.{Flat, Recursive}
 
--- a method with a digest's algorithm, as an output's text has them
+-- the algorithm field of an output that is fixed by this method and digest
 abbrev pub algo_of : Method → Digest → Bytes
 algo_of Flat digest = name_of (algorithm_of digest)
 algo_of Recursive digest = codes "r:sha256"
 
--- the digest can be one by this method: that of a whole tree is by SHA-256
+-- the method accepts the digest: a whole tree is hashed by SHA-256 alone
 abbrev pub IsTaken : Method → Digest → Type 0
 IsTaken Flat digest = ⊤
 IsTaken Recursive digest = algorithm_of digest ≡ Sha256
 
--- the output says nothing of its content
+-- the output is input-addressed: its algorithm and its hash are empty
 abbrev pub IsAddressed : Output → Type 0
 IsAddressed output = (output.algo ≡ []) × (output.hash ≡ [])
 
@@ -41,15 +41,15 @@ HasKind drv Addressed = (drv.outputs ≡ [] → ⊥) × All IsAddressed drv.outp
 HasKind drv (Fixed method digest) = (output : Output) × IsOnlyOut drv output
     × IsFixed output method digest
 
--- a derivation's outputs are mixed: there is none, or one says something of its content and isn't
--- the only one, named `out`
+-- a derivation's outputs are mixed: there is none, or one isn't input-addressed and isn't the only
+-- output, named `out`
 abbrev pub AreMixed : Drv → Type 0
 AreMixed drv =
     (drv.outputs ≡ [])
     ⊎ ((output : Output) × Contains drv.outputs output × (IsAddressed output → ⊥)
     × (IsOnlyOut drv output → ⊥))
 
--- the output says something of its content, by a method or with a hash that isn't known
+-- The output isn't input-addressed, and its method or its hash isn't known.
 pub record IsUnknown (output : Output) : Type 0 where
   pub says : IsAddressed output → ⊥
   pub none : (method : Method) (digest : Digest) → IsFixed output method digest → ⊥

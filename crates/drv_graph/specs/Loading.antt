@@ -19,15 +19,15 @@ use Rattle.drv_graph.specs.declared.fault.OutputFault.{OutputFault}
 use Rattle.drv_graph.specs.declared.kinds.Kind.{Kind}
 use Rattle.drv_graph.specs.declared.fault.OutputFault.TheVariants.{NoMemory as NoRoom}
 
--- how many derivations a plan may have
+-- the greatest number of derivations in a plan
 abbrev pub max_nodes : ℕ
 max_nodes = 65536
 
--- lists of bytes are different, each from each
+-- no two of the paths are the same
 abbrev pub AreDistinct : List Path → Type 0
 AreDistinct paths = IsDistinct (pointwise nat_eq) paths
 
--- More paths are reached than a plan may have.
+-- The roots reach more paths than a plan may have derivations.
 pub record ReachTooMany (Step : (user input : Path) → Type 0) (roots : List Path) : Type 0 where
   pub paths : List Path
   pub distinct : AreDistinct paths
@@ -41,8 +41,8 @@ pub record IsOnCycle (Step : (user input : Path) → Type 0) (path : Path) : Typ
   pub leads : Leads Step path user steps
   pub closes : Step user path
 
--- What the check of the outputs at a path may answer, behind its inputs: they are what the source
--- may give, nothing is wrong with them, and with this one they are within the limit.
+-- What the check of the outputs of the derivation at a path may answer. Its inputs are among other
+-- nodes: the source may give these, they are lawful, and with this one they are within the limit.
 pub record MayCheck (dir : Dir) (gives : Path → Answer → Type 0) (path : Path)
     (answer : Result Kind OutputFault) : Type 0 where
   pub drv : Drv
@@ -54,8 +54,8 @@ pub record MayCheck (dir : Dir) (gives : Path → Answer → Type 0) (path : Pat
   pub few : length nodes < max_nodes
   pub check : MayAnswer dir nodes (record { path = path; drv = drv }) answer
 
--- The outputs of the derivation at the path are right, and it shares an output path with another
--- derivation, which is reached too, was checked before, and is no twin of it.
+-- The outputs of the derivation at the path are right, but it shares an output path with another
+-- derivation. That one is reached too, was checked before, and isn't its twin.
 pub record Clashes (dir : Dir) (gives : Path → Answer → Type 0) (roots : List Path)
     (path : Path) : Type 0 where
   pub kind : Kind
@@ -89,11 +89,11 @@ IsLoading dir gives roots (Err (At path fault)) = IsReached (MayUse dir gives) r
 IsLoading dir gives roots (Err NoMemory) = ⊤
 IsLoading dir gives roots result = ⊥
 
--- how often the device failed rose, or stands at the greatest count
+-- the count of the device's failures rose, or is the greatest count
 abbrev pub HasRisen : (before after : ℕ) → Type 0
 HasRisen before after = (before < after) ⊎ (after ≡ most_failures)
 
--- A derivation that could not be read is missing, or the device failed at it, which was counted.
+-- a derivation that could not be read is missing; or the device failed at it, and that was counted
 abbrev pub IsCountedFault : (gives : Path → Answer → Type 0) → (before after : ℕ) → GraphFault
     → Type 0
 IsCountedFault gives before after (At path Unreadable) = gives path (Err Missing)

@@ -1,6 +1,7 @@
 -- The texts behind *Modulo hash* (Nix manual, "Derivation paths: hash modulo"; Dolstra's thesis,
--- section 5.4): a derivation's text in which each input derivation stands by its own hash, with or
--- without the paths of the outputs. That inputs of one hash become one entry is this product's own.
+-- section 5.4): a derivation's text in which each input's path is replaced by its modulo hash, with
+-- or without the paths of the outputs. That inputs of one hash become one entry is this product's
+-- own.
 use Rattle.std.specs.Prelude.{◌≡◌, ◌↔◌, Bool, List, [], ◌∷◌, map, All, Contains, if◌then◌else◌}
 use Rattle.std.specs.List.{list_any}
 use Rattle.hex.specs.Hex.{encode_lower}
@@ -10,22 +11,22 @@ use Rattle.nix_names.specs.Rising.{IsRising}
 use Rattle.nix_drv.specs.Derivation.{Drv, Output, Input, EnvEntry, derivation_form, drv_value}
 use Rattle.nix_drv.specs.Grammar.{text}
 
--- input derivations with hashes, in hex digits, in the place of their paths
+-- inputs whose paths are replaced by these hashes, in hex digits
 abbrev pub replaced : List Input → (hashes : List Hash) → List Input
 replaced [] hashes = []
 replaced (input ∷ inputs) [] = []
 replaced (input ∷ inputs) (hash ∷ hashes) = record { path = encode_lower hash; names = input.names }
     ∷ replaced inputs hashes
 
--- some input with this path names this output
+-- Some input with this path names this output.
 pub record IsNamed (inputs : List Input) (path : Path) (name : Name) : Type 0 where
   pub input : Input
   pub is_input : Contains inputs input
   pub is_path : input.path ≡ path
   pub is_name : Contains input.names name
 
--- Inputs united: each path of the given ones once, in rising order, with all names, in rising
--- order, that it has there.
+-- Inputs united: each path of the given inputs once, in rising order. With it come all names that
+-- the given inputs have for this path, in rising order.
 pub record IsUnited (given united : List Input) : Type 0 where
   pub rising : IsRising (map (λ (i : Input). i.path) united)
   pub names_rise : All (λ (i : Input). IsRising i.names) united
@@ -38,12 +39,12 @@ pub record IsUnited (given united : List Input) : Type 0 where
 abbrev pub names_of : List Output → List Name
 names_of outputs = map (λ (o : Output). o.name) outputs
 
--- an entry of the environment, without its value where its key is one of these names
+-- an entry of the environment, with an empty value where its key is one of these names
 abbrev pub masked_entry : (names : List Name) → EnvEntry → EnvEntry
 masked_entry names entry = if list_any (same_bytes entry.key) names
     then record { key = entry.key; value = [] } else entry
 
--- a derivation without the paths of its outputs: neither at the outputs nor in the environment
+-- a derivation in which its outputs' paths are empty, at the outputs and in the environment
 abbrev pub masked : Drv → Drv
 masked drv = record {
   outputs = map (λ (o : Output). record { name = o.name; path = []; algo = o.algo; hash = o.hash })
@@ -77,7 +78,7 @@ pub record IsModuloText (drv : Drv) (hashes : List Hash) (mask : Bool) (bytes : 
   pub is_text : bytes
       ≡ text derivation_form (drv_value (with_inputs (if mask then masked drv else drv) inputs))
 
--- there is one modulo text
+-- a derivation has one modulo text for these hashes, masked or not
 abbrev pub HasOneModuloText : Type 0
 HasOneModuloText = (drv : Drv) (hashes : List Hash) (mask : Bool) (a b : Bytes)
     → IsModuloText drv hashes mask a → IsModuloText drv hashes mask b → a ≡ b

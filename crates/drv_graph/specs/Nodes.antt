@@ -9,7 +9,7 @@ use Rattle.drv_graph.specs.declared.kinds.Kind.{Kind}
 use Rattle.drv_graph.specs.declared.kinds.Kind.TheVariants.{Addressed, Fixed}
 use Rattle.drv_graph.specs.Modulo.{IsModuloText}
 
--- a derivation, and the path of its text
+-- A derivation, and the path of its text.
 pub record Node : Type 0 where
   pub path : Path
   pub drv : Drv
@@ -26,14 +26,14 @@ inputs_of drv = map (λ (i : Input). i.path) drv.inputs
 abbrev pub output_paths_of : Drv → List Path
 output_paths_of drv = map (λ (o : Output). o.path) drv.outputs
 
--- what stands for a fixed output in the place of its derivation's text:
+-- the text that is hashed for a fixed output in place of its derivation's text:
 -- `fixed:out:<algorithm>:<hash>:<path>`
 abbrev pub fixed_text : Output → Bytes
 fixed_text output = codes "fixed:out:" ++ output.algo ++ codes ":" ++ output.hash ++ codes ":"
     ++ output.path
 
--- a derivation's modulo hash, by its kind, from those of its inputs: of a fixed output's own text,
--- else of the modulo text
+-- the hash is the modulo hash of a derivation of this kind, whose inputs have these modulo hashes:
+-- the SHA-256 of the modulo text, or of a fixed output's own text
 abbrev pub IsHashBy : Kind → Drv → (hashes : List Hash) → (hash : Hash) → Type 0
 IsHashBy Addressed drv hashes hash = (bytes : Bytes) × IsModuloText drv hashes false bytes
     × (hash ≡ sha256 bytes)

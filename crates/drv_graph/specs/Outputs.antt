@@ -1,4 +1,4 @@
--- What is right of a derivation's outputs, and the first thing that is wrong (Nix manual, "Store
+-- When a derivation's outputs are right, and which fault of them comes first (Nix manual, "Store
 -- Derivation"; the order of faults is this product's own).
 use Rattle.std.specs.Prelude.{◌≡◌, ◌⊎◌, ◌++◌, List, [], ◌∷◌, map, All, Contains, IsTrue, Result, Ok, Err}
 use Rattle.nix_names.specs.Bytes.{Bytes, Dir, Path, Name, Hash}
@@ -19,8 +19,7 @@ pub record Use : Type 0 where
   pub output : Name
   pub drv : Drv
 
--- the outputs that are used of some inputs, in the text's order; beside the inputs stand their
--- derivations
+-- the outputs that inputs name, in the text's order; the second list has the inputs' derivations
 abbrev pub uses : List Input → List Drv → List Use
 uses [] drvs = []
 uses (i ∷ is) [] = []
@@ -31,20 +30,21 @@ uses (i ∷ is) (drv ∷ drvs) = map (λ name. record { input = i.path; output =
 abbrev pub IsKnownUse : Use → Type 0
 IsKnownUse u = Contains (names_of u.drv.outputs) u.output
 
--- an output's name, and that of its path, are names
+-- an output's name, and the name of its path, are names of store paths
 abbrev pub IsWellNamed : (name : Name) → Output → Type 0
 IsWellNamed name output = IsTrue (is_name output.name)
     × IsTrue (is_name (path_name name output.name))
 
--- how a value in a derivation's text stands to the path that is expected: it is that path; or in a
--- draft it may be empty
+-- a value in a derivation's text is the expected path
 abbrev pub IsThePath : (value : Bytes) → (path : Path) → Type 0
 IsThePath value path = value ≡ path
 
+-- a value in a draft's text is empty, or the expected path
 abbrev pub IsThePathOrEmpty : (value : Bytes) → (path : Path) → Type 0
 IsThePathOrEmpty value path = (value ≡ []) ⊎ (value ≡ path)
 
--- What is right of outputs before their paths are looked at.
+-- The outputs are sound: they have this kind, they are well named, and each output that is used of
+-- an input is there. Nothing is said of their paths.
 pub record AreSound (name : Name) (drv : Drv) (used : List Drv) (kind : Kind) : Type 0 where
   pub has_kind : HasKind drv kind
   pub named : All (IsWellNamed name) drv.outputs
@@ -65,7 +65,7 @@ HasOtherEntry Fits Expected drv output =
 
 -- What the check of a derivation's outputs answers, by its name, its inputs' derivations and their
 -- hashes. The first of these that holds: mixed outputs; a method or a hash that isn't known; a name
--- that is none; the first use of an output that isn't there; the first output with a path that
+-- that is no name of a store path; the first use of an output that isn't there; the first output with a path that
 -- doesn't fit the expected one; the first output with such an entry. Want of memory may come in
 -- place of any but the first.
 abbrev pub IsOutputsCheck : (Fits : Bytes → Path → Type 0) → (dir : Dir) → (name : Name) → Drv

@@ -10,23 +10,23 @@ use Rattle.drv_graph.specs.declared.fault.GraphFault.TheVariants.{NoMemory, At}
 use Rattle.drv_graph.specs.declared.fault.NodeFault.TheVariants.{OutputClash}
 use Rattle.drv_graph.specs.declared.node.PlanNode.{PlanNode}
 
--- the owner of an output path, by its number
+-- the number of the derivation that owns an output path, if one does
 abbrev pub owned : {S : Type 0} → IndexMap Path ℕ S → Path → Option ℕ
 owned owners = get (pointwise nat_eq) owners
 
--- the output paths of derivations
+-- the output paths of each derivation
 abbrev pub outputs_of : List PlanNode → List (List Path)
 outputs_of kept = map (λ (k : PlanNode). output_paths_of k.drv) kept
 
--- some paths are just those that the derivation with this number owns
+-- the derivation with this number owns these paths, and no others
 abbrev pub AreOwnedBy : (owners : Path → Option ℕ) → (number : ℕ) → (outputs : List Path)
     → Type 0
 AreOwnedBy owners number outputs = (path : Path)
     → (Contains outputs path ↔ (owners path ≡ Some number))
 
--- The owners of output paths are right, where the derivations that were left have these outputs: an
--- owner has its paths, and the outputs of each derivation are just what one owns, which is the
--- derivation itself or stands before it.
+-- The owners of output paths are right, where the derivations that were left have these outputs. An
+-- owner has the paths that it owns. The outputs of each derivation are all that one derivation
+-- owns: itself, or one before it.
 pub record AreOwners (owners : Path → Option ℕ) (left : List (List Path)) : Type 0 where
   pub has : (path : Path) (number : ℕ) → owners path ≡ Some number
       → (outputs : List Path) × (slice_get left number ≡ Some outputs) × Contains outputs path
@@ -38,21 +38,21 @@ abbrev pub first_owner : (owners : Path → Option ℕ) → List Path → Option
 first_owner owners [] = None
 first_owner owners (path ∷ paths) = owners path
 
--- whether the derivation with a number, if there is one, has so many outputs
+-- whether the derivation with this number has `count` outputs; true where there is no number
 abbrev pub HasAsMany : (kept : List PlanNode) → (number : Option ℕ) → (count : ℕ) → Bool → Type 0
 HasAsMany kept None count answer = IsTrue answer
 HasAsMany kept (Some number) count answer =
     (node : PlanNode) × (slice_get kept number ≡ Some node)
     × (IsTrue answer ↔ (length node.outputs.items ≡ count))
 
--- Some paths have this owner now, and each other the one that it had.
+-- These paths have this owner now, and each other path has the owner that it had.
 pub record AreEntered (before after : Path → Option ℕ) (paths : List Path) (number : ℕ)
     : Type 0 where
   pub here : (path : Path) → Contains paths path → after path ≡ Some number
   pub others : (path : Path) → (Contains paths path → ⊥) → after path ≡ before path
 
--- what entering paths under a number answers, where each must have had this owner: whether each
--- had; if so, they are entered
+-- what entering paths under a number answers: whether each path had this owner before; if so, all
+-- are entered
 abbrev pub IsEntering : (before after : Path → Option ℕ) → (owner : Option ℕ)
     → (paths : List Path) → (number : ℕ) → Bool → Type 0
 IsEntering before after owner paths number true =
@@ -61,8 +61,8 @@ IsEntering before after owner paths number true =
 IsEntering before after owner paths number false =
     (path : Path) × Contains paths path × (before path ≢ owner)
 
--- The output paths of the next derivation: one is also that of a derivation that was left, and
--- those of the two aren't the same.
+-- One of the next derivation's output paths is also one of a derivation that was left, and the two
+-- derivations don't have the same output paths.
 pub record IsClash (kept : List PlanNode) (outputs : List Path) : Type 0 where
   pub node : PlanNode
   pub is_node : Contains kept node

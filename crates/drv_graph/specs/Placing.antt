@@ -10,7 +10,7 @@ abbrev pub placed : (value : Bytes) → (path : Path) → Bytes
 placed [] path = path
 placed (byte ∷ bytes) path = byte ∷ bytes
 
--- an output with a path in its place, where that is empty
+-- an output with this path, where its own is empty
 abbrev pub placed_output : Output → (path : Path) → Output
 placed_output output path = record {
   name = output.name;
@@ -19,22 +19,23 @@ placed_output output path = record {
   hash = output.hash;
 }
 
--- outputs with these paths in their places, for as many as there are paths
+-- outputs with these paths, where their own are empty; outputs after the last path stay as they are
 abbrev pub placed_outputs : List Output → (paths : List Path) → List Output
 placed_outputs outputs [] = outputs
 placed_outputs [] (path ∷ paths) = []
 placed_outputs (output ∷ outputs) (path ∷ paths) = placed_output output path
     ∷ placed_outputs outputs paths
 
--- An entry under one of some names with the path beside that name, where its value is empty;
--- another as it was.
-pub record IsPlacedEntry (names : List Name) (paths : List Path) (draft filled : EnvEntry) : Type 0 where
+-- An entry under one of the names has the path at that name's place, where its value was empty.
+-- Another entry is as it was.
+pub record IsPlacedEntry (names : List Name) (paths : List Path) (draft filled : EnvEntry)
+    : Type 0 where
   pub key : filled.key ≡ draft.key
   pub named : (place : ℕ) (path : Path) → slice_get names place ≡ Some draft.key
       → slice_get paths place ≡ Some path → filled.value ≡ placed draft.value path
   pub other : (Contains names draft.key → ⊥) → filled.value ≡ draft.value
 
--- A draft with these paths, one beside each output, in its empty places.
+-- A draft with these paths, one for each output, in its empty places.
 pub record IsPlaced (paths : List Path) (draft filled : Drv) : Type 0 where
   pub outputs : filled.outputs ≡ placed_outputs draft.outputs paths
   pub inputs : filled.inputs ≡ draft.inputs

@@ -16,6 +16,7 @@ use Rattle.drv_graph.specs.declared.node.PlanNode.{PlanNode}
 abbrev pub node_of : PlanNode → Node
 node_of kept = record { path = kept.path; drv = kept.drv }
 
+-- derivations of a plan, as the plan's definition has them
 abbrev pub nodes_of : List PlanNode → List Node
 nodes_of kept = map node_of kept
 
@@ -34,7 +35,7 @@ pub record IsKept (nodes : List Node) (kept : PlanNode) : Type 0 where
   pub sources : kept.sources.items ≡ kept.drv.sources
   pub first : kept.first ≡ position_or_len (λ (n : Node). are_twins n.drv kept.drv) nodes
 
--- each derivation of a plan has what is kept beside it right
+-- what is kept beside each derivation of a plan is right
 abbrev pub AreKept : List PlanNode → Type 0
 AreKept kept = All (IsKept (nodes_of kept)) kept
 

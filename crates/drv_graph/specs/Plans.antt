@@ -12,8 +12,8 @@ use Rattle.drv_graph.specs.Nodes.{Node, AreHashes, inputs_of, output_paths_of, p
 use Rattle.drv_graph.specs.Outputs.{IsOutputsCheck, IsThePath}
 use Rattle.drv_graph.specs.declared.fault.OutputFault.{OutputFault}
 
--- What a plan is seen as: its nodes in plan order, and the numbers of its roots; a node's number is
--- its place, counted from 0.
+-- A plan as contracts see it: its nodes in plan order, and the numbers of its roots. A node's
+-- number is its place, counted from 0.
 pub record Graph : Type 0 where
   pub nodes : List Node
   pub roots : List ℕ
@@ -53,8 +53,8 @@ pub record MayUse (dir : Dir) (gives : Path → Answer → Type 0) (from next : 
   pub stands : MayStand dir gives from drv
   pub is_input : Contains (inputs_of drv) next
 
--- *Plan order*: some paths are left in turn, behind those that were left before. A path that was
--- left already is passed over; another is left behind its inputs, which are left in their text's
+-- *Plan order*: some paths are left in turn, after those that were left before. A path that was
+-- left already is passed over. Another is left after its inputs, which are left in its text's
 -- order.
 pub data AreLeft (nodes : List Node) : (before paths after : List Path) → Type 0 where
   none_left : (before : List Path) → AreLeft nodes before [] before
@@ -67,7 +67,7 @@ pub data AreLeft (nodes : List Node) : (before paths after : List Path) → Type
       → AreLeft nodes (inputs ++ node.path ∷ []) paths after
       → AreLeft nodes before (node.path ∷ paths) after
 
--- the derivations of some paths stand among some nodes
+-- the nodes have these derivations at these paths, in the paths' order
 abbrev pub AreDrvsOf : (nodes : List Node) → (paths : List Path) → List Drv → Type 0
 AreDrvsOf nodes [] [] = ⊤
 AreDrvsOf nodes [] (drv ∷ drvs) = ⊥
@@ -75,7 +75,7 @@ AreDrvsOf nodes (path ∷ paths) [] = ⊥
 AreDrvsOf nodes (path ∷ paths) (drv ∷ drvs) = Contains nodes (record { path = path; drv = drv })
     × AreDrvsOf nodes paths drvs
 
--- What the check of a node's outputs may answer, behind other nodes that have its inputs.
+-- What the check of a node's outputs may answer, where the nodes before it have its inputs.
 pub record MayAnswer (dir : Dir) (before : List Node) (node : Node)
     (answer : Result Kind OutputFault) : Type 0 where
   pub used : List Drv
@@ -96,25 +96,25 @@ HaveSamePaths a b = (path : Path) → (Contains a path ↔ Contains b path)
 abbrev pub AreTwins : Drv → Drv → Type 0
 AreTwins a b = HaveSamePaths (output_paths_of a) (output_paths_of b)
 
--- *Lawful*: a node's inputs stand before it, its outputs are right, and with each node before it it
--- shares no output path, or is its twin.
+-- *Lawful*: a node's inputs are among the nodes before it, and its outputs are right. It is a twin
+-- of each node before it with which it shares an output path.
 pub record IsLawful (dir : Dir) (before : List Node) (node : Node) : Type 0 where
   pub kind : Kind
   pub right : MayAnswer dir before node (Ok kind)
   pub apart : (earlier : Node) → Contains before earlier
       → (ShareOutput earlier.drv node.drv → ⊥) ⊎ AreTwins earlier.drv node.drv
 
--- each node is lawful behind those before it
+-- each node is lawful after the nodes before it
 abbrev pub AreLawful : (dir : Dir) → List Node → Type 0
 AreLawful dir nodes = (before after : List Node) (node : Node) → nodes ≡ before ++ node ∷ after
     → IsLawful dir before node
 
--- the elements of a list, each at its first place
+-- the paths of a list, each once, at its first place
 abbrev pub each_once : List Path → List Path
 each_once [] = []
 each_once (x ∷ xs) = x ∷ filter (λ y. not (same_bytes x y)) (each_once xs)
 
--- the numbers are those of some paths among the nodes
+-- the numbers are the numbers of the nodes at these paths, in the paths' order
 abbrev pub AreNumbers : List Node → (numbers : List ℕ) → (paths : List Path) → Type 0
 AreNumbers nodes numbers paths = map (λ n. slice_get (paths_of nodes) n) numbers ≡ map Some paths
 

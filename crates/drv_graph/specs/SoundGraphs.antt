@@ -1,4 +1,4 @@
--- What is right of every plan, whatever its source and its roots.
+-- What holds of every plan, whatever its source and its roots.
 use Rattle.std.specs.Prelude.{◌<◌, ◌≤◌, All, length, nat_eq}
 use Rattle.std.specs.List.{IsDistinct}
 use Rattle.nix_names.specs.Bytes.{Dir}
@@ -8,8 +8,8 @@ use Rattle.drv_graph.specs.PlanNodes.{output_paths_of}
 use Rattle.drv_graph.specs.Plans.{Graph, AreLawful}
 use Rattle.drv_graph.specs.Loading.{AreDistinct, max_nodes}
 
--- No two derivations have one path; each is lawful, in some folder, behind those before it, so its
--- inputs have smaller numbers; there are no more than a plan may have; the roots are numbers of
+-- No two derivations have one path. Each is lawful, in some folder, after those before it, so its
+-- inputs have smaller numbers. There are no more than a plan may have. The roots are numbers of
 -- derivations, none twice. Each derivation's path is that of a derivation's file, and no two of its
 -- outputs have one path.
 pub record IsSound (graph : Graph) : Type 0 where

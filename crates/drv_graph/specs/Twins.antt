@@ -15,7 +15,7 @@ abbrev pub are_twins : Drv → Drv → Bool
 are_twins a b = are_among (output_paths_of a) (output_paths_of b)
     && are_among (output_paths_of b) (output_paths_of a)
 
--- of two nodes, if they are there
+-- whether two nodes are there, and are twins
 abbrev pub are_twins_at : (a b : Option Node) → Bool
 are_twins_at (Some a) (Some b) = are_twins a.drv b.drv
 are_twins_at (Some a) None = false
@@ -23,4 +23,5 @@ are_twins_at None b = false
 
 -- the number of the first node that is a twin of the one with this number
 abbrev pub first_twin_of : List Node → ℕ → ℕ
-first_twin_of nodes d = position_or_len (λ (n : Node). are_twins_at (Some n) (slice_get nodes d)) nodes
+first_twin_of nodes d =
+    position_or_len (λ (n : Node). are_twins_at (Some n) (slice_get nodes d)) nodes

@@ -9,15 +9,15 @@ use Rattle.drv_graph.specs.Modulo.{IsNamed}
 abbrev pub input_paths : List Input → List Path
 input_paths inputs = map (λ (i : Input). i.path) inputs
 
--- Inputs gathered: each path of the given ones once, in rising order, with all names that it has
--- there.
+-- Inputs gathered: each path of the given inputs once, in rising order. With it come all names that
+-- the given inputs have for this path.
 pub record IsGathered (given gathered : List Input) : Type 0 where
   pub rising : IsRising (input_paths gathered)
   pub paths : (path : Path)
       → (Contains (input_paths gathered) path ↔ Contains (input_paths given) path)
   pub names : (path : Path) (name : Name) → (IsNamed gathered path name ↔ IsNamed given path name)
 
--- An input's names have gone to the last of some others, which has its path.
+-- An input's names were added to the last of the other inputs, which has the same path.
 pub record IsJoined (old : List Input) (input : Input) (new : List Input) : Type 0 where
   pub front : List Input
   pub last : Input
@@ -25,7 +25,7 @@ pub record IsJoined (old : List Input) (input : Input) (new : List Input) : Type
   pub same : last.path ≡ input.path
   pub is : new ≡ front ++ record { path = last.path; names = last.names ++ input.names } ∷ []
 
--- An input stands behind some others, of which the last, if there is one, has another path.
+-- An input was put after the others. The last of them, if there is one, has another path.
 pub record IsAppended (old : List Input) (input : Input) (new : List Input) : Type 0 where
   pub other : (front : List Input) (last : Input) → old ≡ front ++ last ∷ []
       → last.path ≢ input.path

@@ -1,4 +1,4 @@
--- How derivations are walked: depth first, by a list of those that are open, innermost first.
+-- How derivations are walked: depth first, by a list of those that are open, outermost first.
 use Rattle.std.specs.Prelude.{◌≡◌, ◌≢◌, ◌↔◌, ◌⊎◌, ◌≤◌, ◌<◌, ⊤, ℕ, List, [], ◌∷◌, ◌++◌, length, map, take, nat_eq, All, Contains, Option, Some, None, Result, Ok, Err, ◌+◌, slice_get}
 use Rattle.std.specs.Global.{Vec}
 use Rattle.std.specs.Cmp.Lexicographic.{pointwise}
@@ -31,18 +31,18 @@ use Rattle.drv_graph.specs.declared.walk.Met.{Met}
 use Rattle.drv_graph.specs.declared.walk.Met.TheVariants.{Done, New}
 use Rattle.drv_graph.specs.declared.node.PlanNode.{PlanNode}
 
--- what marks say of paths: nothing of one that wasn't met, no number of one that is open, its
--- number of one that was left
+-- a path's mark: none where the path wasn't met, one without a number while its derivation is open,
+-- and one with its number when that was left
 abbrev pub marked : {S : Type 0} → IndexMap Path (Option ℕ) S → Path → Option (Option ℕ)
 marked marks = get (pointwise nat_eq) marks
 
--- One path has this entry now, and each other the one that it had.
+-- This path has this entry now, and each other path has the entry that it had.
 pub record SetsEntry {X : Type 0} (before after : Path → Option X) (path : Path) (entry : X)
     : Type 0 where
   pub here : after path ≡ Some entry
   pub others : (other : Path) → other ≢ path → after other ≡ before other
 
--- The marks of paths that were left, in their order, and of open ones are right.
+-- The marks are right: of the paths that were left, in their order, and of the open ones.
 pub record AreMarks (marks : Path → Option (Option ℕ)) (left pending : List Path)
     : Type 0 where
   pub numbered : (path : Path) (number : ℕ)
@@ -53,11 +53,12 @@ pub record AreMarks (marks : Path → Option (Option ℕ)) (left pending : List 
 abbrev pub visited : Visit → Node
 visited visit = record { path = visit.path; drv = visit.drv }
 
+-- the paths of open derivations
 abbrev pub pending_of : List Visit → List Path
 pending_of visits = map (λ (v : Visit). v.path) visits
 
--- What is kept of an open derivation is right: the paths of its inputs, and the numbers of the
--- first of them.
+-- What is kept of an open derivation is right: the paths of its inputs, and the numbers of its
+-- first inputs, which were left.
 pub record IsVisit (nodes : List Node) (visit : Visit) : Type 0 where
   pub inputs : visit.inputs.items ≡ inputs_of visit.drv
   pub numbers : AreNumbers nodes visit.numbers.items
@@ -78,7 +79,7 @@ kept_visit visit kind hash outputs sources first =
       first = first;
     }
 
--- What was left is right.
+-- What a walk found so far is right.
 pub record IsFound (dir : Dir) (found : Found) : Type 0 where
   pub kept : AreKept found.nodes.items
   pub distinct : AreDistinct (paths_of (nodes_of found.nodes.items))
@@ -95,7 +96,7 @@ pub record Leaves (dir : Dir) (before after : Found) (visit : Visit) : Type 0 wh
       (Some (length before.nodes.items))
   pub count : length (keys after.marks) ≡ length (keys before.marks)
 
--- a fault that is answered where a derivation is left is true of it
+-- a fault in leaving a derivation is true of it
 abbrev pub IsLeavingFault : (dir : Dir) → (kept : List PlanNode) → Visit → GraphFault → Type 0
 IsLeavingFault dir kept visit NoMemory = ⊤
 IsLeavingFault dir kept visit (At path (Outputs fault)) = (path ≡ visit.path) × (fault ≢ NoRoom)
@@ -107,12 +108,13 @@ IsLeavingFault dir kept visit (At path OutputClash) =
     × (AreTwins other.drv visit.drv → ⊥))
 IsLeavingFault dir kept visit fault = ⊥
 
+-- what leaving an open derivation answers
 abbrev pub IsLeaving : (dir : Dir) → (before after : Found) → Visit → Result ⊤ GraphFault
     → Type 0
 IsLeaving dir before after visit (Ok _) = Leaves dir before after visit
 IsLeaving dir before after visit (Err fault) = IsLeavingFault dir before.nodes.items visit fault
 
--- An input as it is used is the derivation with this number.
+-- An input, with its path, its derivation and its modulo hash, is the derivation with this number.
 pub record IsUsed (kept : List PlanNode) (number : ℕ) (used : UsedInput) : Type 0 where
   pub node : PlanNode
   pub is_node : slice_get kept number ≡ Some node
@@ -128,25 +130,25 @@ IsChecking dir kept visit (Ok made) = MayAnswer dir (nodes_of kept) (visited vis
     × HasHash (nodes_of kept) visit.drv made.0 made.1
 IsChecking dir kept visit (Err fault) = IsLeavingFault dir kept visit fault
 
--- a fault at a path, want of memory aside
+-- this fault at this path, or refused memory
 abbrev pub IsFaultAt : (path : Path) → NodeFault → GraphFault → Type 0
 IsFaultAt path fault NoMemory = ⊤
 IsFaultAt path fault (At at found) = (at ≡ path) × (found ≡ fault)
 IsFaultAt path fault other = ⊥
 
--- what a fault of the outputs at a path becomes; want of memory has no path
+-- what a fault of the outputs at a path becomes; refused memory has no path
 abbrev pub IsOutputFaultAt : (path : Path) → OutputFault → GraphFault → Type 0
 IsOutputFaultAt path fault NoMemory = fault ≡ NoRoom
 IsOutputFaultAt path fault (At at found) = (at ≡ path) × (found ≡ Outputs fault) × (fault ≢ NoRoom)
 IsOutputFaultAt path fault other = ⊥
 
--- what a fault of the text at a path becomes; want of memory has no path
+-- what a fault of the text at a path becomes; refused memory has no path
 abbrev pub IsTextFaultAt : (path : Path) → DrvFault → GraphFault → Type 0
 IsTextFaultAt path fault NoMemory = fault ≡ NoSpace
 IsTextFaultAt path fault (At at found) = (at ≡ path) × (found ≡ Text fault) × (fault ≢ NoSpace)
 IsTextFaultAt path fault other = ⊥
 
--- a fault that is answered where so many paths were met before, and this one is read, is true of it
+-- a fault in reading the derivation at a path is true of it; `count` paths were met before
 abbrev pub IsReadingFault : (dir : Dir) → (gives : Path → Answer → Type 0) → (path : Path)
     → (count : ℕ) → GraphFault → Type 0
 IsReadingFault dir gives path count NoMemory = ⊤
@@ -155,7 +157,8 @@ IsReadingFault dir gives path count (At at Unreadable) = (at ≡ path)
 IsReadingFault dir gives path count (At at TooMany) = (at ≡ path)
     × ((bytes : Bytes) × gives path (Ok bytes)) × (max_nodes ≤ count)
 IsReadingFault dir gives path count (At at (Text fault)) = (at ≡ path) × (fault ≢ NoSpace)
-    × (count < max_nodes) × ((bytes : Bytes) × gives path (Ok bytes) × IsCheck dir path bytes (Err fault))
+    × (count < max_nodes)
+    × ((bytes : Bytes) × gives path (Ok bytes) × IsCheck dir path bytes (Err fault))
 IsReadingFault dir gives path count fault = ⊥
 
 -- what fetching the bytes at a path answers
@@ -167,7 +170,7 @@ IsFetching gives path (Err (At at Unreadable)) = (at ≡ path)
     × (gives (Err Missing) ⊎ gives (Err Device))
 IsFetching gives path result = ⊥
 
--- what reading the derivation at a path answers
+-- what reading the derivation at a path answers; `count` paths were met before
 abbrev pub IsReadingOf : (dir : Dir) → (gives : Path → Answer → Type 0) → (path : Path)
     → (count : ℕ) → Result Drv GraphFault → Type 0
 IsReadingOf dir gives path count (Ok drv) = MayStand dir gives path drv × (count < max_nodes)
@@ -193,7 +196,7 @@ IsOpening dir gives before after path (Ok visit) = Opens dir gives before after 
 IsOpening dir gives before after path (Err fault) =
     IsReadingFault dir gives path (length (keys before)) fault × AreDistinct (keys before)
 
--- a fault that is answered where a path is met is true of it
+-- a fault in meeting a path is true of it
 abbrev pub IsMeetingFault : {S : Type 0} → (dir : Dir) → (gives : Path → Answer → Type 0)
     → (before : IndexMap Path (Option ℕ) S) → (path : Path) → GraphFault → Type 0
 IsMeetingFault dir gives before path fault =
@@ -254,7 +257,7 @@ IsStepping dir gives before after visit next (Err fault) = (fault ≡ NoMemory)
 abbrev pub HasAllNumbers : Visit → Type 0
 HasAllNumbers visit = length visit.inputs.items ≤ length visit.numbers.items
 
--- Nothing was left.
+-- No derivation was left.
 pub record LeavesNone (before after : Found) : Type 0 where
   pub nodes : after.nodes ≡ before.nodes
   pub owners : after.owners ≡ before.owners
@@ -274,8 +277,7 @@ IsGoingOn dir gives before after below visit visits (Err fault) =
     (fault ≡ NoMemory) ⊎ (HasAllNumbers visit × IsLeavingFault dir before.nodes.items visit fault)
     ⊎ IsInputFault dir gives before.marks visit fault
 
--- What was left and what is open is right: it is what the source may give, and reached from the
--- roots.
+-- What was left and what is open is right: the source may give it, and the roots reach it.
 pub record IsWalked (dir : Dir) (gives : Path → Answer → Type 0) (roots : List Path)
     (found : Found) (pending : List Path) : Type 0 where
   pub right : IsFound dir found
@@ -285,7 +287,7 @@ pub record IsWalked (dir : Dir) (gives : Path → Answer → Type 0) (roots : Li
   pub count : length (keys found.marks) ≡ length found.nodes.items + length pending
   pub few : length (keys found.marks) ≤ max_nodes
 
--- Some derivations are left after others: each path that is asked for, by plan order.
+-- These paths, and all that they reach, are left after others, in plan order.
 pub record LeavesInOrder (before after : List Node) (paths : List Path) : Type 0 where
   pub more : List Node
   pub grown : after ≡ before ++ more

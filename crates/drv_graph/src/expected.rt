@@ -122,7 +122,7 @@ fn fixed_path(
     }
 }
 
-// The SHA-256 of what the path of a flat fixed output is made of.
+// The inner digest of a flat fixed output's path.
 fn flat_digest(alloc: Global, digest: &Digest) -> Result<[u8; 32], AllocError>
     ensures { IfOk result (λ inner. inner ≡ sha256 (flat_text digest.now)) }
 {

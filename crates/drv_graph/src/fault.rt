@@ -19,7 +19,7 @@ pub enum OutputFault {
     /// The output with this name has a method or a hash that isn't known.
     #[error("an output's content is fixed by no known method")]
     UnknownMethod(Vec<u8>),
-    /// The name of an output, or of its path, is no name.
+    /// The name of an output, or of its path, is no name of a store path.
     #[error("an output has no name of a store path")]
     BadName,
     /// The input derivation with this path has no output with this name.
@@ -79,7 +79,7 @@ pub enum NodeFault {
     /// With it there are more than 65,536 derivations.
     #[error("there are more than 65,536 derivations")]
     TooMany,
-    /// Its text is none of a derivation that stands at its own path.
+    /// Its text is not that of a derivation which stands at its own path.
     #[error("{0}")]
     Text(DrvFault),
     /// It is reached from itself.
@@ -88,7 +88,7 @@ pub enum NodeFault {
     /// Something is wrong with its outputs.
     #[error("{0}")]
     Outputs(OutputFault),
-    /// One of its outputs is also that of an earlier derivation whose outputs aren't just the same.
+    /// One of its output paths is also one of an earlier derivation with another set of them.
     #[error("an output is also that of a derivation with other outputs")]
     OutputClash,
 }
@@ -121,7 +121,7 @@ pub enum GraphFault {
     /// Something is wrong with the draft that is to be filled, or with its filled text.
     #[error("{0}")]
     Draft(NodeFault),
-    /// The name under which the draft is to be filled is none.
+    /// The name for the draft, or it with `.drv` behind it, is no name of a store path.
     #[error("the name is no derivation's name")]
     Name,
 }

@@ -35,8 +35,8 @@ struct Target {
 /// The derivation of a draft under a name, and the path of its text in the folder. The draft's
 /// empty output paths, and the empty values under outputs' names in its environment, become the
 /// paths that are expected; nothing else is changed. In this order: `Name` where the name, or it
-/// with `.drv` behind it, is none; `Draft` with `BadReference` for the first input or source that
-/// is no path of the folder; the faults of `Plan::load` of its inputs as roots; `Draft` with
+/// with `.drv` behind it, is no name; `Draft` with `BadReference` for the first input or source
+/// that is no path of the folder; the faults of `Plan::load` of its inputs as roots; `Draft` with
 /// the first fault of its outputs, where a value that is neither empty nor the expected path is
 /// `OutputMismatch` or `EnvMismatch`; `Draft` with `TooLong` where the filled text has more than
 /// 4,194,304 bytes. Beside the plan of its inputs and the check of its outputs, the draft is copied
@@ -76,7 +76,8 @@ fn target_of(
     Ok(Target { file, refs })
 }
 
-// The name of the file of the derivation with this name. `Name` where one of the two is none.
+// The name of the file of the derivation with this name. `Name` where one of the two is no name of
+// a store path.
 fn file_name(alloc: Global, name: &[u8]) -> Result<Vec<u8>, GraphFault>
     ensures ok { IfOk result (λ file. AreNames name.now × (file.items ≡ file_name name.now)) }
     ensures err { IfErr result (IsNameRefused name.now) }
@@ -146,7 +147,7 @@ fn fill(
     Ok(place(alloc, draft, &paths)?)
 }
 
-// The expected paths of the draft's outputs, or what is wrong with them first.
+// The expected paths of the draft's outputs, or the first fault of them.
 fn draft_paths(
     alloc: Global,
     dir: &StoreDir,

@@ -42,7 +42,7 @@ pub(crate) struct Visit {
     pub(crate) drv: Derivation,
     // The paths of its inputs, in its text's order.
     pub(crate) inputs: Vec<StorePath>,
-    // The numbers of the first of them, which were left.
+    // The numbers of its first inputs, which were left.
     pub(crate) numbers: Vec<usize>,
 }
 

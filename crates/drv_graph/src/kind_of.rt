@@ -31,7 +31,7 @@ pub(crate) fn kind_of(alloc: Global, drv: &Derivation) -> Result<Kind, OutputFau
     }
 }
 
-// Whether no output says anything of its content.
+// Whether all outputs are input-addressed.
 fn are_addressed(outputs: &[Output]) -> bool
     ensures { MatchBool result (All IsAddressed (map output_of outputs.now))
         (SaysSome (map output_of outputs.now)) }
@@ -44,7 +44,7 @@ fn are_addressed(outputs: &[Output]) -> bool
     true
 }
 
-// Whether an output says nothing of its content.
+// Whether an output is input-addressed: its algorithm and its hash are empty.
 fn is_addressed(output: &Output) -> bool
     ensures { MatchBool result (IsAddressed (output_of output.now))
         (IsAddressed (output_of output.now) → ⊥) }

@@ -1,4 +1,5 @@
-//! What holds of modulo texts, modulo hashes, expected paths and twins, proved over the definitions.
+//! What holds of modulo texts, modulo hashes, expected paths and twins, proved over the
+//! definitions.
 
 ghost use Rattle.drv_graph.specs.Equality.{EqualPlansAreSame};
 ghost use Rattle.drv_graph.specs.GraphLaws.{HasOneExpectedPath, HaveOneHashEach};
@@ -7,12 +8,12 @@ ghost use Rattle.drv_graph.specs.TwinLaws.{FixedTwinsHaveOneHash, SharersAreTwin
 
 use nix_drv::laws::equal_derivations_are_same;
 
-/// By the hashes of its inputs a derivation has one modulo text, masked or not.
+/// A derivation has one modulo text for the same hashes of its inputs, masked or not.
 pub fn modulo_text_is_one()
     ensures { HasOneModuloText }
 {}
 
-/// The modulo hashes of the derivations at some paths are one, where no two stand at one path.
+/// The derivations at some paths have one list of modulo hashes, where no two have one path.
 pub fn modulo_hashes_are_one()
     ensures { HaveOneHashEach }
 {}
@@ -28,12 +29,13 @@ pub fn sharers_are_twins()
     ensures { SharersAreTwins }
 {}
 
-/// Twins of a sound plan share an output path, and have equally many.
+/// Twins of a sound plan share an output path, and have equally many outputs.
 pub fn twins_share_outputs()
     ensures { TwinsShareOutputs }
 {}
 
-/// The test of twins tells just the derivations that are: those with the same set of output paths.
+/// The test of twins answers true for twins, derivations with the same set of output paths, and for
+/// no others.
 pub fn twins_are_told()
     ensures { TwinsAreTold }
 {}

@@ -12,10 +12,10 @@
 //! | `kinds`, `kind_of` | the kinds of outputs, and a derivation's kind |
 //! | `modulo` | the texts behind modulo hashes |
 //! | `expected` | the paths that outputs must have |
-//! | `values` | whether the paths in a text are those |
+//! | `values` | whether the paths in a text are the expected ones |
 //! | `outputs` | what is wrong with a derivation's outputs |
-//! | `fill` | drafts, filled |
-//! | `placing` | paths in a draft's empty places |
+//! | `fill` | drafts, filled with the expected paths |
+//! | `placing` | paths put into a draft's empty places |
 //! | `paths` | store paths parsed and copied |
 //! | `laws` | laws over the definitions that contracts cite |
 //! | `fault` | why derivations make no plan |

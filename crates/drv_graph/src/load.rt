@@ -44,7 +44,7 @@ pub(crate) fn walk_all<S: DrvSource>(
     })
 }
 
-// What a walk begins with.
+// What a walk has found at its beginning: nothing.
 fn nothing(alloc: Global) -> Found
     ensures { IsEmptyFound result }
 {

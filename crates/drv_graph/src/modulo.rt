@@ -1,5 +1,5 @@
-//! The texts behind modulo hashes: a derivation's text in which each input derivation stands by its
-//! own hash, with or without the paths of the outputs.
+//! The texts behind modulo hashes: a derivation's text in which each input's path is replaced by
+//! its modulo hash, with or without the paths of the outputs.
 ghost use Rattle.std.specs.Prelude.{◌≡◌, ◌++◌, ◌∷◌, [], length, map, IfOk, IfErr, OnOk};
 ghost use Rattle.std.specs.Cmp.Lexicographic.{slice_cmp};
 ghost use Rattle.std.specs.List.{AllZip};
@@ -16,10 +16,10 @@ use nix_drv::{Derivation, EnvEntry, Input, Output, Parts};
 use std::alloc::{AllocError, Global};
 
 /// The derivation's modulo text, by the hashes of its input derivations in the text's order: the
-/// text in which each of them stands by its hash in hex digits. Inputs of one hash are one entry
-/// with the names of all. Where it is masked, the paths of the outputs are left out, at the outputs
-/// and in the environment. Answers `GraphFault::NoMemory` where memory is refused, and no other
-/// fault. Costs one copy of the derivation, and one sort of its inputs and of their names
+/// text in which the path of each is replaced by its hash in hex digits. Inputs of one hash become
+/// one entry with the names of all. Where it is masked, the paths of the outputs are left out, at
+/// the outputs and in the environment. Answers `GraphFault::NoMemory` where memory is refused, and
+/// no other fault. Costs one copy of the derivation, and one sort of its inputs and of their names
 /// (Nix manual, "Derivation paths: hash modulo").
 pub fn modulo_text(
     alloc: Global,
@@ -34,7 +34,7 @@ pub fn modulo_text(
     Ok(text_by_hashes(alloc, drv, hashes, mask)?)
 }
 
-// The same text; only memory can be refused.
+// The same text for callers in the crate: its only fault is refused memory.
 pub(crate) fn text_by_hashes(
     alloc: Global,
     drv: &Derivation,
@@ -62,7 +62,7 @@ fn masked_text(alloc: Global, drv: &Derivation, inputs: &[Input]) -> Result<Vec<
     masked(alloc, drv)?.text_with_inputs(alloc, inputs)
 }
 
-// Input derivations with their hashes, in hex digits, in the place of their paths.
+// Input derivations whose paths are replaced by their hashes, in hex digits.
 fn replaced(alloc: Global, inputs: &[Input], hashes: &[[u8; 32]]) -> Result<Vec<Input>, AllocError>
     requires { length hashes.now ≡ length inputs.now }
     ensures { IfOk result (λ placed. map input_of placed.items
@@ -76,7 +76,7 @@ fn replaced(alloc: Global, inputs: &[Input], hashes: &[[u8; 32]]) -> Result<Vec<
     Ok(placed)
 }
 
-// An input derivation with a hash, in hex digits, in the place of its path.
+// An input derivation whose path is replaced by a hash, in hex digits.
 fn with_hash(alloc: Global, input: &Input, hash: &[u8; 32]) -> Result<Input, AllocError>
     ensures path { IfOk result (λ placed. placed.path.items ≡ encode_lower hash.now) }
     ensures names { IfOk result (λ placed. map bytes_of placed.names.items
@@ -96,7 +96,7 @@ fn digits_of(hash: &[u8; 32]) -> [u8; 64]
     digits
 }
 
-// The same names again.
+// A copy of the names.
 fn copy_names(alloc: Global, names: &[Vec<u8>]) -> Result<Vec<Vec<u8>>, AllocError>
     ensures { IfOk result (λ copy. map bytes_of copy.items ≡ map bytes_of names.now) }
 {
@@ -132,7 +132,7 @@ fn gather(alloc: Global, inputs: Vec<Input>) -> Result<Vec<Input>, AllocError>
     Ok(gathered)
 }
 
-// Adds an input behind others; its names go to the last of them where that has its path.
+// Adds an input after others; its names go to the last of them where that has its path.
 fn add_input(gathered: &mut Vec<Input>, mut input: Input) -> Result<(), AllocError>
     ensures { OnOk result
         (IsAdded (map input_of gathered.old.items) (input_of input)
@@ -148,7 +148,7 @@ fn add_input(gathered: &mut Vec<Input>, mut input: Input) -> Result<(), AllocErr
     push_input(gathered, input)
 }
 
-// Adds an input behind others.
+// Adds an input after others.
 fn push_input(gathered: &mut Vec<Input>, input: Input) -> Result<(), AllocError>
     ensures { OnOk result (gathered.new.items ≡ gathered.old.items ++ input ∷ []) }
 {
@@ -166,7 +166,7 @@ fn sort_names(inputs: &mut [Input])
     }
 }
 
-// A derivation's parts without the paths of its outputs.
+// A derivation's parts, in which the paths of its outputs are empty.
 fn masked(alloc: Global, drv: &Derivation) -> Result<Parts, AllocError>
     ensures { IfOk result (λ parts. drv_of parts ≡ masked drv.now) }
 {
@@ -176,7 +176,7 @@ fn masked(alloc: Global, drv: &Derivation) -> Result<Parts, AllocError>
     Ok(parts)
 }
 
-// Takes the paths of outputs out.
+// Makes the paths of outputs empty.
 fn mask_outputs(outputs: &mut [Output])
     ensures { map output_of outputs.new ≡ map masked_output (map output_of outputs.old) }
 {
@@ -185,7 +185,7 @@ fn mask_outputs(outputs: &mut [Output])
     }
 }
 
-// Takes the values out that stand under names of a derivation's outputs.
+// Makes the values empty that stand under names of a derivation's outputs.
 fn mask_env(drv: &Derivation, env: &mut [EnvEntry])
     ensures { map entry_of env.new ≡ map (masked_entry (names_of drv.now.outputs))
         (map entry_of env.old) }

@@ -19,7 +19,7 @@ pub(crate) struct PlanNode {
     pub(crate) path: StorePath,
     pub(crate) drv: Derivation,
     pub(crate) kind: Kind,
-    // The hash by which it stands in its users' texts.
+    // Its modulo hash, which replaces its path in its users' modulo texts.
     pub(crate) hash: [u8; 32],
     // The numbers of its inputs, in its text's order.
     pub(crate) inputs: Vec<usize>,
@@ -32,7 +32,7 @@ pub(crate) struct PlanNode {
 }
 
 impl PlanNode {
-    // The same derivation again.
+    // A copy of the derivation.
     fn copy(&self, alloc: Global) -> Result<PlanNode, GraphFault>
         ensures ok { IfOk result (IsSameNode self.now) }
         ensures err { IfErr result (λ fault. fault ≡ GraphFault.NoMemory) }
@@ -42,7 +42,7 @@ impl PlanNode {
         self.copy_beside(alloc, outputs, sources)
     }
 
-    // The same derivation again, beside copies of its lists of paths.
+    // A copy of the derivation, with these copies of its lists of paths.
     fn copy_beside(
         &self,
         alloc: Global,
@@ -98,7 +98,7 @@ pub(crate) fn same_nodes(a: &[PlanNode], b: &[PlanNode]) -> bool
     a == b
 }
 
-// The same derivations again.
+// Copies of the derivations.
 pub(crate) fn copy_nodes(alloc: Global, nodes: &[PlanNode]) -> Result<Vec<PlanNode>, GraphFault>
     ensures ok { IfOk result (λ copies. AllZip IsSameNode nodes.now copies.items) }
     ensures err { IfErr result (λ fault. fault ≡ GraphFault.NoMemory) }
@@ -110,7 +110,7 @@ pub(crate) fn copy_nodes(alloc: Global, nodes: &[PlanNode]) -> Result<Vec<PlanNo
     Ok(copies)
 }
 
-// The same derivation's text again.
+// A copy of a derivation as it was read.
 fn copy_drv(alloc: Global, drv: &Derivation) -> Result<Derivation, GraphFault>
     ensures ok { IfOk result (λ copy. copy ≡ drv.now) }
     ensures err { IfErr result (λ fault. fault ≡ GraphFault.NoMemory) }

@@ -1,5 +1,4 @@
-//! What is wrong first with a derivation's outputs, and the hash by which it stands in its users'
-//! texts.
+//! The first fault of a derivation's outputs, and its modulo hash.
 ghost use Rattle.std.specs.Prelude.{◌≡◌, ◌↔◌, map, All, IsTrue, IfOk, IfErr, OnOk};
 ghost use Rattle.sha2.specs.Sha256.{sha256};
 ghost use Rattle.nix_names.specs.Names.{is_name};
@@ -30,8 +29,8 @@ pub(crate) struct UsedInput<'a> {
     pub(crate) hash: [u8; 32],
 }
 
-// The kind of a derivation's outputs, or what is wrong with them first. Beside the derivation,
-// which has this name, stand its inputs in their text's order.
+// The kind of a derivation's outputs, or the first fault of them. The derivation has this name, and
+// `used` has its inputs in its text's order.
 pub(crate) fn check_outputs(
     alloc: Global,
     dir: &StoreDir,
@@ -47,8 +46,8 @@ pub(crate) fn check_outputs(
     Ok(kind)
 }
 
-// The kind and the expected paths of a derivation's outputs, or what is wrong with them first. In a
-// draft a value may be empty that would be a path.
+// The kind and the expected paths of a derivation's outputs, or the first fault of them. In a draft
+// a value may be empty where the expected path belongs.
 pub(crate) fn expected_outputs(
     alloc: Global,
     dir: &StoreDir,
@@ -80,8 +79,8 @@ fn hashes(alloc: Global, used: &[UsedInput]) -> Result<Vec<[u8; 32]>, AllocError
     Ok(hashes)
 }
 
-// The kind of a derivation's outputs, or what is wrong first with it, their names and what is used
-// of the inputs.
+// The kind of a derivation's outputs, or the first fault: of the kind, of the outputs' names, or of
+// the outputs that are used of inputs.
 fn check_sound(
     alloc: Global,
     name: &[u8],
@@ -97,7 +96,7 @@ fn check_sound(
     Ok(kind)
 }
 
-// Tests that outputs' names, and those of their paths, are names.
+// Tests that outputs' names, and the names of their paths, are names of store paths.
 fn check_names(alloc: Global, name: &[u8], outputs: &[Output]) -> Result<(), OutputFault>
     ensures ok { OnOk result (All (IsWellNamed name.now) (map output_of outputs.now)) }
     ensures err { IfErr result (IsNameFault name.now (map output_of outputs.now)) }
@@ -111,7 +110,7 @@ fn check_names(alloc: Global, name: &[u8], outputs: &[Output]) -> Result<(), Out
     Ok(())
 }
 
-// Whether an output's name, and that of its path, are names.
+// Whether an output's name, and the name of its path, are names of store paths.
 fn is_well_named(alloc: Global, name: &[u8], output: &[u8]) -> Result<bool, AllocError>
     ensures { IfOk result (λ named. IsTrue named
         ↔ (IsTrue (is_name output.now) × IsTrue (is_name (path_name name.now output.now)))) }
@@ -120,7 +119,7 @@ fn is_well_named(alloc: Global, name: &[u8], output: &[u8]) -> Result<bool, Allo
     Ok(is_name(output) && is_name(&path))
 }
 
-// Tests that each output that is used of the inputs is there.
+// Tests that the inputs have all outputs that are used of them.
 fn check_uses(alloc: Global, inputs: &[Input], used: &[UsedInput]) -> Result<(), OutputFault>
     requires { paths_of used.now ≡ map path_of inputs.now }
     ensures ok { OnOk result (All IsKnownUse (uses (map input_of inputs.now) (drvs_of used.now))) }
@@ -183,7 +182,7 @@ pub(crate) fn modulo_hash(
     }
 }
 
-// The SHA-256 of what stands for a fixed output.
+// The SHA-256 of a fixed output's own text, `fixed:out:<algorithm>:<hash>:<path>`.
 fn fixed_digest(output: &Output) -> [u8; 32]
     ensures { result ≡ sha256 (fixed_text (output_of output.now)) }
 {

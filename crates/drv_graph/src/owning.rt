@@ -12,8 +12,8 @@ use nix_names::StorePath;
 use std::alloc::{AllocError, Global};
 
 // Enters the outputs of the next derivation, whose text stands at the path, among their owners. It
-// owns them where no derivation has one of them; where they are those of an earlier one, that keeps
-// them. Else they clash. Answers the owner's number.
+// becomes their owner where no earlier derivation has one of them. Where an earlier one has just
+// these, that one stays their owner. Else they clash. Answers the owner's number.
 pub(crate) fn own(
     alloc: Global,
     kept: &[PlanNode],
@@ -49,7 +49,7 @@ fn first_owner(owners: &IndexMap<StorePath, usize>, paths: &[StorePath]) -> Opti
     }
 }
 
-// Whether the derivation with this number, if there is one, has so many outputs.
+// Whether the derivation with this number has `count` outputs; true where there is no number.
 fn has_as_many(kept: &[PlanNode], number: Option<usize>, count: usize) -> bool
     requires { IfSome number (λ n. n < length kept.now) }
     ensures { HasAsMany kept.now number count result }
@@ -60,8 +60,8 @@ fn has_as_many(kept: &[PlanNode], number: Option<usize>, count: usize) -> bool
     }
 }
 
-// Enters paths under a number, where each of them has this owner so far. Answers whether each has:
-// else some are entered, and the owners are of no more use.
+// Enters paths under a number, where each of them has this owner so far. Answers whether each has.
+// Where one hasn't, some paths are entered already, and the owners must not be used any more.
 fn enter(
     alloc: Global,
     owners: &mut IndexMap<StorePath, usize>,

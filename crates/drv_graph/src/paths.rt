@@ -74,7 +74,7 @@ pub(crate) fn source_paths(
     Ok(paths)
 }
 
-// The same paths again.
+// Copies of the paths.
 pub(crate) fn copy_paths(alloc: Global, paths: &[StorePath]) -> Result<Vec<StorePath>, GraphFault>
     ensures ok { IfOk result (λ copies. copies.items ≡ paths.now) }
     ensures err { IfErr result (λ fault. fault ≡ GraphFault.NoMemory) }

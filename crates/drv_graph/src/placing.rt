@@ -40,7 +40,7 @@ fn place_outputs(outputs: &mut [Output], paths: &[StorePath]) -> Result<(), Allo
     Ok(())
 }
 
-// Puts the path beside each output into the entry under its name, where that is empty.
+// Puts the path of each output into the entry under its name, where the entry's value is empty.
 fn place_env(
     draft: &Derivation,
     env: &mut [EnvEntry],
@@ -59,7 +59,7 @@ fn place_env(
     Ok(())
 }
 
-// Makes an empty value the path.
+// Replaces an empty value by the path.
 fn place_value(value: &mut Vec<u8>, path: &StorePath) -> Result<(), AllocError>
     ensures { OnOk result (value.new.items ≡ placed value.old.items path.now) }
 {

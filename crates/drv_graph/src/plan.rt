@@ -22,7 +22,7 @@ use nix_names::{StoreDir, StorePath};
 use std::alloc::Global;
 use std::marker::Model;
 
-/// The derivations that some roots reach, each behind its inputs; a derivation's number is its
+/// The derivations that some roots reach, each after its inputs; a derivation's number is its
 /// place, counted from 0. A contract sees the derivations with their paths, and the roots' numbers.
 #[derive(Debug, Drop)]
 pub struct Plan {
@@ -49,10 +49,10 @@ impl Plan {
     /// is repeated counts once. A fault has the path at which it was found. At each derivation that
     /// is met for the first time, in this order: `Unreadable`, `TooMany`, the faults of
     /// `check_text`, those of its inputs in turn, those of its outputs, `OutputClash` last. An
-    /// input whose own inputs are still being met is a `Cycle`: that is told in the input's turn,
-    /// at its path, behind the faults of the inputs before it. Where the device failed, the source
-    /// counted it. Each path is fetched once, and each derivation read, checked and digested once;
-    /// the rest is linear in the pairs of a user and an input, by look-ups by hash. Does not
+    /// input whose own inputs are still being met is a `Cycle`: that is answered in the input's
+    /// turn, at its path, after the faults of the inputs before it. Where the device failed, the
+    /// source counted it. Each path is fetched once, and each derivation read, checked and digested
+    /// once; the rest is linear in the pairs of a user and an input, by look-ups by hash. Does not
     /// recurse.
     pub fn load<S: DrvSource>(
         alloc: Global,
@@ -76,7 +76,7 @@ impl Plan {
         Ok(Plan { nodes, roots })
     }
 
-    /// The same plan again. Answers `NoMemory` where memory is refused, and no other fault. Copies
+    /// A copy of the plan. Answers `NoMemory` where memory is refused, and no other fault. Copies
     /// each derivation; paths share their texts.
     pub fn copy(&self, alloc: Global) -> Result<Plan, GraphFault>
         ensures ok { IfOk result (λ plan. plan ≡ self.now) }

@@ -9,8 +9,8 @@ use nix_drv::{Derivation, Output};
 use nix_names::StorePath;
 use std::alloc::{AllocError, Global};
 
-// Tests that outputs' paths, and the values under their names in the environment, are these paths,
-// or in a draft empty: first all outputs, then all entries.
+// Tests that outputs' paths, and the values under their names in the environment, are these paths.
+// In a draft they may also be empty. All outputs come first, then all entries.
 pub(crate) fn check_values(
     alloc: Global,
     drv: &Derivation,
@@ -29,7 +29,7 @@ pub(crate) fn check_values(
     check_env(alloc, drv, paths, in_draft)
 }
 
-// Tests that each output's path is the one beside it, or empty in a draft.
+// Tests that each output's path is the one at its place, or empty in a draft.
 fn check_paths(
     alloc: Global,
     outputs: &[Output],
@@ -62,7 +62,8 @@ fn output_mismatch(
     Ok(OutputFault::OutputMismatch(name, path.copy(alloc)?))
 }
 
-// Tests that the entry under each output's name has the path beside the output, or none in a draft.
+// Tests that the entry under each output's name has the path at the output's place as its value, or
+// an empty value in a draft.
 fn check_env(
     alloc: Global,
     drv: &Derivation,
@@ -91,7 +92,8 @@ fn env_mismatch(alloc: Global, output: &Output) -> Result<OutputFault, AllocErro
     Ok(OutputFault::EnvMismatch(Vec::from_slice(alloc, &output.name)?))
 }
 
-// Whether the entry under an output's name, if there is one, has this path, or none in a draft.
+// Whether the entry under an output's name has this path as its value, or an empty value in a
+// draft; true where there is no such entry.
 fn entry_fits(drv: &Derivation, output: &Output, path: &StorePath, in_draft: bool) -> bool
     ensures { MatchBool result (HasMisfit in_draft drv.now.env output.now.name.items path.now → ⊥)
         (HasMisfit in_draft drv.now.env output.now.name.items path.now) }

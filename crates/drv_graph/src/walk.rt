@@ -1,4 +1,4 @@
-//! How derivations are walked: depth first, by a list of those that are open.
+//! How derivations are walked: depth first, by a list of those that are open, outermost first.
 ghost use Rattle.std.specs.Prelude.{◌≡◌, ◌≤◌, ◌<◌, ℕ, List, [], All, Contains, IfErr, IfOk, None, Some, length, slice_get};
 ghost use Rattle.indexmap.specs.IndexMap.{keys};
 ghost use Rattle.nix_names.specs.StorePaths.{IsPathOf};
@@ -17,10 +17,10 @@ use nix_drv::{Derivation, DrvFault, DrvSource, SourceFault, check_text};
 use nix_names::{StoreDir, StorePath};
 use std::alloc::Global;
 
-// How many derivations a plan may have.
+// The greatest number of derivations in a plan.
 const MAX_NODES: usize = 65536;
 
-// What a path is met as.
+// What meeting a path answers.
 #[derive(Debug, Drop)]
 pub(crate) enum Met {
     // The derivation with this number was left before.
@@ -30,7 +30,7 @@ pub(crate) enum Met {
 }
 
 // Walks from the root with this place among the roots, and answers its number. Each path is fetched
-// once, and each derivation is left behind its inputs, which are walked in its text's order.
+// once, and each derivation is left after its inputs, which are walked in its text's order.
 pub(crate) fn walk<S: DrvSource>(
     alloc: Global,
     source: &mut S,
@@ -191,8 +191,8 @@ fn begin(
     })
 }
 
-// The derivation at a path, where so many paths were met before. In this order: `Unreadable`,
-// `TooMany`, the faults of `check_text`.
+// The derivation at a path; `count` paths were met before. Its faults come in this order:
+// `Unreadable`, `TooMany`, the faults of `check_text`.
 fn read_drv<S: DrvSource>(
     alloc: Global,
     source: &mut S,
