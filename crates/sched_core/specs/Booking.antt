@@ -1,6 +1,7 @@
 -- How a book keeps its run.
 use Rattle.std.specs.Prelude.{◌≡◌, ◌≤◌, ◌+◌, ℕ, List, length, sum_by, take}
 use Rattle.std.specs.List.{slice_index_or}
+use Rattle.nix_names.specs.Bytes.{Bytes}
 use Rattle.valid_table.specs.declared.entry.Entry.{Entry}
 use Rattle.sched_core.specs.Courses.{AreNearest, AreStandings, AreWanted, Course}
 use Rattle.sched_core.specs.Legal.{IsLegal, begins}
@@ -22,7 +23,7 @@ events_left Ended = 0
 events_left (Broken reason) = 0
 
 -- a run of a course for a system
-abbrev pub run_over : Course → (system : List ℕ) → Run
+abbrev pub run_over : Course → (system : Bytes) → Run
 run_over course system = record { graph = course.graph; system = system }
 
 -- a history by its entries, of which the first ones, so many, stood there before it
@@ -35,7 +36,7 @@ history_of opening entries events = record {
 
 -- What is kept of a run: a legal history, the course of its derivations, how many have begun, and
 -- room for all events that may come.
-pub record IsKept (system : List ℕ) (history : History) (course : Course) (given room : ℕ)
+pub record IsKept (system : Bytes) (history : History) (course : Course) (given room : ℕ)
     : Type 0 where
   pub legal : IsLegal (run_over course system) history
   pub standings : AreStandings system history.opening course.graph.nodes course.standings

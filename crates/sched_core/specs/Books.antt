@@ -1,5 +1,6 @@
 -- *Book*: what a run keeps, and what each call on it does (this product's own).
 use Rattle.std.specs.Prelude.{◌≡◌, ◌<◌, ◌++◌, ◌⊎◌, ℕ, Option, Some, List, [], ◌∷◌, length, slice_get, All, Contains}
+use Rattle.nix_names.specs.Bytes.{Path}
 use Rattle.drv_graph.specs.Nodes.{Node}
 use Rattle.drv_graph.specs.Plans.{Graph}
 use Rattle.valid_table.specs.Entries.{registered}
@@ -72,12 +73,12 @@ BuildsOver run history entries = (job : Job) (number : ℕ) → IsBooksLease run
 
 -- each reference in some records is permitted to a job behind some entries
 abbrev pub MayAllRefer : List Entry → Job → List PathInfo → Type 0
-MayAllRefer entries job infos = (info : PathInfo) (path : List ℕ) → Contains infos info
+MayAllRefer entries job infos = (info : PathInfo) (path : Path) → Contains infos info
     → Contains info.references path
     → MayRefer (registered entries) job.seeds.items (outputs_of job) path
 
 -- these are the paths that are permitted to a job behind some entries
-abbrev pub ArePermittedPaths : List Entry → Job → (permitted : List (List ℕ)) → Type 0
+abbrev pub ArePermittedPaths : List Entry → Job → (permitted : List Path) → Type 0
 ArePermittedPaths entries job permitted = ArePermitted (registered entries) job.seeds.items
     (outputs_of job) permitted
 

@@ -2,6 +2,7 @@
 -- own).
 use Rattle.std.specs.Prelude.{◌≡◌, ◌<◌, ◌⊎◌, Bool, true, false, ℕ, Option, Some, None, List, [], ◌∷◌, ◌++◌, length, slice_get}
 use Rattle.std.specs.List.{slice_index_or}
+use Rattle.nix_names.specs.Bytes.{Bytes}
 use Rattle.drv_graph.specs.Nodes.{Node}
 use Rattle.drv_graph.specs.Plans.{Graph}
 use Rattle.valid_table.specs.declared.entry.Entry.{Entry}
@@ -82,7 +83,7 @@ IsSettled course = (d : ℕ) → d < length course.graph.nodes → slice_index_o
     ≡ true → IsOpen (course_state course d) → ⊥
 
 -- of each derivation, where it stands by itself behind these entries
-pub record AreStandings (system : List ℕ) (entries : List Entry) (nodes : List Node)
+pub record AreStandings (system : Bytes) (entries : List Entry) (nodes : List Node)
     (standings : List Standing) : Type 0 where
   pub count : length standings ≡ length nodes
   pub each : (d : ℕ) → d < length nodes → slice_index_or standings d Free

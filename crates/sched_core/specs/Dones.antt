@@ -1,5 +1,6 @@
 -- The entry of a derivation that was built, in any run over a plan.
 use Rattle.std.specs.Prelude.{◌≡◌, ⊤, ℕ, Some, List, All, length, map, slice_get}
+use Rattle.nix_names.specs.Bytes.{Path}
 use Rattle.drv_graph.specs.Nodes.{Node}
 use Rattle.drv_graph.specs.Plans.{Graph}
 use Rattle.drv_graph.specs.declared.kinds.Kind.{Kind}
@@ -19,7 +20,7 @@ HaveDigest Addressed infos = ⊤
 HaveDigest (Fixed method digest) infos = All (λ (info : PathInfo). info.digest ≡ Some digest) infos
 
 -- What is tested of records of outputs of a kind, at some paths, without taking memory.
-pub record AreFitting (known : List Registration) (kind : Kind) (paths : List (List ℕ))
+pub record AreFitting (known : List Registration) (kind : Kind) (paths : List Path)
     (infos : List PathInfo) : Type 0 where
   pub count : length infos ≡ length paths
   pub new : All (IsNotValid known) paths

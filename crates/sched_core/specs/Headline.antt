@@ -1,5 +1,6 @@
 -- What holds of every legal history: the sentences of the headline, over the definitions alone.
 use Rattle.std.specs.Prelude.{◌≡◌, ◌↔◌, ◌<◌, ◌++◌, ℕ, Some, List, ◌∷◌, slice_get, Contains}
+use Rattle.nix_names.specs.Bytes.{Path}
 use Rattle.nix_names.specs.StorePaths.{IsDrvPath}
 use Rattle.drv_graph.specs.Nodes.{Node}
 use Rattle.valid_table.specs.Entries.{registered}
@@ -64,14 +65,14 @@ DonesAreAllowed = (run : Run) (history : History) → IsLegal run history → (d
 abbrev pub SeedsAreValid : Type 0
 SeedsAreValid = (run : Run) (history : History) → IsLegal run history → (d lease : ℕ)
     → Contains history.events (Begin d lease)
-    → (node : Node) → slice_get run.graph.nodes d ≡ Some node → (path : List ℕ)
+    → (node : Node) → slice_get run.graph.nodes d ≡ Some node → (path : Path)
     → Contains (seeds_of run.graph.nodes node.drv) path
     → IsValid (registered history.entries) path
 
 -- what is permitted stays the same while more is registered, where the seeds are valid, each
 -- reference is valid, and no path is registered twice
 abbrev pub PermittedStays : Type 0
-PermittedStays = (first more : List Registration) (seeds outputs : List (List ℕ)) (path : List ℕ)
+PermittedStays = (first more : List Registration) (seeds outputs : List Path) (path : Path)
     → AreReferencesValid first → IsOnce (first ++ more)
-    → ((seed : List ℕ) → Contains seeds seed → IsValid first seed)
+    → ((seed : Path) → Contains seeds seed → IsValid first seed)
     → (MayRefer first seeds outputs path ↔ MayRefer (first ++ more) seeds outputs path)

@@ -1,6 +1,7 @@
 -- *Legal*: which histories a run may have (this product's own; the closure invariant is that of
 -- Dolstra's thesis, section 5.5).
 use Rattle.std.specs.Prelude.{◌≡◌, ◌↔◌, ◌⊎◌, ◌<◌, ◌++◌, Bool, true, false, ℕ, Some, List, [], ◌∷◌, length, count_by, slice_get, Contains}
+use Rattle.nix_names.specs.Bytes.{Path}
 use Rattle.nix_names.specs.Rising.{IsRising}
 use Rattle.nix_names.specs.declared.digest.Digest.{Digest}
 use Rattle.nix_drv.specs.Derivation.{Drv}
@@ -58,30 +59,30 @@ failed history d lease reason = record {
 }
 
 -- *Permitted*: a path that one of the seeds reaches, or an own output
-abbrev pub MayRefer : List Registration → (seeds outputs : List (List ℕ)) → (path : List ℕ) → Type 0
+abbrev pub MayRefer : List Registration → (seeds outputs : List Path) → (path : Path) → Type 0
 MayRefer registrations seeds outputs path =
-    ((seed : List ℕ) × Contains seeds seed × Reaches registrations seed path)
+    ((seed : Path) × Contains seeds seed × Reaches registrations seed path)
     ⊎ Contains outputs path
 
 -- The permitted paths, in rising order.
 pub record ArePermitted (registrations : List Registration)
-    (seeds outputs permitted : List (List ℕ)) : Type 0 where
+    (seeds outputs permitted : List Path) : Type 0 where
   pub rising : IsRising permitted
-  pub each : (path : List ℕ) → Contains permitted path ↔ MayRefer registrations seeds outputs path
+  pub each : (path : Path) → Contains permitted path ↔ MayRefer registrations seeds outputs path
 
 -- The entry of a derivation that was built, with these records of its outputs, in its text's order.
 pub record IsEntryOf (node : Node) (infos : List PathInfo) (entry : Entry) : Type 0 where
   pub outputs : List Registration
   pub is_done : entry ≡ Done node.path outputs
   pub rising : IsRising (paths_of outputs)
-  pub each : (path : List ℕ) (info : PathInfo)
+  pub each : (path : Path) (info : PathInfo)
       → Contains outputs (record { path = path; info = info })
       ↔ ((n : ℕ) × (slice_get (output_paths_of node.drv) n ≡ Some path)
       × (slice_get infos n ≡ Some info))
 
 -- each reference in some records is permitted to a derivation of a plan, behind some entries
 abbrev pub ArePermittedTo : Graph → List Entry → Node → List PathInfo → Type 0
-ArePermittedTo graph entries node infos = (info : PathInfo) (path : List ℕ) → Contains infos info
+ArePermittedTo graph entries node infos = (info : PathInfo) (path : Path) → Contains infos info
     → Contains info.references path
     → MayRefer (registered entries) (seeds_of graph.nodes node.drv) (output_paths_of node.drv) path
 
@@ -99,7 +100,7 @@ pub record AreAcyclicRecords (drv : Drv) (infos : List PathInfo) : Type 0 where
 
 -- none of a derivation's outputs is valid behind some entries
 abbrev pub AreNewOutputs : List Entry → Drv → Type 0
-AreNewOutputs entries drv = (path : List ℕ) → Contains (output_paths_of drv) path
+AreNewOutputs entries drv = (path : Path) → Contains (output_paths_of drv) path
     → IsValid (registered entries) path → ⊥
 
 -- What a Done of a derivation may register behind some entries.

@@ -4,16 +4,17 @@ use Rattle.std.specs.Prelude.{◌≡◌, ◌↔◌, ◌⊎◌, ◌<◌, ℕ, Lis
 use Rattle.std.specs.Cmp.Lexicographic.{pointwise}
 use Rattle.std.specs.Global.{Vec}
 use Rattle.std.specs.List.{IsDistinct}
+use Rattle.nix_names.specs.Bytes.{Path}
 use Rattle.valid_table.specs.PathInfos.{PathInfo}
 use Rattle.sched_core.specs.Walking.{IsLinked}
 
 -- Some paths, each once.
-pub record AreEachOnce (paths keys : List (List ℕ)) : Type 0 where
+pub record AreEachOnce (paths keys : List Path) : Type 0 where
   pub distinct : IsDistinct (pointwise nat_eq) keys
-  pub same : (path : List ℕ) → Contains keys path ↔ Contains paths path
+  pub same : (path : Path) → Contains keys path ↔ Contains paths path
 
 -- one of the first outputs, so many, has the first path, and refers to the second
-abbrev pub MayLink : (paths : List (List ℕ)) → List PathInfo → (count : ℕ) → (from to : List ℕ)
+abbrev pub MayLink : (paths : List Path) → List PathInfo → (count : ℕ) → (from to : Path)
     → Type 0
 MayLink paths infos count from to =
     (n : ℕ) × (info : PathInfo) × (n < count) × (slice_get paths n ≡ Some from)
@@ -21,28 +22,28 @@ MayLink paths infos count from to =
 
 -- The links of the first outputs, so many: each from a key's place to the place of a key that it
 -- refers to.
-pub record AreLinks (paths : List (List ℕ)) (infos : List PathInfo) (keys : List (List ℕ))
+pub record AreLinks (paths : List Path) (infos : List PathInfo) (keys : List Path)
     (count : ℕ) (links : List (Vec ℕ)) : Type 0 where
   pub places : length links ≡ length keys
   pub sound : (from to : ℕ) → IsLinked links from to
-      → (a : List ℕ) × (b : List ℕ) × (slice_get keys from ≡ Some a) × (slice_get keys to ≡ Some b)
+      → (a : Path) × (b : Path) × (slice_get keys from ≡ Some a) × (slice_get keys to ≡ Some b)
       × MayLink paths infos count a b
-  pub whole : (from to : ℕ) (a b : List ℕ) → slice_get keys from ≡ Some a → slice_get keys to
+  pub whole : (from to : ℕ) (a b : Path) → slice_get keys from ≡ Some a → slice_get keys to
       ≡ Some b → MayLink paths infos count a b → IsLinked links from to
 
 -- Links among all outputs.
-pub record HaveLinks (paths : List (List ℕ)) (infos : List PathInfo) (links : List (Vec ℕ))
+pub record HaveLinks (paths : List Path) (infos : List PathInfo) (links : List (Vec ℕ))
     : Type 0 where
-  pub keys : List (List ℕ)
+  pub keys : List Path
   pub once : AreEachOnce paths keys
   pub are : AreLinks paths infos keys (length infos) links
 
 -- behind old links stand new ones, to the places of keys that are referred to
-abbrev pub AddsLinks : (keys references : List (List ℕ)) → (old new : List ℕ) → Type 0
+abbrev pub AddsLinks : (keys references : List Path) → (old new : List ℕ) → Type 0
 AddsLinks keys references old new =
     (to : ℕ) → Contains new to
     ↔ (Contains old to
-    ⊎ ((path : List ℕ) × (slice_get keys to ≡ Some path) × Contains references path))
+    ⊎ ((path : Path) × (slice_get keys to ≡ Some path) × Contains references path))
 
 -- no number is linked to any
 abbrev pub HaveNoLinks : List (Vec ℕ) → Type 0

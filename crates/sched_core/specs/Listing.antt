@@ -1,6 +1,7 @@
 -- How the code lists the derivations of which a text tells.
 use Rattle.std.specs.Prelude.{◌≡◌, ◌<◌, ◌↔◌, Bool, true, false, ℕ, List, Some, map, slice_get, All, Contains}
 use Rattle.std.specs.List.{slice_index_or}
+use Rattle.nix_names.specs.Bytes.{Path}
 use Rattle.drv_graph.specs.Loading.{AreDistinct}
 use Rattle.drv_graph.specs.Nodes.{Node, paths_of}
 use Rattle.sched_core.specs.declared.listing.Keyed.{Keyed}
@@ -9,7 +10,7 @@ use Rattle.sched_core.specs.declared.listing.Listed.{Listed}
 abbrev pub numbers_of : List Listed → List ℕ
 numbers_of listed = map (λ (l : Listed). l.number) listed
 
-abbrev pub listed_paths : List Listed → List (List ℕ)
+abbrev pub listed_paths : List Listed → List Path
 listed_paths listed = map (λ (l : Listed). l.path.now) listed
 
 -- the derivations behind their keys

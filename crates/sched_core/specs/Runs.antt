@@ -2,6 +2,7 @@
 -- product's own; Nix manual, "Building").
 use Rattle.std.specs.Prelude.{◌≡◌, ◌||◌, ◌&&◌, ◌==◌, not, Bool, true, false, ℕ, zero, suc, Option, Some, None, List, [], ◌∷◌, length, filter, map, codes, nat_eq, slice_get, Contains, if◌then◌else◌}
 use Rattle.std.specs.List.{list_any, list_all, position, position_or_len, range_with_len, starts_with}
+use Rattle.nix_names.specs.Bytes.{Bytes, Path, Name}
 use Rattle.nix_names.specs.Names.{same_bytes}
 use Rattle.nix_drv.specs.Derivation.{Drv, EnvEntry, Output}
 use Rattle.drv_graph.specs.Nodes.{Node, inputs_of, paths_of}
@@ -21,7 +22,7 @@ use Rattle.sched_core.specs.declared.standing.Standing.TheVariants.{AllValid, Hi
 -- What a run is over: the plan, and the system for which it builds.
 pub record Run : Type 0 where
   pub graph : Graph
-  pub system : List ℕ
+  pub system : Bytes
 
 -- What has happened: the entries that the journal opened with, all its entries now, and the events
 -- since.
@@ -31,11 +32,11 @@ pub record History : Type 0 where
   pub events : List Event
 
 -- whether some entry registers the path
-abbrev pub is_valid : List Entry → List ℕ → Bool
+abbrev pub is_valid : List Entry → Path → Bool
 is_valid entries path = list_any (same_bytes path) (registered_paths (registered entries))
 
 -- keys of the environment that ask for what is left out
-abbrev pub left_out : List (List ℕ)
+abbrev pub left_out : List Name
 left_out =
     codes "__json" ∷ codes "passAsFile" ∷ codes "exportReferencesGraph" ∷ codes "allowedReferences"
     ∷ codes "allowedRequisites"
@@ -61,7 +62,7 @@ cause_at cause None = None
 
 -- the first cause for which a derivation can't be begun, behind these entries: another system,
 -- something left out, an output that is valid while another isn't, a source that isn't valid
-abbrev pub own_cause : (system : List ℕ) → (opening : List Entry) → Drv → Option Refusal
+abbrev pub own_cause : (system : Bytes) → (opening : List Entry) → Drv → Option Refusal
 own_cause system opening drv =
     or_else (if same_bytes drv.system system then None else Some WrongSystem)
     (or_else (if is_unsupported drv then Some Unsupported else None)
@@ -74,7 +75,7 @@ by_cause (Some cause) = Hindered cause
 by_cause None = Free
 
 -- where a derivation stands by itself behind these entries
-abbrev pub standing_of : (system : List ℕ) → (opening : List Entry) → Drv → Standing
+abbrev pub standing_of : (system : Bytes) → (opening : List Entry) → Drv → Standing
 standing_of system opening drv =
     if list_all (is_valid opening) (output_paths_of drv) then AllValid
     else by_cause (own_cause system opening drv)
@@ -89,7 +90,7 @@ abbrev pub inputs_at : List Node → Option Node → List ℕ
 inputs_at nodes (Some node) = input_numbers nodes node.drv
 inputs_at nodes None = []
 
-abbrev pub standing_at : (system : List ℕ) → (opening : List Entry) → Option Node → Standing
+abbrev pub standing_at : (system : Bytes) → (opening : List Entry) → Option Node → Standing
 standing_at system opening (Some node) = standing_of system opening node.drv
 standing_at system opening None = Free
 

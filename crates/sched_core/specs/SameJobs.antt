@@ -1,5 +1,6 @@
 -- What a job is compared by.
-use Rattle.std.specs.Prelude.{◌≡◌, ℕ, List, map}
+use Rattle.std.specs.Prelude.{◌≡◌, List, map}
+use Rattle.nix_names.specs.Bytes.{Path}
 use Rattle.nix_drv.specs.Derivation.{Drv}
 use Rattle.nix_drv.specs.Parts.{bytes_of, entry_of}
 use Rattle.nix_drv.specs.declared.derivation.Output.{Output as OutputStruct}
@@ -13,7 +14,7 @@ pub record HasRecipe (drv : Drv) (job : Job) : Type 0 where
   pub env : map entry_of job.env.items ≡ drv.env
 
 -- Just these outputs are to be made, at these paths.
-pub record MakesAt (outputs : List OutputStruct) (paths : List (List ℕ)) (made : List JobOutput)
+pub record MakesAt (outputs : List OutputStruct) (paths : List Path) (made : List JobOutput)
     : Type 0 where
   pub names : map (λ (o : JobOutput). o.name.items) made
       ≡ map (λ (o : OutputStruct). o.name.items) outputs

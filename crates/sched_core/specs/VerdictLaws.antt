@@ -1,5 +1,6 @@
 -- What the verdict on a job gives: what a Done of its derivation may register.
 use Rattle.std.specs.Prelude.{◌≡◌, ℕ, Some, Ok, List, Contains, slice_get}
+use Rattle.nix_names.specs.Bytes.{Path}
 use Rattle.drv_graph.specs.Nodes.{Node}
 use Rattle.drv_graph.specs.Plans.{Graph}
 use Rattle.valid_table.specs.PathInfos.{PathInfo}
@@ -12,22 +13,22 @@ use Rattle.sched_core.specs.declared.job.Answer.{Answer}
 use Rattle.sched_core.specs.declared.job.Job.{Job}
 
 -- Records of a derivation's outputs, without a cycle, and with permitted references alone.
-pub record AreRegistrable (node : Node) (permitted : List (List ℕ)) (infos : List PathInfo)
+pub record AreRegistrable (node : Node) (permitted : List Path) (infos : List PathInfo)
     : Type 0 where
   pub records : AreAcyclicRecords node.drv infos
-  pub among : (info : PathInfo) (path : List ℕ) → Contains infos info
+  pub among : (info : PathInfo) (path : Path) → Contains infos info
       → Contains info.references path → Contains permitted path
 
 -- the records of a verdict on a derivation's job are such
 abbrev pub VerdictsAreRegistrable : Type 0
 VerdictsAreRegistrable = (graph : Graph) (d : ℕ) (job : Job) (node : Node)
-    (permitted : List (List ℕ)) (answer : Answer) (infos : List PathInfo)
+    (permitted : List Path) (answer : Answer) (infos : List PathInfo)
     → IsJob graph d job → slice_get graph.nodes d ≡ Some node
     → IsVerdict job permitted answer (Ok infos) → AreRegistrable node permitted infos
 
 -- each reference in the records of a verdict is permitted to the job behind some entries, where the
 -- verdict was found by the paths that are permitted there
 abbrev pub VerdictsMayRefer : Type 0
-VerdictsMayRefer = (entries : List Entry) (job : Job) (permitted : List (List ℕ)) (answer : Answer)
+VerdictsMayRefer = (entries : List Entry) (job : Job) (permitted : List Path) (answer : Answer)
     (infos : List PathInfo) → ArePermittedPaths entries job permitted
     → IsVerdict job permitted answer (Ok infos) → MayAllRefer entries job infos

@@ -6,6 +6,7 @@ use Rattle.md5.specs.Md5.{md5}
 use Rattle.sha1.specs.Sha1.{sha1}
 use Rattle.sha2.specs.Sha256.{sha256}
 use Rattle.sha2.specs.Sha512.{sha512}
+use Rattle.nix_names.specs.Bytes.{Bytes, Path}
 use Rattle.nix_names.specs.Digests.{algorithm_of}
 use Rattle.nix_names.specs.Firsts.{IsFirstWhere}
 use Rattle.nix_names.specs.declared.digest.Algorithm.{Algorithm}
@@ -26,7 +27,7 @@ use Rattle.sched_core.specs.declared.reason.Reason.{Reason}
 use Rattle.sched_core.specs.declared.reason.Reason.TheVariants.{ExitStatus, NoStart, MissingOutput, NotFlatFile, HashMismatch, OutputCycle, TooLarge, ReadFault, OutOfMemory, Killed}
 
 -- the digest of some bytes by an algorithm (RFC 1321; FIPS 180-4)
-abbrev pub digest_by : Algorithm → List ℕ → Digest
+abbrev pub digest_by : Algorithm → Bytes → Digest
 digest_by Md5 bytes = OfMd5 (md5 bytes)
 digest_by Sha1 bytes = OfSha1 (sha1 bytes)
 digest_by Sha256 bytes = OfSha256 (sha256 bytes)
@@ -44,12 +45,12 @@ algorithm_for Addressed = Sha256
 algorithm_for (Fixed method digest) = algorithm_of digest
 
 -- the paths of a job's outputs
-abbrev pub outputs_of : Job → List (List ℕ)
+abbrev pub outputs_of : Job → List Path
 outputs_of job = map (λ (o : JobOutput). o.path) job.outputs.items
 
 -- what a tree's record says: the permitted paths that are found in it, and a file's digest by the
 -- algorithm
-pub record IsRecordOf (algorithm : Algorithm) (permitted : List (List ℕ)) (tree : Tree)
+pub record IsRecordOf (algorithm : Algorithm) (permitted : List Path) (tree : Tree)
     (info : PathInfo) : Type 0 where
   pub found : IsFound tree permitted info.references
   pub digest : info.digest ≡ digest_of algorithm tree
@@ -99,31 +100,31 @@ IsTaken job answer = IsThere job answer
     × ((n : ℕ) (why : Reason) → n < length job.outputs.items → IsFaulty job answer why n → ⊥)
 
 -- a record is that of what lies at the output with this number
-abbrev pub IsRecordAt : Algorithm → (permitted : List (List ℕ)) → Answer → ℕ → PathInfo → Type 0
+abbrev pub IsRecordAt : Algorithm → (permitted : List Path) → Answer → ℕ → PathInfo → Type 0
 IsRecordAt algorithm permitted answer n info = (tree : Tree) × (tree_at answer n ≡ Some tree)
     × IsRecordOf algorithm permitted tree info
 
 -- Records of a job's outputs, in the job's order.
-pub record AreRecords (job : Job) (permitted : List (List ℕ)) (answer : Answer)
+pub record AreRecords (job : Job) (permitted : List Path) (answer : Answer)
     (infos : List PathInfo) : Type 0 where
   pub count : length infos ≡ length job.outputs.items
   pub each : (n : ℕ) (info : PathInfo) → slice_get infos n ≡ Some info
       → IsRecordAt (algorithm_for job.kind) permitted answer n info
 
 -- one output refers to another one, by their records
-abbrev pub RefersTo : (outputs : List (List ℕ)) → List PathInfo → (from to : List ℕ) → Type 0
+abbrev pub RefersTo : (outputs : List Path) → List PathInfo → (from to : Path) → Type 0
 RefersTo outputs infos from to =
     (n : ℕ) × (info : PathInfo) × (slice_get outputs n ≡ Some from)
     × (slice_get infos n ≡ Some info) × Contains info.references to × Contains outputs to
 
 -- two different outputs lead to each other by references among the outputs
-abbrev pub IsCyclic : (outputs : List (List ℕ)) → List PathInfo → Type 0
+abbrev pub IsCyclic : (outputs : List Path) → List PathInfo → Type 0
 IsCyclic outputs infos =
-    (a : List ℕ) × (b : List ℕ) × (there : List (List ℕ)) × (back : List (List ℕ)) × (a ≢ b)
+    (a : Path) × (b : Path) × (there : List Path) × (back : List Path) × (a ≢ b)
     × Leads (RefersTo outputs infos) a b there × Leads (RefersTo outputs infos) b a back
 
 -- *Verdict* on an answer: the records of the outputs, or the first reason why there are none
-abbrev pub IsVerdict : Job → (permitted : List (List ℕ)) → Answer → Result (List PathInfo) Reason
+abbrev pub IsVerdict : Job → (permitted : List Path) → Answer → Result (List PathInfo) Reason
     → Type 0
 IsVerdict job permitted answer (Ok infos) =
     IsTaken job answer × AreRecords job permitted answer infos
@@ -149,13 +150,13 @@ IsVerdict job permitted answer (Err OutOfMemory) = ⊥
 
 -- what `examine` answers: the verdict, or that memory was refused, once what lies at each output's
 -- path was taken
-abbrev pub IsExamining : Job → (permitted : List (List ℕ)) → Answer → Result (List PathInfo) Reason
+abbrev pub IsExamining : Job → (permitted : List Path) → Answer → Result (List PathInfo) Reason
     → Type 0
 IsExamining job permitted answer result = ((result ≡ Err OutOfMemory) × IsTaken job answer)
     ⊎ IsVerdict job permitted answer result
 
 -- there is one verdict
 abbrev pub HasOneVerdict : Type 0
-HasOneVerdict = (job : Job) (permitted : List (List ℕ)) (answer : Answer)
+HasOneVerdict = (job : Job) (permitted : List Path) (answer : Answer)
     (a b : Result (List PathInfo) Reason)
     → IsVerdict job permitted answer a → IsVerdict job permitted answer b → a ≡ b

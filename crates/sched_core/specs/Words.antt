@@ -2,6 +2,7 @@
 -- value in parentheses (this product's own).
 use Rattle.std.specs.Prelude.{ℕ, Option, Some, None, List, ◌++◌, map, codes, decimal, slice_get}
 use Rattle.std.specs.Fmt.{signed_decimal}
+use Rattle.nix_names.specs.Bytes.{Bytes}
 use Rattle.nix_drv.specs.Derivation.{Drv, Output}
 use Rattle.nix_drv.specs.Strings.{string_text}
 use Rattle.drv_graph.specs.Nodes.{Node, paths_of}
@@ -12,24 +13,24 @@ use Rattle.sched_core.specs.declared.reason.Refusal.{Refusal}
 use Rattle.sched_core.specs.declared.reason.Refusal.TheVariants.{WrongSystem, Unsupported, MissingSource, InputNotRealised, PartlyValid}
 
 -- a name and its value
-abbrev pub with_value : (name value : List ℕ) → List ℕ
+abbrev pub with_value : (name value : Bytes) → Bytes
 with_value name value = name ++ codes "(" ++ value ++ codes ")"
 
 -- the text with a number, or the number itself where there is no such text
-abbrev pub text_or_number : Option (List ℕ) → (number : ℕ) → List ℕ
+abbrev pub text_or_number : Option Bytes → (number : ℕ) → Bytes
 text_or_number (Some text) number = text
 text_or_number None number = decimal number
 
 -- a name, and the one of some texts that has this number, counted from 0
-abbrev pub with_text : (name : List ℕ) → (texts : List (List ℕ)) → (number : ℕ) → List ℕ
+abbrev pub with_text : (name : Bytes) → (texts : List Bytes) → (number : ℕ) → Bytes
 with_text name texts number = with_value name (text_or_number (slice_get texts number) number)
 
 -- the names of a derivation's outputs, as its text spells them, with their quotes
-abbrev pub spelled_names : Drv → List (List ℕ)
+abbrev pub spelled_names : Drv → List Bytes
 spelled_names drv = map (λ (o : Output). string_text o.name) drv.outputs
 
 -- why the building of a derivation failed
-abbrev pub reason_words : Drv → Reason → List ℕ
+abbrev pub reason_words : Drv → Reason → Bytes
 reason_words drv (ExitStatus status) = with_value (codes "ExitStatus") (signed_decimal status)
 reason_words drv NoStart = codes "NoStart"
 reason_words drv (MissingOutput output) = with_text (codes "MissingOutput") (spelled_names drv)
@@ -43,7 +44,7 @@ reason_words drv OutOfMemory = codes "OutOfMemory"
 reason_words drv Killed = codes "Killed"
 
 -- why a derivation of a plan, which has these nodes, is not begun
-abbrev pub refusal_words : List Node → Drv → Refusal → List ℕ
+abbrev pub refusal_words : List Node → Drv → Refusal → Bytes
 refusal_words nodes drv WrongSystem = codes "WrongSystem"
 refusal_words nodes drv Unsupported = codes "Unsupported"
 refusal_words nodes drv (MissingSource source) =
