@@ -2,6 +2,7 @@
 -- which no builder fails ends as was foretold (this product's own).
 use Rattle.std.specs.Prelude.{◌≡◌, ℕ, List, codes, flat_map, slice_get, Contains}
 use Rattle.std.specs.List.{list_all}
+use Rattle.nix_names.specs.Bytes.{Bytes, Path}
 use Rattle.drv_graph.specs.SoundGraphs.{IsSound}
 use Rattle.sched_core.specs.Books.{IsRunSettled}
 use Rattle.sched_core.specs.Legal.{IsLegal}
@@ -52,27 +53,27 @@ StatesComeTrue = (run : Run) (history : History) → HasEnded run history → No
 -- What is told of a plan, line by line: a derivation that is built, reused or refused, and an
 -- output.
 pub data Line : Type 0 where
-  Build : (path : List ℕ) → Line
-  Reuse : (path : List ℕ) → Line
-  Refuse : (path why : List ℕ) → Line
-  Output : (path : List ℕ) → Line
+  Build : (path : Path) → Line
+  Reuse : (path : Path) → Line
+  Refuse : (path : Path) (why : Bytes) → Line
+  Output : (path : Path) → Line
 
 -- how a forecast tells it
-abbrev pub foretelling : Line → List ℕ
+abbrev pub foretelling : Line → Bytes
 foretelling (Build path) = path_line (codes "build ") path
 foretelling (Reuse path) = path_line (codes "reuse ") path
 foretelling (Refuse path why) = why_line (codes "refuse ") path why
 foretelling (Output path) = path_line (codes "output ") path
 
 -- how a report tells it
-abbrev pub reporting : Line → List ℕ
+abbrev pub reporting : Line → Bytes
 reporting (Build path) = path_line (codes "built ") path
 reporting (Reuse path) = path_line (codes "reused ") path
 reporting (Refuse path why) = why_line (codes "refused ") path why
 reporting (Output path) = path_line (codes "output ") path
 
 -- A forecast and a report tell the same, line by line.
-pub record TellTheSame (text report : List ℕ) : Type 0 where
+pub record TellTheSame (text report : Bytes) : Type 0 where
   pub lines : List Line
   pub is_forecast : text ≡ flat_map foretelling lines
   pub is_report : report ≡ flat_map reporting lines
@@ -80,7 +81,7 @@ pub record TellTheSame (text report : List ℕ) : Type 0 where
 -- where no builder failed the report tells what the forecast told
 abbrev pub ReportsComeTrue : Type 0
 ReportsComeTrue = (run : Run) (history : History) → HasEnded run history → NoneFailed history
-    → (text report : List ℕ) → IsForecast run history.opening text → IsReportIn run history report
+    → (text report : Bytes) → IsForecast run history.opening text → IsReportIn run history report
     → TellTheSame text report
 
 -- and all roots are built or reused just where that was foretold
