@@ -15,18 +15,18 @@ pub record Progress : Type 0 where
   pub history : History
   pub room : ℕ
 
--- how many events a derivation may still have
+-- how many events a derivation in this phase may still have
 abbrev pub events_left : Phase → ℕ
 events_left Idle = 2
 events_left (Begun lease) = 1
 events_left Ended = 0
 events_left (Broken reason) = 0
 
--- a run of a course for a system
+-- the run over a course's plan, for a system
 abbrev pub run_over : Course → (system : Bytes) → Run
 run_over course system = record { graph = course.graph; system = system }
 
--- a history by its entries, of which the first ones, so many, stood there before it
+-- the history with these entries and events, which opened with the first `opening` entries
 abbrev pub history_of : (opening : ℕ) → List Entry → List Event → History
 history_of opening entries events = record {
   opening = take opening entries;

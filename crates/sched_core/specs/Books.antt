@@ -21,16 +21,16 @@ use Rattle.sched_core.specs.declared.job.Job.{Job}
 use Rattle.sched_core.specs.declared.reason.Reason.{Reason}
 use Rattle.sched_core.specs.declared.reason.State.TheVariants.{Ready}
 
--- What a book is seen as: a run, its history, the entries that the outlet shows, and those that
--- wait there to be published.
+-- A book, as contracts see it: a run, its history, the entries that the outlet shows, and those
+-- that wait there to be published.
 pub record Ledger : Type 0 where
   pub run : Run
   pub history : History
   pub shown : List Entry
   pub pending : List Entry
 
--- What a lease is seen as: its job, its number, and what the outlet told when it was given, until
--- that is handed out.
+-- A lease, as contracts see it: its job, its number, and what the outlet told when it was given,
+-- until that is handed out.
 pub record Leased (Told : Type 0) : Type 0 where
   pub job : Job
   pub number : ℕ
@@ -46,12 +46,12 @@ pub record CanBegin (run : Run) (history : History) (d : ℕ) : Type 0 where
   pub wanted : IsWanted run history.opening d
   pub ready : state_in run history d ≡ Ready
 
--- a derivation is wanted and has something before it
+-- a derivation is wanted, and Blocked, Ready or Building
 abbrev pub IsUnsettled : Run → History → ℕ → Type 0
 IsUnsettled run history d = (d < length run.graph.nodes) × IsWanted run history.opening d
     × IsOpen (state_in run history d)
 
--- no wanted derivation has anything before it
+-- no wanted derivation is Blocked, Ready or Building
 abbrev pub IsRunSettled : Run → History → Type 0
 IsRunSettled run history = (d : ℕ) → d < length run.graph.nodes → IsWanted run history.opening d
     → IsOpen (state_in run history d) → ⊥
@@ -62,11 +62,11 @@ pub record IsBooksLease (run : Run) (history : History) (job : Job) (number : �
   pub building : phase_of history.events job.derivation ≡ Begun number
   pub is_job : IsJob run.graph job.derivation job
 
--- all that a job is built from is valid by some entries
+-- each path that a job is built from is valid by some entries
 abbrev pub AreSeedsValid : List Entry → Job → Type 0
 AreSeedsValid entries job = All (IsValid (registered entries)) job.seeds.items
 
--- all that is building is built from what is valid by some entries
+-- each path that a building derivation is built from is valid by some entries
 abbrev pub BuildsOver : Run → History → List Entry → Type 0
 BuildsOver run history entries = (job : Job) (number : ℕ) → IsBooksLease run history job number
     → AreSeedsValid entries job
@@ -134,7 +134,7 @@ pub record IsFinishing (before after : Ledger) (job : Job) (number : ℕ) (infos
   pub shown : after.shown ≡ before.shown
   pub pending : after.pending ≡ before.pending ++ entry ∷ []
 
--- why those outputs weren't registered
+-- why the outputs of a lease's derivation weren't registered with these records
 abbrev pub IsFinishFault : Ledger → Job → (number : ℕ) → List PathInfo → BookFault → Type 0
 IsFinishFault before job number infos ForeignLease =
     IsBooksLease before.run before.history job number → ⊥

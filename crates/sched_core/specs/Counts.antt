@@ -1,8 +1,8 @@
--- How many numbers are such as is asked (this product's own).
+-- How many numbers have a property (this product's own).
 use Rattle.std.specs.Prelude.{◌≡◌, ◌↔◌, ℕ, List, length, Contains}
 use Rattle.std.specs.List.Sorted.{IsStrictlyIncreasing}
 
--- Just so many numbers are such: those of one rising list, which has no other.
+-- `count` numbers are such: one rising list has just these numbers.
 pub record AreSoMany (is_such : ℕ → Type 0) (count : ℕ) : Type 0 where
   pub numbers : List ℕ
   pub rising : IsStrictlyIncreasing numbers

@@ -1,4 +1,4 @@
--- *Course*: a plan, with what the state of each of its derivations follows from (this product's
+-- *Course*: a plan, and what the state of each of its derivations follows from (this product's
 -- own).
 use Rattle.std.specs.Prelude.{◌≡◌, ◌<◌, ◌⊎◌, Bool, true, false, ℕ, Option, Some, None, List, [], ◌∷◌, ◌++◌, length, slice_get}
 use Rattle.std.specs.List.{slice_index_or}
@@ -14,8 +14,8 @@ use Rattle.sched_core.specs.declared.reason.State.TheVariants.{Building, Ready, 
 use Rattle.sched_core.specs.declared.standing.Standing.{Standing}
 use Rattle.sched_core.specs.declared.standing.Standing.TheVariants.{Free}
 
--- What is known of a plan's derivations, of each at its number: where it stands by itself, whether
--- it is wanted, its nearest earlier twin, and where it stands by its last event.
+-- What is known of a plan's derivations, of each at its number: its standing, whether it is wanted,
+-- its nearest earlier twin, and its phase.
 pub record Course : Type 0 where
   pub graph : Graph
   pub standings : List Standing
@@ -23,7 +23,7 @@ pub record Course : Type 0 where
   pub twins : List (Option ℕ)
   pub phases : List Phase
 
--- a number alone, if there is one
+-- the list of a number, or the empty list where there is none
 abbrev pub listed : Option ℕ → List ℕ
 listed (Some n) = n ∷ []
 listed None = []
@@ -34,18 +34,19 @@ pub record Awaited : Type 0 where
   pub inputs : List ℕ
   pub twins : List ℕ
 
--- all of it, the twin at the end
+-- all that a derivation waits for, the twin at the end
 abbrev pub all_of : Awaited → List ℕ
 all_of awaited = awaited.inputs ++ awaited.twins
 
--- of the derivation with this number, in a plan of which each has this nearest earlier twin
+-- what the derivation with this number waits for, in a plan of which each derivation has this
+-- nearest earlier twin
 abbrev pub awaited_at : Graph → (twins : List (Option ℕ)) → ℕ → Awaited
 awaited_at graph twins d = record {
   inputs = inputs_at graph.nodes (slice_get graph.nodes d);
   twins = listed (slice_index_or twins d None);
 }
 
--- what the states follow from
+-- the rows from which the states of a course follow
 abbrev pub course_rows : Course → Rows
 course_rows course = record {
   inputs = λ d. inputs_at course.graph.nodes (slice_get course.graph.nodes d);
@@ -54,7 +55,7 @@ course_rows course = record {
   phase = λ d. slice_index_or course.phases d Idle;
 }
 
--- the state of a derivation
+-- the state of a derivation of a course
 abbrev pub course_state : Course → ℕ → State
 course_state course d = near_state (course_rows course) d
 
@@ -68,21 +69,21 @@ abbrev pub HasBegun : Course → ℕ → Type 0
 HasBegun course d = (d < length course.graph.nodes)
     × ((lease : ℕ) × (slice_index_or course.phases d Idle ≡ Begun lease))
 
--- a state in which a derivation still has something before it
+-- a derivation in this state is Blocked, Ready or Building
 abbrev pub IsOpen : State → Type 0
 IsOpen state = (state ≡ Blocked) ⊎ (state ≡ Ready) ⊎ ((lease : ℕ) × (state ≡ Building lease))
 
--- a derivation is wanted and has something before it
+-- a derivation is wanted, and Blocked, Ready or Building
 abbrev pub IsUnsettledIn : Course → ℕ → Type 0
 IsUnsettledIn course d = (d < length course.graph.nodes)
     × (slice_index_or course.wanted d false ≡ true) × IsOpen (course_state course d)
 
--- no wanted derivation has anything before it
+-- no wanted derivation is Blocked, Ready or Building
 abbrev pub IsSettled : Course → Type 0
 IsSettled course = (d : ℕ) → d < length course.graph.nodes → slice_index_or course.wanted d false
     ≡ true → IsOpen (course_state course d) → ⊥
 
--- of each derivation, where it stands by itself behind these entries
+-- the standing of each derivation behind these entries, in a run for the system
 pub record AreStandings (system : Bytes) (entries : List Entry) (nodes : List Node)
     (standings : List Standing) : Type 0 where
   pub count : length standings ≡ length nodes

@@ -9,14 +9,14 @@ use Rattle.sched_core.specs.declared.reason.State.{State}
 use Rattle.sched_core.specs.declared.reason.State.TheVariants.{Building, Done, Failed, Blocked}
 use Rattle.sched_core.specs.declared.standing.Standing.{Standing}
 
--- where a derivation in this state stands by its last event
+-- the phase of a derivation in this state
 abbrev pub phase_in : State → Phase
 phase_in (Building lease) = Begun lease
 phase_in Done = Ended
 phase_in (Failed reason) = Broken reason
 phase_in state = Idle
 
--- what is known by the states
+-- the course of a plan whose derivations have these states
 abbrev pub course_of : Graph → List Standing → (wanted : List Bool) → (twins : List (Option ℕ))
     → List State → Course
 course_of graph standings wanted twins states = record {
@@ -27,10 +27,10 @@ course_of graph standings wanted twins states = record {
   phases = map phase_in states;
 }
 
--- the state that is kept of a derivation
+-- the state of the derivation with this number in a list of states
 abbrev pub kept : List State → ℕ → State
 kept states d = slice_index_or states d Blocked
 
--- the first so many states follow from the rows
+-- the states of the first `count` derivations follow from the rows
 abbrev pub AreStatesOf : Rows → (count : ℕ) → List State → Type 0
 AreStatesOf rows count states = (d : ℕ) → d < count → kept states d ≡ near_state rows d

@@ -12,21 +12,22 @@ use Rattle.valid_table.specs.declared.entry.Registration.{Registration}
 use Rattle.sched_core.specs.Books.{AreNewRecords, IsNotAllowed}
 use Rattle.sched_core.specs.Legal.{AreAcyclicRecords, AreNewOutputs, IsEntryOf}
 use Rattle.sched_core.specs.declared.fault.BookFault.{BookFault}
-use Rattle.sched_core.specs.declared.fault.BookFault.TheVariants.{ForeignLease, NoMemory, NoView, NotLawful}
+use Rattle.sched_core.specs.declared.fault.BookFault.TheVariants.{NoMemory, NotLawful}
 
--- records have the digest that outputs of this kind declare, if they do
+-- if outputs of this kind declare a digest, each record has it
 abbrev pub HaveDigest : Kind → List PathInfo → Type 0
 HaveDigest Addressed infos = ⊤
 HaveDigest (Fixed method digest) infos = All (λ (info : PathInfo). info.digest ≡ Some digest) infos
 
--- What is tested of records of outputs of a kind, at some paths, without taking memory.
+-- The tests of records that take no memory: there is one record for each path, no path is valid,
+-- and the records have the digest that outputs of this kind declare.
 pub record AreFitting (known : List Registration) (kind : Kind) (paths : List Path)
     (infos : List PathInfo) : Type 0 where
   pub count : length infos ≡ length paths
   pub new : All (IsNotValid known) paths
   pub digests : HaveDigest kind infos
 
--- the records of registrations alone
+-- the records of some registrations
 abbrev pub infos_of : List Registration → List PathInfo
 infos_of registrations = map (λ (r : Registration). r.info) registrations
 
@@ -41,5 +42,4 @@ IsDoneEntry graph d entries infos entry = (node : Node) → slice_get graph.node
 abbrev pub IsDoneFault : Graph → (d : ℕ) → List Entry → List PathInfo → BookFault → Type 0
 IsDoneFault graph d entries infos NoMemory = AreNewRecords graph entries d infos
 IsDoneFault graph d entries infos NotLawful = IsNotAllowed graph entries d infos
-IsDoneFault graph d entries infos ForeignLease = ⊥
-IsDoneFault graph d entries infos NoView = ⊥
+IsDoneFault graph d entries infos fault = ⊥

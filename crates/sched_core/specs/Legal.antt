@@ -36,7 +36,8 @@ is_begin event = false
 abbrev pub begins : List Event → ℕ
 begins events = count_by is_begin events
 
--- a history with one event more, and with one entry more for a Done
+-- the history after a Begin of derivation `d`, whose lease has the count of earlier Begins as its
+-- number
 abbrev pub begun : History → (d : ℕ) → History
 begun history d = record {
   opening = history.opening;
@@ -44,6 +45,7 @@ begun history d = record {
   events = history.events ++ Begin d (begins history.events) ∷ [];
 }
 
+-- the history after a Done of derivation `d`, with the entry that it registers
 abbrev pub ended : History → (d lease : ℕ) → Entry → History
 ended history d lease entry = record {
   opening = history.opening;
@@ -51,6 +53,7 @@ ended history d lease entry = record {
   events = history.events ++ Finish d lease ∷ [];
 }
 
+-- the history after a Fail of derivation `d`
 abbrev pub failed : History → (d lease : ℕ) → Reason → History
 failed history d lease reason = record {
   opening = history.opening;
@@ -93,7 +96,7 @@ pub record AreOutputRecords (drv : Drv) (infos : List PathInfo) : Type 0 where
   pub fixed : (method : Method) (digest : Digest) → HasKind drv (Fixed method digest)
       → (info : PathInfo) → Contains infos info → info.digest ≡ Some digest
 
--- Such records by which no two different outputs lead to each other.
+-- Records of a derivation's outputs by which no two different outputs lead to each other.
 pub record AreAcyclicRecords (drv : Drv) (infos : List PathInfo) : Type 0 where
   pub own : AreOutputRecords drv infos
   pub acyclic : IsCyclic (output_paths_of drv) infos → ⊥

@@ -8,19 +8,19 @@ use Rattle.nix_names.specs.Bytes.{Path}
 use Rattle.valid_table.specs.PathInfos.{PathInfo}
 use Rattle.sched_core.specs.Walking.{IsLinked}
 
--- Some paths, each once.
+-- The keys are just these paths, each once.
 pub record AreEachOnce (paths keys : List Path) : Type 0 where
   pub distinct : IsDistinct (pointwise nat_eq) keys
   pub same : (path : Path) → Contains keys path ↔ Contains paths path
 
--- one of the first outputs, so many, has the first path, and refers to the second
+-- one of the first `count` outputs has the path `from`, and refers to the path `to`
 abbrev pub MayLink : (paths : List Path) → List PathInfo → (count : ℕ) → (from to : Path)
     → Type 0
 MayLink paths infos count from to =
     (n : ℕ) × (info : PathInfo) × (n < count) × (slice_get paths n ≡ Some from)
     × (slice_get infos n ≡ Some info) × Contains info.references to
 
--- The links of the first outputs, so many: each from a key's place to the place of a key that it
+-- The links of the first `count` outputs: each from a key's place to the place of a key that it
 -- refers to.
 pub record AreLinks (paths : List Path) (infos : List PathInfo) (keys : List Path)
     (count : ℕ) (links : List (Vec ℕ)) : Type 0 where
@@ -31,14 +31,15 @@ pub record AreLinks (paths : List Path) (infos : List PathInfo) (keys : List Pat
   pub whole : (from to : ℕ) (a b : Path) → slice_get keys from ≡ Some a → slice_get keys to
       ≡ Some b → MayLink paths infos count a b → IsLinked links from to
 
--- Links among all outputs.
+-- The links among all outputs.
 pub record HaveLinks (paths : List Path) (infos : List PathInfo) (links : List (Vec ℕ))
     : Type 0 where
   pub keys : List Path
   pub once : AreEachOnce paths keys
   pub are : AreLinks paths infos keys (length infos) links
 
--- behind old links stand new ones, to the places of keys that are referred to
+-- the new links of an output are its old ones, and those to the places of the keys that are among
+-- the references
 abbrev pub AddsLinks : (keys references : List Path) → (old new : List ℕ) → Type 0
 AddsLinks keys references old new =
     (to : ℕ) → Contains new to

@@ -7,9 +7,11 @@ use Rattle.drv_graph.specs.Nodes.{Node, paths_of}
 use Rattle.sched_core.specs.declared.listing.Keyed.{Keyed}
 use Rattle.sched_core.specs.declared.listing.Listed.{Listed}
 
+-- the numbers of listed derivations
 abbrev pub numbers_of : List Listed → List ℕ
 numbers_of listed = map (λ (l : Listed). l.number) listed
 
+-- the paths of listed derivations
 abbrev pub listed_paths : List Listed → List Path
 listed_paths listed = map (λ (l : Listed). l.path.now) listed
 
@@ -21,7 +23,7 @@ listed_behind keyed = map (λ (k : Keyed). k.listed) keyed
 abbrev pub HasItsPath : List Node → Listed → Type 0
 HasItsPath nodes listed = slice_get (paths_of nodes) listed.number ≡ Some listed.path.now
 
--- one of the first derivations, so many, is marked
+-- one of the first `count` derivations has this number, and is marked
 abbrev pub IsMarked : (marks : List Bool) → (count : ℕ) → ℕ → Type 0
 IsMarked marks count d = (d < count) × (slice_index_or marks d false ≡ true)
 
@@ -32,6 +34,6 @@ pub record AreListed (nodes : List Node) (is_such : ℕ → Type 0) (listed : Li
   pub just : (d : ℕ) → Contains (numbers_of listed) d ↔ is_such d
   pub once : AreDistinct (listed_paths listed)
 
--- the derivations are among so many
+-- each listed derivation has a number below `count`
 abbrev pub AreWithin : ℕ → List Listed → Type 0
 AreWithin count listed = All (λ (l : Listed). l.number < count) listed

@@ -13,6 +13,7 @@ pub data News : Type 0 where
   Good : News
   Bad : News
 
+-- what a state says to a derivation that waits for this one
 abbrev pub news_of : State → News
 news_of Done = Good
 news_of Reused = Good
@@ -22,18 +23,18 @@ news_of (Building lease) = Open
 news_of Ready = Open
 news_of Blocked = Open
 
--- the last of some numbers alone
+-- the list of the last of some numbers alone; of no numbers, the empty list
 abbrev pub last_alone : List ℕ → List ℕ
 last_alone [] = []
 last_alone (n ∷ []) = n ∷ []
 last_alone (n ∷ m ∷ more) = last_alone (m ∷ more)
 
--- rows of which each has the nearest of its earlier twins alone
+-- the same rows, with the nearest earlier twin of each derivation alone
 abbrev pub nearest : Rows → Rows
 nearest rows = record rows { twins = λ d. last_alone (rows.twins d) }
 
--- by what is known of the nearest earlier twin: reused where it was built or is reused, and blocked
--- where it still has something before it
+-- the state by what is known of the nearest earlier twin: reused where it was built or is reused,
+-- and blocked where nothing is known of it yet
 abbrev pub by_twin_news : List News → State → State
 by_twin_news [] other = other
 by_twin_news (Good ∷ more) other = Reused

@@ -14,16 +14,16 @@ use Rattle.sched_core.specs.Words.{reason_words, refusal_words}
 use Rattle.sched_core.specs.declared.reason.State.{State}
 use Rattle.sched_core.specs.declared.reason.State.TheVariants.{Done, Failed, Reused, Refused}
 
--- a word and a path
+-- a line of a word and a path
 abbrev pub path_line : (word : Bytes) → (path : Path) → Bytes
 path_line word path = word ++ path ++ codes "\n"
 
--- a word, a path, and why
+-- a line of a word, a path, and why
 abbrev pub why_line : (word : Bytes) → (path : Path) → (why : Bytes) → Bytes
 why_line word path why = word ++ path ++ codes ": " ++ why ++ codes "\n"
 
--- the line of a derivation of a plan, which has these nodes: none while something is still before
--- it
+-- the line of a derivation of a plan, which has these nodes; none while it is Blocked, Ready or
+-- Building
 abbrev pub line_of : List Node → Node → State → Bytes
 line_of nodes node Done = path_line (codes "built ") node.path
 line_of nodes node Reused = path_line (codes "reused ") node.path
@@ -38,15 +38,16 @@ abbrev pub output_lines : Node → State → Bytes
 output_lines node state = if is_good state then flat_map (path_line (codes "output "))
     (output_paths_of node.drv) else []
 
--- lines of a node, if there is one
+-- the lines of a node, if there is one
 abbrev pub lines_if_some : (Node → Bytes) → Option Node → Bytes
 lines_if_some lines (Some node) = lines node
 lines_if_some lines None = []
 
--- the line of the derivation with this number, and the lines of its outputs
+-- the line of the derivation with this number
 abbrev pub line_at : List Node → (state : ℕ → State) → ℕ → Bytes
 line_at nodes state d = lines_if_some (λ node. line_of nodes node (state d)) (slice_get nodes d)
 
+-- the lines of the outputs of the derivation with this number
 abbrev pub outputs_at : List Node → (state : ℕ → State) → ℕ → Bytes
 outputs_at nodes state d = lines_if_some (λ node. output_lines node (state d)) (slice_get nodes d)
 
@@ -83,7 +84,7 @@ abbrev pub IsReportIn : Run → History → (text : Bytes) → Type 0
 IsReportIn run history text = IsReport run.graph (IsWanted run history.opening)
     (state_in run history) text
 
--- there is one report
+-- a run with this history has one report
 abbrev pub ReportIsOne : Type 0
 ReportIsOne = (run : Run) (history : History) (a b : Bytes) → IsReportIn run history a
     → IsReportIn run history b → a ≡ b

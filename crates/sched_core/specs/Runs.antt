@@ -55,7 +55,7 @@ abbrev pub or_else : Option Refusal → Option Refusal → Option Refusal
 or_else (Some cause) other = Some cause
 or_else None other = other
 
--- a cause with the number at which it was found
+-- the cause with this number, if there is a number
 abbrev pub cause_at : (ℕ → Refusal) → Option ℕ → Option Refusal
 cause_at cause (Some n) = Some (cause n)
 cause_at cause None = None
@@ -69,12 +69,13 @@ own_cause system opening drv =
     (or_else (cause_at PartlyValid (position (is_valid opening) (output_paths_of drv)))
     (cause_at MissingSource (position (λ path. not (is_valid opening path)) drv.sources))))
 
--- where a derivation stands by its cause, if it has one
+-- the standing of a derivation with this cause, if it has one
 abbrev pub by_cause : Option Refusal → Standing
 by_cause (Some cause) = Hindered cause
 by_cause None = Free
 
--- where a derivation stands by itself behind these entries
+-- a derivation's standing behind these entries: all its outputs are valid, else it has a cause for
+-- which it can't be begun, else neither
 abbrev pub standing_of : (system : Bytes) → (opening : List Entry) → Drv → Standing
 standing_of system opening drv =
     if list_all (is_valid opening) (output_paths_of drv) then AllValid
@@ -85,11 +86,12 @@ abbrev pub input_numbers : List Node → Drv → List ℕ
 input_numbers nodes drv = map (λ path. position_or_len (same_bytes path) (paths_of nodes))
     (inputs_of drv)
 
--- of a node, if there is one
+-- the numbers of a node's inputs; the empty list where there is no node
 abbrev pub inputs_at : List Node → Option Node → List ℕ
 inputs_at nodes (Some node) = input_numbers nodes node.drv
 inputs_at nodes None = []
 
+-- a node's standing; Free where there is no node
 abbrev pub standing_at : (system : Bytes) → (opening : List Entry) → Option Node → Standing
 standing_at system opening (Some node) = standing_of system opening node.drv
 standing_at system opening None = Free
@@ -103,23 +105,24 @@ pub data IsWanted (run : Run) (opening : List Entry) : ℕ → Type 0 where
       → Contains (inputs_at run.graph.nodes (slice_get run.graph.nodes user)) d
       → IsWanted run opening d
 
+-- whether a standing is Free
 abbrev pub is_free : Standing → Bool
 is_free Free = true
-is_free AllValid = false
-is_free (Hindered cause) = false
+is_free standing = false
 
 -- whether a number is in a list
 abbrev pub is_one_of : List ℕ → ℕ → Bool
 is_one_of numbers n = list_any (λ m. m == n) numbers
 
--- whether a user has this input, all of its outputs aren't valid, and it has no own cause
+-- whether a user has this input and is Free: not all of its outputs are valid, and it has no cause
+-- of its own
 abbrev pub is_used_by : Run → (opening : List Entry) → (input user : ℕ) → Bool
 is_used_by run opening input user =
     is_free (standing_at run.system opening (slice_get run.graph.nodes user))
     && is_one_of (inputs_at run.graph.nodes (slice_get run.graph.nodes user)) input
 
--- whether a derivation is wanted over at most so many users: it is a root, or an input of a user
--- that is wanted over at most one fewer
+-- whether a derivation is wanted over at most `users` users: it is a root, or an input of a Free
+-- user that is wanted over at most one fewer
 unfoldable pub is_wanted_over : (users : ℕ) → Run → (opening : List Entry) → ℕ → Bool
 is_wanted_over zero run opening d = is_one_of run.graph.roots d
 is_wanted_over (suc users) run opening d = is_wanted_over users run opening d
@@ -137,7 +140,7 @@ earlier_twins run opening d = filter
     && are_twins_at (slice_get run.graph.nodes t) (slice_get run.graph.nodes d))
     (range_with_len 0 d)
 
--- what the states follow from
+-- the rows from which the states of a run follow
 abbrev pub rows_of : Run → (opening : List Entry) → List Event → Rows
 rows_of run opening events = record {
   inputs = λ d. inputs_at run.graph.nodes (slice_get run.graph.nodes d);

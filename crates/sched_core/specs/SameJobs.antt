@@ -1,4 +1,4 @@
--- What a job is compared by.
+-- The parts by which a job is compared with a derivation.
 use Rattle.std.specs.Prelude.{◌≡◌, List, map}
 use Rattle.nix_names.specs.Bytes.{Path}
 use Rattle.nix_drv.specs.Derivation.{Drv}

@@ -9,9 +9,9 @@ use Rattle.sched_core.specs.declared.reason.Refusal.TheVariants.{InputNotRealise
 use Rattle.sched_core.specs.declared.reason.State.{State}
 use Rattle.sched_core.specs.declared.reason.State.TheVariants.{Done, Failed, Building, Reused, Refused, Ready, Blocked}
 use Rattle.sched_core.specs.declared.standing.Standing.{Standing}
-use Rattle.sched_core.specs.declared.standing.Standing.TheVariants.{AllValid, Hindered, Free}
+use Rattle.sched_core.specs.declared.standing.Standing.TheVariants.{AllValid, Hindered}
 
--- where a derivation stands by its last event: it has none; it began under this lease; it was
+-- the phase of a derivation, by its last event: it has none; it began under this lease; it was
 -- built; it failed
 pub data Phase : Type 0 where
   Idle : Phase
@@ -19,7 +19,7 @@ pub data Phase : Type 0 where
   Ended : Phase
   Broken : (reason : Reason) → Phase
 
--- where it stands by one event
+-- a derivation's phase by one event alone
 abbrev pub phase_by : Event → ℕ → Phase
 phase_by (Begin e lease) d = if e == d then Begun lease else Idle
 phase_by (Finish e lease) d = if e == d then Ended else Idle
@@ -30,7 +30,7 @@ abbrev pub later : (before after : Phase) → Phase
 later before Idle = before
 later before after = after
 
--- where it stands by its last event among these
+-- a derivation's phase by these events: by the last one that is its own
 abbrev pub phase_of : List Event → ℕ → Phase
 phase_of [] d = Idle
 phase_of (event ∷ events) d = later (phase_by event d) (phase_of events d)
@@ -49,7 +49,7 @@ is_good Done = true
 is_good Reused = true
 is_good state = false
 
--- whether a derivation in this state still has something before it
+-- whether a derivation in this state is Blocked, Ready or Building
 abbrev pub is_open : State → Bool
 is_open Blocked = true
 is_open Ready = true
@@ -67,38 +67,37 @@ is_bad (Failed reason) = true
 is_bad (Refused cause) = true
 is_bad state = false
 
--- by the first input that failed or is refused, if there is one, and by whether all are built or
--- were valid
+-- the state by the first input that failed or is refused, if there is one, and by whether all are
+-- built or were valid
 abbrev pub by_first : Option ℕ → Bool → State
 by_first (Some input) all = Refused (InputNotRealised input)
 by_first None true = Ready
 by_first None false = Blocked
 
--- by the states of the inputs
+-- the state by the states of the inputs
 abbrev pub by_inputs : (state : ℕ → State) → (inputs : List ℕ) → State
 by_inputs state inputs = by_first (find (λ i. is_bad (state i)) inputs)
     (list_all (λ i. is_good (state i)) inputs)
 
--- by its own cause, if it has one
+-- the state by the derivation's own cause, if it has one
 abbrev pub by_hindrance : Standing → State → State
 by_hindrance (Hindered cause) other = Refused cause
-by_hindrance AllValid other = other
-by_hindrance Free other = other
+by_hindrance standing other = other
 
--- by the states of its earlier twins: it is reused where one was built, and waits where one still
--- has something before it
+-- the state by the states of the earlier twins: the derivation is reused where one was built, and
+-- waits where one is Blocked, Ready or Building
 abbrev pub by_twins : (state : ℕ → State) → (twins : List ℕ) → State → State
 by_twins state twins other =
     if list_any (λ t. is_done (state t)) twins then Reused
     else if list_any (λ t. is_open (state t)) twins then Blocked
     else other
 
--- by whether all its outputs were valid
+-- the state by whether all outputs of the derivation were valid
 abbrev pub by_validity : Standing → State → State
 by_validity AllValid other = Reused
-by_validity (Hindered cause) other = other
-by_validity Free other = other
+by_validity standing other = other
 
+-- the state by the phase, if the derivation has an event
 abbrev pub by_phase : Phase → State → State
 by_phase Idle other = other
 by_phase (Begun lease) other = Building lease
@@ -112,7 +111,7 @@ table rows state d =
     by_phase (rows.phase d) (by_validity (rows.standing d) (by_twins state (rows.twins d)
     (by_hindrance (rows.standing d) (by_inputs state (rows.inputs d)))))
 
--- the states of the first derivations, so many, each by a rule from the states before it
+-- the states of the first `count` derivations, each by a rule from the states before it
 unfoldable pub states_by : (rule : (ℕ → State) → ℕ → State) → (count : ℕ) → List State
 states_by rule zero = []
 states_by rule (suc n) =

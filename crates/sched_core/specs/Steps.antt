@@ -1,4 +1,4 @@
--- *Steps*: how much work the states of a run's derivations were (this product's own).
+-- *Steps*: how much work it was to find the states of a run's derivations (this product's own).
 use Rattle.std.specs.Prelude.{◌+◌, ◌++◌, ◌-◌, ◌*◌, ℕ, zero, suc, List, length, slice_get, if◌then◌else◌}
 use Rattle.sched_core.specs.Books.{opened}
 use Rattle.sched_core.specs.Nearest.{last_alone}
@@ -7,7 +7,7 @@ use Rattle.sched_core.specs.States.{is_open}
 use Rattle.sched_core.specs.UserSpans.{uses}
 use Rattle.sched_core.specs.declared.reason.State.{State}
 
--- a sum over the numbers below a count
+-- the sum of the parts of the numbers below a count
 abbrev pub total : (part : ℕ → ℕ) → (count : ℕ) → ℕ
 total part zero = 0
 total part (suc count) = part 0 + total (λ n. part (suc n)) count
@@ -23,6 +23,7 @@ abbrev pub awaited_by : Run → History → ℕ → List ℕ
 awaited_by run history d = inputs_at run.graph.nodes (slice_get run.graph.nodes d)
     ++ last_alone (earlier_twins run history.opening d)
 
+-- the number of edges from open derivations in a run with its history
 abbrev pub edges_ahead_in : Run → History → ℕ
 edges_ahead_in run history = edges_ahead (awaited_by run history) (state_in run history)
     (length run.graph.nodes)

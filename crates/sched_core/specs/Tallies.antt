@@ -15,19 +15,19 @@ use Rattle.sched_core.specs.declared.standing.Standing.{Standing}
 use Rattle.sched_core.specs.declared.tally.Tally.{Tally}
 use Rattle.sched_core.specs.declared.users.Edge.{Edge}
 
--- good news or bad
+-- Good or Bad news
 abbrev pub news_by : Bool → News
 news_by good = if good then Good else Bad
 
+-- whether news is Good
 abbrev pub is_good_news : News → Bool
 is_good_news Good = true
-is_good_news Open = false
-is_good_news Bad = false
+is_good_news news = false
 
+-- whether news is Bad
 abbrev pub is_bad_news : News → Bool
 is_bad_news Bad = true
-is_bad_news Open = false
-is_bad_news Good = false
+is_bad_news news = false
 
 -- whether a derivation is held by its twin, of which nothing is known yet
 abbrev pub is_held : (twins : List News) → Bool
@@ -55,10 +55,11 @@ abbrev pub by_news : (inputs : List ℕ) → List News → State
 by_news inputs heard =
     by_first (input_at inputs (position is_bad_news heard)) (list_all is_good_news heard)
 
--- what is known of the inputs, and of the twin
+-- what is known of the inputs
 abbrev pub of_inputs : Awaited → List News → List News
 of_inputs awaited heard = take (length awaited.inputs) heard
 
+-- what is known of the twin
 abbrev pub of_twins : Awaited → List News → List News
 of_twins awaited heard = drop (length awaited.inputs) heard
 
@@ -88,13 +89,14 @@ pub record IsTally (awaited : Awaited) (heard : List News) (tally : Tally) : Typ
   pub failed : tally.failed ≡ slice_get awaited.inputs tally.first
   pub held : tally.held ≡ is_held (of_twins awaited heard)
 
--- what is known of one that is waited for is what is so, or is still to be told, once
+-- what is known of an awaited derivation is what it has come to, and nothing is left to tell; or
+-- nothing is known, it has ended, and its end is left to be told once
 abbrev pub Knows : (known now : News) → (left : ℕ) → Type 0
 Knows known now left =
     ((known ≡ now) × (left ≡ 0)) ⊎ ((known ≡ Open) × (now ≡ Open → ⊥) × (left ≡ 1))
 
--- A tally is right for something that is known of all that the derivation waits for, which have
--- these states; of each place it is left so often to tell.
+-- A tally is right for what is known of all that the derivation waits for, which have these states.
+-- Of the one at each place, `left` says how often its end is still to be told.
 pub record Hears (awaited : Awaited) (state : ℕ → State) (left : (place : ℕ) → ℕ) (tally : Tally)
     : Type 0 where
   pub heard : List News
@@ -112,7 +114,8 @@ pub record HaveHeard (awaited : ℕ → Awaited) (tallies : List Tally) (left : 
   pub each : (d : ℕ) (tally : Tally) → slice_get tallies d ≡ Some tally
       → Hears (awaited d) (kept (states_in tallies)) (λ place. times d place left) tally
 
--- whether it is news that the state changed so: whoever waits is told of it
+-- whether this change is told to those that wait: nothing was known, and now the derivation has
+-- ended
 abbrev pub are_news : (before after : News) → Bool
 are_news Open Good = true
 are_news Open Bad = true

@@ -10,11 +10,11 @@ use Rattle.sched_core.specs.Users.{users_of}
 use Rattle.sched_core.specs.declared.tally.Tally.{Tally}
 use Rattle.sched_core.specs.declared.users.Edge.{Edge}
 
--- how many edges lead to the users of each
+-- how many edges lead from a derivation to its users
 abbrev pub sizes : List (List Edge) → ℕ → ℕ
 sizes users d = length (users_of users d)
 
--- how many edges lead to users from those that have something before them
+-- how many edges lead to users from derivations that are Blocked, Ready or Building
 abbrev pub open_edges : (size : ℕ → ℕ) → List Tally → ℕ
 open_edges size [] = 0
 open_edges size (tally ∷ tallies) =
@@ -30,6 +30,7 @@ rested course = record {
   phases = [];
 }
 
+-- the number of edges to users from derivations of a course that are Blocked, Ready or Building
 abbrev pub course_ahead : Course → ℕ
 course_ahead course = edges_ahead (λ d. all_of (awaited_at course.graph course.twins d))
     (course_state course) (length course.graph.nodes)
@@ -38,8 +39,8 @@ course_ahead course = edges_ahead (λ d. all_of (awaited_at course.graph course.
 abbrev pub course_told : Course → ℕ
 course_told course = course_ahead (rested course) - course_ahead course
 
--- So many edges were followed: all that led from derivations which had something before them, but
--- for those that still do.
+-- `told` edges were followed: all from derivations that were Blocked, Ready or Building before
+-- anything had begun, but for those that still are.
 pub record HasTold (graph : Graph) (tallies : List Tally) (users : List (List Edge)) (told : ℕ)
     : Type 0 where
   pub few : told + open_edges (sizes users) tallies < 2 ^ 64

@@ -10,12 +10,12 @@ abbrev pub often : ℕ → List ℕ → ℕ
 often n [] = 0
 often n (x ∷ xs) = (if x == n then 1 else 0) + often n xs
 
--- how often it is an input of the first derivations, so many
+-- how often a number is among what each of the first `count` derivations waits for
 abbrev pub uses : (awaited : ℕ → List ℕ) → (count : ℕ) → ℕ → ℕ
 uses awaited zero n = 0
 uses awaited (suc count) n = uses awaited count n + often n (awaited count)
 
--- how many pairs there are of one of the first derivations, so many, and an input of it
+-- how many pairs there are of one of the first `count` derivations and one that it waits for
 abbrev pub pairs : (awaited : ℕ → List ℕ) → (count : ℕ) → ℕ
 pairs awaited zero = 0
 pairs awaited (suc count) = pairs awaited count + length (awaited count)
@@ -28,18 +28,19 @@ part edges span = take (span.end - span.start) (drop span.start edges)
 abbrev pub parts : List Span → List Edge → List (List Edge)
 parts spans edges = map (part edges) spans
 
+-- the span with this number; an empty one where there is none
 abbrev pub span_at : List Span → ℕ → Span
 span_at spans n = slice_index_or spans n (record { start = 0; end = 0 })
 
--- Spans lie one behind the other among so many places, each with room for so many edges more.
+-- Spans lie one after the other among `places` places, the n-th with room for `more n` edges more.
 pub record HaveRoom (spans : List Span) (places : ℕ) (more : ℕ → ℕ) : Type 0 where
   pub rise : (n : ℕ) → n < length spans → (span_at spans n).start ≤ (span_at spans n).end
   pub apart : (n m : ℕ) → n < m → m < length spans
       → (span_at spans n).end + more n ≤ (span_at spans m).start
   pub fit : (n : ℕ) → n < length spans → (span_at spans n).end + more n ≤ places
 
--- Edges by input, of so many derivations, and the same with those of one more user, whose inputs
--- these are.
+-- The edges to the users of each of the first `count` derivations, before and after the edges to
+-- one more user are added, which waits for these.
 pub record AddsUser (user : ℕ) (inputs : List ℕ) (count : ℕ) (old new : ℕ → List Edge)
     : Type 0 where
   pub each : (input other place : ℕ) → input < count

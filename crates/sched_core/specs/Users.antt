@@ -4,7 +4,8 @@ use Rattle.std.specs.Prelude.{◌≡◌, ◌<◌, ◌+◌, ◌==◌, ◌&&◌, �
 use Rattle.std.specs.List.{slice_index_or}
 use Rattle.sched_core.specs.declared.users.Edge.{Edge}
 
--- how often the edge to this user, in whose text the input stands at this place, is in a list
+-- how often the edge to this user and place is in a list: the place is that of an awaited
+-- derivation among what the user waits for
 abbrev pub times : (user place : ℕ) → List Edge → ℕ
 times user place [] = 0
 times user place (edge ∷ edges) =

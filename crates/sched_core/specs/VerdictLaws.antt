@@ -19,7 +19,7 @@ pub record AreRegistrable (node : Node) (permitted : List Path) (infos : List Pa
   pub among : (info : PathInfo) (path : Path) → Contains infos info
       → Contains info.references path → Contains permitted path
 
--- the records of a verdict on a derivation's job are such
+-- the records of a verdict on a derivation's job may be registered
 abbrev pub VerdictsAreRegistrable : Type 0
 VerdictsAreRegistrable = (graph : Graph) (d : ℕ) (job : Job) (node : Node)
     (permitted : List Path) (answer : Answer) (infos : List PathInfo)

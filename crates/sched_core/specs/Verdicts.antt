@@ -24,7 +24,7 @@ use Rattle.sched_core.specs.declared.job.Answer.{Answer}
 use Rattle.sched_core.specs.declared.job.Job.{Job}
 use Rattle.sched_core.specs.declared.job.JobOutput.{JobOutput}
 use Rattle.sched_core.specs.declared.reason.Reason.{Reason}
-use Rattle.sched_core.specs.declared.reason.Reason.TheVariants.{ExitStatus, NoStart, MissingOutput, NotFlatFile, HashMismatch, OutputCycle, TooLarge, ReadFault, OutOfMemory, Killed}
+use Rattle.sched_core.specs.declared.reason.Reason.TheVariants.{ExitStatus, MissingOutput, NotFlatFile, HashMismatch, OutputCycle, TooLarge, OutOfMemory, Killed}
 
 -- the digest of some bytes by an algorithm (RFC 1321; FIPS 180-4)
 abbrev pub digest_by : Algorithm → Bytes → Digest
@@ -144,9 +144,7 @@ IsVerdict job permitted answer (Err OutputCycle) =
     IsTaken job answer
     × ((infos : List PathInfo) × AreRecords job permitted answer infos
     × IsCyclic (outputs_of job) infos)
-IsVerdict job permitted answer (Err NoStart) = ⊥
-IsVerdict job permitted answer (Err ReadFault) = ⊥
-IsVerdict job permitted answer (Err OutOfMemory) = ⊥
+IsVerdict job permitted answer result = ⊥
 
 -- what `examine` answers: the verdict, or that memory was refused, once what lies at each output's
 -- path was taken

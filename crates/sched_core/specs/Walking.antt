@@ -73,17 +73,17 @@ KeepsMet before after = (n : ℕ) → IsMet before n → IsMet after n
 abbrev pub fresh : Vec ℕ → Node
 fresh own = record { mark = New; left = length own.items }
 
--- what is left to do at a number
+-- what is left to do at a number, by its mark alone
 abbrev pub mark_weight : Mark → ℕ
 mark_weight New = 2
 mark_weight Open = 0
 mark_weight Closed = 0
 
+-- what is left to do at a number, by its mark and its links that are left
 abbrev pub weight : Node → ℕ
 weight node = mark_weight node.mark + node.left
 
--- One step at a number: it is left where no link is left, and else its last link that is left is
--- passed, entered, or leads back to the trail.
+-- The last link of a number that is left to be passed leads to this number, of which this is known.
 pub record IsNext (links : List (Vec ℕ)) (nodes : List Node) (top : ℕ) (node : Node) (to : ℕ)
     (other : Node) : Type 0 where
   pub own : Vec ℕ
@@ -94,6 +94,8 @@ pub record IsNext (links : List (Vec ℕ)) (nodes : List Node) (top : ℕ) (node
   pub leads : slice_get own.items k ≡ Some to
   pub other_at : slice_get nodes to ≡ Some other
 
+-- one step at a number: it is left where no link is left, and else its last link that is left is
+-- passed, entered, or leads back to the trail
 abbrev pub IsStep : List (Vec ℕ) → (before after : List Node) → (top : ℕ) → Step → Type 0
 IsStep links before after top Leave =
     (node : Node) × (slice_get before top ≡ Some node) × (node.left ≡ 0)

@@ -1,5 +1,5 @@
-//! What is still to be done of a plan: which derivations can be begun, and of which the users are
-//! still to be told.
+//! What is still to be done of a plan: which derivations can be begun, and which ended ones have
+//! users that are still to be told.
 ghost use Rattle.std.specs.Prelude.{◌≡◌, ◌≤◌, ◌==◌, [], IfErr, IfOk, Option, if◌then◌else◌, length, slice_get, drop};
 ghost use Rattle.sched_core.specs.Agendas.{IsAgenda, IsFresh, is_blocked, is_ready, noted, settles};
 
@@ -13,12 +13,12 @@ use std::marker::Model;
 // What is still to be done of a plan. In each list is room for all that may come.
 #[derive(Debug, Drop)]
 pub(crate) struct Agenda {
-    // Wanted derivations that are Ready, and behind the first of them some that were and have
-    // begun.
+    // Wanted derivations: all that are Ready, and some that have begun since. `freshen` takes those
+    // off the front.
     ring: HeapCircularBuffer<usize>,
-    // Those whose users are still to be told.
+    // Ended derivations whose users are still to be told.
     work: HeapCircularBuffer<usize>,
-    // How many wanted ones have something before them.
+    // How many wanted derivations are Blocked, Ready or Building.
     unsettled: usize,
 }
 
@@ -37,8 +37,7 @@ impl Model for Agenda {
 }
 
 impl Agenda {
-    // What is to be done where the derivations have these tallies. Takes memory for all that may
-    // come.
+    // The agenda of derivations with these tallies. Takes memory for all that may come.
     pub(crate) fn open(alloc: Global, tallies: &[Tally]) -> Result<Agenda, AllocError>
         ensures is { IfOk result (λ agenda. IsAgenda tallies.now agenda) }
         ensures fresh { IfOk result (λ agenda. IsFresh tallies.now agenda) }
@@ -62,28 +61,28 @@ impl Agenda {
         })
     }
 
-    // The first that can be begun, or has begun.
+    // The first in the ring: it can be begun, or has begun.
     pub(crate) fn first(&self) -> Option<usize>
         ensures { result ≡ slice_get self.now.ring 0 }
     {
         self.ring.front().copied()
     }
 
-    // Whether no wanted derivation has anything before it.
+    // Whether no wanted derivation is Blocked, Ready or Building.
     pub(crate) fn is_settled(&self) -> bool
         ensures { result ≡ (self.now.unsettled == 0) }
     {
         self.unsettled == 0
     }
 
-    // How many wanted derivations have something before them.
+    // How many wanted derivations are Blocked, Ready or Building.
     pub(crate) fn unsettled(&self) -> usize
         ensures { result ≡ self.now.unsettled }
     {
         self.unsettled
     }
 
-    // Notes that the tally of a derivation changed so. Takes no memory.
+    // Notes that the tally of derivation `d` changed from `before` to `after`. Takes no memory.
     pub(crate) fn note(&mut self, d: usize, before: Tally, after: Tally)
         requires room { length (noted self.old d before after).ring ≤ self.old.room }
         requires space { length (noted self.old d before after).work ≤ self.old.space }
@@ -101,7 +100,7 @@ impl Agenda {
         }
     }
 
-    // Takes the first of those whose users are to be told.
+    // Takes the first ended derivation off the work: its users are to be told.
     pub(crate) fn take(&mut self) -> Option<usize>
         ensures value { result ≡ slice_get self.old.work 0 }
         ensures rest { self.new ≡ record self.old { work = drop 1 self.old.work } }
@@ -109,7 +108,7 @@ impl Agenda {
         self.work.pop_front()
     }
 
-    // Takes those off the front that have begun.
+    // Takes derivations that have begun off the front of the ring.
     pub(crate) fn freshen(&mut self, tallies: &[Tally])
         requires { IsAgenda tallies.now self.old }
         ensures is { IsAgenda tallies.now self.new }
@@ -125,12 +124,14 @@ impl Agenda {
     }
 }
 
+// Whether a state is Ready.
 fn is_ready(state: State) -> bool
     ensures { result ≡ is_ready state }
 {
     matches!(state, State::Ready)
 }
 
+// Whether a state is Blocked.
 fn is_blocked(state: State) -> bool
     ensures { result ≡ is_blocked state }
 {

@@ -120,13 +120,13 @@ impl<O: Outlet> Book<O> {
     /// in the outlet. Each reference in them must be permitted to the lease's job behind the
     /// journal's entries, if the lease is the book's.
     ///
-    /// `ForeignLease` exactly where the lease isn't the book's; `NotLawful` only where it is and
-    /// the derivation may not be registered so: there isn't one record for each output, an output
-    /// is valid, a fixed output hasn't its declared digest, or two outputs lead to each other;
-    /// `NoMemory` where memory is refused, which is asked for only where the lease is the book's
-    /// and none of the first three of these is so. A fault leaves the book as it was, and hands
-    /// back lease and records. Compares the lease's job with the plan's derivation, asks the
-    /// journal for each output and reference, and copies each record twice.
+    /// `ForeignLease` exactly where the lease isn't the book's. `NotLawful` only where it is and
+    /// the derivation may not be registered with these records: there isn't one record for each
+    /// output, an output is valid, a fixed output hasn't its declared digest, or two outputs lead
+    /// to each other. `NoMemory` where memory is refused, which is asked for only where the lease
+    /// is the book's and none of the first three reasons for `NotLawful` holds. A fault leaves the
+    /// book as it was, and hands back lease and records. Compares the lease's job with the plan's
+    /// derivation, asks the journal for each output and reference, and copies each record twice.
     pub fn finish(
         &mut self,
         lease: Lease<O::Told>,
@@ -201,8 +201,8 @@ impl<O: Outlet> Book<O> {
         self.progress.permitted(lease.job())
     }
 
-    /// What the outlet tells of the list that it shows: a beginning of the book's entries, by which
-    /// all that the derivations that are building are built from is valid.
+    /// What the outlet tells of the list that it shows. The list is a beginning of the book's
+    /// entries, and by it each path that a building derivation is built from is valid.
     pub fn tell(&self) -> O::Told
         ensures told { O.names result self.now.shown }
         ensures outlet { self.now.shown ++ self.now.pending ≡ self.now.history.entries }
@@ -242,23 +242,23 @@ impl<O: Outlet> Book<O> {
         self.progress.unsettled()
     }
 
-    /// How much work the states of derivations were: one for each state that an event worked out,
-    /// and one for each time that it followed the edge from an input to a user. That is one for
-    /// each event, and two for each edge from a derivation that ended since the book opened. In a
-    /// run at most twice its derivations and twice the pairs of a derivation and a place of its
-    /// text at which an input stands.
+    /// How much work it was to find the states of derivations: one for each state that an event
+    /// worked out, and one for each time that it followed the edge from an input to a user. That is
+    /// one for each event, and two for each edge from a derivation that ended since the book
+    /// opened. In a run it is at most twice its derivations and twice the pairs of a derivation and
+    /// a place of its text at which an input stands.
     pub fn steps(&self) -> u64
         ensures { result ≡ steps_in self.now.run self.now.history % 2 ^ 64 }
     {
         self.progress.steps()
     }
 
-    /// The report of the run, which is settled. For each wanted derivation, by path, a line `built
-    /// P`,
-    /// `reused P`, `failed P: WHY` or `refused P: WHY`; then for each root that was built or
-    /// reused, in the order of the roots, a line `output O` for each of its outputs. Answers
-    /// `NoMemory` where memory is refused, and no other fault. Costs one sort of the wanted
-    /// derivations by path, and else time in proportion to the plan's derivations and the text.
+    /// The report of the run, which is settled. For each wanted derivation, by path, it has a line:
+    /// `built P`, `reused P`, `failed P: WHY` or `refused P: WHY`. Then for each root that was
+    /// built or reused, in the order of the roots, it has a line `output O` for each of its
+    /// outputs. Answers `NoMemory` where memory is refused, and no other fault. Costs one sort of
+    /// the wanted derivations by path, and else time in proportion to the plan's derivations and
+    /// the text.
     pub fn report(&self) -> Result<Vec<u8>, BookFault>
         requires { IsRunSettled self.now.run self.now.history }
         ensures ok { IfOk result (λ text. IsReportIn self.now.run self.now.history text.items) }

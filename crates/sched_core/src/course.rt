@@ -1,4 +1,4 @@
-//! Where each derivation of a plan stands.
+//! The state of each derivation of a plan.
 ghost use Rattle.std.specs.Prelude.{◌≡◌, ◌<◌, ◌↔◌, ℕ, All, IfErr, IfOk, IsTrue, MatchOption, None, length, slice_set};
 ghost use Rattle.std.specs.List.{slice_index_or};
 ghost use Rattle.sched_core.specs.Agendas.{AreOpening, wanted_in};
@@ -22,9 +22,9 @@ use drv_graph::Plan;
 use std::alloc::{AllocError, Global};
 use std::marker::Model;
 
-// A plan, and where each of its derivations stands: of each a tally and the edges to those that wait
-// for it, and what is still to be done. An event costs a step for each edge along which an end is
-// told, and each edge is told along at most once.
+// A plan, and the state of each of its derivations: of each a tally and the edges to those that
+// wait for it; and what is still to be done. An event costs a step for each edge along which an end
+// is told, and along each edge an end is told at most once.
 #[derive(Debug, Drop)]
 pub(crate) struct Course {
     plan: Plan,
@@ -138,14 +138,14 @@ impl Course {
         self.note(d, State::Failed(reason));
     }
 
-    // Whether no wanted derivation has anything before it.
+    // Whether no wanted derivation is Blocked, Ready or Building.
     pub(crate) fn settled(&self) -> bool
         ensures { IsTrue result ↔ IsSettled self.now }
     {
         self.agenda.is_settled()
     }
 
-    // How many wanted derivations have something before them.
+    // How many wanted derivations are Blocked, Ready or Building.
     pub(crate) fn unsettled(&self) -> usize
         ensures { AreSoMany (IsUnsettledIn self.now) result }
     {

@@ -15,11 +15,11 @@ use std::alloc::{AllocError, Global};
 use valid_table::{Entry, Journal, Outputs, Record, Registration};
 
 // The entry that registers the outputs of the derivation with this number with these records,
-// behind the journal's entries; whether their references are permitted isn't tested. `NotLawful`
+// behind the journal's entries. Whether their references are permitted isn't tested. `NotLawful`
 // where there isn't one record for each output, an output is valid, a fixed output hasn't its
-// declared digest, or two outputs lead to each other. Takes memory only once none of the first
-// three is so. Costs a look-up by hash for each output and for each reference, and a sort of the
-// outputs.
+// declared digest, or two outputs lead to each other. Takes memory only where none of the first
+// three of these reasons holds. Costs a look-up by hash for each output and for each reference, and
+// a sort of the outputs.
 pub(crate) fn done_entry(
     alloc: Global,
     plan: &Plan,

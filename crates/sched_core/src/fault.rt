@@ -18,7 +18,7 @@ pub enum BookFault {
     /// The book has no such lease building.
     #[error("the book has no such lease building")]
     ForeignLease,
-    /// The records are not such that the derivation's outputs may be registered with them.
+    /// The derivation's outputs may not be registered with these records.
     #[error("the outputs may not be registered with these records")]
     NotLawful,
 }

@@ -5,22 +5,22 @@
 //! |---|---|
 //! | `job` | what a builder is given, and what it answers |
 //! | `book`, `lease` | the book, and derivations that it gave out to be built |
-//! | `progress` | a run's history, and where its derivations stand |
+//! | `progress` | a run's history, and the states of its derivations |
 //! | `permitted`, `uniting` | to what outputs may refer |
 //! | `verdict`, `checked` | the verdict on an answer, and the records that it gives |
 //! | `digest` | the digest of a file by each algorithm |
 //! | `done_entry` | the entry of a derivation that was built |
 //! | `cycle`, `links`, `walk` | whether outputs refer to each other in a cycle |
 //! | `reason` | why a derivation was not built, its state, and events |
-//! | `standing` | where a derivation stands by itself |
-//! | `course` | where each derivation of a plan stands |
-//! | `tally`, `states` | what is kept of a derivation, and what a state says to those that wait for it |
+//! | `standing` | what is known of a derivation before anything is begun |
+//! | `course` | the state of each derivation of a plan |
+//! | `tally`, `states` | what is kept of a derivation, and what its state says to those that wait for it |
 //! | `users` | the edges from each derivation to those that wait for it |
-//! | `agenda` | what can be begun, and which ends are still to be told |
-//! | `spreading` | an event, and how those that wait are told of it |
+//! | `agenda` | which derivations can be begun, and which ends are still to be told |
+//! | `spreading` | how an event changes a state, and those that wait are told of it |
 //! | `job_of`, `seeds_of` | the job of a derivation, and the paths that it is built from |
 //! | `is_job`, `has_seeds` | whether a job is that of a derivation |
-//! | `standings` | where the derivations of a plan stand by themselves |
+//! | `standings` | the standings of a plan's derivations |
 //! | `wanted`, `twins` | which derivations of a plan are wanted, and their nearest earlier twins |
 //! | `report` | the report of a run |
 //! | `listing`, `lines` | what a report and a forecast share: the derivations by path, and lines |

@@ -56,7 +56,7 @@ fn each_once(alloc: Global, outputs: &[StorePath]) -> Result<IndexSet<StorePath>
     Ok(paths)
 }
 
-// Lists without links, so many.
+// `count` lists without links.
 fn no_links(alloc: Global, count: usize) -> Result<Vec<Vec<usize>>, AllocError>
     ensures count { IfOk result (λ links. length links.items ≡ count) }
     ensures none { IfOk result (λ links. HaveNoLinks links.items) }
@@ -68,7 +68,7 @@ fn no_links(alloc: Global, count: usize) -> Result<Vec<Vec<usize>>, AllocError>
     Ok(links)
 }
 
-// The place of a path, if it is one of these.
+// The place of a path among these, if it is one of them.
 fn place_of(paths: &IndexSet<StorePath>, path: &StorePath) -> Option<usize>
     ensures { MatchOption result (Contains paths.now.keys path.now → ⊥)
         (λ n. slice_get paths.now.keys n ≡ Some path.now) }

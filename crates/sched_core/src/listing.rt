@@ -17,7 +17,7 @@ pub struct Listed<'a> {
     pub number: usize,
 }
 
-// A derivation of which a text tells, behind the key of its path.
+// A derivation of which a text tells, with the key of its path.
 #[derive(Drop)]
 struct Keyed<'a> {
     key: u64,
@@ -47,7 +47,7 @@ pub fn marked_by_path<'a>(
     Ok(listed)
 }
 
-// The marked derivations, each behind its key, in the order of the plan.
+// The marked derivations, each with its key, in the order of the plan.
 fn keyed_of<'a>(alloc: Global, plan: &'a Plan, marks: &[bool]) -> Result<Vec<Keyed<'a>>, AllocError>
     requires { length marks.now ≡ length plan.now.nodes }
     ensures { IfOk result
@@ -66,7 +66,7 @@ fn keyed_of<'a>(alloc: Global, plan: &'a Plan, marks: &[bool]) -> Result<Vec<Key
     Ok(keyed)
 }
 
-// The derivations behind their keys, in their order.
+// The derivations without their keys, in their order.
 fn listed_of<'a>(alloc: Global, keyed: &[Keyed<'a>]) -> Result<Vec<Listed<'a>>, AllocError>
     ensures { IfOk result (λ listed. listed.items ≡ listed_behind keyed.now) }
 {

@@ -16,11 +16,12 @@ use nix_names::StorePath;
 use std::alloc::{AllocError, Global};
 use valid_table::{Journal, TableFault};
 
-/// The paths to which the outputs of a job may refer, strictly rising: what its seeds lead to,
-/// which is given away in that order, and its own outputs. Answers `NoMemory` where memory is
-/// refused, and no other fault. Costs one sort of the job's outputs, a copy and a binary search for
-/// each of them, and a move of the paths that stand above the least of them. The searches compare
-/// some of the other paths; those stay where they are, and none is copied.
+/// The paths to which the outputs of a job may refer, strictly rising: those of `reached`, to which
+/// its seeds lead, and its own outputs. `reached` is strictly rising too, and is given away.
+/// Answers `NoMemory` where memory is refused, and no other fault. Costs one sort of the job's
+/// outputs, a copy and a binary search for each of them, and a move of the paths of `reached` that
+/// stand above the least of them. A search compares an output with some of the paths of `reached`.
+/// None of those is copied, and those below the least output keep their places.
 pub fn permitted_beside(
     alloc: Global,
     reached: Vec<StorePath>,

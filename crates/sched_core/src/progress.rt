@@ -1,4 +1,4 @@
-//! How a run goes on: its history, and where its derivations stand.
+//! How a run goes on: its history, and the states of its derivations.
 ghost use Rattle.std.specs.Prelude.{◌≡◌, ◌<◌, ◌≤◌, ◌%◌, ◌^◌, ◌↔◌, ℕ, IfErr, IfOk, IsTrue, List, MatchOption, OnOk, length, take};
 ghost use Rattle.valid_table.specs.Entries.{registered_by};
 ghost use Rattle.valid_table.specs.PathInfos.{PathInfo};
@@ -74,7 +74,7 @@ impl Model for Progress {
 
 impl Progress {
     // A run over a plan that opens with the journal's entries. Takes memory for its events and for
-    // where the derivations stand.
+    // the states of its derivations.
     pub(crate) fn open(
         alloc: Global,
         plan: Plan,
@@ -102,12 +102,14 @@ impl Progress {
         })
     }
 
+    // The plan.
     pub(crate) fn plan(&self) -> &Plan
         ensures { result.now ≡ self.now.run.graph }
     {
         self.course.plan()
     }
 
+    // The system for which the run builds.
     pub(crate) fn system(&self) -> &[u8]
         ensures { result.now ≡ self.now.run.system }
     {
@@ -122,6 +124,7 @@ impl Progress {
         &self.journal
     }
 
+    // Each Begin, Done and Fail, in order.
     pub(crate) fn events(&self) -> &[Event]
         ensures value { result.now ≡ self.now.history.events }
         ensures legal { IsLegal self.now.run self.now.history }
@@ -145,22 +148,22 @@ impl Progress {
         self.course.state(d)
     }
 
-    // Whether no wanted derivation has anything before it.
+    // Whether no wanted derivation is Blocked, Ready or Building.
     pub(crate) fn settled(&self) -> bool
         ensures { IsTrue result ↔ IsRunSettled self.now.run self.now.history }
     {
         self.course.settled()
     }
 
-    // How many wanted derivations have something before them.
+    // How many wanted derivations are Blocked, Ready or Building.
     pub(crate) fn unsettled(&self) -> usize
         ensures { AreSoMany (IsUnsettled self.now.run self.now.history) result }
     {
         self.course.unsettled()
     }
 
-    // How much work the states were: a step for each event, and two for each edge along which a
-    // user was told.
+    // How much work it was to find the states: a step for each event, and two for each edge along
+    // which a user was told.
     pub(crate) fn steps(&self) -> u64
         ensures { result ≡ steps_in self.now.run self.now.history % 2 ^ 64 }
     {

@@ -20,8 +20,8 @@ use nix_names::StorePath;
 use std::alloc::{AllocError, Global};
 
 // The report of a course. For each wanted derivation, by path, a line `built P`, `reused P`,
-// `failed P: WHY` or `refused P: WHY`, or none while something is still before it. Then for each
-// root that was built or reused, in the order of the roots, a line `output O` for each of its
+// `failed P: WHY` or `refused P: WHY`, or none while it is Blocked, Ready or Building. Then for
+// each root that was built or reused, in the order of the roots, a line `output O` for each of its
 // outputs. Answers `NoMemory` where memory is refused, and no other fault. Costs one sort of the
 // wanted derivations by path, and else time in proportion to the plan's derivations and the text.
 pub(crate) fn report_of(alloc: Global, course: &Course) -> Result<Vec<u8>, BookFault>

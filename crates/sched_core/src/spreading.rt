@@ -1,4 +1,4 @@
-//! How the state of a derivation changes, and all are told that wait for it.
+//! How the state of a derivation changes, and how all that wait for it are told.
 ghost use Rattle.std.specs.Prelude.{◌≡◌, ◌<◌, ◌+◌, ◌^◌, [], ℕ, length, slice_set};
 ghost use Rattle.sched_core.specs.Agendas.{AreSameElse, IsSpreading, IsSteady, phases_in, standings_in, to_end, twins_in, wanted_in};
 ghost use Rattle.sched_core.specs.Courses.{Awaited};
@@ -14,8 +14,9 @@ use crate::states::serves;
 use crate::tally::{Tally, told};
 use crate::users::Users;
 
-// An event after which a derivation has this state. All are told that wait for it, or for one that
-// is told. Takes no memory. Answers along how many edges an end was told; costs a step, and two for each of these.
+// An event after which a derivation has this state. If it has ended then, its users are told, and
+// the users of each one that ends by being told. Takes no memory. Answers along how many edges an
+// end was told; costs a step, and two for each of these edges.
 pub(crate) fn turn(
     users: &Users,
     tallies: &mut [Tally],

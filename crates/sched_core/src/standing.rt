@@ -1,8 +1,9 @@
-//! Where a derivation stands by itself, before anything is begun.
+//! What is known of a derivation before anything is begun.
 
 use crate::reason::Refusal;
 
-/// Where a derivation stands by itself, before anything is begun.
+/// What is known of a derivation before anything is begun, by its text, the run's system and the
+/// valid paths.
 #[derive(Clone, Copy, Debug, PartialEq, Eq)]
 pub enum Standing {
     /// All its outputs are valid.

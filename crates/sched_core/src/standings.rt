@@ -1,4 +1,4 @@
-//! Where the derivations of a plan stand by themselves, before anything is begun.
+//! The standings of a plan's derivations, before anything is begun.
 ghost use Rattle.std.specs.Prelude.{◌≡◌, ◌<◌, IfErr, IfOk, IfSome, codes, length, not, slice_get};
 ghost use Rattle.std.specs.List.{list_all, list_any, position};
 ghost use Rattle.nix_names.specs.Names.{same_bytes};
@@ -14,10 +14,10 @@ use nix_names::StorePath;
 use std::alloc::Global;
 use valid_table::Journal;
 
-/// Of each derivation, where it stands by itself behind the journal's entries, in a run for the
-/// system. `NoMemory`, the only fault, where memory is refused. Costs a look-up by hash for each
-/// output, up to two where not all are valid, and for each source, and a few comparisons for each
-/// entry of an environment.
+/// The standing of each derivation behind the journal's entries, in a run for the system.
+/// `NoMemory`, the only fault, where memory is refused. Costs a look-up by hash for each output, up
+/// to two where not all are valid, and for each source, and a few comparisons for each entry of an
+/// environment.
 pub fn standings_of(
     alloc: Global,
     plan: &Plan,
@@ -35,7 +35,7 @@ pub fn standings_of(
     Ok(standings)
 }
 
-// Where the derivation with this number stands by itself.
+// The standing of the derivation with this number.
 fn standing_of(plan: &Plan, d: usize, journal: &Journal, system: &[u8]) -> Standing
     requires { d < length plan.now.nodes }
     ensures { result ≡ standing_at system.now journal.now.entries (slice_get plan.now.nodes d) }

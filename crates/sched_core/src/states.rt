@@ -15,7 +15,7 @@ pub(crate) fn inputs_of(plan: &Plan, d: usize) -> &[usize]
     plan.inputs(d)
 }
 
-// Whether a user can be begun behind an input in this state.
+// Whether a user can be begun after an input in this state.
 pub(crate) fn serves(state: State) -> bool
     ensures { result ≡ is_good state }
 {
@@ -29,7 +29,7 @@ pub(crate) fn fails(state: State) -> bool
     matches!(state, State::Failed(_) | State::Refused(_))
 }
 
-// Whether a derivation in this state still has something before it.
+// Whether a derivation in this state is Blocked, Ready or Building.
 pub(crate) fn is_open(state: State) -> bool
     ensures { result ≡ is_open state }
 {

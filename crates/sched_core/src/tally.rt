@@ -11,10 +11,10 @@ use crate::reason::{Refusal, State};
 use crate::standing::Standing;
 use crate::states::{fails, is_open, serves};
 
-// What is kept of a derivation: where it stands by itself, whether it is wanted, its nearest earlier
-// twin, its state, how many inputs it has, how many of these are neither Done nor Reused, the place
-// of the first that failed or is refused (where none did, the number of inputs) with its number, and
-// whether the twin still has something before it.
+// What is kept of a derivation: its standing, whether it is wanted, its nearest earlier twin, its
+// state, how many inputs it has, how many of these are neither Done nor Reused, the place of the
+// first that failed or is refused (where none did, the number of inputs) with its number, and
+// whether the twin is Blocked, Ready or Building.
 #[derive(Clone, Copy, Debug)]
 pub(crate) struct Tally {
     pub(crate) standing: Standing,
@@ -28,8 +28,8 @@ pub(crate) struct Tally {
     pub(crate) held: bool,
 }
 
-// The tally of a derivation that hasn't begun, behind its inputs and its nearest earlier twin, whose
-// tallies are among these.
+// The tally of a derivation that hasn't begun, by the tallies of its inputs and of its nearest
+// earlier twin, which are among these.
 pub(crate) fn tally_of(
     standing: Standing,
     wanted: bool,
@@ -58,8 +58,8 @@ pub(crate) fn tally_of(
     }
 }
 
-// The tally of a derivation that hasn't begun, behind its inputs, as though nothing were known of
-// its nearest earlier twin.
+// The tally of a derivation that hasn't begun, by the tallies of its inputs, as though nothing were
+// known of its nearest earlier twin.
 fn counted(
     standing: Standing,
     wanted: bool,
@@ -102,8 +102,9 @@ fn counted(
     }
 }
 
-// The tally of a derivation that is told whether this one, at this place among what it waits for,
-// was built or was valid, or failed or is refused. Behind its inputs stands its nearest earlier twin.
+// The tally of a derivation that is told of the end of another one, which stands at this place
+// among what it waits for: that one was built or was valid, or it failed or is refused. The place
+// behind the inputs is that of the nearest earlier twin.
 pub(crate) fn told(tally: Tally, place: usize, one: usize, good: bool) -> Tally
     requires { (awaited : Awaited) × (heard : List News) × CanHear awaited heard tally place one }
     ensures is { (awaited : Awaited) (heard : List News) → CanHear awaited heard tally place one
@@ -134,8 +135,8 @@ pub(crate) fn told(tally: Tally, place: usize, one: usize, good: bool) -> Tally
     }
 }
 
-// The tally once its nearest earlier twin has nothing before it any more: it was built or was valid,
-// or it failed or is refused.
+// The tally once the nearest earlier twin has ended: it was built or was valid, or it failed or is
+// refused.
 fn released(tally: Tally, good: bool) -> Tally
     requires { (awaited : Awaited) × (heard : List News) × (twin : ℕ)
         × CanHear awaited heard tally tally.inputs twin }
@@ -163,8 +164,8 @@ fn released(tally: Tally, good: bool) -> Tally
 }
 
 // The state of a derivation that hasn't begun, by whether its nearest earlier twin holds it, by the
-// first of its inputs that failed or is refused, if there is one, and by whether all can be built
-// behind.
+// first of its inputs that failed or is refused, if there is one, and by whether all inputs were
+// built or were valid.
 fn opening_state(standing: Standing, held: bool, first: Option<usize>, all: bool) -> State
     ensures { result ≡ by_validity standing
         (if held then Blocked else by_hindrance standing (by_first first all)) }
@@ -181,8 +182,8 @@ fn opening_state(standing: Standing, held: bool, first: Option<usize>, all: bool
     }
 }
 
-// The state of a derivation that hasn't begun, and that no twin holds or stands for, by its own
-// cause and its inputs.
+// The state of a derivation that hasn't begun, by its own cause and its inputs. It has no earlier
+// twin, or its nearest one failed or is refused.
 fn own_state(standing: Standing, first: Option<usize>, all: bool) -> State
     ensures { result ≡ by_hindrance standing (by_first first all) }
 {
@@ -194,8 +195,8 @@ fn own_state(standing: Standing, first: Option<usize>, all: bool) -> State
     }
 }
 
-// The state after one more input can be built behind, by whether the nearest earlier twin holds it
-// and whether all inputs can be built behind now.
+// The state after one more input was built or was valid, by whether the nearest earlier twin holds
+// the derivation, and by whether all inputs were built or were valid by now.
 fn freed(state: State, held: bool, all: bool) -> State
     ensures is { (standing : Standing) (twins : List News) (first : Option ℕ)
         → held ≡ is_held twins

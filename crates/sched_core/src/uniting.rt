@@ -6,8 +6,8 @@ ghost use Rattle.valid_table.specs.Unions.{IsUnion};
 use nix_names::StorePath;
 use std::alloc::AllocError;
 
-// The union of two strictly rising lists, of which the second has few paths: the paths of the first
-// that stand above one of the second are taken off and put back, the others stay where they are.
+// The union of two strictly rising lists, of which the second has few paths. The paths of the first
+// that stand above one of the second are taken off and put back; the others keep their places.
 // Costs a binary search for each path of the second.
 pub(crate) fn united(
     paths: Vec<StorePath>,
@@ -32,7 +32,7 @@ pub(crate) fn united(
     Ok(below)
 }
 
-// Moves the paths from this place on behind those above, the last first.
+// Moves the paths from this place on to the end of `above`, the last path first.
 fn take_off(
     paths: &mut Vec<StorePath>,
     place: usize,

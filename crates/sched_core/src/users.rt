@@ -14,8 +14,8 @@ use drv_graph::Plan;
 use std::alloc::{AllocError, Global};
 use std::marker::Model;
 
-// The edge to one that waits: the place is that of the awaited one among the inputs in its text's
-// order, behind which stands its nearest earlier twin.
+// The edge to a derivation that waits. The place is that of the awaited one among the user's
+// inputs, in its text's order; the place behind all inputs is that of its nearest earlier twin.
 #[derive(Clone, Copy, Debug, PartialEq, Eq)]
 pub(crate) struct Edge {
     pub(crate) user: usize,
@@ -144,7 +144,7 @@ fn count_inputs(inputs: &[usize], counts: &mut [usize])
     }
 }
 
-// Empty spans with room for so many edges each.
+// Empty spans, each with room for this count of edges.
 fn empty_spans(alloc: Global, counts: &[usize]) -> Result<Vec<Span>, AllocError>
     requires { sum counts.now < 2 ^ 64 }
     ensures size { IfOk result (λ spans. length spans.items ≡ length counts.now) }
@@ -208,7 +208,8 @@ fn add_edges(user: usize, inputs: &[usize], spans: &mut [Span], edges: &mut [Edg
     }
 }
 
-// Adds the edge to one that waits for this one, which stands at this place, at the end of its span.
+// Adds the edge from `one` to a user, at the end of its span. It stands at this place among what
+// the user waits for.
 fn add_edge(user: usize, place: usize, one: usize, spans: &mut [Span], edges: &mut [Edge])
     requires within { one < length spans.old }
     requires room { HaveRoom spans.old (length edges.old) (λ n. often n (one ∷ [])) }

@@ -10,8 +10,8 @@ use crate::standing::Standing;
 use drv_graph::Plan;
 use std::alloc::{AllocError, Global};
 
-/// Of each derivation, whether it is wanted, where they stand so by themselves. `NoMemory`, the only
-/// fault, where memory is refused. Linear in the pairs of a user and an input.
+/// Whether each derivation is wanted, by the standings of all. `NoMemory`, the only fault, where
+/// memory is refused. Linear in the pairs of a user and an input.
 pub fn wanted_of(alloc: Global, plan: &Plan, standings: &[Standing]) -> Result<Vec<bool>, BookFault>
     requires { length standings.now ≡ length plan.now.nodes }
     ensures ok { IfOk result (λ wanted. (run : Run) (opening : List Entry) → run.graph ≡ plan.now
@@ -29,7 +29,7 @@ pub fn wanted_of(alloc: Global, plan: &Plan, standings: &[Standing]) -> Result<V
     Ok(wanted)
 }
 
-// Whether a derivation that stands so by itself can be begun as far as that goes.
+// Whether a standing is `Free`.
 fn is_free(standing: Standing) -> bool
     ensures { IsTrue result ↔ (standing ≡ Standing.Free) }
 {
