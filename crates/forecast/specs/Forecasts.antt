@@ -1,4 +1,4 @@
--- *Forecast*: in which state each derivation of a plan ends, where each builder that is started
+-- *Forecast*: the state in which each derivation of a plan ends, if each builder that is started
 -- makes its outputs (this product's own).
 use Rattle.std.specs.Prelude.{◌≡◌, ◌<◌, ◌⊎◌, ℕ, List, []}
 use Rattle.std.specs.List.{slice_index_or}
@@ -15,7 +15,7 @@ pub record Opening : Type 0 where
   pub run : Run
   pub entries : List Entry
 
--- what becomes of a derivation in this state: what can be begun is built
+-- what becomes of a derivation in this state, where each one that can be begun is built
 abbrev pub built_if_ready : State → State
 built_if_ready Ready = Done
 built_if_ready Done = Done
@@ -25,11 +25,11 @@ built_if_ready (Refused cause) = Refused cause
 built_if_ready (Building lease) = Building lease
 built_if_ready Blocked = Blocked
 
--- the table of states, where what can be begun is built
+-- the table of states, where each derivation that can be begun is built
 unfoldable pub built_table : Rows → (state : ℕ → State) → ℕ → State
 built_table rows state d = built_if_ready (table rows state d)
 
--- the state that is foretold of a derivation, by this table, from those of its inputs and its
+-- the state that is foretold of a derivation by this table, from those of its inputs and its
 -- earlier twins, which have smaller numbers
 unfoldable pub forecast : Rows → ℕ → State
 forecast rows d = built_table rows (λ i. slice_index_or (states_by (built_table rows) d) i Blocked) d
@@ -44,7 +44,7 @@ abbrev pub ForecastsAgree : Type 0
 ForecastsAgree = (rows : Rows) (d : ℕ) → IsInOrder rows
     → forecast rows d ≡ built_table rows (forecast rows) d
 
--- no other states do
+-- no other states agree with the table like that
 abbrev pub ForecastsAreOne : Type 0
 ForecastsAreOne = (rows : Rows) (other : ℕ → State) (count : ℕ) → IsInOrder rows
     → ((d : ℕ) → d < count → other d ≡ built_table rows other d)

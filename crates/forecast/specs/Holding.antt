@@ -17,11 +17,11 @@ state_of Build = Done
 state_of Reuse = Reused
 state_of (Refuse cause) = Refused cause
 
--- those of the first derivations
+-- the states that prospects foretell
 abbrev pub states_of : List Prospect → List State
 states_of prospects = map state_of prospects
 
--- that of the derivation with this number
+-- the state that prospects foretell of the derivation with this number
 abbrev pub state_at : List Prospect → ℕ → State
 state_at prospects d = slice_index_or (states_of prospects) d Blocked
 

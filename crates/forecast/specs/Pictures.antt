@@ -27,7 +27,7 @@ fill_of Done = codes "palegreen"
 fill_of Reused = codes "lightgrey"
 fill_of state = codes "lightcoral"
 
--- a root has a double border
+-- the border of a node: a root has a double one
 abbrev pub border_of : (is_root : Bool) → Bytes
 border_of is_root = if is_root then codes ", peripheries=2" else []
 
@@ -42,13 +42,14 @@ abbrev pub listed_names : List Name → Bytes
 listed_names [] = []
 listed_names (name ∷ names) = name ++ flat_map (λ other. codes ", " ++ other) names
 
--- whether some names are just that of the output `out`
+-- whether some names are just the name of the output `out`
 abbrev pub are_out_alone : List Name → Bool
 are_out_alone [] = false
 are_out_alone (name ∷ []) = same_bytes name (codes "out")
 are_out_alone (name ∷ other ∷ names) = false
 
--- the outputs that are used of an input, where they aren't just `out`
+-- the label of an edge: the names of the outputs that are used of the input, where they aren't just
+-- `out`
 abbrev pub label_of : (names : List Name) → Bytes
 label_of names = if are_out_alone names then []
     else codes " [label=" ++ quoted (listed_names names) ++ codes "]"
@@ -72,11 +73,12 @@ abbrev pub edge_lines : Node → State → Bytes
 edge_lines node state =
     if awaits_inputs state then flat_map (edge_line node.path) node.drv.inputs else []
 
--- of the derivation with this number
+-- the node of the derivation with this number
 abbrev pub node_at : List Node → (state : ℕ → State) → (is_root : ℕ → Bool) → ℕ → Bytes
 node_at nodes state is_root d =
     lines_if_some (λ node. node_line node.path (state d) (is_root d)) (slice_get nodes d)
 
+-- the edges from the derivation with this number to the inputs that it waits for
 abbrev pub edges_at : List Node → (state : ℕ → State) → ℕ → Bytes
 edges_at nodes state d = lines_if_some (λ node. edge_lines node (state d)) (slice_get nodes d)
 

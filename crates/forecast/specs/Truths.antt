@@ -14,8 +14,8 @@ use Rattle.sched_core.specs.declared.reason.Reason.{Reason}
 use Rattle.forecast.specs.Forecasts.{foretold}
 use Rattle.forecast.specs.Texts.{IsForecast, is_whole}
 
--- A run over a loaded plan went to its end: its history is legal, and no wanted derivation has
--- anything before it.
+-- A run over a loaded plan went to its end: its history is legal, and no wanted derivation is
+-- Blocked, Ready or Building.
 pub record HasEnded (run : Run) (history : History) : Type 0 where
   pub plan : IsSound run.graph
   pub legal : IsLegal run history
@@ -29,8 +29,8 @@ HasFailed history d = (lease : ℕ) × ((reason : Reason) × Contains history.ev
 abbrev pub NoneFailed : History → Type 0
 NoneFailed history = (d : ℕ) → HasFailed history d → ⊥
 
--- A derivation is spared: it did not fail, nor did one that it waits for, by whatever way: its
--- inputs and its earlier twins are spared.
+-- A derivation is spared: it did not fail, and its inputs and its earlier twins are spared. So no
+-- failure reaches it by any way.
 pub data IsSpared (run : Run) (history : History) : ℕ → Type 0 where
   spared : (d : ℕ) → (HasFailed history d → ⊥)
       → ((i : ℕ) → Contains (inputs_at run.graph.nodes (slice_get run.graph.nodes d)) i
@@ -44,28 +44,27 @@ SparedComeTrue = (run : Run) (history : History) → HasEnded run history → (d
     → IsWanted run history.opening d → IsSpared run history d
     → state_in run history d ≡ foretold run history.opening d
 
--- where no builder failed each wanted derivation does
+-- where no builder failed, each wanted derivation ends in its foretold state
 abbrev pub StatesComeTrue : Type 0
 StatesComeTrue = (run : Run) (history : History) → HasEnded run history → NoneFailed history
     → (d : ℕ) → IsWanted run history.opening d
     → state_in run history d ≡ foretold run history.opening d
 
--- What is told of a plan, line by line: a derivation that is built, reused or refused, and an
--- output.
+-- A line that tells of a derivation that is built, reused or refused, or of an output.
 pub data Line : Type 0 where
   Build : (path : Path) → Line
   Reuse : (path : Path) → Line
   Refuse : (path : Path) (why : Bytes) → Line
   Output : (path : Path) → Line
 
--- how a forecast tells it
+-- how a forecast writes a line
 abbrev pub foretelling : Line → Bytes
 foretelling (Build path) = path_line (codes "build ") path
 foretelling (Reuse path) = path_line (codes "reuse ") path
 foretelling (Refuse path why) = why_line (codes "refuse ") path why
 foretelling (Output path) = path_line (codes "output ") path
 
--- how a report tells it
+-- how a report writes a line
 abbrev pub reporting : Line → Bytes
 reporting (Build path) = path_line (codes "built ") path
 reporting (Reuse path) = path_line (codes "reused ") path
@@ -78,13 +77,13 @@ pub record TellTheSame (text report : Bytes) : Type 0 where
   pub is_forecast : text ≡ flat_map foretelling lines
   pub is_report : report ≡ flat_map reporting lines
 
--- where no builder failed the report tells what the forecast told
+-- where no builder failed, the report tells what the forecast told
 abbrev pub ReportsComeTrue : Type 0
 ReportsComeTrue = (run : Run) (history : History) → HasEnded run history → NoneFailed history
     → (text report : Bytes) → IsForecast run history.opening text → IsReportIn run history report
     → TellTheSame text report
 
--- and all roots are built or reused just where that was foretold
+-- where no builder failed, all roots are built or reused just where that was foretold
 abbrev pub WholeComesTrue : Type 0
 WholeComesTrue = (run : Run) (history : History) → HasEnded run history → NoneFailed history
     → list_all (λ root. is_good (state_in run history root)) run.graph.roots

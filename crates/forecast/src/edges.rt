@@ -136,7 +136,7 @@ fn write_between(names: &[Vec<u8>], out: &mut Vec<u8>) -> Result<(), AllocError>
     }
 }
 
-// Adds a name, and others behind it, each behind a comma.
+// Adds a name, and the others after it, each with a comma before it.
 fn write_listed(first: &[u8], others: &[Vec<u8>], out: &mut Vec<u8>) -> Result<(), AllocError>
     ensures { OnOk result (out.new.items ≡ out.old.items ++ first.now
         ++ flat_map (λ (v : Vec ℕ Global). codes ", " ++ v.items) others.now) }

@@ -16,7 +16,7 @@ use std::alloc::Global;
 use std::marker::Model;
 use valid_table::Journal;
 
-/// What a run over a plan would come to that opens with a journal, if each builder that it starts
+/// What a run over a plan, which opens with a journal, would come to if each builder that it starts
 /// made its outputs: whatever the number of workers, and the order in which they end.
 #[derive(Debug, Drop)]
 pub struct Forecast {
@@ -98,11 +98,11 @@ impl Forecast {
         true
     }
 
-    /// The text of the forecast. For each wanted derivation, by path, a line `build P`, `reuse P`
-    /// or `refuse P: WHY`. Then for each root that is built or reused, in the order of the roots, a
-    /// line `output O` for each of its outputs. `NoMemory`, the only fault, where memory is
-    /// refused. Costs one sort of the wanted derivations by path, and else time in proportion to
-    /// the plan's derivations and the text.
+    /// The text of the forecast. For each wanted derivation, by path, it has a line `build P`,
+    /// `reuse P` or `refuse P: WHY`. Then for each root that is built or reused, in the order of
+    /// the roots, it has a line `output O` for each of its outputs. `NoMemory`, the only fault,
+    /// where memory is refused. Costs one sort of the wanted derivations by path, and else time in
+    /// proportion to the plan's derivations and the text.
     pub fn text(&self) -> Result<Vec<u8>, BookFault>
         ensures ok { IfOk result (λ text. IsForecast self.now.run self.now.entries text.items) }
         ensures err { IfErr result (λ fault. fault ≡ NoMemory) }
@@ -111,11 +111,12 @@ impl Forecast {
         text_of(alloc, &self.plan, &self.wanted, &self.prospects)
     }
 
-    /// The picture of the forecast, as a graph in Graphviz's language: a node for each wanted
-    /// derivation, by path, labelled by its name, filled by whether it is built, reused or refused,
-    /// with a double border where it is a root; then an edge from each to each input that it waits
-    /// for, labelled by the outputs that it uses where they aren't just `out`. `NoMemory`, the only
-    /// fault, where memory is refused. Costs what `text` costs, and a step for each edge.
+    /// The picture of the forecast, as a graph in Graphviz's language. It has a node for each
+    /// wanted derivation, by path: labelled by its name, filled by whether it is built, reused or
+    /// refused, with a double border where it is a root. Then it has an edge from each to each
+    /// input that it waits for, labelled by the outputs that it uses where they aren't just `out`.
+    /// `NoMemory`, the only fault, where memory is refused. Costs what `text` costs, and a step for
+    /// each edge.
     pub fn picture(&self) -> Result<Vec<u8>, BookFault>
         ensures ok { IfOk result (λ text. IsPicture self.now.run self.now.entries text.items) }
         ensures err { IfErr result (λ fault. fault ≡ NoMemory) }

@@ -24,8 +24,9 @@ pub fn forecast_comes_true()
     ensures whole { WholeComesTrue }
 {}
 
-/// Where builders fail, each wanted derivation still ends in its foretold state that didn't fail
-/// itself and waits for none that failed, by whatever way.
+/// Where builders fail, each wanted derivation still ends in its foretold state if no failure
+/// reaches it: it didn't fail itself, and nothing that it waits for, directly or through others,
+/// failed.
 pub fn what_no_failure_reaches_comes_true()
     ensures { SparedComeTrue }
 {}

@@ -42,8 +42,8 @@ pub(crate) fn prospect_at(prospects: &[Prospect], number: usize) -> Prospect
     prospects[number]
 }
 
-// The prospect of a derivation that stands so by itself, of which an earlier twin is built or not,
-// with these inputs, behind the derivations before it.
+// The prospect of a derivation with this standing and these inputs, by whether an earlier twin is
+// built, and by the prospects of the derivations before it.
 pub(crate) fn prospect_of(
     standing: Standing,
     has_built_twin: bool,
@@ -62,8 +62,8 @@ pub(crate) fn prospect_of(
     }
 }
 
-// The prospect of a derivation that nothing but its inputs can keep from being begun: it is refused
-// for the first of them that is refused.
+// The prospect of a derivation that only its inputs can keep from being begun: it is refused for
+// the first of them that is refused.
 fn behind(inputs: &[usize], earlier: &[Prospect]) -> Prospect
     requires { All (λ input. input < length earlier.now) inputs.now }
     ensures { state_of result ≡ built_if_ready (by_inputs (state_at earlier.now) inputs.now) }

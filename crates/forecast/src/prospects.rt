@@ -11,8 +11,8 @@ use drv_graph::Plan;
 use sched_core::{BookFault, Standing};
 use std::alloc::Global;
 
-// The prospects of a plan's derivations, which stand so by themselves and of which these are
-// wanted. Costs a step for each derivation, and for each of its inputs.
+// The prospects of a plan's derivations, by their standings and by which of them are wanted. Costs
+// a step for each derivation, and for each of its inputs.
 pub(crate) fn prospects_of(
     alloc: Global,
     plan: &Plan,
@@ -27,7 +27,7 @@ pub(crate) fn prospects_of(
     ensures count { IfOk result (λ prospects. length prospects.items ≡ length plan.now.nodes) }
     ensures err { IfErr result (λ fault. fault ≡ NoMemory) }
 {
-    // Of each first twin, whether a wanted one of its twins so far is built.
+    // Of each first twin, whether one of its wanted twins up to here is built.
     let mut built = vec![in alloc; false; plan.len()]?;
     let mut prospects = Vec::with_capacity(alloc, plan.len())?;
     for d in 0..plan.len() {
