@@ -1,7 +1,7 @@
 -- What the steps of filling a draft answer.
 use Rattle.std.specs.Prelude.{◌≡◌, ◌≢◌, ◌<◌, ◌≤◌, ◌⊎◌, ℕ, List, length, All, IsTrue, Vec, Ok, Err}
 use Rattle.std.specs.declared.alloc.Global.{Global}
-use Rattle.nix_names.specs.Bytes.{Bytes, Dir, Path, Hash}
+use Rattle.nix_names.specs.Bytes.{Bytes, Dir, Path, Name, Hash}
 use Rattle.nix_names.specs.Names.{is_name}
 use Rattle.nix_names.specs.StorePaths.{IsPathOf}
 use Rattle.nix_drv.specs.Checked.{IsFirstStray}
@@ -17,7 +17,7 @@ use Rattle.drv_graph.specs.Nodes.{AreHashes, Node, inputs_of}
 use Rattle.drv_graph.specs.Outputs.{IsOutputsCheck, IsThePathOrEmpty}
 use Rattle.drv_graph.specs.Plans.{AreDrvsOf}
 use Rattle.drv_graph.specs.declared.fault.GraphFault.{GraphFault}
-use Rattle.drv_graph.specs.declared.fault.GraphFault.TheVariants.{NoMemory, Draft, Name}
+use Rattle.drv_graph.specs.declared.fault.GraphFault.TheVariants.{NoMemory, Draft, Name as NoName}
 use Rattle.drv_graph.specs.declared.fault.NodeFault.TheVariants.{Text, Outputs}
 use Rattle.drv_graph.specs.declared.fault.OutputFault.{OutputFault}
 use Rattle.drv_graph.specs.declared.fault.OutputFault.TheVariants.{NoMemory as NoRoom}
@@ -26,9 +26,9 @@ use Rattle.drv_graph.specs.declared.kinds.Kind.{Kind}
 
 -- the name, or the name of its file, is no name of a store path; or memory was refused for the name
 -- of the file
-abbrev pub IsNameRefused : (name : List ℕ) → GraphFault → Type 0
+abbrev pub IsNameRefused : (name : Name) → GraphFault → Type 0
 IsNameRefused name fault = ((fault ≡ NoMemory) × IsTrue (is_name name))
-    ⊎ ((fault ≡ Name) × (AreNames name → ⊥))
+    ⊎ ((fault ≡ NoName) × (AreNames name → ⊥))
 
 -- the fault has the first of the paths that isn't in the folder, or memory was refused
 abbrev pub IsStrayRefused : (dir : Dir) → (paths : List Path) → GraphFault → Type 0
@@ -38,14 +38,14 @@ IsStrayRefused dir paths fault = (fault ≡ NoMemory)
 
 -- What is known of the file of a filled derivation before the draft is filled: its name and its
 -- references.
-pub record IsTarget (dir : Dir) (name : List ℕ) (draft : Drv) (target : Target) : Type 0 where
+pub record IsTarget (dir : Dir) (name : Name) (draft : Drv) (target : Target) : Type 0 where
   pub names : AreNames name
   pub file : target.file.items ≡ file_name name
   pub in_store : All (IsPathOf dir) (paths_of draft)
   pub refs : IsReferencesOf (paths_of draft) target.refs.items
 
 -- the name is refused; or the names are right, and a reference is refused
-abbrev pub IsTargetRefused : (dir : Dir) → (name : List ℕ) → Drv → GraphFault → Type 0
+abbrev pub IsTargetRefused : (dir : Dir) → (name : Name) → Drv → GraphFault → Type 0
 IsTargetRefused dir name draft fault = IsNameRefused name fault
     ⊎ (AreNames name × IsStrayRefused dir (paths_of draft) fault)
 
@@ -56,14 +56,14 @@ pub record AreUsed (nodes : List Node) (draft : Drv) (used : List Drv) (hashes :
   pub are_hashes : AreHashes nodes (inputs_of draft) hashes
 
 -- the outputs of a draft are right, and their expected paths are these
-abbrev pub AreDraftPaths : (dir : Dir) → (name : List ℕ) → Drv → (used : List Drv)
+abbrev pub AreDraftPaths : (dir : Dir) → (name : Name) → Drv → (used : List Drv)
     → (hashes : List Hash) → (paths : List Path) → Type 0
 AreDraftPaths dir name draft used hashes paths =
     (kind : Kind) × IsOutputsCheck IsThePathOrEmpty dir name draft used hashes (Ok kind)
     × AreExpected dir name kind draft hashes paths
 
 -- something is wrong with the outputs of a draft, or memory was refused
-abbrev pub AreOutputsRefused : (dir : Dir) → (name : List ℕ) → Drv → (used : List Drv)
+abbrev pub AreOutputsRefused : (dir : Dir) → (name : Name) → Drv → (used : List Drv)
     → (hashes : List Hash) → GraphFault → Type 0
 AreOutputsRefused dir name draft used hashes fault =
     (fault ≡ NoMemory)
@@ -71,7 +71,7 @@ AreOutputsRefused dir name draft used hashes fault =
     × IsOutputsCheck IsThePathOrEmpty dir name draft used hashes (Err of))
 
 -- A draft whose inputs are among some nodes is filled.
-pub record IsFilledBehind (dir : Dir) (name : List ℕ) (nodes : List Node) (draft filled : Drv)
+pub record IsFilledBehind (dir : Dir) (name : Name) (nodes : List Node) (draft filled : Drv)
     : Type 0 where
   pub used : List Drv
   pub hashes : List Hash
@@ -82,7 +82,7 @@ pub record IsFilledBehind (dir : Dir) (name : List ℕ) (nodes : List Node) (dra
 
 -- something is wrong with the outputs of a draft whose inputs are among some nodes, or memory was
 -- refused
-abbrev pub IsFillRefused : (dir : Dir) → (name : List ℕ) → (nodes : List Node) → Drv → GraphFault
+abbrev pub IsFillRefused : (dir : Dir) → (name : Name) → (nodes : List Node) → Drv → GraphFault
     → Type 0
 IsFillRefused dir name nodes draft fault =
     (fault ≡ NoMemory)
@@ -96,7 +96,7 @@ IsTextRefused drv fault = (fault ≡ NoMemory)
     × ((bytes : Bytes) × IsDrvText drv bytes × (max_len < length bytes)))
 
 -- The path of a derivation's text, by the name of its file and by its references.
-pub record IsTextPath (dir : Dir) (file : List ℕ) (refs : List Path) (drv : Drv) (path : Path)
+pub record IsTextPath (dir : Dir) (file : Name) (refs : List Path) (drv : Drv) (path : Path)
     : Type 0 where
   pub bytes : Bytes
   pub is_text : IsDrvText drv bytes

@@ -3,7 +3,7 @@
 -- own).
 use Rattle.std.specs.Prelude.{◌≡◌, ◌≢◌, ◌<◌, ◌≤◌, ◌++◌, ℕ, List, length, codes, Contains, IsTrue, Result, Ok, Err}
 use Rattle.std.specs.List.{AllZip}
-use Rattle.nix_names.specs.Bytes.{Bytes, Dir, Path, Hash}
+use Rattle.nix_names.specs.Bytes.{Bytes, Dir, Path, Name, Hash}
 use Rattle.nix_names.specs.Names.{is_name}
 use Rattle.nix_drv.specs.Checked.{IsFirstStray}
 use Rattle.nix_drv.specs.Derivation.{Drv, EnvEntry, IsDrvText, Output}
@@ -19,7 +19,7 @@ use Rattle.drv_graph.specs.Nodes.{AreHashes, inputs_of}
 use Rattle.drv_graph.specs.Outputs.{IsOutputsCheck, IsThePathOrEmpty}
 use Rattle.drv_graph.specs.Plans.{AreDrvsOf, Graph, IsPlan, IsReached, MayUse}
 use Rattle.drv_graph.specs.declared.fault.GraphFault.{GraphFault}
-use Rattle.drv_graph.specs.declared.fault.GraphFault.TheVariants.{NoMemory, At, Draft, Name}
+use Rattle.drv_graph.specs.declared.fault.GraphFault.TheVariants.{NoMemory, At, Draft, Name as NoName}
 use Rattle.drv_graph.specs.declared.fault.NodeFault.{NodeFault}
 use Rattle.drv_graph.specs.declared.fault.NodeFault.TheVariants.{Text, Outputs}
 use Rattle.drv_graph.specs.declared.fault.OutputFault.TheVariants.{NoMemory as NoRoom}
@@ -52,16 +52,16 @@ pub record IsFilled (Expected : Output → Path → Type 0) (draft filled : Drv)
   pub env : AllZip (IsFilledEntry filled.outputs) draft.env filled.env
 
 -- the name of the file of the derivation with this name
-abbrev pub file_name : List ℕ → List ℕ
+abbrev pub file_name : Name → Name
 file_name name = name ++ codes ".drv"
 
 -- the name, and the name of its file, are names of store paths
-abbrev pub AreNames : List ℕ → Type 0
+abbrev pub AreNames : Name → Type 0
 AreNames name = IsTrue (is_name name) × IsTrue (is_name (file_name name))
 
 -- A plan of a draft's inputs, by answers that the source may give, and the derivations and the
 -- modulo hashes of these inputs.
-pub record MayFill (dir : Dir) (gives : Path → Answer → Type 0) (name : List ℕ) (draft : Drv)
+pub record MayFill (dir : Dir) (gives : Path → Answer → Type 0) (name : Name) (draft : Drv)
     : Type 0 where
   pub graph : Graph
   pub is_plan : IsPlan dir gives (inputs_of draft) graph
@@ -71,7 +71,7 @@ pub record MayFill (dir : Dir) (gives : Path → Answer → Type 0) (name : List
   pub are_hashes : AreHashes graph.nodes (inputs_of draft) hashes
 
 -- The filled derivation of a draft, and its text.
-pub record IsFilledText (dir : Dir) (gives : Path → Answer → Type 0) (name : List ℕ)
+pub record IsFilledText (dir : Dir) (gives : Path → Answer → Type 0) (name : Name)
     (draft filled : Drv) (bytes : Bytes) : Type 0 where
   pub behind : MayFill dir gives name draft
   pub kind : Kind
@@ -84,7 +84,7 @@ abbrev pub AreInStore : (dir : Dir) → Drv → Type 0
 AreInStore dir draft = (text : Bytes) → IsFirstStray dir (paths_of draft) text → ⊥
 
 -- the fault is true of the draft, or of its filled text
-abbrev pub IsTrueOfDraft : (dir : Dir) → (gives : Path → Answer → Type 0) → (name : List ℕ)
+abbrev pub IsTrueOfDraft : (dir : Dir) → (gives : Path → Answer → Type 0) → (name : Name)
     → Drv → NodeFault → Type 0
 IsTrueOfDraft dir gives name draft (Text (BadReference text)) =
     IsFirstStray dir (paths_of draft) text.items
@@ -100,13 +100,13 @@ IsTrueOfDraft dir gives name draft fault = ⊥
 -- What filling a draft under a name answers: the filled derivation with the path of its text, or
 -- the first fault in this order: of the name, of the draft's references, of its inputs, of its
 -- outputs, of its filled text. `NoMemory` comes only where `name` is a name of a store path.
-abbrev pub IsFilling : (dir : Dir) → (gives : Path → Answer → Type 0) → (name : List ℕ) → Drv
+abbrev pub IsFilling : (dir : Dir) → (gives : Path → Answer → Type 0) → (name : Name) → Drv
     → Result (Drv × Path) GraphFault → Type 0
 IsFilling dir gives name draft (Ok made) =
     AreNames name × AreInStore dir draft
     × ((bytes : Bytes) × IsFilledText dir gives name draft made.0 bytes × (length bytes ≤ max_len)
     × IsOwnPath dir (file_name name) made.0 bytes made.1)
-IsFilling dir gives name draft (Err Name) = AreNames name → ⊥
+IsFilling dir gives name draft (Err NoName) = AreNames name → ⊥
 IsFilling dir gives name draft (Err (At path fault)) =
     AreNames name × AreInStore dir draft × IsReached (MayUse dir gives) (inputs_of draft) path
     × IsTrueAt dir gives (inputs_of draft) path fault
