@@ -1,7 +1,7 @@
 -- What `fill_outputs` answers: a draft in which each empty output path is replaced by the expected
 -- path (Nix manual, "Store Derivation"; keeping values that are right already is this product's
 -- own).
-use Rattle.std.specs.Prelude.{◌≡◌, ◌≢◌, ◌<◌, ◌≤◌, ◌++◌, ℕ, List, length, codes, Contains, IsTrue, Result, Ok, Err}
+use Rattle.std.specs.Prelude.{◌≡◌, ◌≢◌, ◌<◌, ◌≤◌, ◌++◌, List, length, codes, Contains, IsTrue, Result, Ok, Err}
 use Rattle.std.specs.List.{AllZip}
 use Rattle.nix_names.specs.Bytes.{Bytes, Dir, Path, Name, Hash}
 use Rattle.nix_names.specs.Names.{is_name}
