@@ -1,6 +1,9 @@
+-- What public contracts cite, and what that rests on.
 pub mod Forecasts
 pub mod Holding
-pub mod Marks
 pub mod Pictures
 pub mod Texts
 pub mod Truths
+
+-- What only private contracts and proofs cite.
+pub mod Marks

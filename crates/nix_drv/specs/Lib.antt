@@ -1,20 +1,23 @@
-pub mod Strings
-pub mod Grammar
-pub mod Order
-pub mod Laws
+-- What public contracts cite, and what that rests on.
+pub mod Checked
 pub mod Derivation
 pub mod Equality
-pub mod Parts
-pub mod Reading
-pub mod Passing
-pub mod Listings
-pub mod Behind
-pub mod Stops
-pub mod Ordering
+pub mod Grammar
+pub mod Laws
+pub mod ListedFiles
+pub mod Order
 pub mod Outcome
 pub mod OwnPath
-pub mod Checked
+pub mod Parts
+pub mod Places
 pub mod References
 pub mod Sources
-pub mod ListedFiles
-pub mod Places
+pub mod Strings
+
+-- What only private contracts and proofs cite.
+pub mod Behind
+pub mod Listings
+pub mod Ordering
+pub mod Passing
+pub mod Reading
+pub mod Stops

@@ -1,3 +1,4 @@
+-- What public contracts cite, and what that rests on.
 pub mod Answers
 pub mod Base32
 pub mod Bytes

@@ -1,5 +1,5 @@
+-- What public contracts cite, and what that rests on.
 pub mod Builders
-pub mod Finding
 pub mod GivenOutcomes
 pub mod Numbers
 pub mod OneThread
@@ -7,5 +7,8 @@ pub mod Realising
 pub mod SameOutcomes
 pub mod ScheduleExample
 pub mod Scheduling
-pub mod Sharing
 pub mod TwinExample
+
+-- What only private contracts and proofs cite.
+pub mod Finding
+pub mod Sharing

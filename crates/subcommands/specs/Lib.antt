@@ -1,3 +1,4 @@
+-- What public contracts cite, and what that rests on.
 pub mod AddedDrv
 pub mod AddedText
 pub mod CheckLines
@@ -5,10 +6,8 @@ pub mod CommandLine
 pub mod DrvEndings
 pub mod Endings
 pub mod FaultWords
-pub mod Files
 pub mod Folders
 pub mod GraphWords
-pub mod JournalFiles
 pub mod Planning
 pub mod ProgramEndings
 pub mod Realising
@@ -18,3 +17,7 @@ pub mod Statuses
 pub mod Stops
 pub mod StoreDirs
 pub mod Tasks
+
+-- What only private contracts and proofs cite.
+pub mod Files
+pub mod JournalFiles
