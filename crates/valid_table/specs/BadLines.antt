@@ -1,49 +1,50 @@
 -- Where the bytes of a file stop being a journal: the first bad line.
 use Rattle.std.specs.Prelude.{◌≡◌, ◌≢◌, ◌⊎◌, ℕ, zero, suc, List, [], ◌∷◌, ◌++◌, All, IsTrue, codes}
 use Rattle.std.specs.Char.{is_ascii_digit}
+use Rattle.nix_names.specs.Bytes.{Bytes, Dir}
 use Rattle.nix_names.specs.Names.{IsStoreDir}
 use Rattle.valid_table.specs.Texts.{IsText}
 use Rattle.valid_table.specs.declared.entry.Entry.{Entry}
 
--- the bytes are so many lines, each with its newline
-abbrev pub AreLines : ℕ → List ℕ → Type 0
+-- the bytes are `count` lines, each with its newline
+abbrev pub AreLines : (count : ℕ) → Bytes → Type 0
 AreLines zero bytes = bytes ≡ []
 AreLines (suc n) bytes =
-    (line : List ℕ) × (rest : List ℕ) × All (λ b. b ≢ 10) line × (bytes ≡ line ++ (10 ∷ rest))
+    (line : Bytes) × (rest : Bytes) × All (λ b. b ≢ 10) line × (bytes ≡ line ++ (10 ∷ rest))
     × AreLines n rest
 
 -- the bytes begin with an output's letter
-abbrev pub BeginsOutput : List ℕ → Type 0
-BeginsOutput bytes = (rest : List ℕ) × (bytes ≡ codes "O " ++ rest)
+abbrev pub BeginsOutput : Bytes → Type 0
+BeginsOutput bytes = (rest : Bytes) × (bytes ≡ codes "O " ++ rest)
 
--- The first lines of the bytes, so many, stand: a journal's text begins with them. It ends there,
--- or else it goes on with an output, as the bytes do. So a deriver's line stands only where an
--- output's line follows it.
-pub record Stands (dir : List ℕ) (count : ℕ) (bytes rest : List ℕ) : Type 0 where
-  pub front : List ℕ
+-- The first `count` lines of the bytes are good, and `rest` is what follows them: the text of some
+-- journal begins with these lines. That text ends there, or it goes on with an output, as the bytes
+-- do. So a deriver's line is good only where an output's line follows it.
+pub record Stands (dir : Dir) (count : ℕ) (bytes rest : Bytes) : Type 0 where
+  pub front : Bytes
   pub parts : bytes ≡ front ++ rest
   pub counted : AreLines count front
   pub entries : List Entry
-  pub whole : List ℕ
+  pub whole : Bytes
   pub is_text : IsText dir entries whole
-  pub after : List ℕ
+  pub after : Bytes
   pub begins : whole ≡ front ++ after
   pub next : (after ≡ []) ⊎ (BeginsOutput after × BeginsOutput rest)
 
--- Line n is the first bad one: there is such a line, or a beginning of one, all before it stand,
--- and with it they don't.
-pub record IsBadLine (dir : List ℕ) (bytes : List ℕ) (n : ℕ) : Type 0 where
+-- Line n is the first bad one: the lines before it are good, some bytes follow them, and the lines
+-- up to line n are not good.
+pub record IsBadLine (dir : Dir) (bytes : Bytes) (n : ℕ) : Type 0 where
   pub before : ℕ
   pub is_next : n ≡ suc before
-  pub rest : List ℕ
+  pub rest : Bytes
   pub some : rest ≢ []
   pub stands : Stands dir before bytes rest
-  pub falls : (more : List ℕ) → Stands dir n bytes more → ⊥
+  pub falls : (more : Bytes) → Stands dir n bytes more → ⊥
 
--- Line 1 is that of a journal's version other than 1 and 2.
-pub record IsOtherVersion (bytes : List ℕ) : Type 0 where
-  pub digits : List ℕ
-  pub rest : List ℕ
+-- Line 1 is the first line of a journal of a version other than 1 and 2.
+pub record IsOtherVersion (bytes : Bytes) : Type 0 where
+  pub digits : Bytes
+  pub rest : Bytes
   pub some : digits ≢ []
   pub decimal : All (λ b. IsTrue (is_ascii_digit b)) digits
   pub not_one : digits ≢ codes "1"
@@ -53,10 +54,10 @@ pub record IsOtherVersion (bytes : List ℕ) : Type 0 where
 -- a text of a journal has no bad line
 abbrev pub TextsHaveNoBadLine : Type 0
 TextsHaveNoBadLine =
-    (dir bytes : List ℕ) (entries : List Entry) (n : ℕ) → IsStoreDir dir → IsText dir entries bytes
-    → IsBadLine dir bytes n → ⊥
+    (dir : Dir) (bytes : Bytes) (entries : List Entry) (n : ℕ) → IsStoreDir dir
+    → IsText dir entries bytes → IsBadLine dir bytes n → ⊥
 
--- the first bad line is one
+-- bytes have at most one first bad line
 abbrev pub BadLineIsOne : Type 0
-BadLineIsOne = (dir bytes : List ℕ) (m n : ℕ) → IsStoreDir dir → IsBadLine dir bytes m
+BadLineIsOne = (dir : Dir) (bytes : Bytes) (m n : ℕ) → IsStoreDir dir → IsBadLine dir bytes m
     → IsBadLine dir bytes n → m ≡ n

@@ -1,5 +1,7 @@
--- Which registration is to blame where some can't be taken in, and how that is told.
+-- Which registration is to blame where some can't be taken in, and the obstacle and the fault that
+-- say so.
 use Rattle.std.specs.Prelude.{◌≡◌, ℕ, List, Option, Some, None, slice_get}
+use Rattle.nix_names.specs.Bytes.{Path}
 use Rattle.valid_table.specs.Adding.{AreNew, IsFirstUnclosed, IsFirstValid}
 use Rattle.valid_table.specs.declared.entry.Registration.{Registration}
 use Rattle.valid_table.specs.declared.fault.TableFault.{TableFault}
@@ -12,7 +14,7 @@ use Rattle.valid_table.specs.declared.obstacle.Obstacle.TheVariants as obstacle
 abbrev pub IsBlamedFor : (known some : List Registration) → Registration → Option ℕ → Type 0
 IsBlamedFor known some registration None = IsFirstValid known some registration.path
 IsBlamedFor known some registration (Some place) =
-    (path : List ℕ) × (slice_get registration.info.references place ≡ Some path) × AreNew known some
+    (path : Path) × (slice_get registration.info.references place ≡ Some path) × AreNew known some
     × IsFirstUnclosed known some path
 
 -- which of some registrations is to blame, behind known ones
@@ -25,18 +27,18 @@ IsBlamed known some blame =
 -- nor by themselves
 abbrev pub IsUnclosedAt : (known some : List Registration) → Blame → Type 0
 IsUnclosedAt known some blame =
-    (registration : Registration) × (place : ℕ) × (path : List ℕ)
+    (registration : Registration) × (place : ℕ) × (path : Path)
     × (slice_get some blame.registration ≡ Some registration) × (blame.reference ≡ Some place)
     × (slice_get registration.info.references place ≡ Some path) × IsFirstUnclosed known some path
 
--- the obstacle of a registration that is blamed so
+-- the obstacle of a registration that is blamed for its path, or for the reference at a place
 abbrev pub IsObstacleOf : Registration → Option ℕ → Obstacle → Type 0
 IsObstacleOf registration None (obstacle.AlreadyValid path) = path.now ≡ registration.path
 IsObstacleOf registration (Some place) (obstacle.Unclosed path) =
     slice_get registration.info.references place ≡ Some path.now
 IsObstacleOf registration reference other = ⊥
 
--- and its fault
+-- the fault of such a registration
 abbrev pub IsFaultOf : Registration → Option ℕ → TableFault → Type 0
 IsFaultOf registration None (AlreadyValid path) = path ≡ registration.path
 IsFaultOf registration (Some place) (Unclosed path) = slice_get registration.info.references place

@@ -2,6 +2,7 @@
 -- 0, in the order of what was registered.
 use Rattle.std.specs.Prelude.{◌≡◌, ◌↔◌, ◌<◌, ◌++◌, ℕ, List, All, Contains, length, map, nat_eq, slice_index_or, take, []}
 use Rattle.std.specs.List.{IsDistinct}
+use Rattle.nix_names.specs.Bytes.{Path}
 use Rattle.valid_table.specs.Closure.{Reaches}
 use Rattle.valid_table.specs.Entries.{paths_of}
 use Rattle.valid_table.specs.PathInfos.{PathInfo}
@@ -9,29 +10,29 @@ use Rattle.valid_table.specs.Valid.{IsValid, RefersTo, Registers}
 use Rattle.valid_table.specs.declared.entry.Registration.{Registration}
 
 -- the path of a row
-abbrev pub path_at : List Registration → ℕ → List ℕ
+abbrev pub path_at : List Registration → (row : ℕ) → Path
 path_at registrations row = slice_index_or (paths_of registrations) row []
 
 -- the paths of some rows
-abbrev pub paths_at : List Registration → List ℕ → List (List ℕ)
+abbrev pub paths_at : List Registration → (rows : List ℕ) → List Path
 paths_at registrations rows = map (path_at registrations) rows
 
--- a row is the one of a path
-abbrev pub IsRowOf : List Registration → List ℕ → ℕ → Type 0
+-- a number is the row of a path
+abbrev pub IsRowOf : List Registration → Path → (row : ℕ) → Type 0
 IsRowOf registrations path row = (row < length registrations) × (path_at registrations row ≡ path)
 
--- Numbers are those of rows, none twice.
+-- Numbers are rows of a table, none twice.
 pub record AreRows (registrations : List Registration) (rows : List ℕ) : Type 0 where
   pub distinct : IsDistinct nat_eq rows
   pub below : All (λ row. row < length registrations) rows
 
 -- two lists have the same paths
-abbrev pub HaveSame : List (List ℕ) → List (List ℕ) → Type 0
-HaveSame left right = (path : List ℕ) → Contains left path ↔ Contains right path
+abbrev pub HaveSame : (left right : List Path) → Type 0
+HaveSame left right = (path : Path) → Contains left path ↔ Contains right path
 
--- Behind old rows stand new ones, of paths that are asked for; each path that is asked for and
--- valid has its row there.
-pub record AddsRows (registrations : List Registration) (old : List ℕ) (paths : List (List ℕ))
+-- Rows are added behind old ones. Each added row is the row of one of the paths, and each of the
+-- paths that is valid has its row among the old and the added ones.
+pub record AddsRows (registrations : List Registration) (old : List ℕ) (paths : List Path)
     (new : List ℕ) : Type 0 where
   pub rows : AreRows registrations new
   pub added : List ℕ
@@ -40,25 +41,26 @@ pub record AddsRows (registrations : List Registration) (old : List ℕ) (paths 
   pub there : All (λ path. IsValid registrations path → Contains (paths_at registrations new) path)
       paths
 
--- Behind old rows stand the new ones of the references of a row, by the record of its path.
+-- The rows of the references of a row, by the record of its path, are added behind old ones.
 pub record AddsReferences (registrations : List Registration) (old : List ℕ) (row : ℕ)
     (new : List ℕ) : Type 0 where
   pub info : PathInfo
   pub registers : Registers registrations (path_at registrations row) info
   pub adds : AddsRows registrations old info.references new
 
--- one of some paths reaches a path
-abbrev pub IsReached : List Registration → List (List ℕ) → List ℕ → Type 0
-IsReached registrations roots path = (root : List ℕ) × Contains roots root
+-- a path is reached from one of the roots
+abbrev pub IsReached : List Registration → (roots : List Path) → Path → Type 0
+IsReached registrations roots path = (root : Path) × Contains roots root
     × Reaches registrations root path
 
 -- each valid reference of a path is in a list
-abbrev pub HasReferences : List Registration → List (List ℕ) → List ℕ → Type 0
-HasReferences registrations paths path = (next : List ℕ) → RefersTo registrations path next
+abbrev pub HasReferences : List Registration → (paths : List Path) → Path → Type 0
+HasReferences registrations paths path = (next : Path) → RefersTo registrations path next
     → IsValid registrations next → Contains paths next
 
--- Rows that were found from a start: it is among them, each of their paths is reached from it, and
--- the valid references of the first of them, so many, are among their paths.
+-- Rows were found from the rows of a start. The paths of the start are among their paths, each of
+-- their paths is reached from a path of the start, and the valid references of the first `count` of
+-- their paths are among their paths.
 pub record IsFollowed (registrations : List Registration) (start found : List ℕ) (count : ℕ)
     : Type 0 where
   pub rows : AreRows registrations found

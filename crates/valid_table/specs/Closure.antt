@@ -1,7 +1,8 @@
 -- *Closure*: all that some paths lead to by references (Dolstra's thesis, section 5.5; Nix manual,
 -- "Store Object").
-use Rattle.std.specs.Prelude.{◌≡◌, ◌↔◌, ◌++◌, ℕ, List, [], ◌∷◌, All, Contains, Result, Ok, Err}
+use Rattle.std.specs.Prelude.{◌≡◌, ◌↔◌, ◌++◌, List, [], ◌∷◌, All, Contains, Result, Ok, Err}
 use Rattle.std.specs.Global.{Vec}
+use Rattle.nix_names.specs.Bytes.{Path}
 use Rattle.nix_names.specs.Rising.{IsRising}
 use Rattle.valid_table.specs.Entries.{registered}
 use Rattle.valid_table.specs.Valid.{IsClosed, IsNotValid, IsOnce, IsValid, RefersTo}
@@ -11,24 +12,25 @@ use Rattle.valid_table.specs.declared.fault.TableFault.{TableFault}
 use Rattle.valid_table.specs.declared.fault.TableFault.TheVariants.{NoMemory, NotValid}
 use Rattle.nix_names.specs.Firsts.{IsFirst}
 
--- valid paths lead from one to another, each next one a reference of the one before
-abbrev pub Leads : List Registration → List ℕ → List ℕ → List (List ℕ) → Type 0
+-- steps lead from one valid path to another: each step is a reference of the path before it
+abbrev pub Leads : List Registration → (from to : Path) → (steps : List Path) → Type 0
 Leads registrations from to [] = IsValid registrations from × (from ≡ to)
 Leads registrations from to (next ∷ steps) = RefersTo registrations from next
     × Leads registrations next to steps
 
--- a path reaches another by some such list
-abbrev pub Reaches : List Registration → List ℕ → List ℕ → Type 0
-Reaches registrations from to = (steps : List (List ℕ)) × Leads registrations from to steps
+-- a path reaches another: some steps lead to it
+abbrev pub Reaches : List Registration → (from to : Path) → Type 0
+Reaches registrations from to = (steps : List Path) × Leads registrations from to steps
 
 -- The closure of some paths, in rising order: just what one of them reaches.
-pub record IsClosure (registrations : List Registration) (roots all : List (List ℕ)) : Type 0 where
+pub record IsClosure (registrations : List Registration) (roots all : List Path) : Type 0 where
   pub rising : IsRising all
-  pub each : (path : List ℕ) → Contains all path
-      ↔ ((root : List ℕ) × Contains roots root × Reaches registrations root path)
+  pub each : (path : Path) → Contains all path
+      ↔ ((root : Path) × Contains roots root × Reaches registrations root path)
 
--- what a question for the closure of some roots answers
-abbrev pub IsClosing : List Registration → List (List ℕ) → Result (Vec (List ℕ)) TableFault → Type 0
+-- what is answered where the closure of some roots is asked for
+abbrev pub IsClosing : List Registration → (roots : List Path) → Result (Vec Path) TableFault
+    → Type 0
 IsClosing registrations roots (Ok all) = All (IsValid registrations) roots
     × IsClosure registrations roots all.items
 IsClosing registrations roots (Err (NotValid path)) =
@@ -39,12 +41,12 @@ IsClosing registrations roots (Err other) = ⊥
 -- the closure of paths that are valid in a closed list stays the same in each list of entries that
 -- begins with it
 abbrev pub ClosureStays : Type 0
-ClosureStays = (entries more : List Entry) (roots all : List (List ℕ)) → IsClosed entries
+ClosureStays = (entries more : List Entry) (roots all : List Path) → IsClosed entries
     → IsClosed (entries ++ more)
     → IsOnce (registered (entries ++ more)) → All (IsValid (registered entries)) roots
     → IsClosure (registered entries) roots all → IsClosure (registered (entries ++ more)) roots all
 
--- some paths have one closure
+-- some paths have at most one closure
 abbrev pub ClosureIsOne : Type 0
-ClosureIsOne = (registrations : List Registration) (roots a b : List (List ℕ))
+ClosureIsOne = (registrations : List Registration) (roots a b : List Path)
     → IsClosure registrations roots a → IsClosure registrations roots b → a ≡ b

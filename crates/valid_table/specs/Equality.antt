@@ -1,9 +1,10 @@
 -- What `==` answers of entries and of their parts.
-use Rattle.std.specs.Prelude.{◌≡◌, ◌&&◌, ◌↔◌, ℕ, List, Bool, true, false, IsTrue, nat_eq, refl}
+use Rattle.std.specs.Prelude.{◌≡◌, ◌&&◌, ◌↔◌, List, Bool, true, false, IsTrue, nat_eq, refl}
 use Rattle.std.specs.Cmp.{IsEquivalence, and_equiv, nat_eq_equiv, on_equiv}
 use Rattle.std.specs.Cmp.Lexicographic.{lists_equiv, nat_list_eq_equiv, options_equiv, pointwise}
 use Rattle.std.specs.Option.{option_eq}
 use Rattle.std.proofs.Common.{sym, true≢false}
+use Rattle.nix_names.specs.Bytes.{Path}
 use Rattle.nix_names.specs.Digests.{algorithm_of, bytes_of, size_of}
 use Rattle.nix_names.specs.declared.digest.Digest.{Digest}
 use Rattle.valid_table.specs.PathInfos.{PathInfo}
@@ -11,23 +12,23 @@ use Rattle.valid_table.specs.declared.entry.Entry.{Entry}
 use Rattle.valid_table.specs.declared.entry.Entry.TheVariants.{Add, Done}
 use Rattle.valid_table.specs.declared.entry.Registration.{Registration}
 
--- of digests: their algorithms, which differ in size, and their bytes
+-- `==` of digests: it compares their algorithms, which differ in size, and their bytes
 abbrev pub same_digest : Digest → Digest → Bool
 same_digest a b =
     nat_eq (size_of (algorithm_of a)) (size_of (algorithm_of b))
     && pointwise nat_eq (bytes_of a) (bytes_of b)
 
--- of records
+-- `==` of records: it compares their references and their digests
 abbrev pub same_record : PathInfo → PathInfo → Bool
 same_record a b =
     pointwise (pointwise nat_eq) a.references b.references
     && option_eq same_digest a.digest b.digest
 
--- of registrations
+-- `==` of registrations: it compares their paths and their records
 abbrev pub same_registration : Registration → Registration → Bool
 same_registration a b = pointwise nat_eq a.path b.path && same_record a.info b.info
 
--- of entries
+-- `==` of entries: they are of one kind, and have equal parts
 abbrev pub same_entry : Entry → Entry → Bool
 same_entry (Add a) (Add b) = same_registration a b
 same_entry (Add a) (Done deriver outputs) = false
@@ -41,31 +42,31 @@ same_digest_laws =
     and_equiv (on_equiv (λ (d : Digest). size_of (algorithm_of d)) nat_eq_equiv)
     (on_equiv bytes_of nat_list_eq_equiv)
 
--- that of records is one
+-- equality of records is an equivalence
 pub same_record_laws : IsEquivalence same_record
 same_record_laws =
     and_equiv (on_equiv (λ (r : PathInfo). r.references) (lists_equiv nat_list_eq_equiv))
     (on_equiv (λ (r : PathInfo). r.digest) (options_equiv same_digest_laws))
 
--- that of registrations is one
+-- equality of registrations is an equivalence
 pub same_registration_laws : IsEquivalence same_registration
 same_registration_laws =
     and_equiv (on_equiv (λ (r : Registration). r.path) nat_list_eq_equiv)
     (on_equiv (λ (r : Registration). r.info) same_record_laws)
 
--- that of outputs is one
+-- equality of outputs is an equivalence
 pub same_outputs_laws : IsEquivalence (pointwise same_registration)
 same_outputs_laws = lists_equiv same_registration_laws
 
--- a deriver and its outputs
-abbrev same_done : List ℕ × List Registration → List ℕ × List Registration → Bool
+-- `==` of derivers with their outputs
+abbrev same_done : Path × List Registration → Path × List Registration → Bool
 same_done a b = pointwise nat_eq a.0 b.0 && pointwise same_registration a.1 b.1
 
--- that of these pairs is one
+-- equality of derivers with their outputs is an equivalence
 done_laws : IsEquivalence same_done
 done_laws =
-    and_equiv (on_equiv (λ (d : List ℕ × List Registration). d.0) nat_list_eq_equiv)
-    (on_equiv (λ (d : List ℕ × List Registration). d.1) same_outputs_laws)
+    and_equiv (on_equiv (λ (d : Path × List Registration). d.0) nat_list_eq_equiv)
+    (on_equiv (λ (d : Path × List Registration). d.1) same_outputs_laws)
 
 -- an entry is equal to itself
 entry_itself : (a : Entry) → same_entry a a ≡ true
@@ -90,7 +91,7 @@ entry_alike (Done deriver outputs) (Done other others) (Add c) h = refl
 entry_alike (Done deriver outputs) (Done other others) (Done third thirds) h =
     done_laws.congr (deriver, outputs) (other, others) (third, thirds) h
 
--- that of entries is one
+-- equality of entries is an equivalence
 pub same_entry_laws : IsEquivalence same_entry
 same_entry_laws = record { refl = entry_itself; symm = entry_back; congr = entry_alike }
 

@@ -2,11 +2,11 @@
 use Rattle.std.specs.Prelude.{◌≡◌, ◌≤◌, ℕ, List, length, map, nat_eq, nat_lt}
 use Rattle.std.specs.List.{IsDistinct, list_any}
 
--- the rows that stand behind keys
+-- the rows of pairs of a key and a row
 abbrev pub rows_behind : List (ℕ × ℕ) → List ℕ
 rows_behind keyed = map (λ k. k.1) keyed
 
--- Rows are the first ones of a table with so many rows: just those below their own number.
+-- Rows are the first ones of a table with `count` rows, each once: n rows are the numbers below n.
 pub record AreFirst (count : ℕ) (rows : List ℕ) : Type 0 where
   pub few : length rows ≤ count
   pub distinct : IsDistinct nat_eq rows

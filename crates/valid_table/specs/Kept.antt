@@ -1,6 +1,7 @@
--- What a record keeps of a path, and how it stands for the references and the digest.
-use Rattle.std.specs.Prelude.{ℕ, List, [], Option, None, Some}
+-- What a record keeps for a path, and the references and the digest that are read from it.
+use Rattle.std.specs.Prelude.{List, [], Option, None, Some}
 use Rattle.std.specs.Arc.{arc_slice_items, arc_value}
+use Rattle.nix_names.specs.Bytes.{Path}
 use Rattle.nix_names.specs.declared.digest.Digest.{Digest}
 use Rattle.nix_names.specs.declared.digest.Digest.TheVariants.{Md5, Sha1, Sha256, Sha512}
 use Rattle.valid_table.specs.declared.entry.Both.{Both}
@@ -17,7 +18,7 @@ digest_kept (KeptSha256 bytes) = Sha256 bytes
 digest_kept (KeptSha512 bytes) = Sha512 bytes.value
 
 -- the references that are known
-abbrev pub references_known : Known → List (List ℕ)
+abbrev pub references_known : Known → List Path
 references_known Nothing = []
 references_known (References shared) = arc_slice_items shared
 references_known (OfDigest shared) = []

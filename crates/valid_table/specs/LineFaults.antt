@@ -1,13 +1,14 @@
 -- Which lines of a journal refer to paths that are not registered, or register paths again.
 use Rattle.std.specs.Prelude.{◌≡◌, ◌⊎◌, ◌+◌, ◌≤◌, ℕ, List, ◌∷◌, ◌++◌, Option, length}
+use Rattle.nix_names.specs.Bytes.{Path}
 use Rattle.nix_names.specs.declared.digest.Digest.{Digest}
 use Rattle.valid_table.specs.Entries.{registered, registered_by}
 use Rattle.valid_table.specs.Texts.{Line, Added, Output, Reference, lines, entry_lines}
 use Rattle.valid_table.specs.Valid.{IsValid}
 use Rattle.valid_table.specs.declared.entry.Entry.{Entry}
 
--- Line n of a journal is this line of this entry, which stands behind these entries. Lines are
--- counted from 1.
+-- Line n of a journal is this line of this entry, which follows these entries. Lines are counted
+-- from 1.
 pub record StandsAt (entries : List Entry) (before : List Entry) (entry : Entry) (line : Line)
     (n : ℕ) : Type 0 where
   pub after : List Entry
@@ -20,14 +21,14 @@ pub record StandsAt (entries : List Entry) (before : List Entry) (entry : Entry)
 -- line n refers to a path that neither an earlier entry nor its own registers
 abbrev pub IsNotClosedAt : List Entry → ℕ → Type 0
 IsNotClosedAt entries n =
-    (before : List Entry) × (entry : Entry) × (path : List ℕ)
+    (before : List Entry) × (entry : Entry) × (path : Path)
     × StandsAt entries before entry (Reference path) n
     × (IsValid (registered before ++ registered_by entry) path → ⊥)
 
 -- line n registers a path that an earlier entry registered
 abbrev pub IsTwiceAt : List Entry → ℕ → Type 0
 IsTwiceAt entries n =
-    (before : List Entry) × (entry : Entry) × (path : List ℕ) × (digest : Option Digest)
+    (before : List Entry) × (entry : Entry) × (path : Path) × (digest : Option Digest)
     × (StandsAt entries before entry (Added path digest) n
     ⊎ StandsAt entries before entry (Output path digest) n)
     × IsValid (registered before) path

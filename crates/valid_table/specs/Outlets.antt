@@ -7,6 +7,6 @@ pub record Outgoing : Type 0 where
   pub shown : List Entry
   pub pending : List Entry
 
--- a number names each list of so many entries
+-- a number names each list of entries that has this length
 abbrev pub CountsEntries : ℕ → List Entry → Type 0
 CountsEntries count entries = count ≡ length entries

@@ -1,6 +1,7 @@
 -- What `Journal::read` answers for the bytes of a file, case by case. The cases exclude one
 -- another, want of memory apart.
 use Rattle.std.specs.Prelude.{◌≡◌, ◌≢◌, ◌⊎◌, ◌<◌, ℕ, List, [], ◌++◌, length, Result, Ok, Err}
+use Rattle.nix_names.specs.Bytes.{Bytes, Dir}
 use Rattle.valid_table.specs.BadLines.{IsBadLine, IsOtherVersion}
 use Rattle.valid_table.specs.LineFaults.{IsLeastFault, IsNotClosedAt, IsTwiceAt}
 use Rattle.valid_table.specs.Tables.{JournalValue}
@@ -18,12 +19,12 @@ max_len One = 67108864
 max_len Two = 134217728
 
 -- the bytes begin with the line of a version
-abbrev pub BeginsVersion : Version → List ℕ → Type 0
-BeginsVersion version bytes = (rest : List ℕ) × (bytes ≡ version_line version ++ rest)
+abbrev pub BeginsVersion : Version → Bytes → Type 0
+BeginsVersion version bytes = (rest : Bytes) × (bytes ≡ version_line version ++ rest)
 
--- the bytes are more than a journal of any version may have, or begin with the line of a version and
--- are more than a journal of it may have
-abbrev pub IsTooLong : List ℕ → Type 0
+-- the bytes are more than a journal of any version may have, or they begin with the line of a
+-- version and are more than a journal of that version may have
+abbrev pub IsTooLong : Bytes → Type 0
 IsTooLong bytes = (max_len Two < length bytes)
     ⊎ ((version : Version) × BeginsVersion version bytes × (max_len version < length bytes))
 
@@ -35,21 +36,23 @@ IsChecking entries (Err (Twice n)) = IsTwiceAt entries n × IsLeastFault entries
 IsChecking entries (Err NoMemory) = entries ≢ []
 IsChecking entries (Err fault) = ⊥
 
--- The bytes are the text of some entries, and what is answered is what these say.
-pub record IsReadAs (dir bytes : List ℕ) (answer : Result (List Entry) TableFault) : Type 0 where
+-- The bytes are not too long, and are the text of some entries. The answer is that for these
+-- entries.
+pub record IsReadAs (dir : Dir) (bytes : Bytes) (answer : Result (List Entry) TableFault)
+    : Type 0 where
   pub within : IsTooLong bytes → ⊥
   pub entries : List Entry
   pub is_text : IsText dir entries bytes
   pub checked : IsChecking entries answer
 
--- an answer by what was read: a journal's entries, whatever room it has
+-- an answer without the journal's room: the journal's entries, or the fault
 abbrev pub answered : Result JournalValue TableFault → Result (List Entry) TableFault
 answered (Ok journal) = Ok journal.entries
 answered (Err fault) = Err fault
 
 -- What is answered for bytes. Memory is refused only where they are within the limit and begin with
 -- the line of a version.
-abbrev pub IsReading : (dir bytes : List ℕ) → Result (List Entry) TableFault → Type 0
+abbrev pub IsReading : (dir : Dir) (bytes : Bytes) → Result (List Entry) TableFault → Type 0
 IsReading dir bytes (Err TooLong) = IsTooLong bytes
 IsReading dir bytes (Err WrongVersion) = (IsTooLong bytes → ⊥) × IsOtherVersion bytes
 IsReading dir bytes (Err (BadLine n)) = (IsTooLong bytes → ⊥) × (IsOtherVersion bytes → ⊥)

@@ -1,5 +1,6 @@
 -- That the text of a journal is read as just that journal, and that bytes have one answer.
-use Rattle.std.specs.Prelude.{◌≡◌, ◌⊎◌, ◌≤◌, ◌*◌, ℕ, List, length, Result, Ok, Err}
+use Rattle.std.specs.Prelude.{◌≡◌, ◌⊎◌, ◌≤◌, ◌*◌, List, length, Result, Ok, Err}
+use Rattle.nix_names.specs.Bytes.{Bytes, Dir}
 use Rattle.nix_names.specs.Names.{IsStoreDir}
 use Rattle.valid_table.specs.Reading.{IsReading, IsTooLong}
 use Rattle.valid_table.specs.Texts.{IsText, IsTextIn, text}
@@ -9,15 +10,15 @@ use Rattle.valid_table.specs.declared.fault.TableFault.{TableFault}
 use Rattle.valid_table.specs.declared.fault.TableFault.TheVariants.{NoMemory}
 use Rattle.valid_table.specs.declared.version.Version.TheVariants.{One, Two}
 
--- one text is that of one list of entries
+-- a text is the text of at most one list of entries
 abbrev pub TextHasOneList : Type 0
-TextHasOneList = (dir bytes : List ℕ) (a b : List Entry) → IsText dir a bytes → IsText dir b bytes
-    → a ≡ b
+TextHasOneList = (dir : Dir) (bytes : Bytes) (a b : List Entry) → IsText dir a bytes
+    → IsText dir b bytes → a ≡ b
 
 -- the text of a journal, within the limit, is read as just that journal, want of memory apart
 abbrev pub JournalTextsAreRead : Type 0
 JournalTextsAreRead =
-    (dir bytes : List ℕ) (entries : List Entry) (answer : Result (List Entry) TableFault)
+    (dir : Dir) (bytes : Bytes) (entries : List Entry) (answer : Result (List Entry) TableFault)
     → IsStoreDir dir → (IsTooLong bytes → ⊥)
     → IsText dir entries bytes → IsJournal entries → IsReading dir bytes answer
     → (answer ≡ Ok entries) ⊎ (answer ≡ Err NoMemory)
@@ -25,22 +26,23 @@ JournalTextsAreRead =
 -- two answers for the same bytes are the same, or one is want of memory
 abbrev pub AnswerIsOne : Type 0
 AnswerIsOne =
-    (dir bytes : List ℕ) (a b : Result (List Entry) TableFault) → IsStoreDir dir
+    (dir : Dir) (bytes : Bytes) (a b : Result (List Entry) TableFault) → IsStoreDir dir
     → IsReading dir bytes a → IsReading dir bytes b
     → (a ≡ b) ⊎ (a ≡ Err NoMemory) ⊎ (b ≡ Err NoMemory)
 
--- a version 1 text and the version 2 text of its entries have the same entries; the second has at most
--- twice the length, so it is within its limit where the first is within its own
+-- a version 1 text and the version 2 text of its entries have the same entries; the second has at
+-- most twice the length, so it is within its limit where the first is within its own
 abbrev pub VersionsHaveTheSameEntries : Type 0
 VersionsHaveTheSameEntries =
-    (dir bytes : List ℕ) (entries : List Entry) → IsTextIn One dir entries bytes
+    (dir : Dir) (bytes : Bytes) (entries : List Entry) → IsTextIn One dir entries bytes
     → IsTextIn Two dir entries (text Two entries)
     × (length (text Two entries) ≤ 2 * length bytes)
 
--- what is read of a version 1 text is read of the version 2 text of it, want of memory apart
+-- the entries that are read of a version 1 text are read again of the version 2 text of these
+-- entries, want of memory apart
 abbrev pub WrittenJournalsAreReadAgain : Type 0
 WrittenJournalsAreReadAgain =
-    (dir bytes : List ℕ) (entries : List Entry) (answer : Result (List Entry) TableFault)
+    (dir : Dir) (bytes : Bytes) (entries : List Entry) (answer : Result (List Entry) TableFault)
     → IsStoreDir dir → IsTextIn One dir entries bytes → IsReading dir bytes (Ok entries)
     → IsReading dir (text Two entries) answer
     → (answer ≡ Ok entries) ⊎ (answer ≡ Err NoMemory)

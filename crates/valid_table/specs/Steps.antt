@@ -4,6 +4,7 @@ use Rattle.std.specs.Prelude.{◌≡◌, ◌≢◌, ℕ, List, [], ◌∷◌, �
 use Rattle.std.specs.Cmp.Lexicographic.{slice_cmp}
 use Rattle.std.specs.Ordering.{nat_cmp}
 use Rattle.std.specs.declared.cmp.Ordering.TheVariants.{Less}
+use Rattle.nix_names.specs.Bytes.{Bytes, Dir, Path}
 use Rattle.nix_names.specs.StorePaths.{IsDrvPath, IsPathOf}
 use Rattle.nix_names.specs.declared.digest.Digest.{Digest}
 use Rattle.valid_table.specs.BadLines.{BeginsOutput}
@@ -11,31 +12,33 @@ use Rattle.valid_table.specs.LineTexts.{lines_text}
 use Rattle.valid_table.specs.Texts.{IsDigestOf, Line, First, Added, Deriver, Output, Reference, line_text}
 use Rattle.valid_table.specs.declared.version.Version.{Version}
 
--- A place between lines: before line 1, behind it, behind a deriver, or within the lines of an
--- output, or of an added path, behind its last reference, if any.
+-- A place between lines: before line 1, behind line 1, behind a deriver, or within the lines of an
+-- output or an added path. There `output` is the output's path, if it is one, and `last` is the
+-- reference before the place, if any.
 pub data Place : Type 0 where
   Start : Place
   Begun : Place
   Opened : Place
-  Within : (output : Option (List ℕ)) (last : Option (List ℕ)) → Place
+  Within : (output : Option Path) (last : Option Path) → Place
 
 -- a path is greater than the one before it, if any
-abbrev pub IsAbove : Option (List ℕ) → List ℕ → Type 0
+abbrev pub IsAbove : (before : Option Path) → Path → Type 0
 IsAbove None path = Unit {0}
 IsAbove (Some before) path = slice_cmp nat_cmp before path ≡ Less
 
 -- a line may stand where an entry may begin
-abbrev pub MayBegin : Version → List ℕ → Line → Type 0
+abbrev pub MayBegin : Version → Dir → Line → Type 0
 MayBegin version dir (Added path digest) = IsPathOf dir path × IsDigestOf version digest
 MayBegin version dir (Deriver path) = IsPathOf dir path × IsDrvPath path
 MayBegin version dir line = ⊥
 
 -- an output may stand behind a deriver, or behind an output with a lesser path
-abbrev pub MayFollow : Version → List ℕ → Option (List ℕ) → List ℕ → Option Digest → Type 0
-MayFollow version dir before path digest = IsPathOf dir path × IsDigestOf version digest × IsAbove before path
+abbrev pub MayFollow : Version → Dir → (before : Option Path) → Path → Option Digest → Type 0
+MayFollow version dir before path digest = IsPathOf dir path × IsDigestOf version digest
+    × IsAbove before path
 
 -- a line may stand at a place
-abbrev pub MayStand : Version → List ℕ → Place → Line → Type 0
+abbrev pub MayStand : Version → Dir → Place → Line → Type 0
 MayStand version dir Start First = Unit {0}
 MayStand version dir Begun line = MayBegin version dir line
 MayStand version dir (Within output last) (Reference path) = IsPathOf dir path × IsAbove last path
@@ -54,33 +57,35 @@ behind place (Output path digest) = Within (Some path) None
 behind (Within output last) (Reference path) = Within output (Some path)
 behind place (Reference path) = place
 
--- behind a deriver an output comes
-abbrev pub Ahead : Place → List ℕ → Type 0
+-- behind a deriver the bytes go on with an output
+abbrev pub Ahead : Place → (rest : Bytes) → Type 0
 Ahead Opened rest = BeginsOutput rest
 Ahead place rest = Unit {0}
 
--- lines lead from a place on, each to the place behind it, and the last to one of which this holds
-abbrev pub LeadsTo : Version → List ℕ → (Place → Type 0) → Place → List Line → Type 0
+-- each line may stand at its place and leads to the place behind it; `Is` holds of the last place
+abbrev pub LeadsTo : Version → Dir → (Place → Type 0) → Place → List Line → Type 0
 LeadsTo version dir Is from [] = Is from
-LeadsTo version dir Is from (line ∷ more) = MayStand version dir from line × LeadsTo version dir Is (behind from line) more
+LeadsTo version dir Is from (line ∷ more) = MayStand version dir from line
+    × LeadsTo version dir Is (behind from line) more
 
 -- From a place the bytes go on with a line that may stand there, and then with the rest.
-pub record Goes (version : Version) (dir : List ℕ) (from : Place) (bytes : List ℕ) (line : Line) (rest : List ℕ)
-    : Type 0 where
+pub record Goes (version : Version) (dir : Dir) (from : Place) (bytes : Bytes) (line : Line)
+    (rest : Bytes) : Type 0 where
   pub parts : bytes ≡ line_text version line ++ rest
   pub may : MayStand version dir from line
   pub ahead : Ahead (behind from line) rest
 
--- With these bytes no line goes on from a place.
-pub record IsStuck (version : Version) (dir bytes : List ℕ) (place : Place) : Type 0 where
+-- From a place the bytes go on with no line that may stand there.
+pub record IsStuck (version : Version) (dir : Dir) (bytes : Bytes) (place : Place) : Type 0 where
   pub ahead : Ahead place bytes
-  pub stuck : (line : Line) (rest : List ℕ) → Goes version dir place bytes line rest → ⊥
+  pub stuck : (line : Line) (rest : Bytes) → Goes version dir place bytes line rest → ⊥
 
--- The lines from a place stop, with so many bytes left, of which no line can be made that may stand
--- there.
-pub record Stops (version : Version) (dir : List ℕ) (from : Place) (bytes : List ℕ) (left : ℕ) : Type 0 where
+-- From a place the bytes go on with some lines, each of which may stand at its place. Then `left`
+-- bytes are left, at least one, which go on with no line that may stand there.
+pub record Stops (version : Version) (dir : Dir) (from : Place) (bytes : Bytes) (left : ℕ)
+    : Type 0 where
   pub lines : List Line
-  pub bad : List ℕ
+  pub bad : Bytes
   pub parts : bytes ≡ lines_text version lines ++ bad
   pub leads : LeadsTo version dir (IsStuck version dir bad) from lines
   pub is_left : length bad ≡ left

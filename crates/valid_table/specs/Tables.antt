@@ -1,5 +1,6 @@
 -- What contracts see of a table and of a journal.
 use Rattle.std.specs.Prelude.{ℕ, List, map}
+use Rattle.nix_names.specs.Bytes.{Path}
 use Rattle.valid_table.specs.PathInfos.{PathInfo}
 use Rattle.valid_table.specs.declared.entry.Entry.{Entry}
 use Rattle.valid_table.specs.declared.entry.Registration.{Registration}
@@ -17,6 +18,6 @@ pub record JournalValue : Type 0 where
   pub room : ℕ
 
 -- rows as registrations
-abbrev pub registrations_of : List (List ℕ × PathInfo) → List Registration
-registrations_of rows = map (λ (row : List ℕ × PathInfo). record { path = row.0; info = row.1 })
+abbrev pub registrations_of : List (Path × PathInfo) → List Registration
+registrations_of rows = map (λ (row : Path × PathInfo). record { path = row.0; info = row.1 })
     rows

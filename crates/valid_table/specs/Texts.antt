@@ -1,6 +1,7 @@
--- The text of a journal, line by line, in version 1 and in version 2. They differ in the first line, and
--- in how a digest is written (this product's own).
-use Rattle.std.specs.Prelude.{◌≡◌, ◌≢◌, ◌⊎◌, ℕ, List, [], ◌∷◌, ◌++◌, All, Option, Some, None, codes, flat_map, map}
+-- The text of a journal, line by line, in version 1 and in version 2. These differ in the first
+-- line, and in how a digest is written (this product's own).
+use Rattle.std.specs.Prelude.{◌≡◌, ◌≢◌, ◌⊎◌, List, [], ◌∷◌, ◌++◌, All, Option, Some, None, codes, flat_map, map}
+use Rattle.nix_names.specs.Bytes.{Bytes, Dir, Path}
 use Rattle.nix_names.specs.Digests.{IsDigest, algorithm_of, digits_of, text_of}
 use Rattle.nix_names.specs.declared.digest.Algorithm.TheVariants.{Sha256}
 use Rattle.nix_names.specs.declared.digest.Digest.{Digest}
@@ -17,25 +18,25 @@ use Rattle.valid_table.specs.declared.version.Version.TheVariants.{One, Two}
 -- output before it.
 pub data Line : Type 0 where
   First : Line
-  Added : (path : List ℕ) (digest : Option Digest) → Line
-  Deriver : (path : List ℕ) → Line
-  Output : (path : List ℕ) (digest : Option Digest) → Line
-  Reference : (path : List ℕ) → Line
+  Added : (path : Path) (digest : Option Digest) → Line
+  Deriver : (path : Path) → Line
+  Output : (path : Path) (digest : Option Digest) → Line
+  Reference : (path : Path) → Line
 
 -- the first line of a version, with its newline
-abbrev pub version_line : Version → List ℕ
+abbrev pub version_line : Version → Bytes
 version_line One = codes "realiser-journal 1\n"
 version_line Two = codes "realiser-journal 2\n"
 
--- a digest: a dash for none, in version 1 the digits alone, and in version 2 the algorithm's name, a
--- colon and the digits
-abbrev pub digest_text : Version → Option Digest → List ℕ
+-- the text of a digest: a dash for none, in version 1 the digits alone, and in version 2 the
+-- algorithm's name, a colon and the digits
+abbrev pub digest_text : Version → Option Digest → Bytes
 digest_text version None = codes "-"
 digest_text One (Some digest) = digits_of digest
 digest_text Two (Some digest) = text_of digest
 
 -- a line's bytes, with its newline
-abbrev pub line_text : Version → Line → List ℕ
+abbrev pub line_text : Version → Line → Bytes
 line_text version First = version_line version
 line_text version (Added path digest) =
     codes "A " ++ (path ++ (32 ∷ (digest_text version digest ++ (10 ∷ []))))
@@ -58,7 +59,7 @@ abbrev pub lines : List Entry → List Line
 lines entries = First ∷ flat_map entry_lines entries
 
 -- the text of a journal
-unfoldable pub text : Version → List Entry → List ℕ
+unfoldable pub text : Version → List Entry → Bytes
 text version entries = flat_map (line_text version) (lines entries)
 
 -- a digest, where there is one, can be written in a version: version 1 has SHA-256 alone
@@ -69,7 +70,7 @@ IsDigestOf Two (Some digest) = IsDigest digest
 
 -- What is registered is of the store folder, with references that rise strictly, and with a digest
 -- that the version has.
-pub record IsOf (version : Version) (dir : List ℕ) (r : Registration) : Type 0 where
+pub record IsOf (version : Version) (dir : Dir) (r : Registration) : Type 0 where
   pub path : IsPathOf dir r.path
   pub digest : IsDigestOf version r.info.digest
   pub references : All (IsPathOf dir) r.info.references
@@ -77,19 +78,19 @@ pub record IsOf (version : Version) (dir : List ℕ) (r : Registration) : Type 0
 
 -- an entry is of the store folder: a `.drv` path with its outputs, at least one and strictly
 -- rising, or an added path
-abbrev pub IsEntryOf : Version → List ℕ → Entry → Type 0
+abbrev pub IsEntryOf : Version → Dir → Entry → Type 0
 IsEntryOf version dir (Add r) = IsOf version dir r
 IsEntryOf version dir (Done deriver outputs) =
     IsPathOf dir deriver × IsDrvPath deriver × (outputs ≢ []) × IsRising (paths_of outputs)
     × All (IsOf version dir) outputs
 
 -- The bytes are the text of these entries, which are of the store folder, in a version.
-pub record IsTextIn (version : Version) (dir : List ℕ) (entries : List Entry) (bytes : List ℕ)
+pub record IsTextIn (version : Version) (dir : Dir) (entries : List Entry) (bytes : Bytes)
     : Type 0 where
   pub of_dir : All (IsEntryOf version dir) entries
   pub bytes_are : bytes ≡ text version entries
 
 -- the bytes are the text of these entries in some version; no bytes at all are the text of none
-abbrev pub IsText : (dir : List ℕ) → List Entry → (bytes : List ℕ) → Type 0
+abbrev pub IsText : (dir : Dir) → List Entry → (bytes : Bytes) → Type 0
 IsText dir entries bytes = ((version : Version) × IsTextIn version dir entries bytes)
     ⊎ ((entries ≡ []) × (bytes ≡ []))
