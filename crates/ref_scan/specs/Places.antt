@@ -2,63 +2,66 @@
 use Rattle.std.specs.Prelude.{◌≡◌, ℕ, ◌+◌, ◌-◌, ◌*◌, ◌/◌, ◌%◌, ◌^◌, ◌<◌, ◌⊎◌, Bool, false, List, [], length, map, take, bit_and, Option, Some, None, All, Contains, IsTrue, if◌then◌else◌}
 use Rattle.std.specs.Int.{from_be_bytes, w64}
 use Rattle.std.specs.List.{slice_index_or}
+use Rattle.nix_names.specs.Bytes.{Bytes, Path}
 use Rattle.nix_names.specs.Rising.{IsRising}
 use Rattle.nix_names.specs.StorePaths.{hash_part_of, is_hash_part}
 
 -- the part at a place
-abbrev pub part_at : List (List ℕ) → ℕ → List ℕ
+abbrev pub part_at : (parts : List Bytes) → (k : ℕ) → Bytes
 part_at parts k = slice_index_or parts k []
 
--- where a window stands among the parts, if it is one
-abbrev pub IsPlaceOf : List (List ℕ) → List ℕ → Option ℕ → Type 0
+-- the place of a window among the parts, if it is one of them
+abbrev pub IsPlaceOf : (parts : List Bytes) → (window : Bytes) → Option ℕ → Type 0
 IsPlaceOf parts window None = Contains parts window → ⊥
 IsPlaceOf parts window (Some k) = (k < length parts) × (part_at parts k ≡ window)
 
--- the key of a part: its first eight characters as one number, of which the first counts most
-abbrev pub key_of_part : List ℕ → ℕ
+-- the key of a part: its first eight characters as one big-endian number
+abbrev pub key_of_part : Bytes → ℕ
 key_of_part part = from_be_bytes w64 (take 8 part)
 
 -- a key times a constant, modulo 2^64: each bit of the key counts in the high bits
 abbrev pub mixed : ℕ → ℕ
 mixed key = key * 11400714819323198485 % 2 ^ 64
 
--- the slot of a key in a sieve of so many, by twenty bits
-abbrev pub slot_of : ℕ → ℕ → ℕ
+-- the slot of a key in a sieve of `slots` slots, by the twenty high bits of the mixed key
+abbrev pub slot_of : (slots key : ℕ) → ℕ
 slot_of slots key = bit_and (mixed key / 2 ^ 44) (slots - 1)
 
--- the tag of a key, 1 to 128, by seven other bits
+-- the tag of a key, 1 to 128, by seven other bits of the mixed key
 abbrev pub tag_of : ℕ → ℕ
 tag_of key = mixed key / 2 ^ 36 % 128 + 1
 
--- what a slot holds lets a key of this tag through; 255 lets each
-abbrev pub LetsThrough : ℕ → ℕ → Type 0
+-- a slot lets keys with this tag through: it holds the tag, or 255, which lets every key through
+abbrev pub LetsThrough : (held tag : ℕ) → Type 0
 LetsThrough held tag = (held ≡ tag) ⊎ (held ≡ 255)
 
 -- Hash parts that rise strictly.
-pub record AreHashParts (parts : List (List ℕ)) : Type 0 where
+pub record AreHashParts (parts : List Bytes) : Type 0 where
   pub rising : IsRising parts
   pub each : All (λ part. IsTrue (is_hash_part part)) parts
 
--- A sieve lets each key through, by its tag.
+-- A sieve has at least one slot, and lets each of the keys through.
 pub record IsSieve (keys sieve : List ℕ) : Type 0 where
   pub some : 0 < length sieve
   pub each : All (λ key. LetsThrough (slice_index_or sieve (slot_of (length sieve) key) 0)
       (tag_of key)) keys
 
--- Each path's hash part is one of the parts; those that are in order stand as the paths do.
-pub record ArePartsOf (paths parts : List (List ℕ)) (in_order : Bool) : Type 0 where
+-- The hash part of each path is one of the parts. Parts that are in order are those of the paths,
+-- in the order of the paths.
+pub record ArePartsOf (paths : List Path) (parts : List Bytes) (in_order : Bool) : Type 0 where
   pub are_parts : AreHashParts parts
-  pub known : (path : List ℕ) → Contains paths path → Contains parts (hash_part_of path)
+  pub known : (path : Path) → Contains paths path → Contains parts (hash_part_of path)
   pub as_paths : IsTrue in_order → parts ≡ map hash_part_of paths
 
--- The permitted paths, the hash parts that are sought, and whether these stand as the paths do.
+-- The permitted paths, the hash parts that are sought, and whether these are in the order of the
+-- paths.
 pub record Indexed : Type 0 where
-  pub permitted : List (List ℕ)
-  pub parts : List (List ℕ)
+  pub permitted : List Path
+  pub parts : List Bytes
   pub in_order : Bool
 
--- the parts that are sought: those of the paths as they stand, or a list of its own
-abbrev pub parts_told : Bool → List (List ℕ) → List (List ℕ) → List (List ℕ)
+-- the parts that are sought: those of the paths, in the order of the paths, or a list apart
+abbrev pub parts_told : (in_order : Bool) → (paths : List Path) → (apart : List Bytes) → List Bytes
 parts_told in_order paths apart = if in_order then map hash_part_of paths else apart
 
 -- numbers rise strictly
@@ -66,10 +69,10 @@ abbrev pub NumbersRise : List ℕ → Type 0
 NumbersRise numbers = (k : ℕ) → k + 1 < length numbers
     → slice_index_or numbers k 0 < slice_index_or numbers (k + 1) 0
 
--- The keys of the parts that are sought, which rise strictly where the parts stand as the paths
--- do, and rising parts else; and a sieve of the keys.
-pub record IsIndex (in_order : Bool) (paths : List (List ℕ)) (keys : List ℕ)
-    (apart : List (List ℕ)) (sieve : List ℕ) : Type 0 where
+-- An index has the keys of the parts that are sought, and a sieve of these keys. The keys rise
+-- strictly where the parts are in the order of the paths; else the list apart rises strictly.
+pub record IsIndex (in_order : Bool) (paths : List Path) (keys : List ℕ)
+    (apart : List Bytes) (sieve : List ℕ) : Type 0 where
   pub of_parts : keys ≡ map key_of_part (parts_told in_order paths apart)
   pub rising : IsTrue in_order → NumbersRise keys
   pub sorted : (in_order ≡ false) → IsRising apart

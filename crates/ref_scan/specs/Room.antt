@@ -4,7 +4,7 @@ use Rattle.ref_scan.specs.Trees.{depth_of, entry_count, file_bytes}
 use Rattle.ref_scan.specs.declared.tree.Room.{Room}
 use Rattle.ref_scan.specs.declared.tree.Tree.{Tree}
 
--- A tree fits in the room, with so many levels below its root.
+-- A tree fits in the room, with at most `below` levels below its root.
 pub record FitsIn (below : ℕ) (room : Room) (tree : Tree) : Type 0 where
   pub depth : depth_of tree ≤ below + 1
   pub entries : entry_count tree ≤ room.entries

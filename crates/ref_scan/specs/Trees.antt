@@ -4,22 +4,23 @@ use Rattle.std.specs.Prelude.{ℕ, ◌+◌, ◌≤◌, max, List, [], ◌∷◌,
 use Rattle.std.specs.List.{flat_map}
 use Rattle.std.specs.declared.alloc.Global.{Global}
 use Rattle.std.specs.declared.vec.Vec.{Vec}
+use Rattle.nix_names.specs.Bytes.{Bytes}
 use Rattle.ref_scan.specs.declared.tree.Tree.{Tree, File, Pieces, Dir', Row_of-Member, end_of-Member, more_of-Member}
 
 -- the bytes that the pieces of a file make together; no pieces are the empty file
-abbrev pub joined : List (Vec ℕ Global) → List ℕ
+abbrev pub joined : List (Vec ℕ Global) → Bytes
 joined parts = flat_map (λ part. part.items) parts
 
 abbrev mutual
   -- the pieces of a tree: each file's bytes and each entry's name, at any depth, apart; the root
   -- has no name. A file that was read in pieces is the one that they make together.
-  pub pieces : Tree → List (List ℕ)
+  pub pieces : Tree → List Bytes
   pieces (File bytes) = bytes.items ∷ []
   pieces (Pieces parts) = joined parts.items ∷ []
   pieces (Dir' shape entries) = pieces_among entries
 
   -- the pieces of a folder's entries
-  pub pieces_among : {m : _} → Row_of-Member m → List (List ℕ)
+  pub pieces_among : {m : _} → Row_of-Member m → List Bytes
   pieces_among end_of-Member = []
   pieces_among (more_of-Member name tree rest) = name.items ∷ (pieces tree ++ pieces_among rest)
 
