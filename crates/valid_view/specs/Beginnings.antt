@@ -16,19 +16,19 @@ pub record IsKept (cells : List Cell) (entries : List Entry) : Type 0 where
   pub words : cells ≡ (length entries, true) ∷ (0, true) ∷ []
   pub showable : IsShowable entries
 
--- the word of a list
+-- the word that holds the length of a list
 abbrev pub head_of : Book → Named
 head_of book = record { tracked = true; key = 0; book = book }
 
--- the entry was added to all that had been seen, or the list was longer, and was seen
+-- the entry was added to all that had been seen, or the list was longer, and all of it is seen now
 abbrev pub Adds : Step Entry → View Entry ℕ → ℕ → View Entry ℕ → Type 0
 Adds step before found after =
     MatchBool (found == step.old)
     ((after.0 ≡ before.0 ++ step.ask ∷ []) × IsShowable after.0)
     ((length after.0 ≡ found) × IsShowable after.0)
 
--- Why a list with this name, of which these entries are known, can't go on: here it is, and it is
--- longer, or it has as many entries as can be counted.
+-- Why nothing can be added to the known entries of the list with this name: the list that was found
+-- is longer than these, or has as many entries as can be counted.
 abbrev pub Hinders : Book → List Entry → (found : Begun) → Type 0
 Hinders book known found = (found.book ≡ book) × IsPrefix known found.entries
     × ((length known < length found.entries) ⊎ (length found.entries + 1 ≡ 2 ^ 64))

@@ -14,7 +14,7 @@ pub record Lined : Type 0 where
   pub shown : List Entry
   pub handed : List Entry
 
--- The same, the entry that is held, if there is one, and those that are in no list.
+-- The same entries, the entry that is held, if there is one, and those that are in no list yet.
 pub record Fed : Type 0 where
   pub shown : List Entry
   pub handed : List Entry
@@ -29,7 +29,7 @@ pending_of f = f.handed ++ (f.held ++ f.queue)
 abbrev pub known_of : Fed → List Entry
 known_of f = (f.shown ++ f.handed) ++ f.held
 
--- what is shown with one entry more
+-- what is shown, with the entry of one operation more
 abbrev pub with_op : Shelved → Op → Shelved
 with_op s op =
     record { registrations = s.registrations ++ registered_by op.entry; front = op.front }
@@ -43,8 +43,8 @@ abbrev pub ops_of : Option Op → List Op
 ops_of None = []
 ops_of (Some op) = op ∷ []
 
--- behind some entries of the list with this name, each entry is the next one, and has the list up
--- to itself beside it
+-- some operations follow some entries of the list with this name: each adds the next entry, and has
+-- the beginning of the list that ends with it
 abbrev pub Follows : Book → List Entry → List Op → Type 0
 Follows book entries [] = Unit {0}
 Follows book entries (op ∷ ops) = (op.front.book ≡ book)
@@ -58,8 +58,8 @@ pub record IsFeed (book : Book) (shown handed : List Entry) (held : List Op)
   pub front_is : front ≡ (shown ++ handed) ++ entries_of held
   pub showable : IsShowable (front ++ queue)
 
--- where the next entry was to be taken from a queue, it is held, or there was none, or nothing
--- changed
+-- what is answered where the next entry is to be taken from a queue: `true`, and it is held;
+-- `false`, where there is none; or a fault, and nothing changes
 abbrev pub Takes : {E : Type 0} → (old held new : List Entry) → Result Bool E → Type 0
 Takes old held new (Ok true) =
     (entry : Entry) × (held ≡ entry ∷ []) × (old ≡ entry ∷ new)

@@ -1,4 +1,4 @@
--- Why a view could not be opened, or could not show what waits, and as which fault that is told.
+-- Why a view could not be opened, or could not show what waits, and which fault is answered.
 use Rattle.std.specs.Prelude.{List}
 use Rattle.logbook.specs.Pages.{Book}
 use Rattle.valid_table.specs.declared.entry.Entry.{Entry}
@@ -8,14 +8,14 @@ use Rattle.valid_view.specs.Beginnings.{Hinders}
 use Rattle.valid_view.specs.declared.refusal.Refusal.{Refusal}
 use Rattle.valid_view.specs.declared.refusal.Refusal.TheVariants.{NoMemory, Hindered, NoPlace}
 
--- the fault as which a refusal is told
+-- the fault that is answered for a refusal
 abbrev pub told_as : Refusal → OutletFault
 told_as NoMemory = fault.NoMemory
 told_as (Hindered found) = fault.NoView
 told_as (NoPlace error) = fault.NoView
 
--- what holds where entries were to be shown, and these were in the list with this name: but for want
--- of memory, that list went on, or is full
+-- what a refusal means where entries were to be shown, and these are known of the list with this
+-- name: memory was refused, or that list went on or is full
 abbrev pub IsRefused : Book → List Entry → Refusal → Type 0
 IsRefused book known NoMemory = Unit {0}
 IsRefused book known (Hindered found) = Hinders book known found

@@ -25,12 +25,12 @@ abbrev pub Keeps : List Entry → List (List Entry) → Type 0
 Keeps entries views =
     (seat : ℕ) (seen : List Entry) → get_elem? views seat ≡ some seen → IsPrefix seen entries
 
--- the rule, of what is shown and of the list that each reader, and the writer, has seen
+-- the rule for what is shown, and for the lists that the readers and the writer have seen
 abbrev pub Holds : Book → Shelved → List (List Entry) → Type 0
 Holds book x views = IsShelf book x × Keeps x.front.entries views
 
--- What a step tells, be it that a reader enters or that the writer publishes: the list that is
--- shown afterwards is seen, and that which was seen before begins the one that was shown.
+-- What a step tells, whether a reader enters or the writer publishes: the list that is shown
+-- afterwards is seen, and the list that was seen before begins the one that was shown before.
 abbrev pub SeesAll : Book → List Entry → (before after : Shelved) → List Entry → Type 0
 SeesAll book had before after has =
     IsShelf book before × IsPrefix had before.front.entries × (has ≡ after.front.entries)
