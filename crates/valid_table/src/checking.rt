@@ -34,8 +34,9 @@ pub(crate) fn check_entries(alloc: Global, entries: &[Entry]) -> Result<Table, T
     Ok(Table::of_rows(rows))
 }
 
-// Adds the rows of an entry whose first line has this number, and gives the number of the line
-// behind it. `Twice` and `NotClosed` have the entry's first line with one of these faults.
+// Adds the rows of an entry whose first line has the number `line`, and gives the number of the
+// line behind the entry. `Twice` and `NotClosed` have the entry's first line with one of these
+// faults.
 fn check_entry(
     alloc: Global,
     rows: &mut IndexMap<StorePath, Record>,
@@ -57,7 +58,7 @@ fn check_entry(
     check_lines(rows, registrations, new, line + header_len(entry))
 }
 
-// How many lines of an entry stand before those of what it registers.
+// The number of lines of an entry before those of its registrations.
 fn header_len(entry: &Entry) -> usize
     ensures { result ≡ length (header entry.now) }
 {
@@ -67,8 +68,8 @@ fn header_len(entry: &Entry) -> usize
     }
 }
 
-// Checks the lines of registrations, the first so many of which have paths without a row. The first
-// line has this number.
+// Checks the lines of registrations. The paths of the first `new` of these had no row, and the
+// first line has the number `line`.
 fn check_lines(
     rows: &IndexMap<StorePath, Record>,
     registrations: &[Registration],

@@ -19,7 +19,7 @@ use indexmap::IndexMap;
 use nix_names::StorePath;
 use std::alloc::{AllocFailed, Global};
 
-// What some roots lead to by the references of rows, in rising order.
+// The closure of some roots by the references of rows, in rising order.
 pub(crate) fn close(
     alloc: Global,
     rows: &IndexMap<StorePath, Record>,
@@ -62,7 +62,7 @@ fn root_rows(
     Ok(found)
 }
 
-// Adds the rows of what is referred to, row by row, until each row found was followed.
+// Adds the rows of the references of each found row, until each found row was followed.
 fn follow_all(
     rows: &IndexMap<StorePath, Record>,
     links: &Links,

@@ -1,4 +1,4 @@
-//! What stands against registrations, found by look-ups in the rows of a table.
+//! Why registrations can't be taken in, found by look-ups in the rows of a table.
 ghost use Rattle.std.specs.Prelude.{◌++◌, ◌↔◌, All, IsTrue, MatchOption};
 ghost use Rattle.nix_names.specs.Rising.{IsRising};
 ghost use Rattle.valid_table.specs.Adding.{AreClosed, AreNew};
@@ -14,8 +14,8 @@ use crate::rows::has_row;
 use indexmap::IndexMap;
 use nix_names::StorePath;
 
-// Which registration stands against their being taken in, if any: the first whose path has a row,
-// or else the first with a reference that neither has one nor is registered here.
+// Which registration is to blame where they can't be taken in: the first whose path has a
+// row, or else the first with a reference that neither has a row nor is registered here.
 pub(crate) fn blame(
     rows: &IndexMap<StorePath, Record>,
     registrations: &[Registration],
@@ -36,7 +36,7 @@ pub(crate) fn blame(
     first_unclosed(rows, registrations)
 }
 
-// How many first registrations have paths without a row.
+// The number of registrations before the first whose path has a row.
 fn new_front(rows: &IndexMap<StorePath, Record>, registrations: &[Registration]) -> usize
     ensures { IsNewFront (paths_of (registrations_of rows.now.entries)) (paths_of registrations.now)
         result }

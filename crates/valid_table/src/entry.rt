@@ -13,13 +13,14 @@ use std::slice;
 use std::sync::{Arc, ArcSlice};
 
 /// What is known of a valid path. A contract sees its references and its digest. All copies of a
-/// record share the memory of what is known, in any threads; a record that has neither takes none.
+/// record share its memory, also across threads. A record that has neither references nor a digest
+/// takes no memory.
 #[derive(Debug, Drop)]
 pub struct Record {
     known: Known,
 }
 
-// What is known, which copies of a record share.
+// What is known of a path. Copies of a record share it.
 #[derive(Debug, Drop)]
 enum Known {
     Nothing,
@@ -89,8 +90,8 @@ impl Record {
         }
     }
 
-    /// The same record again, which shares what is known. Fails only where that can have no more
-    /// owners.
+    /// The same record again, which shares what is known. Fails only where the shared memory can
+    /// have no more owners.
     pub fn copy(&self, _alloc: Global) -> Result<Record, AllocError>
         ensures ok { IfOk result (λ r. r ≡ self.now) }
     {
@@ -105,7 +106,7 @@ impl Record {
 }
 
 impl Known {
-    // What is known where there is no digest.
+    // What is known of a path that has no digest.
     fn without_digest(references: Vec<StorePath>) -> Result<Known, AllocError>
         ensures references { IfOk result (λ k. references_known k ≡ references.items) }
         ensures digest { IfOk result (λ k. digest_known k ≡ None) }
@@ -118,7 +119,7 @@ impl Known {
         Ok(Known::References(shared))
     }
 
-    // What is known where there is a digest.
+    // What is known of a path that has a digest.
     fn with_digest(references: Vec<StorePath>, digest: Digest) -> Result<Known, AllocError>
         ensures references { IfOk result (λ k. references_known k ≡ references.items) }
         ensures digest { IfOk result (λ k. digest_known k ≡ Some digest) }
@@ -185,8 +186,8 @@ impl Outputs {
         Outputs { registrations }
     }
 
-    /// The outputs with these paths and records, in whatever order they come: none where there are
-    /// none, or where a path comes twice. Sorts them in place, and takes no memory.
+    /// The outputs with these paths and records, which may come in any order. None where there are
+    /// no registrations, or where a path comes twice. Sorts them in place, and takes no memory.
     pub fn sorted(mut registrations: Vec<Registration>) -> Option<Outputs>
         ensures { MatchOption result ((registrations.items ≢ []) × IsOnce registrations.items → ⊥)
             (IsSortedOf registrations.items) }

@@ -13,7 +13,8 @@ pub enum TableFault {
     /// Memory was refused.
     #[error("memory was refused")]
     NoMemory,
-    /// This line has no line's form, stands where it may not, breaks an order or lacks its newline.
+    /// This line has no line's form, may not come where it is, breaks an order or lacks its
+    /// newline.
     #[error("line {0} is no line of a journal")]
     BadLine(usize),
     /// This line refers to a path that neither an earlier entry nor its own registers.

@@ -6,7 +6,7 @@ ghost use Rattle.indexmap.specs.IndexSet.{insert_key};
 use std::alloc::{AllocError, AllocFailed, Global};
 use std::marker::Model;
 
-// The rows, and a mark for each row of a table that tells whether it is among them.
+// The rows, and a mark for each row of a table, which is set where the row is among them.
 #[derive(Drop)]
 pub(crate) struct Found {
     rows: Vec<usize>,
@@ -26,7 +26,7 @@ impl Model for Found {
 }
 
 impl Found {
-    // No rows yet, with marks for those of a table of this length.
+    // No rows yet, with marks for a table of `count` rows.
     pub(crate) fn new(alloc: Global, count: usize) -> Result<Found, AllocError>
         ensures none { IfOk result (λ found. found.rows ≡ []) }
         ensures room { IfOk result (λ found. count ≤ found.room) }

@@ -81,7 +81,7 @@ impl Journal {
         self.table.registers(path)
     }
 
-    /// Makes room for entries that register so many more paths. Want of memory is its only fault;
+    /// Makes room for entries that register `paths` more paths. Want of memory is its only fault;
     /// the entries stay. Costs as `Table::reserve` does.
     pub fn reserve(&mut self, paths: usize) -> Result<(), AllocError>
         ensures same { self.new.entries ≡ self.old.entries }
@@ -92,10 +92,10 @@ impl Journal {
         self.table.reserve(paths)
     }
 
-    /// Adds a path with its record. In this order: `AlreadyValid` with the path where it is valid,
-    /// `Unclosed` with the first reference that is neither valid nor the path itself; `NoMemory`
-    /// only where it is neither. A fault leaves the entries as they were. Costs one look-up by hash
-    /// for each reference, two for the path, and as `reserve` does.
+    /// Adds a path with its record. Its faults, in this order: `AlreadyValid` with the path where
+    /// it is valid, `Unclosed` with the first reference that is neither valid nor the path itself,
+    /// and `NoMemory`, only where neither of these holds. A fault leaves the entries as they were.
+    /// Costs one look-up by hash for each reference, two for the path, and as `reserve` does.
     pub fn add(&mut self, path: StorePath, info: Record) -> Result<(), TableFault>
         ensures adding { IsAdding self.old.entries self.new.entries
             (Add (record { path = path; info = info })) result }
@@ -104,11 +104,12 @@ impl Journal {
         self.add_entry(Entry::Add(Registration { path, info }))
     }
 
-    /// Adds the outputs of a derivation that was built; its path ends in `.drv`. In this order:
-    /// `AlreadyValid` with the first output that is valid, `Unclosed` with the first reference
-    /// that is neither valid nor an output; `NoMemory` only where it is neither. A fault leaves the
-    /// entries as they were. Costs one look-up by hash for each reference and two for each output, a
-    /// binary search among the outputs for each reference that is not valid, and as `reserve` does.
+    /// Adds the outputs of a derivation that was built; its path ends in `.drv`. Its faults, in
+    /// this order: `AlreadyValid` with the first output that is valid, `Unclosed` with the first
+    /// reference that is neither valid nor an output, and `NoMemory`, only where neither of these
+    /// holds. A fault leaves the entries as they were. Costs one look-up by hash for each reference
+    /// and two for each output, a binary search among the outputs for each reference that is not
+    /// valid, and as `reserve` does.
     pub fn append(&mut self, deriver: StorePath, outputs: Outputs) -> Result<(), TableFault>
         requires { IsDrvPath deriver }
         ensures adding { IsAdding self.old.entries self.new.entries (Done deriver outputs) result }
@@ -117,9 +118,9 @@ impl Journal {
         self.add_entry(Entry::Done(deriver, outputs))
     }
 
-    /// Adds an entry for which there is room, and against which nothing stands (`Table::obstacle`
-    /// tells). The copy of the entry is what the table takes in. Takes no memory, and never fails.
-    /// Costs one look-up by hash for each registration.
+    /// Adds an entry for which there is room, and which has no obstacle (`Table::obstacle`). The
+    /// table registers the copy of the entry. Takes no memory, and never fails. Costs one look-up
+    /// by hash for each registration.
     pub fn push_reserved(&mut self, entry: Entry, copy: Entry)
         requires room { length (registered_by entry) ≤ self.old.room }
         requires new { AreNew (registered self.old.entries) (registered_by entry) }
@@ -129,7 +130,7 @@ impl Journal {
         ensures entries { self.new.entries ≡ self.old.entries ++ entry ∷ [] }
         ensures room { self.old.room ≤ self.new.room + length (registered_by entry) }
     {
-        // Its contract says that an entry registers a path at least.
+        // Its contract says that an entry registers at least one path.
         let _ = entry.registrations();
         let _ = self.entries.push(entry);
         self.table.register_reserved(copy);

@@ -11,7 +11,7 @@ pub fn closure_stays()
     ensures { ClosureStays }
 {}
 
-/// Some paths have one closure.
+/// Some paths have at most one closure.
 pub fn closure_is_one()
     ensures { ClosureIsOne }
 {}
@@ -21,12 +21,12 @@ pub fn texts_have_no_bad_line()
     ensures { TextsHaveNoBadLine }
 {}
 
-/// Bytes have one first bad line at most, in a store folder.
+/// Bytes have at most one first bad line, in a store folder.
 pub fn bad_line_is_one()
     ensures { BadLineIsOne }
 {}
 
-/// One text is that of one list of entries.
+/// A text is the text of at most one list of entries.
 pub fn text_has_one_list()
     ensures { TextHasOneList }
 {}
@@ -49,8 +49,8 @@ pub fn versions_have_the_same_entries()
     ensures { VersionsHaveTheSameEntries }
 {}
 
-/// What is read of a version 1 text of a store folder is read again of the version 2 text of it, want
-/// of memory apart.
+/// The entries that are read of a version 1 text of a store folder are read again of the version 2
+/// text of these entries, want of memory apart.
 pub fn written_journals_are_read_again()
     ensures { WrittenJournalsAreReadAgain }
 {}

@@ -8,9 +8,9 @@
 //! | `journal` | journals: their entries, one more |
 //! | `version` | the versions of a journal's text, and the first line of each |
 //! | `lines`, `reading`, `writing` | a journal's text: one line, all of it read, all written |
-//! | `entering`, `obstacle` | what stands against an entry |
-//! | `checking` | entries whose text was read, line by line |
-//! | `rows`, `table` | the rows of valid paths, and the table of them |
+//! | `entering`, `obstacle` | why an entry can't be taken in |
+//! | `checking` | how entries whose text was read are checked |
+//! | `rows`, `table` | the rows of valid paths, and the table of these rows |
 //! | `links` | the references of rows, by the numbers of their rows |
 //! | `found` | rows that were found, each once |
 //! | `order` | the order of rows by the keys of their paths |

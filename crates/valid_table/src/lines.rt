@@ -14,7 +14,7 @@ use memchr::{memchr, memchr_iter};
 use nix_names::{Algorithm, Digest, NameFault, StoreDir, StorePath, is_drv_name, parse_path};
 use std::alloc::{AllocError, Global};
 
-/// What the first line of each version begins with.
+/// The bytes with which the first line of each version begins.
 const JOURNAL: &[u8] = b"realiser-journal ";
 
 /// The bytes before the first one that equals `byte`, and those behind it.
@@ -59,8 +59,8 @@ pub(crate) fn path_of(
     }
 }
 
-/// What a version has for a digest, where the bytes are its text: a dash for none, or a digest's
-/// text.
+/// The digest of a line, where the bytes are its text in a version: none for a dash, or the digest
+/// whose text they are.
 pub(crate) fn digest_of(version: Version, text: &[u8]) -> Option<Option<Digest>>
     ensures { MatchOption result
         ((digest : Option ADigest) → IsDigestOf version digest
@@ -76,8 +76,8 @@ pub(crate) fn digest_of(version: Version, text: &[u8]) -> Option<Option<Digest>>
     }
 }
 
-/// The digest whose text in a version the bytes are: the 64 lower-case hexadecimal digits of SHA-256
-/// in version 1, and an algorithm's name, a colon and its digits in version 2.
+/// The digest whose text in a version the bytes are: the 64 lower-case hexadecimal digits of
+/// SHA-256 in version 1, and an algorithm's name, a colon and its digits in version 2.
 #[tactic(auto, using(crate::proofs::DigestTexts::in_one))]
 fn some_digest_of(version: Version, text: &[u8]) -> Option<Digest>
     ensures { MatchOption result
@@ -112,7 +112,7 @@ pub(crate) fn path_line<'a>(
     }
 }
 
-/// The same of the path of a derivation's file, where an output's line follows.
+/// The same for the path of a derivation's file, where an output's line follows.
 pub(crate) fn deriver_line<'a>(
     alloc: Global,
     dir: &StoreDir,
@@ -164,8 +164,8 @@ pub(crate) fn fields_line<'a>(
     }
 }
 
-/// The number of the line that begins where so many bytes are left: one more than there are
-/// newlines before.
+/// The number of the line that begins where `left` bytes are left: one more than there are newlines
+/// before it.
 pub(crate) fn line_number(bytes: &[u8], left: usize) -> usize
     requires { left ≤ length bytes.now }
     ensures { result ≡ 1 + length (places (is_byte 10) (take (length bytes.now - left) bytes.now)) }

@@ -12,8 +12,9 @@ use indexmap::IndexMap;
 use nix_names::StorePath;
 use std::alloc::Global;
 
-// For each of the first rows of a table, which are linked, the numbers of the rows of its record's
-// references, in their order: they stand in `numbers` from the end of the row before up to its own.
+// The first rows of a table are linked: for each of them there are the numbers of the rows of its
+// references, in their order. In `numbers` they go from the end of the row before to the end of the
+// row.
 #[derive(Debug, Drop)]
 pub(crate) struct Links {
     pub(crate) ends: Vec<u32>,
@@ -21,7 +22,7 @@ pub(crate) struct Links {
 }
 
 impl Links {
-    // No row is linked.
+    // The links in which no row is linked.
     pub(crate) fn new(alloc: Global) -> Links
         ensures ends { result.ends.items ≡ [] }
         ensures numbers { result.numbers.items ≡ [] }
@@ -57,7 +58,7 @@ impl Links {
     }
 
     // Links the rows that are not linked yet, one after the other. Where memory is refused, or a
-    // number is 2^32 or more, the rest of them stay as they are, which costs a closure look-ups.
+    // number is 2^32 or more, the rest of them stay unlinked, and a closure has to look these up.
     pub(crate) fn link(&mut self, alloc: Global, rows: &IndexMap<StorePath, Record>)
         requires { AreLinked (registrations_of rows.now.entries) self.old.ends.items
             self.old.numbers.items }

@@ -79,7 +79,7 @@ impl Outlet for ListOutlet {
         Ok(())
     }
 
-    /// Shows what waits. Never fails.
+    /// Shows the entries that wait. Never fails.
     fn publish(&mut self) -> Result<(), OutletFault>
         ensures always { IsOk result }
         ensures ok { OnOk result

@@ -30,7 +30,7 @@ pub fn union(
     Ok(paths)
 }
 
-// The least path of two rising lists, and what is left of each behind it.
+// The least path of two rising lists, and what is left of each list without it.
 fn least<'a>(
     left: &'a [StorePath],
     right: &'a [StorePath],

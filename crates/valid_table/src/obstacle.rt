@@ -1,4 +1,4 @@
-//! What stands against an entry, and the fault that tells it.
+//! Why an entry can't be taken in, and the fault that says so.
 ghost use Rattle.std.specs.Prelude.{◌<◌, IfSome, length};
 ghost use Rattle.valid_table.specs.Blames.{IsFaultOf, IsObstacleOf};
 
@@ -7,7 +7,7 @@ use crate::fault::TableFault;
 use crate::reference::Reference;
 use nix_names::StorePath;
 
-/// Why an entry can't be taken in. Lends the path that is to blame.
+/// Why an entry can't be taken in. Borrows the path that is to blame.
 #[derive(Clone, Copy, Debug)]
 pub enum Obstacle<'a> {
     /// This path, which the entry registers, is valid already.
@@ -16,7 +16,7 @@ pub enum Obstacle<'a> {
     Unclosed(&'a StorePath),
 }
 
-// Which registration of an entry is to blame and, where it is for one of its references, for which.
+// Which registration of an entry is to blame, and which of its references, if it is for one.
 #[derive(Clone, Copy, Debug)]
 pub(crate) struct Blame {
     // The registration's place among those of the entry.

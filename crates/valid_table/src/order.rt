@@ -11,18 +11,19 @@ use indexmap::IndexMap;
 use nix_names::StorePath;
 use std::alloc::Global;
 
-// How many times as many rows as are late stand in order, at least, beside a first few.
+// The late rows are taken in where they are more than `SHARE`, and one more for each `SHARE`
+// others.
 const SHARE: usize = 16;
 
-// The first rows of a table, each behind the key of its path in the folder of the first path. They
-// are sorted, unless memory was refused for that. The rows behind them are late.
+// The first rows of a table, each paired with the key of its path in the folder of the first path.
+// These pairs are sorted, unless memory was refused for that. All later rows are called late.
 #[derive(Debug, Drop)]
 pub(crate) struct Order {
     pub(crate) keyed: Vec<(u64, usize)>,
 }
 
 impl Order {
-    // All rows are late.
+    // The order in which all rows are late.
     pub(crate) fn new(alloc: Global) -> Order
         ensures { result.keyed.items ≡ [] }
     {
@@ -31,9 +32,9 @@ impl Order {
         }
     }
 
-    // Takes in the late rows, where they are many beside the others. So a row costs a few steps of a
-    // merge, whenever it was registered. Where memory is refused, rows stay late or unsorted, which
-    // costs a closure more of its own sorting.
+    // Takes in the late rows, where they are many compared with the others. So a row costs a few
+    // steps of a merge, whenever it was registered. Where memory is refused, rows stay late or
+    // unsorted, and a closure has to sort more itself.
     pub(crate) fn extend(&mut self, rows: &IndexMap<StorePath, Record>)
         requires first { AreFirst (length rows.now.entries) (rows_behind self.old.keyed.items) }
         requires keys { AreKeyed (registrations_of rows.now.entries) self.old.keyed.items }

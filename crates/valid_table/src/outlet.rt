@@ -1,4 +1,4 @@
-//! Where registrations go: a list of entries that is shown, longer by each publication.
+//! Where registrations go: a list of entries that readers see, and that each publication extends.
 ghost use Rattle.std.specs.Prelude.{◌≡◌, ◌++◌, [], ◌∷◌, List, All, IfOk, IfErr, IsOk, OnOk, OnErr, drop, length, take};
 ghost use Rattle.valid_table.specs.Adding.{IsNew, IsValidWith};
 ghost use Rattle.valid_table.specs.Entries.{registered_by};
@@ -12,17 +12,17 @@ use crate::journal::Journal;
 use std::alloc::Global;
 use std::marker::Model;
 
-/// A published list of entries. What is appended waits until it is published; what is shown only
-/// grows. An outlet is ended by `close`.
+/// A published list of entries. An entry that is appended waits until it is published; the shown
+/// list only grows. `close` ends an outlet.
 pub trait Outlet {
-    /// What an outlet tells of the list that it shows.
+    /// The name of a list that an outlet shows.
     type Told: Drop + Send;
 
     // The entries that are shown.
     ghost shown: { Self → List Entry };
     // The entries that wait to be published.
     ghost pending: { Self → List Entry };
-    // Whether what was told names a list of entries.
+    // Whether a name is that of a list of entries.
     ghost names: { Self.Told → List Entry → Type 0 };
 
     /// Appends an entry to those that wait. Its paths must be new, and each of its references must
@@ -36,7 +36,7 @@ pub trait Outlet {
         ensures err { OnErr result (pending self.new ≡ pending self.old) }
         ensures memory { IfErr result (λ e. e ≡ OutletFault.NoMemory) };
 
-    /// Shows what waits. A fault changes nothing. Where nothing waits there is none.
+    /// Shows the entries that wait. A fault changes nothing. Where nothing waits there is no fault.
     fn publish(&mut self) -> Result<(), OutletFault>
         ensures idle { pending self.old ≡ [] → IsOk result }
         ensures ok { OnOk result
@@ -44,7 +44,7 @@ pub trait Outlet {
         ensures err { OnErr result
             ((shown self.new ≡ shown self.old) × (pending self.new ≡ pending self.old)) };
 
-    /// What names the list that is shown.
+    /// The name of the list that is shown.
     fn tell(&self) -> Self::Told
         ensures { names result (shown self.now) };
 

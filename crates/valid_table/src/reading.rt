@@ -22,17 +22,17 @@ use nix_names::{Digest, StoreDir, StorePath};
 use std::alloc::{AllocError, AllocFailed, Global};
 
 impl Journal {
-    /// The journal whose text the bytes are, in version 1 or in version 2; of no bytes, the journal
-    /// without entries.
+    /// The journal whose text the bytes are, in version 1 or in version 2. No bytes are the text of
+    /// the journal without entries.
     ///
-    /// Answers the first of these that holds: `TooLong` for more than 134,217,728 bytes, and for
-    /// more than 67,108,864 that begin with the line of version 1, `WrongVersion` where the first
-    /// line is that of another version, `BadLine` with the first line that has no line's form,
-    /// stands where it may not, breaks an order or lacks its newline, and then the least line of
-    /// `NotClosed`, which refers to a path that neither an earlier entry nor its own registers, and
-    /// `Twice`, which registers a path that an earlier entry registered. `NoMemory` may come in
-    /// place of the last three, for bytes that begin with the line of a version and for no others.
-    /// Lines are counted from 1.
+    /// Answers the first of these faults that holds. `TooLong` is for more than 134,217,728 bytes,
+    /// and for more than 67,108,864 bytes that begin with the line of version 1. `WrongVersion` is
+    /// for a first line of another version. `BadLine` has the first line that has no line's form,
+    /// may not come where it is, breaks an order or lacks its newline. Then comes the first line
+    /// with one of two faults: `NotClosed`, where it refers to a path that neither an earlier entry
+    /// nor its own registers, and `Twice`, where it registers a path that an earlier entry
+    /// registered. `NoMemory` may come in place of the last three, for bytes that begin with the
+    /// line of a version and for no others. Lines are counted from 1.
     ///
     /// Passes over the bytes once, and once more over their newlines where a line is bad. Costs a
     /// copy of each path, one more of each that is registered, one look-up by hash for each path
@@ -59,7 +59,7 @@ impl Journal {
 pub(crate) enum Stop {
     /// Memory was refused.
     NoMemory,
-    /// A line is bad; so many bytes are left, from that line on.
+    /// A line is bad. This is the number of bytes from the beginning of that line on.
     Left(usize),
 }
 
@@ -93,7 +93,7 @@ fn is_above(before: Option<&StorePath>, path: &StorePath) -> bool
     }
 }
 
-/// The references at the head of the bytes, and what is behind their lines.
+/// The references at the head of the bytes, and the bytes behind their lines.
 fn references_of<'a>(
     alloc: Global,
     dir: &StoreDir,
@@ -117,7 +117,7 @@ fn references_of<'a>(
     Ok((references, rest))
 }
 
-/// The record with a digest and with the references at the head of the bytes, and what is behind
+/// The record with a digest and with the references at the head of the bytes, and the bytes behind
 /// their lines.
 fn record_of<'a>(
     alloc: Global,
@@ -135,7 +135,7 @@ fn record_of<'a>(
     Ok((info, rest))
 }
 
-/// The path, greater than the one before it, and the digest at the head of the bytes, and what is
+/// The path, greater than the one before it, and the digest at the head of the bytes, and the bytes
 /// behind their line. None where no such line is there.
 fn fields_above<'a>(
     alloc: Global,
@@ -160,9 +160,9 @@ fn fields_above<'a>(
     }
 }
 
-/// The path that is registered at the head of the bytes, by a line with this letter, and what is
-/// behind its references. None where no such line begins there. The path has to be greater than the
-/// one before it.
+/// The registration at the head of the bytes, by a line with this letter, and the bytes behind its
+/// references. None where no such line begins there. The path has to be greater than the one before
+/// it.
 fn registration_of<'a>(
     alloc: Global,
     dir: &StoreDir,
@@ -199,7 +199,7 @@ fn last_path(registrations: &[Registration]) -> Option<&StorePath>
     }
 }
 
-/// The outputs at the head of the bytes, and what is behind their lines.
+/// The outputs at the head of the bytes, and the bytes behind their lines.
 fn outputs_of<'a>(
     alloc: Global,
     dir: &StoreDir,
@@ -223,8 +223,8 @@ fn outputs_of<'a>(
     }
 }
 
-/// The entry of a derivation that was built at the head of the bytes, and what is behind its lines.
-/// None where no deriver's line begins there.
+/// The entry of a built derivation at the head of the bytes, and the bytes behind its lines. None
+/// where no deriver's line begins there.
 fn done_of<'a>(
     alloc: Global,
     dir: &StoreDir,
@@ -249,7 +249,7 @@ fn done_of<'a>(
     Ok(Some((Entry::Done(deriver, Outputs::new(outputs)), rest)))
 }
 
-/// The entry at the head of the bytes, and what is behind its lines.
+/// The entry at the head of the bytes, and the bytes behind its lines.
 fn entry_of<'a>(
     alloc: Global,
     dir: &StoreDir,

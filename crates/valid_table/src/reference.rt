@@ -6,8 +6,8 @@ use crate::entry::Record;
 use nix_names::StorePath;
 use std::marker::Model;
 
-/// A path to which a record refers, told by its place in the record's list, which it shares. A
-/// contract sees the path.
+/// A path to which a record refers. It shares the record, and keeps the path's place in the
+/// record's list. A contract sees the path.
 #[derive(Debug, Drop)]
 pub struct Reference {
     info: Record,

@@ -19,7 +19,7 @@ use indexmap::IndexMap;
 use nix_names::StorePath;
 use std::alloc::{AllocFailed, Global};
 
-// A pass over the rows in order costs less than a sort where one in this many of them was found.
+// A pass over the ordered rows costs less than a sort where one in `SWEEP` of them was found.
 const SWEEP: usize = 16;
 
 // The paths of the rows, in rising order.
@@ -48,7 +48,7 @@ pub(crate) fn sorted_paths(
     Ok(paths)
 }
 
-// The rows that were found, each behind the key of its path: mostly in the order of their keys.
+// The rows that were found, each paired with the key of its path, mostly in the order of the keys.
 fn keyed_rows(
     alloc: Global,
     rows: &IndexMap<StorePath, Record>,
@@ -74,7 +74,7 @@ fn keyed_rows(
     Ok(keyed)
 }
 
-// The rows in order that a closure passes over: all of them, or none where few were found.
+// The ordered rows that a closure passes over: all of them, or none where few rows were found.
 fn swept<'a>(order: &'a Order, found: &Found) -> &'a [(u64, usize)]
     ensures { (result.now ≡ []) ⊎ (result.now ≡ order.now.keyed.items) }
 {
@@ -85,7 +85,7 @@ fn swept<'a>(order: &'a Order, found: &Found) -> &'a [(u64, usize)]
     }
 }
 
-// Adds those of the rows in order that were found.
+// Adds those of the ordered rows that were found.
 fn push_found(
     ordered: &[(u64, usize)],
     found: &Found,
@@ -103,7 +103,7 @@ fn push_found(
     Ok(())
 }
 
-// Adds those of the rows that were found that stand behind the first so many.
+// Adds those of the found rows that are not among the `first` first rows of the table.
 fn push_late(
     rows: &IndexMap<StorePath, Record>,
     first: usize,
@@ -161,7 +161,8 @@ fn keys_rise(keyed: &[(u64, usize)]) -> bool
     true
 }
 
-// Sorts paths that stand by their keys: two may have one key, or they may be of several folders.
+// Sorts paths that are in the order of their keys. Two may have the same key, or they may be of
+// several folders.
 fn put_in_order(paths: &mut Vec<StorePath>)
     ensures moved { IsPermutation paths.old.items paths.new.items }
     ensures sorted { IsSorted (slice_cmp nat_cmp) paths.new.items }

@@ -1,4 +1,4 @@
-//! The rows of a table: asked for, copied in, moved in.
+//! The rows of a table: how they are looked up, copied in and moved in.
 ghost use Rattle.std.specs.Prelude.{◌≡◌, ◌≤◌, ◌<◌, ◌+◌, ◌++◌, ◌↔◌, [], ◌∷◌, IfErr, IfOk, IsTrue, MatchOption, OnOk, length, take};
 ghost use Rattle.indexmap.specs.IndexMap.{spare};
 ghost use Rattle.valid_table.specs.Closing.{IsRowOf};
@@ -29,7 +29,7 @@ pub(crate) fn row_of(rows: &IndexMap<StorePath, Record>, path: &StorePath) -> Op
     rows.get_index_of(path)
 }
 
-// Adds a row for each registration. No path of theirs has a row yet.
+// Adds a row for each registration. None of their paths has a row yet.
 pub(crate) fn add_rows(
     alloc: Global,
     rows: &mut IndexMap<StorePath, Record>,
@@ -49,8 +49,8 @@ pub(crate) fn add_rows(
     Ok(())
 }
 
-// Adds a row for each registration up to the first whose path has one already, and gives how many
-// those are. The record of that path is replaced.
+// Adds a row for each registration before the first whose path has one already, and gives the
+// number of these. The record of that first path is replaced.
 pub(crate) fn add_new(
     alloc: Global,
     rows: &mut IndexMap<StorePath, Record>,
@@ -92,7 +92,7 @@ fn put_row(
     Ok(rows.insert(path, info)?.is_some())
 }
 
-// Moves in what an entry registers. There is room, and no path of theirs has a row yet.
+// Moves in what an entry registers. There is room, and none of its paths has a row yet.
 pub(crate) fn push_entry(rows: &mut IndexMap<StorePath, Record>, entry: Entry)
     requires room { length (registered_by entry) ≤ spare rows.old }
     requires once { IsOnce (registrations_of rows.old.entries ++ registered_by entry) }
@@ -106,7 +106,7 @@ pub(crate) fn push_entry(rows: &mut IndexMap<StorePath, Record>, entry: Entry)
     }
 }
 
-// Moves in registrations. There is room, and no path of theirs has a row yet.
+// Moves in registrations. There is room, and none of their paths has a row yet.
 fn push_rows(rows: &mut IndexMap<StorePath, Record>, registrations: Vec<Registration>)
     requires room { length registrations.items ≤ spare rows.old }
     requires once { IsOnce (registrations_of rows.old.entries ++ registrations.items) }

@@ -91,21 +91,21 @@ impl Table {
         self.rows.get(path)
     }
 
-    /// All that the roots lead to by references, the roots among them, in strictly rising order; no
-    /// roots lead to nothing. `NotValid` with the first root that is not valid, `NoMemory` where
-    /// memory is refused; no other fault. Costs a bit for each row of the table, one look-up by hash
-    /// for each root, a step for each reference of what is reached, a sort of numbers most of which
-    /// are in order, and a copy for each path. Texts are compared only where two paths begin with
-    /// the same eight characters, or are of several folders. A path that was registered behind the
-    /// last call that made room costs one look-up by hash for each of its references instead. Does
-    /// not recurse.
+    /// The closure of the roots: the roots and all paths that they lead to by references, in
+    /// strictly rising order. The closure of no roots is empty. Answers `NotValid` with the first
+    /// root that is not valid, `NoMemory` where memory is refused, and no other fault. Costs a bit
+    /// for each row of the table, one look-up by hash for each root, a step for each reference of
+    /// the closure's paths, a sort of numbers most of which are in order, and a copy of each path.
+    /// Texts are compared only where two hash parts begin with the same eight characters, or the
+    /// paths are of several folders. A path that was registered after the last call that made room
+    /// costs one look-up by hash for each of its references instead. Does not recurse.
     pub fn closure(&self, alloc: Global, roots: &[StorePath]) -> Result<Vec<StorePath>, TableFault>
         ensures { IsClosing self.now.registrations roots.now result }
     {
         close(alloc, &self.rows, &self.links, &self.order, roots)
     }
 
-    /// What stands against an entry, if anything: the first path of its registrations that is
+    /// Why an entry can't be registered, if it can't: the first path of its registrations that is
     /// valid, or else its first reference that is neither valid nor registered by the entry itself.
     /// Takes no memory. Costs a look-up by hash for each registration and reference, and a binary
     /// search among the registrations for each reference that is not valid.
@@ -121,7 +121,7 @@ impl Table {
         Some(obstacle_of(registration, blame.reference))
     }
 
-    // Which of an entry's registrations stands against it, if any.
+    // Which of an entry's registrations is to blame where it can't be registered.
     pub(crate) fn blame(&self, entry: &Entry) -> Option<Blame>
         ensures { MatchOption result
             (AreNew self.now.registrations (registered_by entry.now)
@@ -131,11 +131,11 @@ impl Table {
         blame(&self.rows, entry.registrations())
     }
 
-    /// Makes room for so many more paths. Want of memory is its only fault; what is registered
-    /// stays. Costs one look-up by hash for each reference of what was registered behind the last
-    /// call that made room, so that closures need none for it, and a few steps for each row, by which
-    /// most rows stand in the order of their paths. Where memory is refused for these, nothing is
-    /// told: closures cost the look-ups, or more of a sort.
+    /// Makes room for `paths` more paths. Want of memory is its only fault; what is registered
+    /// stays. Looks up by hash each reference of what was registered after the last call that made
+    /// room, so that closures need not, and takes a few steps for each row to put most rows in the
+    /// order of their paths. Where memory is refused for this, it is no fault: closures cost the
+    /// look-ups instead, or more of a sort.
     pub fn reserve(&mut self, paths: usize) -> Result<(), AllocError>
         ensures same { self.new.registrations ≡ self.old.registrations }
         ensures ok { OnOk result (paths ≤ self.new.room) }
@@ -149,11 +149,11 @@ impl Table {
         Ok(())
     }
 
-    /// Registers what an entry registers. In this order: `AlreadyValid` with the first path that is
-    /// valid, `Unclosed` with the first reference that is neither valid nor registered by the entry
-    /// itself. `NoMemory` may come in the place of either. A fault leaves what is registered as it
-    /// was. Costs as `obstacle` does, and one more look-up by hash and a copy for each
-    /// registration.
+    /// Registers what an entry registers. Its faults, in this order: `AlreadyValid` with the first
+    /// path that is valid, `Unclosed` with the first reference that is neither valid nor registered
+    /// by the entry itself. `NoMemory` may come in the place of either. A fault leaves what is
+    /// registered as it was. Costs as `obstacle` does, and one more look-up by hash and a copy for
+    /// each registration.
     pub fn register(&mut self, entry: &Entry) -> Result<(), TableFault>
         ensures registering { IsRegistering self.old.registrations self.new.registrations entry.now
             result }
