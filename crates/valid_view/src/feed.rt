@@ -18,12 +18,12 @@ use std::marker::Model;
 use std::sync::Wait;
 use valid_table::{Entry, OutletFault};
 
-// The writer's end, and what waits before it.
+// The writer's end, and the entries that wait before it.
 pub(crate) struct Feed<J: Naming> {
     line: Line<J>,
-    // All that is in the one list.
+    // The beginning of the one list that ends with all that is in it.
     front: Front<J>,
-    // The last entry of that list, where it was not handed over yet.
+    // The last entry of that list, if it was not handed over yet.
     held: Option<Op>,
     // Entries that are not in the list yet.
     queue: VecDeque<Entry>,
@@ -47,7 +47,7 @@ impl<J: Naming> Model for Feed<J> {
 }
 
 impl<J: Naming> Feed<J> {
-    // The writer's end, where all that is in the list is shown.
+    // A feed over the writer's end, where all that is in the list is shown.
     pub(crate) fn over(
         line: Line<J>,
         front: Front<J>,
@@ -71,7 +71,7 @@ impl<J: Naming> Feed<J> {
         }
     }
 
-    // What names the list that is shown.
+    // The list that is shown, as a beginning of the one list.
     pub(crate) fn front(&self) -> Front<J>
         ensures { result ≡ self.now.shown }
     {
@@ -94,7 +94,7 @@ impl<J: Naming> Feed<J> {
         Ok(())
     }
 
-    // Shows all that waits. Where nothing does, it waits for nobody.
+    // Shows all entries that wait. Where none does, it waits for no reader.
     pub(crate) fn publish<R: Wait>(&mut self, rt: &R) -> Result<(), Refusal>
         ensures ok { OnOk result
             ((self.new.shown ≡ self.old.shown ++ pending_of self.old)
@@ -112,7 +112,8 @@ impl<J: Naming> Feed<J> {
         Ok(())
     }
 
-    // Ends the view, and gives what names the list that was shown last. Nothing that waits is shown.
+    // Ends the view, and gives the list that was shown last. No entry that waits is
+    // shown.
     pub(crate) fn close<R: Wait>(self, rt: &R) -> Front<J>
         ensures { result ≡ self.shown }
     {
@@ -126,7 +127,7 @@ impl<J: Naming> Feed<J> {
         line.close(rt)
     }
 
-    // Shows what was handed over.
+    // Shows the entries that were handed over.
     fn show<R: Wait>(&mut self, rt: &R) -> Result<(), AllocError>
         ensures held { self.new.held ≡ self.old.held }
         ensures queue { self.new.queue ≡ self.old.queue }
@@ -138,7 +139,8 @@ impl<J: Naming> Feed<J> {
         replace_with(&mut self.line, rt, Line::show)
     }
 
-    // Hands over all that waits. What was handed over before a fault stays so.
+    // Hands over all entries that wait. Those that were handed over before a fault stay handed
+    // over.
     fn hand_over(&mut self) -> Result<(), Refusal>
         ensures shown { self.new.shown ≡ self.old.shown }
         ensures pending { pending_of self.new ≡ pending_of self.old }
@@ -153,7 +155,7 @@ impl<J: Naming> Feed<J> {
         Ok(())
     }
 
-    // Hands over what is held.
+    // Hands over the entry that is held, if there is one.
     fn hand_held(&mut self) -> Result<(), AllocError>
         ensures shown { self.new.shown ≡ self.old.shown }
         ensures queue { self.new.queue ≡ self.old.queue }

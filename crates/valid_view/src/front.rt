@@ -10,7 +10,7 @@ use logbook::{Offer, Seen, Word};
 use std::marker::{Model, PhantomData};
 use valid_table::Entry;
 
-// The word that is the list's length.
+// The word that holds the length of the list with this name.
 #[derive(Drop)]
 pub(crate) struct Head<J: Naming> {
     word: Word<Entry, u64, Law>,
@@ -70,7 +70,7 @@ impl<J: Naming> Front<J> {
         }
     }
 
-    // The same without the name.
+    // The same beginning, whose type does not name the list.
     pub(crate) fn bare(&self) -> Beginning
         ensures book { result.book ≡ J.book }
         ensures entries { result.entries ≡ self.now }
@@ -93,8 +93,8 @@ impl<J: Naming> Front<J> {
         Front::over(self.all.again())
     }
 
-    /// The longer of two, which the other begins. That it begins it is what a proof learns of two
-    /// beginnings of one list.
+    /// The longer of two beginnings, which begins with the other. A proof learns from it that one
+    /// of two beginnings of one list begins with the other.
     pub fn longer(&self, other: &Front<J>) -> Front<J>
         ensures this { IsPrefix self.now result }
         ensures that { IsPrefix other.now result }
@@ -114,7 +114,7 @@ impl<J: Naming> Front<J> {
     }
 }
 
-// A beginning of a list, where the list is no part of the type.
+// A beginning of a list, whose type does not name the list.
 #[derive(Drop)]
 pub(crate) struct Beginning {
     count: u64,
@@ -180,7 +180,7 @@ impl Beginning {
         Ok(())
     }
 
-    // The longer of two beginnings of one list, which the other begins.
+    // The longer of two beginnings of one list, which begins with the other.
     pub(crate) fn longer(&self, other: &Beginning) -> Beginning
         requires { other.now.book ≡ self.now.book }
         ensures book { result.book ≡ self.now.book }

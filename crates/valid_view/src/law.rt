@@ -24,7 +24,7 @@ impl Rule<Entry, u64> for Law {
     ghost moves = { λ ask before after answer. Unit {0} };
 }
 
-// Callers trade nothing.
+// Callers gain nothing by a step.
 pub struct Nothing;
 
 impl Gain<Entry, u64> for Nothing {
@@ -42,7 +42,7 @@ impl Play<Entry, u64> for Add {
     ghost then = { Adds };
 }
 
-// What such a step asks for: the entry.
+// Such a step asks for the entry.
 impl Plain<Entry, Entry, u64> for Add {
     ghost use Rattle.std.specs.Prelude.{None};
 

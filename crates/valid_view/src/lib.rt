@@ -2,16 +2,16 @@
 //!
 //! | Module | What is in it |
 //! |---|---|
-//! | `name` | which list it is |
+//! | `name` | the name of the one list |
 //! | `law` | the rule of the one list |
 //! | `front` | beginnings of the one list |
-//! | `shelf`, `rule` | what is shown, and the rule of it |
-//! | `line`, `feed` | the writer's end, under the rule, and what waits before it |
+//! | `shelf`, `rule` | what is shown, and the rule for it |
+//! | `line`, `feed` | the writer's end, under the rule, and the entries that wait before it |
 //! | `writer`, `opening` | the writer, and how a view is opened |
-//! | `tells` | outlets that tell by beginnings of one list |
+//! | `tells` | outlets whose lists are beginnings of one list |
 //! | `sight` | what a reader saw, and what it sees while it reads |
 //! | `reader`, `seen` | readers, and what they find |
-//! | `fault`, `refusal` | why a reader refused, and why the writer |
+//! | `fault`, `refusal` | why a reader refused, and why the writer did |
 //! | `laws` | laws over the definitions that contracts cite |
 #![tactic(auto)]
 

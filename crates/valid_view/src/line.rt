@@ -13,7 +13,7 @@ use std::marker::Model;
 use std::sync::Wait;
 use valid_table::Entry;
 
-// An entry that came back, since memory was refused.
+// An operation that came back, since memory was refused.
 #[derive(Drop)]
 pub(crate) struct Returned {
     pub op: Op,
@@ -44,7 +44,7 @@ impl<J: Naming> Model for Line<J> {
 }
 
 impl<J: Naming> Line<J> {
-    // The writer of two alike shelves. `AllocError` where there is no memory for so many readers.
+    // The writer of two equal shelves, for `readers` readers. `AllocError` where memory is refused.
     pub(crate) fn open(
         alloc: Global,
         first: Shelf,
@@ -71,14 +71,14 @@ impl<J: Naming> Line<J> {
         Ok(Sight::over(reader, none.again()))
     }
 
-    // What names the list that is shown.
+    // The list that is shown, as a beginning of the one list.
     pub(crate) fn front(&self) -> Front<J>
         ensures { result ≡ self.now.shown }
     {
         Front::over(self.writer.published().front.again())
     }
 
-    // Whether all that was handed over is shown.
+    // Whether all entries that were handed over are shown.
     pub(crate) fn all_shown(&self) -> bool
         ensures { IsTrue result ↔ (self.now.handed ≡ []) }
     {
@@ -105,8 +105,8 @@ impl<J: Naming> Line<J> {
         }
     }
 
-    // Shows all that was handed over. May wait for readers. `AllocError` where memory is refused;
-    // then nothing changes.
+    // Shows all entries that were handed over. May wait for readers. `AllocError` where memory is
+    // refused; then nothing changes.
     pub(crate) fn show<R: Wait>(self, rt: &R) -> (Line<J>, Result<(), AllocError>)
         ensures ok { OnOk result.1
             ((result.0.shown ≡ self.shown ++ self.handed) × (result.0.handed ≡ [])) }
@@ -118,7 +118,7 @@ impl<J: Naming> Line<J> {
         (Line { writer }, shown)
     }
 
-    // Ends the view, and gives what names the list that was shown last. May wait for readers.
+    // Ends the view, and gives the list that was shown last. May wait for readers.
     pub(crate) fn close<R: Wait>(self, rt: &R) -> Front<J>
         ensures { result ≡ self.shown }
     {

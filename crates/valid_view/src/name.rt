@@ -1,4 +1,4 @@
-//! Which list a view shows beginnings of.
+//! The name of the list of which a view shows beginnings.
 ghost use Rattle.std.specs.Prelude.{◌≡◌, []};
 
 use crate::front::{Front, Head};
@@ -7,7 +7,8 @@ use logbook::{Seen, Start, Word};
 use std::marker::{Brand, Model};
 use valid_table::Entry;
 
-/// Which list it is. Writer and readers of one view, and all that they tell, have one name.
+/// The name of a list, as a type. The writer and the readers of one view, and all beginnings that
+/// they hand on, have one name.
 pub trait Naming {
     ghost use Rattle.logbook.specs.Pages.{Book};
 
@@ -19,7 +20,7 @@ impl Naming for Brand {
     ghost book = { record { number = 0; log_name = 0; cells_name = 0 } };
 }
 
-/// A list without entries that no type names yet. A contract sees which list it is. Takes no
+/// A new list without entries, which no type names yet. A contract sees which list it is. Takes no
 /// memory.
 #[derive(Drop)]
 pub struct Name {
@@ -49,7 +50,7 @@ impl Name {
         }
     }
 
-    // The list by its name: the right to make it longer, and its beginning without entries.
+    // The right to extend the list, and the list's beginning without entries. Both name the list.
     pub(crate) fn open<J: Naming>(self) -> (Head<J>, Front<J>)
         requires { self ≡ J.book }
         ensures { result.1 ≡ [] }

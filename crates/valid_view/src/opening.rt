@@ -18,8 +18,8 @@ use std::collections::VecDeque;
 use std::sync::Wait;
 use valid_table::{Entry, Journal, OutletFault, Table, TableFault};
 
-/// Opens a view that shows a journal's entries, with so many readers, from 1 to 64, each of which
-/// was told of them. `NoMemory` where memory is refused, `NoView` where there is no place for a
+/// Opens a view that shows a journal's entries, with 1 to 64 readers, each of which was told of
+/// these entries. `NoMemory` where memory is refused, `NoView` where there is no place for a
 /// reader. Copies the table of the journal twice.
 pub fn open<J: Naming, R: Wait + Drop>(
     alloc: Global,
@@ -43,7 +43,7 @@ pub fn open<J: Naming, R: Wait + Drop>(
     }
 }
 
-// What feeds a view that shows a journal's entries, and its readers.
+// The feed of a view that shows a journal's entries, and the readers of the view.
 fn opened<J: Naming, R: Wait>(
     alloc: Global,
     rt: &R,

@@ -16,9 +16,9 @@ use std::alloc::Global;
 use std::marker::Model;
 use valid_table::{Table, TableFault};
 
-/// A reader of the view with this name: it asks without a lock, and waits for nobody. A contract
-/// sees the list of entries that it saw shown when it last asked, and the longest that it was told
-/// of. Each list that it sees begins with both. A reader may go to another thread.
+/// A reader of the view with this name: it asks without a lock, and never waits. A contract sees
+/// the list of entries that was shown when the reader last asked, and the longest list that it was
+/// told of. Each list that it sees later begins with both. A reader may go to another thread.
 #[derive(Drop)]
 pub struct ViewReader<J: Naming> {
     sight: Sight<J>,
@@ -42,16 +42,16 @@ impl<J: Naming> ViewReader<J> {
         ViewReader { sight, told }
     }
 
-    /// The list that it saw shown when it last asked: the one by which that answer holds. A proof
-    /// ties it to what the writer told, or another reader saw, by `Front::longer`.
+    /// The list that was shown when the reader last asked. That answer holds by this list. A proof
+    /// compares it by `Front::longer` with a list that the writer told of or another reader saw.
     pub fn seen(&self) -> &Front<J>
         ensures { result.now ≡ self.now.seen }
     {
         self.sight.seen()
     }
 
-    /// Takes in what the writer of the view told: from now on no shorter list is seen. Takes no
-    /// memory.
+    /// Learns of a list that the writer of the view told of: from now on the reader sees no shorter
+    /// list. Takes no memory.
     pub fn learn(&mut self, told: Front<J>)
         ensures seen { self.new.seen ≡ self.old.seen }
         ensures kept { IsPrefix self.old.told self.new.told }
@@ -61,8 +61,9 @@ impl<J: Naming> ViewReader<J> {
         self.told = self.told.longer(&told);
     }
 
-    /// Whether a path is valid by the list that is seen now, and its digest. `NoView` where the
-    /// writer is gone; no other fault. Takes no memory, and costs one look-up by hash.
+    /// Whether a path is valid by the list that is shown now, and its digest. Answers `NoView`
+    /// where the writer is gone, and no other fault. Takes no memory, and costs one look-up by
+    /// hash.
     pub fn look(&mut self, path: &StorePath) -> Result<Seen, ViewFault>
         ensures told { self.new.told ≡ self.old.told }
         ensures later { IsPrefix self.old.seen self.new.seen }
@@ -74,10 +75,10 @@ impl<J: Naming> ViewReader<J> {
         replace_with(&mut self.sight, (&self.told, path), look)
     }
 
-    /// All that the roots lead to by references in the list that is seen now, the roots among them,
-    /// in strictly rising order. `NotValid` with the first root that is not valid by that list,
-    /// `NoMemory` where memory is refused, `NoView` where the writer is gone. Costs as
-    /// `Table::closure` does.
+    /// The closure of the roots by the list that is shown now: the roots and all paths that they
+    /// lead to by references, in strictly rising order. Answers `NotValid` with the first root that
+    /// is not valid by that list, `NoMemory` where memory is refused, `NoView` where the writer is
+    /// gone. Costs as `Table::closure` does.
     pub fn closure(
         &mut self,
         alloc: Global,
@@ -94,7 +95,7 @@ impl<J: Naming> ViewReader<J> {
     }
 }
 
-// What a reader finds of a path.
+// What a reader finds about a path.
 fn look<J: Naming>(
     sight: Sight<J>,
     asked: (&Front<J>, &StorePath),
@@ -114,7 +115,7 @@ fn look<J: Naming>(
     }
 }
 
-// What a reader finds of the closure of some roots.
+// What a reader finds about the closure of some roots.
 fn closure<J: Naming>(
     sight: Sight<J>,
     asked: (&Front<J>, Global, &[StorePath]),
@@ -134,7 +135,7 @@ fn closure<J: Naming>(
     }
 }
 
-// What a table says of a path.
+// What a table says about a path.
 fn seen_in(table: &Table, path: &StorePath) -> Seen
     ensures { IsLook table.now.registrations path.now (Ok result) }
 {

@@ -6,20 +6,20 @@ use crate::front::Beginning;
 use std::alloc::{AllocError, AllocFailed};
 use valid_table::OutletFault;
 
-// Why a view could not be opened, or could not show what waits. What is told as `NoView` is shown
-// by what it carries.
+// Why a view could not be opened, or could not show what waits. What a case carries shows why it is
+// answered as `NoView`.
 #[derive(Drop)]
 pub(crate) enum Refusal {
     // Memory was refused.
     NoMemory,
-    // The one list went on behind what was known of it, or is full: here it is.
+    // The one list is longer than what was known of it, or is full. This is the list.
     Hindered(Beginning),
-    // No place for a reader was found: here is the answer to the one that asked for it.
+    // There is no place for a reader. This is the error that says so.
     NoPlace(AllocError),
 }
 
 impl Refusal {
-    // The fault as which it is told.
+    // The fault that is answered.
     pub(crate) fn fault(self) -> OutletFault
         ensures { result ≡ told_as self }
     {

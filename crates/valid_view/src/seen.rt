@@ -1,4 +1,4 @@
-//! What a reader finds of one path.
+//! What a reader finds about one path.
 
 use nix_names::Digest;
 
@@ -7,6 +7,6 @@ use nix_names::Digest;
 pub enum Seen {
     /// The path is not valid.
     Absent,
-    /// The path is valid, with the digest of its bytes where it is a file.
+    /// The path is valid. This is the digest of its bytes, where it is a file.
     Valid(Option<Digest>),
 }

@@ -1,18 +1,18 @@
-//! What a view shows: a table, with the entries that it is of.
+//! What a view shows: a table, with the list of entries that it is made from.
 use crate::front::Beginning;
 use left_right::Absorb;
 use std::alloc::{AllocError, AllocFailed};
 use std::marker::Model;
 use valid_table::{Entry, Table, TableFault};
 
-// An entry that comes next, with the beginning of the list that ends with it.
+// The next entry, with the beginning of the list that ends with it.
 #[derive(Drop)]
 pub(crate) struct Op {
     pub entry: Entry,
     pub front: Beginning,
 }
 
-// A table, and the beginning of the list of which it is.
+// A table, and the beginning of the list whose entries it registers.
 #[derive(Drop)]
 pub(crate) struct Shelf {
     pub table: Table,
@@ -43,8 +43,8 @@ impl Absorb<Op> for Shelf {
                 Ok(())
             }
             Err(TableFault::NoMemory) => Err(AllocError),
-            // Never: what is handed over may follow what is shown (`Follows`), so its paths are new
-            // and its references valid. `Absorb` has no condition that could say so here.
+            // This never happens: the entry may follow the shown entries (`Follows`), so its paths
+            // are new and its references valid. `Absorb` has no condition that could say so here.
             Err(fault) => Err(AllocFailed { value: fault }.into()),
         }
     }

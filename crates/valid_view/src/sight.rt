@@ -14,7 +14,7 @@ use left_right::reader::{Reader, Reading};
 use std::marker::Model;
 use valid_table::Table;
 
-// A reader that reads nothing now. A contract sees the list that it saw shown last.
+// A reader that reads nothing now. A contract sees the list that was shown to it last.
 #[derive(Drop)]
 pub(crate) struct Sight<J: Naming> {
     reader: Reader<Shelf, Glimpse, Published<J>>,
@@ -69,8 +69,8 @@ impl<J: Naming> Sight<J> {
         &self.seen
     }
 
-    // Begins to read what is shown, where that begins with what was told; it always does. Else the
-    // reader comes back, as it does where the writer is gone.
+    // Begins to read the list that is shown. The reader comes back where the writer is gone, or
+    // where the list does not begin with the one that it was told of, which never happens.
     pub(crate) fn enter(self, told: &Front<J>) -> Result<Glance<J>, Sight<J>>
         ensures later { MatchResult result (IsPrefix self) (IsPrefix self) }
         ensures told { IfOk result (IsPrefix told.now) }

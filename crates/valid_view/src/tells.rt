@@ -1,4 +1,4 @@
-//! Outlets that tell by beginnings of one list.
+//! Outlets whose lists are beginnings of one list.
 ghost use Rattle.std.specs.Prelude.{◌≡◌, List};
 ghost use Rattle.valid_table.specs.declared.entry.Entry.{Entry};
 
@@ -8,10 +8,10 @@ use crate::writer::ViewWriter;
 use std::sync::Wait;
 use valid_table::Outlet;
 
-/// An outlet whose readers have this name: what it tells is a beginning of that list. Code that
-/// takes turns at a lock is generic by it.
+/// An outlet of which each shown list is a beginning of the list with this name. Code that takes
+/// turns at a lock is generic over such outlets.
 pub trait Tells<J: Naming>: Outlet {
-    /// What was told, as a reader learns it.
+    /// The beginning of the list that the outlet told of, as a reader learns it.
     fn front(told: Self::Told) -> Front<J>
         ensures { (entries : List Entry) → Self.names told entries → result ≡ entries };
 }

@@ -13,8 +13,8 @@ use std::sync::Wait;
 use valid_table::{Entry, Outlet, OutletFault};
 
 /// The writer of the view with this name. A contract sees the entries that are shown, and those
-/// that wait. It keeps the handle by which `publish` and `close` wait for readers, and can't be
-/// dropped: `close` ends it.
+/// that wait. The writer keeps the handle by which `publish` and `close` wait for readers. It can't
+/// be dropped: `close` ends it.
 pub struct ViewWriter<J: Naming, R> {
     feed: Feed<J>,
     rt: R,
@@ -30,7 +30,7 @@ impl<J: Naming, R> Model for ViewWriter<J, R> {
 }
 
 impl<J: Naming, R> ViewWriter<J, R> {
-    // The writer over what feeds the view.
+    // The writer over the feed of the view.
     pub(crate) fn over(feed: Feed<J>, rt: R) -> ViewWriter<J, R>
         ensures shown { result.shown ≡ feed.shown }
         ensures pending { result.pending ≡ pending_of feed }
@@ -53,7 +53,8 @@ impl<J: Naming, R> ViewWriter<J, R> {
         self.feed.append(entry)
     }
 
-    /// What names the list that is shown. Waits for nobody, and takes no memory.
+    /// The list that is shown, as a beginning of the list with this name. Never waits, and takes no
+    /// memory.
     pub fn tell(&self) -> Front<J>
         ensures { result ≡ self.now.shown }
     {
@@ -74,9 +75,9 @@ impl<J: Naming + Send, R: Wait + Drop> Outlet for ViewWriter<J, R> {
         self.feed.append(entry)
     }
 
-    /// Shows what waits: each reader that asks afterwards sees it. Waits for readers that still
-    /// read what was shown before the last list. Where nothing waits it does nothing, and waits
-    /// for nobody. `NoMemory` where memory is refused; `NoView` where someone else made the one list
+    /// Shows the entries that wait: each reader that asks afterwards sees them. Waits for readers
+    /// that still read the list before the last one. Where no entry waits it does nothing, and does
+    /// not wait. `NoMemory` where memory is refused; `NoView` where someone else made the one list
     /// longer, which nobody can.
     fn publish(&mut self) -> Result<(), OutletFault> {
         match self.feed.publish(&self.rt) {
@@ -89,8 +90,8 @@ impl<J: Naming + Send, R: Wait + Drop> Outlet for ViewWriter<J, R> {
         self.feed.front()
     }
 
-    /// Ends the view: readers are answered `NoView` from now on, and what waits is not shown. Waits
-    /// for those that still read.
+    /// Ends the view: readers are answered `NoView` from now on, and entries that wait are not
+    /// shown. Waits for readers that still read.
     fn close(self) {
         let ViewWriter { feed, rt } = self;
         let _shown = feed.close(&rt);
