@@ -15,6 +15,7 @@ pub(crate) enum Kept {
 }
 
 impl Kept {
+    // A digest as it is kept. Takes memory for a SHA-512 alone.
     pub(crate) fn new(alloc: Global, digest: Digest) -> Result<Kept, AllocError>
         ensures { IfOk result (λ kept. digest_kept kept ≡ digest) }
     {
