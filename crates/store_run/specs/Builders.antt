@@ -1,6 +1,7 @@
 -- *Builder*: what a job may come to, and what a run makes of it (Nix manual, "Building"; Dolstra's
 -- thesis, section 5.5.1; the relation is this product's own).
 use Rattle.std.specs.Prelude.{◌≡◌, ◌⊎◌, ℕ, Some, List, Result, Ok, Err, IfOk, slice_get}
+use Rattle.nix_names.specs.Bytes.{Path}
 use Rattle.drv_graph.specs.Nodes.{Node}
 use Rattle.valid_table.specs.PathInfos.{PathInfo}
 use Rattle.valid_table.specs.declared.entry.Entry.{Entry}
@@ -16,16 +17,16 @@ use Rattle.sched_core.specs.declared.reason.Reason.TheVariants.{OutOfMemory}
 
 -- *Verdict* on an outcome by permitted paths: the reason why there is no answer, or the verdict on
 -- the answer
-abbrev pub IsVerdictOn : Job → (permitted : List (List ℕ)) → Result Answer Reason
+abbrev pub IsVerdictOn : Job → (permitted : List Path) → Result Answer Reason
     → Result (List PathInfo) Reason → Type 0
 IsVerdictOn job permitted (Ok answer) verdict = IsVerdict job permitted answer verdict
 IsVerdictOn job permitted (Err reason) verdict = verdict ≡ Err reason
 
--- *Verdict* on an outcome behind some entries: that by what is permitted there, which an answer
--- alone needs
+-- *Verdict* on an outcome behind some entries: the verdict by the paths that are permitted there.
+-- Only an answer needs the permitted paths.
 abbrev pub IsOutcomeVerdict : List Entry → Job → Result Answer Reason
     → Result (List PathInfo) Reason → Type 0
-IsOutcomeVerdict entries job outcome verdict = (permitted : List (List ℕ))
+IsOutcomeVerdict entries job outcome verdict = (permitted : List Path)
     × IfOk outcome (λ answer. ArePermittedPaths entries job permitted)
     × IsVerdictOn job permitted outcome verdict
 
@@ -43,8 +44,9 @@ pub record IsVerdictBehind (may : Job → Result Answer Reason → Type 0) (run 
   pub is_job : IsJob run.graph d job
   pub comes_to : MayComeTo may entries job verdict
 
--- *Answered*: each Done has the records, and each Fail the reason, of a verdict on what a builder
--- may give behind the entries before it; but for a Fail because memory was refused.
+-- *Answered*: each `Done` has the records, and each `Fail` the reason, of a verdict on what a
+-- builder may give behind the entries before it. A `Fail` because memory was refused is the
+-- exception.
 pub data IsAnswered (may : Job → Result Answer Reason → Type 0) (run : Run) : History → Type 0 where
   answered_opening : (entries : List Entry) → IsAnswered may run (opened entries)
   answered_begin : (history : History) (d : ℕ) → IsAnswered may run history

@@ -1,6 +1,7 @@
 -- What a worker finds of the job of its lease, by a list of entries that its reader sees (this
 -- product's own).
 use Rattle.std.specs.Prelude.{◌≡◌, ◌⊎◌, ℕ, List, Result, Ok, Err, MatchOption}
+use Rattle.nix_names.specs.Bytes.{Path}
 use Rattle.valid_table.specs.PathInfos.{PathInfo}
 use Rattle.valid_table.specs.declared.entry.Entry.{Entry}
 use Rattle.valid_view.specs.Shown.{IsShowable}
@@ -26,15 +27,14 @@ pub record IsSeenVerdict (seen : List Entry) (job : Job) (answer : Answer)
   pub seeds : AreSeedsValid seen job
   pub is : IsOutcomeVerdict seen job (Ok answer) verdict
 
--- there is nothing to see: memory was refused, or the view is gone
+-- there is no verdict: memory was refused, or the view is gone
 abbrev pub IsUnseen : Found → Type 0
 IsUnseen NoMemory = Unit {0}
 IsUnseen NoView = Unit {0}
-IsUnseen (Examined verdict) = ⊥
-IsUnseen (Unanswered reason) = ⊥
+IsUnseen other = ⊥
 
--- What is found of an outcome by a list: of an answer the verdict, for which memory may be refused,
--- or that there is nothing to see; and else the reason why there is no answer.
+-- What is found of an outcome by a list: of an answer, its verdict, for which memory may be
+-- refused, or that there is no verdict; of any other outcome, the reason why there is no answer.
 abbrev pub IsFoundBy : (seen : List Entry) → Job → Result Answer Reason → Found → Type 0
 IsFoundBy seen job (Ok answer) (Examined verdict) = (verdict ≡ Err OutOfMemory)
     ⊎ IsSeenVerdict seen job answer verdict
@@ -43,20 +43,21 @@ IsFoundBy seen job (Err reason) (Unanswered why) = why ≡ reason
 IsFoundBy seen job (Err reason) other = ⊥
 
 -- What may be found of a job by a list: what is found of an outcome that a builder may give, or of
--- none, where memory was refused to the builder.
+-- the reason that memory was refused to the builder.
 pub record MayBeFound (may : Job → Result Answer Reason → Type 0) (seen : List Entry) (job : Job)
     (found : Found) : Type 0 where
   pub outcome : Result Answer Reason
   pub given : (outcome ≡ Err OutOfMemory) ⊎ may job outcome
   pub by : IsFoundBy seen job outcome found
 
--- what is permitted to a job behind some entries is permitted behind others
+-- the paths that are permitted to a job behind some entries are permitted behind others
 abbrev pub StaysPermitted : (before after : List Entry) → Job → Type 0
-StaysPermitted before after job = (permitted : List (List ℕ)) → ArePermittedPaths before job permitted
+StaysPermitted before after job = (permitted : List Path) → ArePermittedPaths before job permitted
     → ArePermittedPaths after job permitted
 
--- a reader has caught up with a book: what was permitted to a job of the book's by the list that
--- the reader saw, and in which the job's seeds are valid, is permitted behind the book's entries
+-- A reader has caught up with a book. Where a job of the book's has its seeds valid in the list
+-- that the reader saw, the paths that were permitted to it by that list are permitted behind the
+-- book's entries.
 abbrev pub HasCaughtUp : (seen : List Entry) → Ledger → Job → Type 0
 HasCaughtUp seen book job = (number : ℕ) → IsBooksLease book.run book.history job number
     → IsShowable seen → AreSeedsValid seen job → StaysPermitted seen book.history.entries job

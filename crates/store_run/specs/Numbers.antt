@@ -3,6 +3,7 @@ use Rattle.std.specs.Prelude.{ℕ}
 use Rattle.store_run.specs.declared.fault.RunFault.{RunFault}
 use Rattle.store_run.specs.declared.fault.RunFault.TheVariants.{NoView, NoWorkers, ThreadFault, NoMemory, ForeignPlan}
 
+-- the number of a run's fault in the table of faults
 abbrev pub fault_number_of : RunFault → ℕ
 fault_number_of NoView = 40
 fault_number_of NoWorkers = 70

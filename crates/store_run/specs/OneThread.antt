@@ -1,5 +1,5 @@
--- *One thread*: a run in which each derivation has its turn, in plan order, and no lease is open
--- beside another (this product's own).
+-- *One thread*: a run in which each derivation has its turn, in plan order, and at most one lease
+-- is open at a time (this product's own).
 use Rattle.std.specs.Prelude.{◌≡◌, ℕ, zero, suc, Some, List, Result, Ok, Err, length, slice_get}
 use Rattle.drv_graph.specs.Nodes.{Node}
 use Rattle.valid_table.specs.PathInfos.{PathInfo}
@@ -13,8 +13,8 @@ use Rattle.sched_core.specs.declared.job.Job.{Job}
 use Rattle.sched_core.specs.declared.reason.Reason.{Reason}
 use Rattle.store_run.specs.Builders.{IsVerdictBehind}
 
--- The derivations below a number had their turns, in plan order: each one that could begin when its
--- turn came began, and ended at once by the verdict on what a builder may give for it.
+-- The derivations below a number had their turns, in plan order. Each derivation that could begin
+-- at its turn began, and ended at once by the verdict on what a builder may give for it.
 pub data HadTurns (may : Job → Result Answer Reason → Type 0) (run : Run) (opening : List Entry)
     : ℕ → History → Type 0 where
   turn_opening : IsJournal opening → HadTurns may run opening zero (opened opening)

@@ -12,14 +12,14 @@ use Rattle.sched_core.specs.declared.job.Job.{Job}
 use Rattle.sched_core.specs.declared.reason.Reason.{Reason}
 use Rattle.store_run.specs.Scheduling.{HasOneOutcome}
 
--- Two trees have the same bytes: in their files and names, and in a file's digests; and both keep
--- the limits, or neither does.
+-- Two trees have the same bytes in their files and names, and the same digest by each algorithm.
+-- Both keep the limits, or neither does.
 pub record HaveSameBytes (tree other : Tree) : Type 0 where
   pub bytes : pieces tree ≡ pieces other
   pub digest : (algorithm : Algorithm) → digest_of algorithm tree ≡ digest_of algorithm other
   pub fits : Fits tree ↔ Fits other
 
--- at an output there are two trees with the same bytes, or none twice
+-- what lies at an output twice: two trees with the same bytes, or no tree either time
 abbrev pub AreSameTrees : Option Tree → Option Tree → Type 0
 AreSameTrees None None = Unit {0}
 AreSameTrees (Some tree) (Some other) = HaveSameBytes tree other
@@ -31,17 +31,18 @@ pub record AreSameAnswers (answer other : Answer) : Type 0 where
   pub status : answer.status ≡ other.status
   pub trees : (n : ℕ) → AreSameTrees (tree_at answer n) (tree_at other n)
 
+-- two outcomes are the same: two answers that are, or one reason
 abbrev pub AreSameOutcomes : Result Answer Reason → Result Answer Reason → Type 0
 AreSameOutcomes (Ok answer) (Ok other) = AreSameAnswers answer other
 AreSameOutcomes (Err reason) (Err other) = reason ≡ other
 AreSameOutcomes (Ok answer) (Err other) = ⊥
 AreSameOutcomes (Err reason) (Ok other) = ⊥
 
--- one outcome may be given to each derivation of a plan
+-- any two outcomes that may be given to one derivation of a plan are the same
 abbrev pub AllowsOneOutcome : (may : Job → Result Answer Reason → Type 0) → Graph → Type 0
 AllowsOneOutcome may graph = (d : ℕ) (job again : Job) (x y : Result Answer Reason)
     → IsJob graph d job → IsJob graph d again → may job x → may again y → AreSameOutcomes x y
 
--- so the verdicts are one
+-- where builders may give one outcome to each derivation of a plan, the verdicts are one
 abbrev pub AllowedIsOne : (may : Job → Result Answer Reason → Type 0) → Type 0
 AllowedIsOne may = (graph : Graph) → AllowsOneOutcome may graph → HasOneOutcome may graph

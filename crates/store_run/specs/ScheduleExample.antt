@@ -1,7 +1,8 @@
--- Two builds at once, of which one fails: a whole run, so that the conditions of *Any schedule* can
--- be met (this product's own).
+-- An example of a whole run: two builds at once, of which one fails (this product's own). So the
+-- conditions of *Any schedule* can be met.
 use Rattle.std.specs.Prelude.{◌≡◌, ◌++◌, Bool, true, false, ℕ, pos, Some, None, List, [], ◌∷◌, codes, Result, Ok, Err}
 use Rattle.sha2.specs.Sha256.{sha256}
+use Rattle.nix_names.specs.Bytes.{Bytes, Path, Name}
 use Rattle.nix_names.specs.Names.{same_bytes}
 use Rattle.nix_names.specs.StorePaths.{store_path}
 use Rattle.nix_names.specs.declared.digest.Algorithm.TheVariants.{Sha256}
@@ -26,12 +27,12 @@ use Rattle.sched_core.specs.declared.reason.Reason.TheVariants.{ExitStatus}
 
 -- How a derivation is built: its name, the program and its arguments.
 pub record Recipe : Type 0 where
-  pub name : List ℕ
-  pub builder : List ℕ
-  pub args : List (List ℕ)
+  pub name : Name
+  pub builder : Bytes
+  pub args : List Bytes
 
 -- a derivation without inputs and sources, whose one output has this path
-abbrev pub drv_alone : Recipe → (out : List ℕ) → Drv
+abbrev pub drv_alone : Recipe → (out : Path) → Drv
 drv_alone recipe out = record {
   outputs = record { name = codes "out"; path = out; algo = []; hash = [] } ∷ [];
   inputs = [];
@@ -46,11 +47,11 @@ drv_alone recipe out = record {
 }
 
 -- the text of a derivation
-abbrev pub text_of : Drv → List ℕ
+abbrev pub text_of : Drv → Bytes
 text_of drv = text derivation_form (drv_value drv)
 
--- the path of that output: it is made of the text without it
-abbrev pub out_alone : Recipe → List ℕ
+-- the path of that output, computed from the text in which it is empty
+abbrev pub out_alone : Recipe → Path
 out_alone recipe = store_path (codes "output:out") (sha256 (text_of (drv_alone recipe [])))
     (codes "/nix/store") recipe.name
 
@@ -62,10 +63,11 @@ node_alone recipe = record {
   drv = drv_alone recipe (out_alone recipe);
 }
 
--- one that fails, and one that makes an empty folder
+-- a derivation whose builder fails
 abbrev pub failing : Recipe
 failing = record { name = codes "left"; builder = codes "/bin/false"; args = [] }
 
+-- one whose builder makes an empty folder
 abbrev pub making : Recipe
 making = record {
   name = codes "right";
@@ -73,20 +75,22 @@ making = record {
   args = codes "-c" ∷ codes "/bin/mkdir $out" ∷ [];
 }
 
+-- the derivation that fails, at its own path
 abbrev pub left : Node
 left = node_alone failing
 
+-- the derivation that makes a folder, at its own path
 abbrev pub right : Node
 right = node_alone making
 
--- the plan of both, for their system
+-- the plan of both derivations, for their system
 abbrev pub both : Run
 both = record {
   graph = record { nodes = left ∷ right ∷ []; roots = 0 ∷ 1 ∷ [] };
   system = codes "x86_64-linux";
 }
 
--- a source that has the two files alone
+-- a source with the two derivations' files and no other
 abbrev pub two_files : Listing
 two_files = record {
   files = (left.path, text_of left.drv) ∷ (right.path, text_of right.drv) ∷ [];
@@ -95,28 +99,28 @@ two_files = record {
   failures = 0;
 }
 
--- a tree is a folder with nothing in it
+-- a tree is an empty folder
 abbrev pub IsEmptyFolder : Tree → Type 0
 IsEmptyFolder tree = (digest_of Sha256 tree ≡ None) × (entry_count tree ≡ 0)
 
--- what a program leaves behind: one that fails ends with status 1 and leaves nothing, any other
--- makes an empty folder at one output
+-- what a program leaves behind: a program that fails ends with status 1 and leaves nothing, any
+-- other ends with status 0 and leaves an empty folder at one output
 abbrev pub Leaves : (fails : Bool) → Answer → Type 0
 Leaves true answer = (answer.status ≡ Some (pos 1)) × (answer.trees.items ≡ [])
 Leaves false answer = (answer.status ≡ Some (pos 0))
     × ((folder : Tree) × IsEmptyFolder folder × (answer.trees.items ≡ Some folder ∷ []))
 
--- what a job may come to: `/bin/false` fails, and nothing else
+-- the outcomes of a job: `/bin/false` fails, and every other builder makes an empty folder
 abbrev pub may_leave : Job → Result Answer Reason → Type 0
 may_leave job (Ok answer) = Leaves (same_bytes job.builder.items (codes "/bin/false")) answer
 may_leave job (Err reason) = ⊥
 
--- the entry of what right made
+-- the journal entry of the folder that `right` made
 abbrev pub made : Entry
 made = Done right.path
     (record { path = out_alone making; info = record { references = []; digest = None } } ∷ [])
 
--- two workers: right begins and ends while left is being built
+-- the history of two workers: `right` begins and ends while `left` is being built
 abbrev pub side_by_side : History
 side_by_side = record {
   opening = [];
@@ -124,7 +128,7 @@ side_by_side = record {
   events = Begin 0 0 ∷ Begin 1 1 ∷ Finish 1 1 ∷ Fail 0 0 (ExitStatus (pos 1)) ∷ [];
 }
 
--- one thread: right begins when left has failed
+-- the history of one thread: `right` begins when `left` has failed
 abbrev pub in_turn : History
 in_turn = record {
   opening = [];
@@ -132,7 +136,7 @@ in_turn = record {
   events = Begin 0 0 ∷ Fail 0 0 (ExitStatus (pos 1)) ∷ Begin 1 1 ∷ Finish 1 1 ∷ [];
 }
 
--- Two builds overlap: behind some of a history's events both are under way.
+-- Two builds overlap: after some of a history's events both are under way.
 pub record Overlap (history : History) (a b : ℕ) : Type 0 where
   pub before : List Event
   pub after : List Event

@@ -17,7 +17,7 @@ use Rattle.store_run.specs.declared.turn.Step.TheVariants.{Build, Wait, End}
 use Rattle.store_run.specs.declared.turn.Wake.{Wake}
 use Rattle.store_run.specs.declared.turn.Wake.TheVariants.{Nobody, One, All}
 
--- What is shared: the book, and why the run stops, if it does.
+-- What the workers share: the book, and why the run stops, if it does.
 pub record Share : Type 0 where
   pub book : Ledger
   pub stop : Option BookFault
@@ -26,30 +26,31 @@ pub record Share : Type 0 where
 abbrev pub IsSettled : Share → Type 0
 IsSettled share = IsRunSettled share.book.run share.book.history
 
--- the book has this lease building
+-- the book has this lease open
 abbrev pub HasGiven : Share → Job → (number : ℕ) → Type 0
 HasGiven share job number = IsBooksLease share.book.run share.book.history job number
 
--- Nothing stops the run, and a derivation has begun under a lease.
+-- A worker gets a lease: nothing stops the run, and a derivation has begun under the lease.
 pub record IsGiving (before after : Share) (job : Job) (number : ℕ) : Type 0 where
   pub runs : before.stop ≡ None
   pub begins : IsBeginning before.book after.book job number
   pub still_runs : after.stop ≡ None
 
--- Nothing stops the run, and the book isn't settled, but nothing can begin; all stays as it was.
+-- A worker waits: nothing stops the run, the book isn't settled, but nothing can begin. Nothing
+-- changes.
 pub record IsWaiting (before after : Share) : Type 0 where
   pub runs : before.stop ≡ None
   pub unsettled : IsSettled before → ⊥
   pub none : (d : ℕ) → CanBegin before.book.run before.book.history d → ⊥
   pub same : after ≡ before
 
--- The run was stopped before, or the book is settled; all stays as it was.
+-- The run is over: it was stopped before, or the book is settled. Nothing changes.
 pub record IsOver (before after : Share) : Type 0 where
   pub why : (before.stop ≡ None → ⊥) ⊎ IsSettled before
   pub same : after ≡ before
 
--- The book gave no lease, though something can begin, and its fault stops the run; the outlet may
--- have published.
+-- The book gave no lease, though something can begin, and its fault stops the run. The outlet may
+-- have published entries.
 pub record IsRefused (before after : Share) : Type 0 where
   pub runs : before.stop ≡ None
   pub can : (d : ℕ) × CanBegin before.book.run before.book.history d
@@ -58,7 +59,7 @@ pub record IsRefused (before after : Share) : Type 0 where
   pub is_fault : (fault ≡ NoMemory) ⊎ (fault ≡ NoView)
   pub stops : after.stop ≡ Some fault
 
--- what is given to build
+-- a fact holds of the lease that a step gives, if it gives one
 abbrev pub IfGiven : {Told : Type 0} → Step Told → (Leased Told → Type 0) → Type 0
 IfGiven (Build lease) fact = fact lease
 IfGiven Wait fact = Unit {0}
@@ -70,12 +71,12 @@ IsStep before after (Build lease) = IsGiving before after lease.job lease.number
 IsStep before after Wait = IsWaiting before after
 IsStep before after End = IsOver before after ⊎ IsRefused before after
 
--- something more can begin
+-- a derivation can begin
 abbrev pub CanGoOn : Share → Type 0
 CanGoOn share = (d : ℕ) × CanBegin share.book.run share.book.history d
 
--- whom a worker wakes behind its step: all where the run ends, one where it takes a lease and
--- something more can begin, and else nobody
+-- whom a worker wakes after its step: all where the run ends, one where the worker takes a lease
+-- and another derivation can begin, and else nobody
 abbrev pub IsWake : {Told : Type 0} → (after : Share) → Step Told → Wake → Type 0
 IsWake after (Build lease) Nobody = CanGoOn after → ⊥
 IsWake after (Build lease) One = CanGoOn after
@@ -83,7 +84,7 @@ IsWake after (Build lease) All = ⊥
 IsWake after Wait wake = wake ≡ Nobody
 IsWake after End wake = wake ≡ All
 
--- the first cause of a stop: what was the cause before, or else this fault
+-- the first cause of a stop: the cause before, if there was one, or else this fault
 abbrev pub first_cause : Option BookFault → BookFault → Option BookFault
 first_cause (Some cause) fault = Some cause
 first_cause None fault = Some fault
@@ -123,7 +124,7 @@ pub record IsFailed (before after : Share) (job : Job) (number : ℕ) (reason : 
   pub fails : IsFailing before.book after.book job number reason
   pub stop : after.stop ≡ before.stop
 
--- the book may want memory to register these records: what it promises of them where it does
+-- the lease is the book's and these records may be registered: only memory can be refused
 abbrev pub IsWanting : Share → Job → (number : ℕ) → List PathInfo → Type 0
 IsWanting before job number infos = IsFinishFault before.book job number infos NoMemory
 
@@ -135,8 +136,9 @@ IsNoting before after job number reason (Failed why) =
 IsNoting before after job number reason (Stopped ForeignLease) = IsForeign before after job number
 IsNoting before after job number reason (Stopped other) = ⊥
 
--- how a lease ends with these records: its outputs were registered; memory was refused for that,
--- where the book may want it; or the lease isn't the book's, or may not be registered so
+-- How a lease ends with these records: its outputs were registered; or memory was refused for that,
+-- where the book may want it; or the lease isn't the book's, or its derivation may not be
+-- registered with these records.
 abbrev pub IsRegistering : (before after : Share) → Job → (number : ℕ) → List PathInfo → LeaseEnd
     → Type 0
 IsRegistering before after job number infos Registered = IsBuilt before after job number infos
@@ -157,9 +159,9 @@ IsNotingVerdict before after job number (Ok infos) end =
 IsNotingVerdict before after job number (Err reason) end =
     IsNoting before after job number reason end
 
--- How a lease ends by what was found of its job, and by whether the reader caught up with the book:
--- a verdict is noted where it did, and the run stops where the view is gone, for no other cause but
--- those above.
+-- How a lease ends, by what was found of its job and by whether the reader caught up with the book.
+-- A verdict is noted where the reader caught up. Where the view is gone, the run stops for that
+-- cause, if nothing stopped it before.
 abbrev pub IsEnding : {A : Type 0} → (before after : Share) → Job → (number : ℕ) → Found
     → (caught_up : Result A ViewFault) → LeaseEnd → Type 0
 IsEnding before after job number (found.Examined verdict) (Ok up) end =

@@ -1,9 +1,10 @@
--- Two derivations of one file, of which the first fails and the second is built then, while a third
--- is under way: a whole run, so that the conditions of *Any schedule* can be met where there are
--- twins (this product's own).
-use Rattle.std.specs.Prelude.{◌≡◌, ◌++◌, Bool, true, false, ℕ, pos, Some, List, [], ◌∷◌, codes, map, Result, Ok, Err}
+-- An example of a whole run with twins (this product's own). Two derivations have one output path.
+-- The first one fails, and the second one is built then, while a third derivation is under way. So
+-- the conditions of *Any schedule* can be met where there are twins.
+use Rattle.std.specs.Prelude.{◌≡◌, ◌++◌, Bool, true, false, pos, Some, [], ◌∷◌, codes, map, Result, Ok, Err}
 use Rattle.std.specs.List.{list_any}
 use Rattle.sha2.specs.Sha256.{sha256}
+use Rattle.nix_names.specs.Bytes.{Bytes, Path, Name}
 use Rattle.nix_names.specs.Digests.{digits_of}
 use Rattle.nix_names.specs.Names.{same_bytes}
 use Rattle.nix_names.specs.StorePaths.{store_path}
@@ -28,16 +29,16 @@ use Rattle.sched_core.specs.declared.reason.Reason.{Reason}
 use Rattle.sched_core.specs.declared.reason.Reason.TheVariants.{ExitStatus}
 use Rattle.store_run.specs.ScheduleExample.{Leaves, Recipe, drv_alone, made, right, text_of}
 
--- the digest of a file of no bytes, by SHA-256
+-- the SHA-256 digest of an empty file
 abbrev pub empty_digest : Digest
 empty_digest = digest_by Sha256 []
 
--- the path of such a file with a name
-abbrev pub out_empty : (name : List ℕ) → List ℕ
+-- the store path of an empty file with a name
+abbrev pub out_empty : (name : Name) → Path
 out_empty name = store_path (codes "output:out") (sha256 (flat_text empty_digest))
     (codes "/nix/store") name
 
--- a derivation without inputs and sources, whose one output is such a file
+-- a derivation without inputs and sources, whose one output is an empty file
 abbrev pub drv_empty : Recipe → Drv
 drv_empty recipe = record (drv_alone recipe (out_empty recipe.name)) {
   outputs = record {
@@ -56,14 +57,15 @@ node_empty recipe = record {
   drv = drv_empty recipe;
 }
 
--- the script that makes such a file
-abbrev pub script : List ℕ
+-- the shell script that makes an empty file
+abbrev pub script : Bytes
 script = codes ": > $out"
 
--- one that fails, and one that makes the file
+-- a derivation whose builder fails
 abbrev pub failing_twin : Recipe
 failing_twin = record { name = codes "src"; builder = codes "/bin/false"; args = [] }
 
+-- one whose builder makes the file
 abbrev pub making_twin : Recipe
 making_twin = record {
   name = codes "src";
@@ -71,13 +73,15 @@ making_twin = record {
   args = codes "-c" ∷ script ∷ [];
 }
 
+-- the first twin, at its own path
 abbrev pub first_twin : Node
 first_twin = node_empty failing_twin
 
+-- the second twin, at its own path
 abbrev pub second_twin : Node
 second_twin = node_empty making_twin
 
--- the plan of both and of one that makes an empty folder
+-- the plan of both twins and of a derivation that makes an empty folder
 abbrev pub three : Run
 three = record {
   graph = record {
@@ -87,7 +91,7 @@ three = record {
   system = codes "x86_64-linux";
 }
 
--- a source that has the three files alone
+-- a source with the three derivations' files and no other
 abbrev pub three_files : Listing
 three_files = record {
   files = (first_twin.path, text_of first_twin.drv)
@@ -97,18 +101,18 @@ three_files = record {
   failures = 0;
 }
 
--- a tree is a file of no bytes
+-- a tree is an empty file
 abbrev pub IsEmptyFile : Tree → Type 0
 IsEmptyFile tree = (digest_of Sha256 tree ≡ Some empty_digest) × (pieces tree ≡ [] ∷ [])
 
--- what a job leaves behind: where that script is an argument it ends with status 0 and leaves a file
--- of no bytes at one output; else what its program leaves
+-- what a job leaves behind: where that script is an argument, it ends with status 0 and leaves an
+-- empty file at one output; else what its program leaves
 abbrev pub LeavesWith : (has_script fails : Bool) → Answer → Type 0
 LeavesWith true fails answer = (answer.status ≡ Some (pos 0))
     × ((file : Tree) × IsEmptyFile file × (answer.trees.items ≡ Some file ∷ []))
 LeavesWith false fails answer = Leaves fails answer
 
--- what a job may come to: by its arguments and its builder, and nothing else
+-- the outcomes of a job: its arguments and its builder alone decide them
 abbrev pub may_leave_file : Job → Result Answer Reason → Type 0
 may_leave_file job (Ok answer) =
     LeavesWith (list_any (same_bytes script) (map bytes_of job.args.items))

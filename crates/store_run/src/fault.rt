@@ -21,7 +21,7 @@ pub enum RunFault {
     /// Memory was refused.
     #[error("memory was refused")]
     NoMemory,
-    /// The book behind the lock isn't over what was lent.
+    /// The book behind the lock isn't over the lent plan, system and entries.
     #[error("the book is not over the plan that was given")]
     ForeignPlan,
 }

@@ -1,13 +1,13 @@
-//! What a worker finds of the job of its lease, and what becomes of the lease.
+//! What a worker finds of the job of its lease, and how the lease ends.
 
 use sched_core::{BookFault, Checked, Reason};
 
-/// What a worker found of the job of its lease, by where it comes from.
+/// What a worker found of the job of its lease.
 #[derive(Debug, Drop)]
 pub enum Found {
     /// The verdict on what the builder left behind.
     Examined(Result<Checked, Reason>),
-    /// Why the builder can say nothing of what it left behind.
+    /// The builder's reason why there is no answer.
     Unanswered(Reason),
     /// Memory was refused to the worker.
     NoMemory,
@@ -15,13 +15,13 @@ pub enum Found {
     NoView,
 }
 
-/// What became of a lease.
+/// How a lease ended.
 #[derive(Clone, Copy, Debug, PartialEq, Eq)]
 pub enum LeaseEnd {
     /// Its derivation's outputs were registered.
     Registered,
     /// Its derivation failed, for this reason.
     Failed(Reason),
-    /// It was given up, for this cause, which stops the run if nothing stopped it before.
+    /// It was given up for this cause, which stops the run if nothing stopped it before.
     Stopped(BookFault),
 }

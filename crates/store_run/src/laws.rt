@@ -16,60 +16,58 @@ ghost use Rattle.store_run.specs.TwinExample.{first_twin, freed, may_leave_file,
 
 use crate::build::Build;
 
-/// What a whole run leaves behind, one that had memory and whose builders may give one outcome to
-/// each derivation, is alike with what one thread would leave behind: each derivation in the same
-/// state, each path with the same record; the report is the same, and a report of the one is one of
-/// the other.
+/// A whole run ends as one thread would: each derivation is in the same state, each path has the
+/// same record, and the report is the same. A run is whole where it had memory and its builders may
+/// give one outcome to each derivation.
 pub fn any_schedule<B: Build>()
     ensures alike { AnySchedule B.may }
     ensures report { OneReport B.may }
     ensures same { SameReports B.may }
 {}
 
-/// Alike histories over one opening have the same reports.
+/// Alike histories with the same opening have the same reports.
 pub fn alike_runs_report_the_same()
     ensures { AlikeReportTheSame }
 {}
 
-/// To each whole run there is a history of one thread over the same opening.
+/// To each whole run there is a history of one thread with the same opening.
 pub fn one_thread_is_there<B: Build>()
     ensures { HasOneThread B.may }
 {}
 
-/// Two whole runs over one opening are alike.
+/// Two whole runs with the same opening are alike.
 pub fn whole_runs_are_alike<B: Build>()
     ensures { WholeRunsAreAlike B.may }
 {}
 
-/// Where builders may give one outcome to each derivation of a plan, trees of the same bytes counting
-/// as one, the verdicts are one.
+/// Where builders may give one outcome to each derivation of a plan, trees of the same bytes
+/// counting as one, the verdicts are one.
 pub fn allowed_outcomes_are_one<B: Build>()
     ensures { AllowedIsOne B.may }
 {}
 
-/// What `realise` leaves behind at Ok over a loaded plan is a run that went to its end with memory
-/// enough, where memory was not refused; and a whole one, where the builders may give one outcome
-/// to each derivation.
+/// What `realise` leaves behind at `Ok`, over a loaded plan and where memory was not refused, is an
+/// ended run. It is a whole run, where the builders may give one outcome to each derivation.
 pub fn realised_is_whole<B: Build>()
     ensures ended { RealisedIsEnded B.may }
     ensures whole { RealisedIsWhole B.may }
 {}
 
-/// What a run leaves behind that went to its end with memory enough follows from outcomes that its
-/// builders may have given, one for each derivation: one thread that is given the same leaves each
+/// Outcomes that its builders may give, one for each derivation, decide what a run leaves behind at
+/// its end, where memory sufficed. One thread that is given the same outcomes leaves each
 /// derivation in the same state, each path with the same record, and the same report.
 pub fn outcomes_decide<B: Build>()
     ensures { OutcomesDecide B.may }
 {}
 
-/// Two such runs over one opening, in which each derivation is given the same outcome, are alike.
+/// Two such runs with the same opening are alike where each derivation is given the same outcome.
 pub fn equal_outcomes_are_alike<B: Build>()
     ensures { EqualOutcomesAreAlike B.may }
 {}
 
-/// There are whole runs in which builds overlap and one of them fails: over a plan that loading
-/// gives from two files both derivations are under way at once, the first fails, and the second is
-/// built. One thread leaves the events in another order.
+/// There are whole runs in which builds overlap and one of them fails. The plan is loaded from two
+/// files; both derivations are under way at once, the first fails, and the second is built. One
+/// thread leaves the events in another order.
 pub fn builds_may_overlap()
     ensures loads { IsPlan (codes "/nix/store") (listing_gives two_files)
         (left.path ∷ right.path ∷ []) both.graph }
@@ -80,10 +78,10 @@ pub fn builds_may_overlap()
     ensures in_turn { IsOneThread may_leave both [] in_turn }
 {}
 
-/// There are whole runs in which a derivation is built after its twin failed, while a third is under
-/// way: over a plan that loading gives from three files, which stand at these paths, the second waits
-/// behind the first, can begin once the first has failed, and is built beside the third. One thread
-/// leaves the events in another order.
+/// There are whole runs in which a derivation is built after its twin failed, while a third is
+/// under way. The plan is loaded from three files at these paths. The second derivation waits for
+/// the first, can begin once the first has failed, and is built while the third is under way. One
+/// thread leaves the events in another order.
 pub fn twin_is_built_after_the_first_failed()
     ensures loads { IsPlan (codes "/nix/store") (listing_gives three_files)
         (first_twin.path ∷ second_twin.path ∷ right.path ∷ []) three.graph }

@@ -1,4 +1,4 @@
-//! Whether a book is over what was lent.
+//! Whether a book is over the plan, system and entries that were lent.
 ghost use Rattle.std.specs.Prelude.{◌↔◌, IsTrue};
 ghost use Rattle.sched_core.specs.Legal.{IsLegal};
 ghost use Rattle.store_run.specs.Realising.{IsOverLent};
@@ -10,7 +10,7 @@ use valid_table::laws::equal_entries_are_same;
 use valid_table::{Journal, Outlet};
 
 /// Whether a book is over this plan, for this system, and opened with the journal's entries. The
-/// history of each book is legal. Compares plan, system and entries whole; takes no memory.
+/// history of each book is legal. Compares the whole plan, system and entries; takes no memory.
 pub fn is_over<O: Outlet>(book: &Book<O>, plan: &Plan, system: &[u8], journal: &Journal) -> bool
     ensures over { IsTrue result ↔ IsOverLent plan.now system.now journal.now.entries book.now }
     ensures legal { IsLegal book.now.run book.now.history }

@@ -2,17 +2,17 @@
 //!
 //! | Module | What is in it |
 //! |---|---|
-//! | `build` | builders, which make what a job asks for, and hear of it |
-//! | `found` | what a worker finds of a job, and what becomes of a lease |
+//! | `build` | builders, which build jobs and hear of them |
+//! | `found` | what a worker finds of a job, and how a lease ends |
 //! | `shared` | what the workers of a run share: the book, and why the run stops |
 //! | `turn` | what a worker is to do next, and whom it wakes |
-//! | `verdict` | the verdict on what the job of a lease came to, by what a reader sees |
-//! | `locked` | that, behind a lock on which workers wait |
+//! | `verdict` | the verdict on a job's outcome, by the list that a reader sees |
+//! | `locked` | the shared book behind a lock, on which workers wait |
 //! | `worker` | what one worker does |
 //! | `run` | a run, from a plan and a journal to a settled book |
-//! | `lent` | whether a book is over what was lent |
+//! | `lent` | whether a book is over the lent plan, system and entries |
 //! | `fault` | why a run ends without a settled book |
-//! | `laws` | what holds of every run, over the definitions |
+//! | `laws` | laws of every run, over the definitions |
 #![tactic(auto)]
 
 mod build;

@@ -13,9 +13,9 @@ use std::sync::{Condvar, Mutex, Wait};
 use valid_table::Outlet;
 use valid_view::{Naming, Tells, ViewReader};
 
-/// The book of a run behind a lock, and the place where workers wait for work. Whenever the lock is
-/// free, the book's history is legal, its tables agree with it, and what became of each derivation
-/// is a verdict on what a builder of this type may give.
+/// The book of a run behind a lock, and the condition on which workers wait for work. Whenever the
+/// lock is free, the book's history is legal, its tables agree with it, and what became of each
+/// derivation is a verdict on what a builder of this type may give.
 pub struct Locked<O: Outlet, B: Build> {
     shared: Mutex<Shared<O, B>>,
     changed: Condvar,
@@ -32,8 +32,8 @@ impl<O: Outlet, B: Build> Locked<O, B> {
         }
     }
 
-    // A lease of something that is ready, for which the worker waits, and how many wanted
-    // derivations are unsettled then; none where the run ends. Wakes whom its turn says.
+    // Waits for a lease of a ready derivation. Gives the lease and how many wanted derivations are
+    // unsettled then; none where the run ends. Wakes the workers that its turn names.
     pub(crate) fn take<R: Wait>(&self, rt: &R) -> Option<(Lease<O::Told>, usize)>
         ensures { IfSome result (λ taken. IsTold O.names taken.0) }
     {
@@ -59,8 +59,9 @@ impl<O: Outlet, B: Build> Locked<O, B> {
         unreachable!()
     }
 
-    // Ends a lease by what was found of its job by the list that the reader saw, and has a turn, in
-    // one hold of the lock; then wakes whom the turn says. Waits for nothing but the lock.
+    // Ends a lease by what was found of its job by the list that the reader saw, and takes a turn,
+    // in one hold of the lock. Then wakes the workers that the turn names. Waits for nothing but
+    // the lock.
     pub(crate) fn end<R: Wait, J: Naming>(
         &self,
         rt: &R,
@@ -92,7 +93,7 @@ impl<O: Outlet, B: Build> Locked<O, B> {
         shared.into_inner().into_parts()
     }
 
-    // Wakes those that wait, so many as this says.
+    // Wakes nobody, one of the waiting workers, or all of them.
     fn wake(&self, whom: Wake) {
         match whom {
             Wake::Nobody => {}

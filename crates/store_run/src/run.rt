@@ -1,4 +1,4 @@
-//! Runs.
+//! A run: from a plan and a journal to a settled book.
 ghost use Rattle.std.specs.Prelude.{◌≡◌, ◌⊎◌, IfErr, IfOk, vec_len};
 ghost use Rattle.sched_core.specs.Books.{opened};
 ghost use Rattle.sched_core.specs.Legal.{IsLegal};
@@ -20,7 +20,7 @@ use std::thread::Threads;
 use valid_table::{Journal, Outlet, TableFault};
 use valid_view::{Name, Naming, Tells, ViewReader, ViewWriter};
 
-// How many workers there may be.
+// The greatest number of workers.
 const MOST_WORKERS: usize = 64;
 
 /// A run's book, whose outlet is a view, or why there is no settled one.
@@ -29,17 +29,18 @@ pub type Ended<'a, J, R> = Result<
     (RunFault, Option<Book<ViewWriter<J, &'a R>>>),
 >;
 
-/// Builds what is wanted of a plan, for a system, over a journal, by one worker for each builder,
-/// which reads what is valid in a view of its own name. The book is over the lent plan, system and
-/// entries, settled, legal, and what became of each derivation is a verdict on what a builder may
-/// give. Whoever gets a book closes it.
+/// Builds the wanted derivations of a plan, for a system, over a journal. Each builder has one
+/// worker, which reads the valid paths in the view of this name. The book is over the lent plan,
+/// system and entries, settled and legal, and what became of each derivation is a verdict on what a
+/// builder may give. Whoever gets a book closes it.
 ///
-/// `NoWorkers` exactly where there is no builder, or more than 64; no book comes with it. `NoView`,
+/// `NoWorkers`, without a book, exactly where there is no builder, or more than 64. `NoView`,
 /// without a book, where the view can't be opened. `ForeignPlan`, without a book, where the book
-/// isn't over what was lent. `NoMemory` where memory was refused: without a book before a worker
-/// was started, and else with it, unsettled. `ThreadFault`, with the book, where all workers that
-/// could be started have ended and it isn't settled. All workers have ended on every path. Copies
-/// plan, journal and system, and the journal's table twice.
+/// isn't over the lent plan, system and entries. `NoMemory` where memory was refused: without a
+/// book before a worker was started, and else with the book, which is unsettled. `ThreadFault`,
+/// with the book, where all workers that could be started have ended and it isn't settled. All
+/// workers have ended whenever the call returns. Copies the plan, the journal and the system, and
+/// the journal's table twice.
 pub fn realise<
     'a,
     J: Naming + Send + Sync,
@@ -71,7 +72,8 @@ pub fn realise<
     run_book(rt, alloc, book, readers, builders, plan, system, journal)
 }
 
-// A book over what is lent, in which nothing began, and so many readers of its outlet.
+// A book over the lent plan, system and entries, in which nothing began, and `count` readers of its
+// outlet.
 fn opened_over<'a, J: Naming + Send, R: Wait>(
     rt: &'a R,
     alloc: Global,
@@ -97,7 +99,8 @@ fn opened_over<'a, J: Naming + Send, R: Wait>(
     }
 }
 
-// Copies of what is lent. `NoMemory`, the only fault, where memory is refused.
+// Copies of the plan, the journal and the system. `NoMemory`, the only fault, where memory is
+// refused.
 fn copied(
     alloc: Global,
     plan: &Plan,
@@ -122,8 +125,8 @@ fn copied(
     Ok((plan, journal, Vec::from_slice(alloc, system)?))
 }
 
-// Lets the builders work over a book until all have ended; then the run ends by the book that they
-// left and by what stopped it.
+// Lets the builders work over a book until all workers have ended. The book that they left, and
+// what stopped them, decide how the run ends.
 fn run_book<R, J, O, B>(
     rt: &R,
     alloc: Global,
@@ -148,8 +151,8 @@ where
     ending(book, stop, plan, system, journal)
 }
 
-// Lets each builder work in a thread of its own, with a reader of its own, until all have ended.
-// One for which no thread can be made is left out.
+// Lets each builder work in a thread of its own, with a reader of its own, until all threads have
+// ended. A builder for which no thread can be made is left out.
 fn run_workers<R, J, O, B>(
     rt: &R,
     alloc: Global,
@@ -171,8 +174,8 @@ where
 }
 
 // How a run ends whose workers have ended, by the book that they left and what stopped it, if
-// anything did. Without the book where that isn't over what was lent; else well where it is
-// settled, whatever stopped the run, and by a fault where it isn't.
+// anything did. A book that isn't over the lent plan, system and entries is not given. A settled
+// book is given without a fault, whatever stopped the run. An unsettled book is given with a fault.
 fn ending<O: Outlet>(
     book: Book<O>,
     stop: Option<BookFault>,

@@ -19,8 +19,8 @@ use std::marker::{Model, PhantomData};
 use valid_table::Outlet;
 use valid_view::{Naming, Tells, ViewFault, ViewReader};
 
-/// The book of a run and, once a call of it was refused, why the run stops. A contract sees both.
-/// What became of each derivation is a verdict on what a builder may give.
+/// The book of a run and why the run stops, once a call of the book was refused. A contract sees
+/// both. What became of each derivation is a verdict on what a builder may give.
 pub struct Shared<O: Outlet, B: Build> {
     book: Book<O>,
     stop: Option<BookFault>,
@@ -39,7 +39,7 @@ impl<O: Outlet, B: Build> Model for Shared<O, B> {
 }
 
 impl<O: Outlet, B: Build> Shared<O, B> {
-    /// A book that is shared by builders of a type, before anything stops the run.
+    /// A book that builders of a type share, before anything stops the run.
     pub fn new(book: Book<O>) -> Shared<O, B>
         requires { IsAnswered B.may book.run book.history }
         ensures book { result.book ≡ book }
@@ -53,8 +53,8 @@ impl<O: Outlet, B: Build> Shared<O, B> {
     }
 
     /// A worker's turn: its next step, whom it wakes then, and how many wanted derivations are
-    /// blocked, ready or building. It wakes all where the run ends, and one where more is ready
-    /// than the lease that it takes itself.
+    /// blocked, ready or building. It wakes all where the run ends, and one where it takes a lease
+    /// and another derivation is ready.
     pub fn turn(&mut self) -> Turn<O::Told>
         ensures step { IsStep self.old self.new result.step }
         ensures told { IfGiven result.step (IsTold O.names) }
@@ -77,8 +77,8 @@ impl<O: Outlet, B: Build> Shared<O, B> {
     }
 
     /// Ends a lease by what was found of its job by the list that the reader saw. Has the reader
-    /// catch up with the book first. Costs one look of the reader and what `Book::finish` costs:
-    /// no closure, and no pass over what was built.
+    /// catch up with the book first. Costs one look of the reader and what `Book::finish` costs; no
+    /// closure is computed, and what was built is not read.
     pub fn end<J: Naming>(
         &mut self,
         reader: &mut ViewReader<J>,
@@ -105,8 +105,8 @@ impl<O: Outlet, B: Build> Shared<O, B> {
         (book, stop)
     }
 
-    // The next step of a worker: the end where the run stops or the book is settled, else a lease
-    // if something is ready. A refusal of the book's stops the run.
+    // The next step of a worker: `End` where the run stops or the book is settled, else a lease if
+    // a derivation is ready, and else `Wait`. A fault of the book stops the run.
     fn step(&mut self) -> Step<O::Told>
         ensures step { IsStep self.old self.new result }
         ensures told { IfGiven result (IsTold O.names) }
@@ -125,10 +125,10 @@ impl<O: Outlet, B: Build> Shared<O, B> {
     }
 
     // Ends a lease by what was found of its job, and by whether the reader then caught up with the
-    // book: registers what was built, or notes why there is nothing. Where memory is refused the
-    // derivation failed for that reason. A lease that isn't the book's, or whose derivation may not
-    // be registered so, is given up, and so is one whose verdict can't be used, since the view is
-    // gone; that stops the run.
+    // book. Registers what was built, or notes why the build failed; where memory is refused, the
+    // derivation failed for that reason. A lease is given up, which stops the run, where it isn't
+    // the book's, where its derivation may not be registered with these records, and where its
+    // verdict can't be used since the view is gone.
     fn end_by(
         &mut self,
         lease: Lease<O::Told>,
@@ -202,9 +202,9 @@ impl<O: Outlet, B: Build> Shared<O, B> {
     }
 }
 
-// Has a reader see the list that the outlet shows, so that what was permitted to the job of a lease
-// by the list that it saw before is permitted behind the book's entries. `NoView` where the view is
-// gone; no other fault.
+// Has a reader see the list that the outlet shows. Then the paths that were permitted to the job of
+// a lease by the list that the reader saw before are permitted behind the book's entries. `NoView`,
+// the only fault, where the view is gone.
 fn catch_up<J: Naming, O: Tells<J>>(
     book: &Book<O>,
     reader: &mut ViewReader<J>,

@@ -4,7 +4,7 @@ use sched_core::Lease;
 
 /// What a worker is to do next.
 pub enum Step<T> {
-    /// Build what this lease is for.
+    /// Build the job of this lease.
     Build(Lease<T>),
     /// Wait until another worker has ended a lease.
     Wait,
@@ -15,11 +15,11 @@ pub enum Step<T> {
 /// Whom a worker wakes once it has let go of the lock.
 #[derive(Clone, Copy, Debug, PartialEq, Eq)]
 pub enum Wake {
-    /// Nobody: nothing more is ready.
+    /// Nobody: no other derivation is ready.
     Nobody,
-    /// One that waits, if any does: more is ready than the worker took itself.
+    /// One waiting worker, if any waits: another derivation is ready.
     One,
-    /// All that wait: the run ends.
+    /// All waiting workers: the run ends.
     All,
 }
 

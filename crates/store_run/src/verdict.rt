@@ -1,4 +1,4 @@
-//! What a worker finds of what the job of a lease came to, without a lock, by what a reader sees.
+//! What a worker finds of the outcome of a job, without a lock, by the list that its reader sees.
 ghost use Rattle.std.specs.Prelude.{◌≡◌, IfErr, IfOk};
 ghost use Rattle.valid_view.specs.Shown.{IsShowable};
 ghost use Rattle.sched_core.specs.Books.{ArePermittedPaths, AreSeedsValid};
@@ -10,8 +10,8 @@ use sched_core::{Answer, BookFault, Job, Lease, Reason, examine, permitted_besid
 use std::alloc::Global;
 use valid_view::{Naming, Tells, ViewFault, ViewReader};
 
-/// Has a reader learn what a lease was told, so that all that its job is built from is valid in
-/// each list that the reader sees from now on.
+/// Has a reader learn what a lease was told. Then all that the lease's job is built from is valid
+/// in each list that the reader sees from now on.
 pub fn learn<J: Naming, O: Tells<J>>(reader: &mut ViewReader<J>, lease: &mut Lease<O::Told>)
     requires { IsTold O.names lease.old }
     ensures seeds { AreSeedsValid reader.new.told lease.new.job }
@@ -24,10 +24,10 @@ pub fn learn<J: Naming, O: Tells<J>>(reader: &mut ViewReader<J>, lease: &mut Lea
     }
 }
 
-/// What is found of what a job came to: the builder's reason why there is no answer, or else the
-/// verdict on the answer, by what is permitted to the job in the list that the reader sees.
-/// `NoMemory` and `NoView` in place of a verdict, where memory was refused or the view is gone.
-/// Costs the closure of the job's seeds, and one pass over what the builder left; takes no lock.
+/// What is found of a job's outcome: the builder's reason why there is no answer, or the verdict on
+/// the answer by the paths that are permitted to the job in the list that the reader sees.
+/// `NoMemory` in place of a verdict where memory was refused, and `NoView` where the view is gone.
+/// Costs the closure of the job's seeds and one pass over what the builder left; takes no lock.
 pub fn verdict<J: Naming>(
     alloc: Global,
     reader: &mut ViewReader<J>,

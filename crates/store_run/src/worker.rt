@@ -12,11 +12,12 @@ use std::alloc::Global;
 use std::sync::Wait;
 use valid_view::{Naming, Tells, ViewReader};
 
-/// Builds what is ready, one job after the other, until the book is settled or the run stops;
-/// waits while nothing is ready. No lock is held while the builder runs, nor while the verdict is
-/// found: what is permitted is asked of the reader, whose view is the book's outlet. A lease whose
-/// worker was refused memory is abandoned. The builder hears, without the lock too, of each lease
-/// that was taken and of each that has ended; whoever else can go on then was woken before.
+/// Builds ready derivations, one after the other, until the book is settled or the run stops; waits
+/// while none is ready. No lock is held while the builder runs, nor while the verdict is found: the
+/// permitted paths are asked of the reader, whose view is the book's outlet. Where memory is
+/// refused to the worker, the derivation of its lease fails for that reason. The builder hears of
+/// each lease that was taken and of each that has ended, also without the lock; the other workers
+/// that can go on were woken before.
 pub fn work<R: Wait, J: Naming, O: Tells<J>, B: Build + Watch>(
     rt: &R,
     alloc: Global,
@@ -37,8 +38,8 @@ pub fn work<R: Wait, J: Naming, O: Tells<J>, B: Build + Watch>(
     unreachable!()
 }
 
-// Builds the job of a lease, and ends the lease. The next lease, with how many wanted derivations
-// were unsettled when it was taken; none where the run ends.
+// Builds the job of a lease, and ends the lease. Gives the next lease, and how many wanted
+// derivations were unsettled when it was taken; none where the run ends.
 fn build<R: Wait, J: Naming, O: Tells<J>, B: Build + Watch>(
     rt: &R,
     alloc: Global,
