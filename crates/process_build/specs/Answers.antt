@@ -1,4 +1,4 @@
--- What a builder's end answers, and what may be a part of its outputs.
+-- What is answered when a builder has ended, and what may be a part of its outputs.
 use Rattle.std.specs.Prelude.{◌≡◌, ◌≢◌, [], Option, Some, None, Result, Ok, Err, length, pos}
 use Rattle.std.specs.Fs.{IsDir, IsFile}
 use Rattle.std.specs.declared.fs.FileType.{FileType}
@@ -11,26 +11,26 @@ use Rattle.sched_core.specs.declared.job.Job.{Job}
 use Rattle.sched_core.specs.declared.reason.Reason.{Reason}
 use Rattle.sched_core.specs.declared.reason.Reason.TheVariants.{OutOfMemory, ReadFault}
 
--- a tree or none for each output of the job where the exit status is 0, else none at all
+-- An answer to a job: where the exit status is 0, a tree or none for each output; else no entry at
+-- all.
 pub record IsAnswerOf (job : Job) (answer : Answer) : Type 0 where
   pub of_good : answer.status ≡ Some (pos 0) → length answer.trees.items ≡ length job.outputs.items
   pub of_bad : answer.status ≢ Some (pos 0) → answer.trees.items ≡ []
 
--- what is answered for what lies at a path: a file and a folder are parts of an output, and nothing
--- else is
+-- the part of an output that lies at a path: a file or a folder; anything else is a read fault
 abbrev pub IsNodeAt : FileType → Result Node Reason → Type 0
 IsNodeAt found (Ok File) = IsFile found
 IsNodeAt found (Ok Folder) = IsDir found
 IsNodeAt found (Err reason) = (reason ≡ ReadFault) × ¬ (IsFile found) × ¬ (IsDir found)
 
--- the same where nothing might have been found
+-- the same, where the answer may also be that nothing lies there: here something does
 abbrev pub IsNodeOf : FileType → Result (Option Node) Reason → Type 0
 IsNodeOf found (Ok (Some node)) = IsNodeAt found (Ok node)
 IsNodeOf found (Ok None) = ⊥
 IsNodeOf found (Err reason) = IsNodeAt found (Err reason)
 
--- what is answered where asking for what lies at a path gave an error: none, exactly where nothing
--- is found
+-- what lies at a path by an error of the system: nothing, exactly where the error is that nothing
+-- is found; else want of memory or a read fault
 abbrev pub IsNoNode : Error → Result (Option Node) Reason → Type 0
 IsNoNode error (Ok (Some node)) = ⊥
 IsNoNode error (Ok None) = IsNotFound error

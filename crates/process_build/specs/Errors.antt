@@ -1,4 +1,4 @@
--- What an error of the system is for this program (the documentation of std, `io::Error`).
+-- What an error of the system means for this program (the documentation of std, `io::Error`).
 use Rattle.std.specs.Prelude.{◌≡◌, ◌↔◌, None}
 use Rattle.std.specs.IoError.{error_kind, raw_os_error}
 use Rattle.std.specs.declared.io.Error.{Error}
@@ -18,11 +18,12 @@ IsNotFound error = error_kind error ≡ kind.NotFound
 abbrev pub IsTaken : Error → Type 0
 IsTaken error = error_kind error ≡ kind.AlreadyExists
 
--- a signal came between, and the call did nothing
+-- a signal interrupted the call, which did nothing
 abbrev pub IsInterruption : Error → Type 0
 IsInterruption error = error_kind error ≡ kind.Interrupted
 
--- what an error means: each of these three exactly for its kind, and `Other` for all the rest
+-- what an error means: each of these three failures exactly for its kind, and `Other` for every
+-- other error
 abbrev pub IsFailure : Error → Failure → Type 0
 IsFailure error failure =
     ((failure ≡ NoMemory) ↔ IsNoMemory error) × ((failure ≡ NotFound) ↔ IsNotFound error)
