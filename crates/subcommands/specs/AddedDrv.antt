@@ -1,7 +1,8 @@
--- What `add-drv` makes of its request and of what its file gave: the filled derivation's path and
--- text, or the first of its faults.
-use Rattle.std.specs.Prelude.{◌≡◌, ◌≢◌, ◌⊎◌, ℕ, List, Result, Ok, Err}
+-- What `add-drv` answers to a request, by what its file gave: the filled derivation's path and
+-- text, or the first fault.
+use Rattle.std.specs.Prelude.{◌≡◌, ◌≢◌, ◌⊎◌, Result, Ok, Err}
 use Rattle.std.specs.Borrow.{Bor}
+use Rattle.nix_names.specs.Bytes.{Bytes, Dir, Path}
 use Rattle.nix_names.specs.Names.{IsStoreDir}
 use Rattle.nix_drv.specs.Derivation.{Drv, IsDrvText}
 use Rattle.nix_drv.specs.Outcome.{IsReading}
@@ -21,45 +22,45 @@ use Rattle.subcommands.specs.declared.stop.Stop.{Stop}
 use Rattle.subcommands.specs.declared.stop.Stop.TheVariants.{BadDraft, BadDrv, BadName}
 use Rattle.subcommands.specs.declared.stop.Stop.TheVariants.{NoMemory, Unreadable}
 
--- What is answered for the draft's bytes: the draft, or what is wrong with its text.
-abbrev pub IsDraftRead : Bor (List ℕ) → (bytes : List ℕ) → Result Drv Stop → Type 0
+-- The draft whose text these bytes are, or what is wrong with them.
+abbrev pub IsDraftRead : Bor Bytes → (bytes : Bytes) → Result Drv Stop → Type 0
 IsDraftRead path bytes (Ok draft) = IsReading bytes (Ok draft)
 IsDraftRead path bytes (Err stop) =
     (stop ≡ NoMemory)
     ⊎ ((fault : DrvFault) × (stop ≡ BadDraft path (node.Text fault)) × (fault ≢ drv.NoMemory)
     × IsReading bytes (Err fault))
 
--- What is answered for what FILE gave.
-abbrev pub IsDraftOf : Bor (List ℕ) → FileBytes → Result Drv Stop → Type 0
+-- The draft by what FILE gave, or a fault.
+abbrev pub IsDraftOf : Bor Bytes → FileBytes → Result Drv Stop → Type 0
 IsDraftOf path (Ok bytes) answer = IsDraftRead path bytes answer
 IsDraftOf path (Err file.Unreadable) answer = answer ≡ Err (Unreadable path)
 IsDraftOf path (Err file.NoMemory) answer = answer ≡ Err NoMemory
 
--- What ends a run where filling its draft answers a fault: one of the draft is blamed on FILE, one
--- of another derivation on its path.
+-- What ends a run whose draft can't be filled, for this fault. A fault of the draft is blamed on
+-- FILE, a fault of another derivation on its path.
 abbrev pub fill_stop : AddDrvRequest → GraphFault → Stop
 fill_stop request graph.NoMemory = NoMemory
 fill_stop request (graph.At path fault) = BadDrv path fault
 fill_stop request (graph.Draft fault) = BadDraft request.file fault
 fill_stop request graph.Name = BadName request.name
 
--- What is answered where the draft is filled in a folder, by a source.
-abbrev pub IsFillingOf : (dir : List ℕ) → (gives : List ℕ → Answer → Type 0) → AddDrvRequest → Drv
-    → Result (Drv × List ℕ) Stop → Type 0
+-- The draft filled in a folder, by a source, with its path; or a fault.
+abbrev pub IsFillingOf : (dir : Dir) → (gives : Path → Answer → Type 0) → AddDrvRequest → Drv
+    → Result (Drv × Path) Stop → Type 0
 IsFillingOf dir gives request draft (Ok made) = IsFilling dir gives request.name.now draft (Ok made)
 IsFillingOf dir gives request draft (Err stop) =
     (fault : GraphFault) × (stop ≡ fill_stop request fault)
     × IsFilling dir gives request.name.now draft (Err fault)
 
--- The store folder is one, and FILE gave the draft's text.
+-- The store folder is well-formed, and FILE gave the draft's text.
 abbrev pub HasDraft : AddDrvRequest → FileBytes → Drv → Type 0
 HasDraft request gave draft =
     IsStoreDir request.store_dir.now × IsDraftOf request.file gave (Ok draft)
 
--- What is answered: the path and the text of the filled draft, or the first that is wrong of the
--- store folder, FILE, the draft's text and its filling. Want of memory may come in the place of all
--- but a refused folder.
-abbrev pub IsAddingDrv : (gives : List ℕ → Answer → Type 0) → AddDrvRequest → FileBytes
+-- What `add-drv` answers: the path and the text of the filled draft, or the first fault of the
+-- store folder, FILE, the draft's text and its filling. Want of memory may be answered in place of
+-- any of them but a refused folder.
+abbrev pub IsAddingDrv : (gives : Path → Answer → Type 0) → AddDrvRequest → FileBytes
     → Result AddedDrv Stop → Type 0
 IsAddingDrv gives request gave (Ok added) =
     (draft : Drv) × HasDraft request gave draft

@@ -1,10 +1,11 @@
--- What `add-text` makes of its request and of what its two files gave: the text's path and the
--- journal's new bytes, or the first of its faults.
+-- What `add-text` answers to a request, by what its two files gave: the text's path and the
+-- journal's new bytes, or the first fault.
 use Rattle.std.specs.Prelude.{◌≡◌, ◌≢◌, ◌≤◌, ◌<◌, [], ◌∷◌, ◌++◌, ℕ, List, Option, Some, None}
 use Rattle.std.specs.Prelude.{Result, Ok, Err, IsTrue, false, length}
 use Rattle.std.specs.Borrow.{Bor}
 use Rattle.std.specs.Global.{Vec}
 use Rattle.sha2.specs.Sha256.{sha256}
+use Rattle.nix_names.specs.Bytes.{Bytes, Dir, Path, Hash}
 use Rattle.nix_names.specs.Names.{IsStoreDir, is_name}
 use Rattle.nix_drv.specs.OwnPath.{text_path}
 use Rattle.valid_table.specs.Entries.{registered}
@@ -27,60 +28,60 @@ use Rattle.subcommands.specs.declared.stop.Stop.TheVariants.{NoMemory}
 
 -- what a file gave: its bytes, or why there are none
 abbrev pub FileBytes : Type 0
-FileBytes = Result (List ℕ) FileFault
+FileBytes = Result Bytes FileFault
 
--- the same of the list that holds the bytes
+-- what a file gave, from the machine vector of its bytes
 abbrev pub file_bytes : Result (Vec ℕ) FileFault → FileBytes
 file_bytes (Ok bytes) = Ok bytes.items
 file_bytes (Err fault) = Err fault
 
--- the greatest length of a text
+-- the greatest length of a text, in bytes
 abbrev pub max_text_len : ℕ
 max_text_len = 4194304
 
--- What is answered for the text's bytes, by what FILE gave.
-abbrev pub IsTextOf : Bor (List ℕ) → FileBytes → Result (Vec ℕ) Stop → Type 0
+-- The text's bytes by what FILE gave, or a fault.
+abbrev pub IsTextOf : Bor Bytes → FileBytes → Result (Vec ℕ) Stop → Type 0
 IsTextOf path gave (Ok bytes) = (gave ≡ Ok bytes.items) × (length bytes.items ≤ max_text_len)
 IsTextOf path gave (Err (Unreadable blamed)) = (blamed ≡ path) × (gave ≡ Err file.Unreadable)
 IsTextOf path gave (Err (TooLong blamed)) =
-    (blamed ≡ path) × ((bytes : List ℕ) × (gave ≡ Ok bytes) × (max_text_len < length bytes))
+    (blamed ≡ path) × ((bytes : Bytes) × (gave ≡ Ok bytes) × (max_text_len < length bytes))
 IsTextOf path gave (Err NoMemory) = gave ≡ Err file.NoMemory
 IsTextOf path gave (Err stop) = ⊥
 
--- The journal's new bytes: none where the path is valid by the journal's entries, else the text, in
--- version 2, of these entries and, behind them, the one of the path.
-abbrev pub IsNewText : List Entry → (path digest : List ℕ) → Option (Vec ℕ) → Type 0
+-- The journal's new bytes: none where the path is valid by the journal's entries; else the text, in
+-- version 2, of these entries with the path's entry after them.
+abbrev pub IsNewText : List Entry → (path : Path) → (digest : Hash) → Option (Vec ℕ) → Type 0
 IsNewText entries path digest None = IsValid (registered entries) path
 IsNewText entries path digest (Some bytes) =
     ¬ (IsValid (registered entries) path)
     × (bytes.items ≡ written_text (entries ++ text_entry path digest ∷ []))
 
 -- The journal file gave the text of some entries, and these are the new bytes.
-pub record IsRenewed (dir : List ℕ) (gave : FileBytes) (path digest : List ℕ) (new : Option (Vec ℕ))
-    : Type 0 where
-  pub bytes : List ℕ
+pub record IsRenewed (dir : Dir) (gave : FileBytes) (path : Path) (digest : Hash)
+    (new : Option (Vec ℕ)) : Type 0 where
+  pub bytes : Bytes
   pub bytes_are : gave ≡ Ok bytes
   pub entries : List Entry
   pub reading : IsReading dir bytes (Ok entries)
   pub is_new : IsNewText entries path digest new
 
 -- The journal file gave bytes that have this fault as a journal of the folder.
-abbrev pub IsBadJournal : (dir : List ℕ) → FileBytes → TableFault → Type 0
+abbrev pub IsBadJournal : (dir : Dir) → FileBytes → TableFault → Type 0
 IsBadJournal dir gave fault =
     (fault ≢ table.NoMemory)
-    × ((bytes : List ℕ) × (gave ≡ Ok bytes) × IsReading dir bytes (Err fault))
+    × ((bytes : Bytes) × (gave ≡ Ok bytes) × IsReading dir bytes (Err fault))
 
--- What is answered as the journal, by what its file gave: one whose text that is.
-abbrev pub IsJournalOf : (dir : List ℕ) → FileBytes → Result JournalValue Stop → Type 0
+-- The journal whose text its file gave, or a fault.
+abbrev pub IsJournalOf : (dir : Dir) → FileBytes → Result JournalValue Stop → Type 0
 IsJournalOf dir gave (Ok journal) =
-    (bytes : List ℕ) × (gave ≡ Ok bytes) × IsReading dir bytes (Ok journal.entries)
+    (bytes : Bytes) × (gave ≡ Ok bytes) × IsReading dir bytes (Ok journal.entries)
 IsJournalOf dir gave (Err JournalUnreadable) = gave ≡ Err file.Unreadable
 IsJournalOf dir gave (Err (BadJournal fault)) = IsBadJournal dir gave fault
 IsJournalOf dir gave (Err NoMemory) = Unit {0}
 IsJournalOf dir gave (Err stop) = ⊥
 
--- What is answered for the journal's new bytes, by what its file gave.
-abbrev pub IsRenewing : (dir : List ℕ) → FileBytes → (path digest : List ℕ)
+-- The journal's new bytes by what its file gave, or a fault.
+abbrev pub IsRenewing : (dir : Dir) → FileBytes → (path : Path) → (digest : Hash)
     → Result (Option (Vec ℕ)) Stop → Type 0
 IsRenewing dir gave path digest (Ok new) = IsRenewed dir gave path digest new
 IsRenewing dir gave path digest (Err JournalUnreadable) = gave ≡ Err file.Unreadable
@@ -88,18 +89,19 @@ IsRenewing dir gave path digest (Err (BadJournal fault)) = IsBadJournal dir gave
 IsRenewing dir gave path digest (Err NoMemory) = Unit {0}
 IsRenewing dir gave path digest (Err stop) = ⊥
 
--- The store folder is one, and FILE gave these bytes, within the limit.
-abbrev pub HasText : AddTextRequest → FileBytes → (bytes : List ℕ) → Type 0
+-- The store folder is well-formed, and FILE gave these bytes, which are not too long.
+abbrev pub HasText : AddTextRequest → FileBytes → (bytes : Bytes) → Type 0
 HasText request gave bytes =
     IsStoreDir request.store_dir.now × (gave ≡ Ok bytes) × (length bytes ≤ max_text_len)
 
--- And the name is one.
-abbrev pub HasNamedText : AddTextRequest → FileBytes → (bytes : List ℕ) → Type 0
+-- And the name is well-formed.
+abbrev pub HasNamedText : AddTextRequest → FileBytes → (bytes : Bytes) → Type 0
 HasNamedText request gave bytes = HasText request gave bytes × IsTrue (is_name request.name.now)
 
--- What is answered. The store folder is tested first, then FILE, the name and the journal, and each
--- fault comes exactly where nothing is wrong with what is tested before it: the cases exclude one
--- another, want of memory apart, which never stands in the place of a refused folder.
+-- What `add-text` answers. The store folder is tested first, then FILE, the name and the journal.
+-- Each fault comes exactly where nothing is wrong with what is tested before it, so the cases
+-- exclude one another. Want of memory is the exception; it is never answered in place of a refused
+-- folder.
 abbrev pub IsAddingText : AddTextRequest → (gave journal : FileBytes)
     → Result AddedText Stop → Type 0
 IsAddingText request gave journal (Ok added) =
@@ -112,14 +114,14 @@ IsAddingText request gave journal (Err (Unreadable blamed)) =
     (blamed ≡ request.file) × IsStoreDir request.store_dir.now × (gave ≡ Err file.Unreadable)
 IsAddingText request gave journal (Err (TooLong blamed)) =
     (blamed ≡ request.file) × IsStoreDir request.store_dir.now
-    × ((bytes : List ℕ) × (gave ≡ Ok bytes) × (max_text_len < length bytes))
+    × ((bytes : Bytes) × (gave ≡ Ok bytes) × (max_text_len < length bytes))
 IsAddingText request gave journal (Err (BadName blamed)) =
-    (blamed ≡ request.name) × ((bytes : List ℕ) × HasText request gave bytes)
+    (blamed ≡ request.name) × ((bytes : Bytes) × HasText request gave bytes)
     × (is_name request.name.now ≡ false)
 IsAddingText request gave journal (Err JournalUnreadable) =
-    ((bytes : List ℕ) × HasNamedText request gave bytes) × (journal ≡ Err file.Unreadable)
+    ((bytes : Bytes) × HasNamedText request gave bytes) × (journal ≡ Err file.Unreadable)
 IsAddingText request gave journal (Err (BadJournal fault)) =
-    ((bytes : List ℕ) × HasNamedText request gave bytes)
+    ((bytes : Bytes) × HasNamedText request gave bytes)
     × IsBadJournal request.store_dir.now journal fault
 IsAddingText request gave journal (Err NoMemory) = ¬ (¬ (IsStoreDir request.store_dir.now))
 IsAddingText request gave journal (Err stop) = ⊥

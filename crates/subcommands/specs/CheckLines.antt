@@ -1,8 +1,9 @@
--- *Texts out*, the lines of `check`: what may be said of each word, by what the source of the files
--- may answer.
-use Rattle.std.specs.Prelude.{◌≡◌, ◌≢◌, ◌⊎◌, ℕ, Bool, true, false, List, [], ◌∷◌, ◌++◌, map, codes}
+-- *Texts out*, the lines of `check`: the verdicts on each word, by what the source of the files may
+-- answer.
+use Rattle.std.specs.Prelude.{◌≡◌, ◌≢◌, ◌⊎◌, Bool, true, false, List, [], ◌∷◌, ◌++◌, map, codes}
 use Rattle.std.specs.Prelude.{All, Some, None, Ok, Err, if◌then◌else◌}
 use Rattle.std.specs.List.{flat_map, list_all}
+use Rattle.nix_names.specs.Bytes.{Bytes, Dir, Path}
 use Rattle.nix_names.specs.StorePaths.{path_fault}
 use Rattle.nix_drv.specs.Checked.{IsCheck}
 use Rattle.nix_drv.specs.Derivation.{Drv}
@@ -16,45 +17,46 @@ use Rattle.subcommands.specs.declared.verdict.Verdict.{Verdict}
 use Rattle.subcommands.specs.declared.verdict.Verdict.TheVariants.{Good, NoPath, Unreadable}
 use Rattle.subcommands.specs.declared.verdict.Verdict.TheVariants.{Refused}
 
--- What may be said of a word. It is no path of the folder; or its file can't be read; or bytes that
--- its file may have are refused as a derivation's text at that path; or they are one.
-abbrev pub IsVerdict : (gives : List ℕ → Answer → Type 0) → (dir word : List ℕ) → Verdict → Type 0
+-- A verdict on a word. It is no path of the folder; or its file can't be read; or bytes that its
+-- file may have are refused as a derivation's text at that path; or they are accepted.
+abbrev pub IsVerdict : (gives : Path → Answer → Type 0) → (dir : Dir) → (word : Bytes) → Verdict
+    → Type 0
 IsVerdict gives dir word (NoPath fault) = path_fault dir word ≡ Some fault
 IsVerdict gives dir word Unreadable =
     (path_fault dir word ≡ None) × (gives word (Err Missing) ⊎ gives word (Err Device))
 IsVerdict gives dir word (Refused fault) =
     (path_fault dir word ≡ None) × (fault ≢ NoMemory)
-    × ((bytes : List ℕ) × gives word (Ok bytes) × IsCheck dir word bytes (Err fault))
+    × ((bytes : Bytes) × gives word (Ok bytes) × IsCheck dir word bytes (Err fault))
 IsVerdict gives dir word Good =
     (path_fault dir word ≡ None)
-    × ((bytes : List ℕ) × (drv : Drv) × gives word (Ok bytes) × IsCheck dir word bytes (Ok drv))
+    × ((bytes : Bytes) × (drv : Drv) × gives word (Ok bytes) × IsCheck dir word bytes (Ok drv))
 
--- whether nothing is wrong
+-- whether a verdict finds nothing wrong
 abbrev pub is_good : Verdict → Bool
 is_good Good = true
 is_good verdict = false
 
--- the words of what is wrong
-abbrev pub verdict_words : Verdict → List ℕ
+-- the words of a verdict: those of its fault
+abbrev pub verdict_words : Verdict → Bytes
 verdict_words Good = []
 verdict_words (NoPath fault) = name_fault_words fault
 verdict_words Unreadable = codes "Unreadable"
 verdict_words (Refused fault) = drv_fault_words fault
 
 -- the line of a word that is wrong
-abbrev pub bad_line : (word words : List ℕ) → List ℕ
+abbrev pub bad_line : (word words : Bytes) → Bytes
 bad_line word words = codes "bad " ++ word ++ codes ": " ++ words ++ 10 ∷ []
 
 -- the line of a word
-abbrev pub line_of : List ℕ → Verdict → List ℕ
+abbrev pub line_of : (word : Bytes) → Verdict → Bytes
 line_of word Good = codes "ok " ++ word ++ 10 ∷ []
 line_of word verdict = bad_line word (verdict_words verdict)
 
--- The lines of the words in their order, each by a verdict that may be said of it; the status says
--- whether a verdict is bad.
-pub record IsReport (gives : List ℕ → Answer → Type 0) (dir : List ℕ) (words : List (List ℕ))
-    (text : List ℕ) (status : Status) : Type 0 where
-  pub rows : List (List ℕ × Verdict)
+-- The report of `check`: one line for each word, in their order, by a verdict on it. The status
+-- says whether a verdict is bad.
+pub record IsReport (gives : Path → Answer → Type 0) (dir : Dir) (words : List Bytes)
+    (text : Bytes) (status : Status) : Type 0 where
+  pub rows : List (Bytes × Verdict)
   pub words_are : map (λ row. row.0) rows ≡ words
   pub each : All (λ row. IsVerdict gives dir row.0 row.1) rows
   pub lines : text ≡ flat_map (λ row. line_of row.0 row.1) rows

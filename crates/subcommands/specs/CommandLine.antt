@@ -1,71 +1,81 @@
 -- The command line, in `clap`'s words for one: its subcommands, and the words and options of each
 -- (the documentation of clap 4, `Command` and `Arg`).
-use Rattle.std.specs.Prelude.{ℕ, List, [], ◌∷◌, Some, true, pos, codes}
+use Rattle.std.specs.Prelude.{[], ◌∷◌, Some, true, pos, codes}
 use Rattle.clap.specs.Words.{App, Rule, new_app, new_rule, with_rule, with_subcommand}
 use Rattle.clap.specs.declared.builder.action.ArgAction.TheVariants.{Append, SetTrue}
 use Rattle.clap.specs.declared.builder.value_parser.ValueParser.TheVariants.{Signed}
+use Rattle.nix_names.specs.Bytes.{Bytes, Name}
 
 -- an option with one value
-abbrev pub option : (name : List ℕ) → Rule
+abbrev pub option : (name : Name) → Rule
 option name = record (new_rule name) { long = Some name; value_names = 1 }
 
--- the same with the value that it has where it isn't given
-abbrev pub option_or : (name default : List ℕ) → Rule
+-- an option with one value, and the value that it has where it isn't given
+abbrev pub option_or : (name : Name) → (default : Bytes) → Rule
 option_or name default = record (option name) { defaults = default ∷ [] }
 
--- a word that has to be given
-abbrev pub required_word : List ℕ → Rule
+-- a required word
+abbrev pub required_word : Name → Rule
 required_word name = record (new_rule name) { required = true }
 
+-- the option with the store folder
 abbrev pub store_dir_option : Rule
 store_dir_option = option_or (codes "store-dir") (codes "/nix/store")
 
+-- the option with the journal file
 abbrev pub journal_option : Rule
 journal_option = option (codes "journal")
 
+-- the option with the system
 abbrev pub system_option : Rule
 system_option = option_or (codes "system") (codes "x86_64-linux")
 
--- a whole number from 1 to 64
+-- the option with the number of builders, from 1 to 64
 abbrev pub jobs_option : Rule
 jobs_option = record (option_or (codes "jobs") (codes "1")) {
   parser = Some (Signed (pos 1) (pos 64));
 }
 
 -- an option without a value
-abbrev pub flag : (name : List ℕ) → Rule
+abbrev pub flag : (name : Name) → Rule
 flag name = record (new_rule name) { long = Some name; action = Some SetTrue }
 
+-- the flag that asks for a graph
 abbrev pub dot_flag : Rule
 dot_flag = flag (codes "dot")
 
--- words of which there is one or more
+-- one or more words DRV
 abbrev pub drv_words : Rule
 drv_words = record (required_word (codes "DRV")) { action = Some Append }
 
+-- the subcommand `check`
 abbrev pub check_line : App
 check_line = with_rule (with_rule (new_app (codes "check")) store_dir_option) drv_words
 
+-- the subcommand `add-text`
 abbrev pub add_text_line : App
 add_text_line =
     with_rule
     (with_rule (with_rule (with_rule (new_app (codes "add-text")) store_dir_option) journal_option)
     (required_word (codes "NAME"))) (required_word (codes "FILE"))
 
+-- the subcommand `add-drv`
 abbrev pub add_drv_line : App
 add_drv_line =
     with_rule
     (with_rule (with_rule (new_app (codes "add-drv")) store_dir_option)
     (required_word (codes "NAME"))) (required_word (codes "FILE"))
 
--- a subcommand over a run, by its name, with the options that each such has
-abbrev pub run_options : (name : List ℕ) → App
+-- a subcommand that takes a plan and a journal, by its name, with the options that both have
+abbrev pub run_options : (name : Name) → App
 run_options name =
     with_rule (with_rule (with_rule (new_app name) store_dir_option) journal_option) system_option
 
+-- the subcommand `plan`
 abbrev pub plan_line : App
 plan_line = with_rule (with_rule (run_options (codes "plan")) dot_flag) drv_words
 
+-- the subcommand `realise`
 abbrev pub realise_line : App
 realise_line = with_rule (with_rule (run_options (codes "realise")) jobs_option) drv_words
 

@@ -1,6 +1,7 @@
--- How a run of `add-drv` ends: what standard output got, and what may not have been written.
-use Rattle.std.specs.Prelude.{◌≡◌, ◌⊎◌, ℕ, List, Option, Result, Ok, Err}
+-- How a run of `add-drv` ends: what was printed, and which file was not written.
+use Rattle.std.specs.Prelude.{◌≡◌, ◌⊎◌, Option, Result, Ok, Err}
 use Rattle.std.specs.Io.KnownBytes.{Appends}
+use Rattle.nix_names.specs.Bytes.{Bytes, Path}
 use Rattle.subcommands.specs.AddedDrv.{IsAddingDrv}
 use Rattle.subcommands.specs.AddedText.{FileBytes}
 use Rattle.subcommands.specs.Endings.{path_line}
@@ -12,15 +13,15 @@ use Rattle.subcommands.specs.declared.status.Status.TheVariants.{Done}
 use Rattle.subcommands.specs.declared.stop.Stop.{Stop}
 use Rattle.subcommands.specs.declared.stop.Stop.TheVariants.{NoMemory, NotWritten, Unwritable}
 
--- The file of the derivation is not written, and nothing is printed; or the line of its path is
--- refused.
-abbrev pub IsNotPut : (path : List ℕ) → (before after : Option (List ℕ)) → Stop → Type 0
+-- The file of the derivation is not written, and nothing is printed; or standard output refuses the
+-- line of its path.
+abbrev pub IsNotPut : (path : Path) → (before after : Option Bytes) → Stop → Type 0
 IsNotPut path before after stop =
     ((after ≡ before) × ((stop ≡ NoMemory) ⊎ (stop ≡ NotWritten path))) ⊎ (stop ≡ Unwritable)
 
--- How a run ends, by what FILE gave; of the files of the folder nothing is known. Nothing is
--- printed where the draft is refused.
-abbrev pub DrvEndsBy : AddDrvRequest → FileBytes → (before after : Option (List ℕ))
+-- How a run ends, by what FILE gave. Nothing is known of the folder's files. Nothing is printed
+-- where the draft is refused.
+abbrev pub DrvEndsBy : AddDrvRequest → FileBytes → (before after : Option Bytes)
     → Result Status Stop → Type 0
 DrvEndsBy request gave before after (Ok status) =
     (status ≡ Done)
@@ -32,6 +33,6 @@ DrvEndsBy request gave before after (Err stop) =
     × IsNotPut added.path before after stop)
 
 -- how a run ends: nothing is known of what FILE gave
-abbrev pub DrvEnds : AddDrvRequest → (before after : Option (List ℕ)) → Result Status Stop → Type 0
+abbrev pub DrvEnds : AddDrvRequest → (before after : Option Bytes) → Result Status Stop → Type 0
 DrvEnds request before after result =
     (gave : FileBytes) × DrvEndsBy request gave before after result

@@ -1,6 +1,7 @@
--- How a run of `add-text` ends: what standard output got, and what may not have been written.
-use Rattle.std.specs.Prelude.{◌≡◌, ◌∷◌, ◌++◌, [], ℕ, List, Option, Result, Ok, Err, IsSome}
+-- How a run of `add-text` ends: what was printed, and which files were not written.
+use Rattle.std.specs.Prelude.{◌≡◌, ◌∷◌, ◌++◌, [], Option, Result, Ok, Err, IsSome}
 use Rattle.std.specs.Io.KnownBytes.{Appends}
+use Rattle.nix_names.specs.Bytes.{Bytes, Path}
 use Rattle.nix_names.specs.Names.{IsStoreDir}
 use Rattle.subcommands.specs.AddedText.{FileBytes, IsAddingText}
 use Rattle.subcommands.specs.declared.added_text.AddedText.{AddedText}
@@ -12,20 +13,20 @@ use Rattle.subcommands.specs.declared.stop.Stop.TheVariants.{NotWritten, Journal
 use Rattle.subcommands.specs.declared.stop.Stop.TheVariants.{NoMemory, Unwritable}
 
 -- the line of a path
-abbrev pub path_line : List ℕ → List ℕ
+abbrev pub path_line : Path → Bytes
 path_line path = path ++ 10 ∷ []
 
--- Which files are not written, where one is not: the text at its path, or behind it the journal;
--- there is something to be written.
+-- Why the files are not written: the text can't be written at its path; or the text is written and
+-- the journal is not; or memory is refused. A file is written only where the journal has new bytes.
 abbrev pub IsWriteFault : AddedText → Stop → Type 0
 IsWriteFault added (NotWritten path) = (path ≡ added.path) × IsSome added.journal
 IsWriteFault added JournalNotWritten = IsSome added.journal
 IsWriteFault added NoMemory = Unit {0}
 IsWriteFault added stop = ⊥
 
--- How the printing of an accepted text's path and the writing of its files end. Of a refused line
--- nothing more is said.
-abbrev pub IsPut : AddedText → (before after : Option (List ℕ)) → Result Status Stop → Type 0
+-- How it ends to print an accepted text's path and to write its files. Nothing more is known where
+-- the line is refused.
+abbrev pub IsPut : AddedText → (before after : Option Bytes) → Result Status Stop → Type 0
 IsPut added before after (Ok status) =
     (status ≡ Done) × Appends before after (path_line added.path)
 IsPut added before after (Err Unwritable) = Unit {0}
@@ -34,15 +35,15 @@ IsPut added before after (Err stop) =
 
 -- The text was accepted, and the line of its path was printed.
 abbrev pub IsPrinted : AddTextRequest → (gave journal : FileBytes)
-    → (before after : Option (List ℕ)) → AddedText → Type 0
+    → (before after : Option Bytes) → AddedText → Type 0
 IsPrinted request gave journal before after added =
     IsAddingText request gave journal (Ok added) × Appends before after (path_line added.path)
 
--- How a run ends, by what the two files gave. Nothing is printed where the text is refused; else
--- the path is, and then a file may not be written. Of a refused line it is said that the text is
--- not refused, of want of memory that the folder is not.
+-- How a run ends, by what the two files gave. Nothing is printed where the text is refused. Else
+-- the path is printed, and then a file may not be written. Where the line is refused, the text is
+-- accepted; where memory is refused, the store folder is well-formed.
 abbrev pub EndsBy : AddTextRequest → (gave journal : FileBytes)
-    → (before after : Option (List ℕ)) → Result Status Stop → Type 0
+    → (before after : Option Bytes) → Result Status Stop → Type 0
 EndsBy request gave journal before after (Ok status) =
     (status ≡ Done) × ((added : AddedText) × IsPrinted request gave journal before after added)
 EndsBy request gave journal before after (Err (NotWritten path)) =
@@ -59,6 +60,6 @@ EndsBy request gave journal before after (Err stop) =
     (after ≡ before) × IsAddingText request gave journal (Err stop)
 
 -- how a run ends: nothing is known of what the files gave
-abbrev pub Ends : AddTextRequest → (before after : Option (List ℕ)) → Result Status Stop → Type 0
+abbrev pub Ends : AddTextRequest → (before after : Option Bytes) → Result Status Stop → Type 0
 Ends request before after result =
     (gave : FileBytes) × (journal : FileBytes) × EndsBy request gave journal before after result

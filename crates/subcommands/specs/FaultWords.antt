@@ -1,5 +1,6 @@
 -- The words by which a line names a fault: its name, and its value in parentheses.
-use Rattle.std.specs.Prelude.{List, ℕ, ◌++◌, codes, decimal}
+use Rattle.std.specs.Prelude.{◌++◌, codes, decimal}
+use Rattle.nix_names.specs.Bytes.{Bytes, Name}
 use Rattle.nix_names.specs.declared.fault.NameFault.{NameFault}
 use Rattle.nix_names.specs.declared.fault.NameFault.TheVariants as name
 use Rattle.nix_drv.specs.Strings.{string_text}
@@ -10,12 +11,12 @@ use Rattle.store_run.specs.declared.fault.RunFault.TheVariants as run
 use Rattle.valid_table.specs.declared.fault.TableFault.{TableFault}
 use Rattle.valid_table.specs.declared.fault.TableFault.TheVariants as table
 
--- a fault's name and its value
-abbrev pub with_value : (name value : List ℕ) → List ℕ
+-- the words of a fault with one value
+abbrev pub with_value : (name : Name) → (value : Bytes) → Bytes
 with_value name value = name ++ codes "(" ++ value ++ codes ")"
 
--- the words of a fault on names; places are counted from 0
-abbrev pub name_fault_words : NameFault → List ℕ
+-- the words of a fault of a name; places are counted from 0
+abbrev pub name_fault_words : NameFault → Bytes
 name_fault_words name.BadLength = codes "BadLength"
 name_fault_words (name.BadChar place) = with_value (codes "BadChar") (decimal place)
 name_fault_words name.Overflow = codes "Overflow"
@@ -25,8 +26,8 @@ name_fault_words name.BadName = codes "BadName"
 name_fault_words name.BadStoreDir = codes "BadStoreDir"
 name_fault_words name.NoMemory = codes "NoMemory"
 
--- the words of a fault on derivations; a text is spelled as in a derivation's own text
-abbrev pub drv_fault_words : DrvFault → List ℕ
+-- the words of a fault of a derivation; a text is spelled as in a derivation's own text
+abbrev pub drv_fault_words : DrvFault → Bytes
 drv_fault_words drv.NoMemory = codes "NoMemory"
 drv_fault_words (drv.Syntax place) = with_value (codes "Syntax") (decimal place)
 drv_fault_words (drv.Order place) = with_value (codes "Order") (decimal place)
@@ -36,8 +37,8 @@ drv_fault_words drv.NotADrvName = codes "NotADrvName"
 drv_fault_words drv.NotSorted = codes "NotSorted"
 drv_fault_words (drv.BadReference text) = with_value (codes "BadReference") (string_text text.items)
 
--- the words of a fault on journals; lines are counted from 1
-abbrev pub table_fault_words : TableFault → List ℕ
+-- the words of a fault of a journal; lines are counted from 1
+abbrev pub table_fault_words : TableFault → Bytes
 table_fault_words table.NoMemory = codes "NoMemory"
 table_fault_words (table.BadLine line) = with_value (codes "BadLine") (decimal line)
 table_fault_words (table.NotClosed line) = with_value (codes "NotClosed") (decimal line)
@@ -48,8 +49,8 @@ table_fault_words table.TooLong = codes "TooLong"
 table_fault_words (table.Unclosed path) = with_value (codes "Unclosed") path
 table_fault_words (table.AlreadyValid path) = with_value (codes "AlreadyValid") path
 
--- the words of a fault on workers
-abbrev pub run_fault_words : RunFault → List ℕ
+-- the words of a fault of a run
+abbrev pub run_fault_words : RunFault → Bytes
 run_fault_words run.NoWorkers = codes "NoWorkers"
 run_fault_words run.NoView = codes "NoView"
 run_fault_words run.ThreadFault = codes "ThreadFault"

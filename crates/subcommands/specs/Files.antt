@@ -1,4 +1,4 @@
--- What is answered of a file by what the system answers.
+-- What the program makes of the system's answers on a file.
 use Rattle.std.specs.Prelude.{◌≡◌, ℕ, [], Option, Some, None, Result, Ok, Err, IsOkAnd}
 use Rattle.std.specs.Fs.{IsFile, IsSymlink, file_type, metadata_mode, permissions_mode}
 use Rattle.std.specs.Global.{Vec}
@@ -12,25 +12,24 @@ use Rattle.process_build.specs.declared.failures.Failure.TheVariants as failure
 use Rattle.subcommands.specs.declared.files.FileFault.{FileFault}
 use Rattle.subcommands.specs.declared.files.FileFault.TheVariants.{NoMemory, Unreadable}
 
--- why a file gives no bytes, where this happened: all but want of memory is one fault
+-- why a file gives no bytes, by this failure: all failures but want of memory are one fault
 abbrev pub file_fault_of : Failure → FileFault
 file_fault_of failure.NoMemory = NoMemory
 file_fault_of failure = Unreadable
 
--- what is answered where this lies at the path of a file that may only be a regular one
+-- whether what lies at a path is a regular file, which alone is accepted
 abbrev pub IsRegular : FileType → Result (Unit {0}) Failure → Type 0
 IsRegular found (Ok done) = IsFile found
 IsRegular found (Err fault) = (fault ≡ failure.Other) × ¬ (IsFile found)
 
--- What is answered for the bytes of the journal file, by what reading it gave: none where it is not
--- found, and there alone.
+-- The bytes of the journal file, by what reading it gave. A file that isn't found has no bytes.
 abbrev pub IsJournalGiven : Result (Vec ℕ) Failure → Result (Vec ℕ) FileFault → Type 0
 IsJournalGiven (Ok bytes) answer = answer ≡ Ok bytes
 IsJournalGiven (Err failure.NotFound) answer = IsOkAnd answer (λ bytes. bytes.items ≡ [])
 IsJournalGiven (Err fault) answer = answer ≡ Err (file_fault_of fault)
 
--- What is answered where this lies in the place of a file that is to be written: the permissions of
--- a regular file, none for a link; all else can't be written over.
+-- What lies in the place of a file that will be written: a regular file, with its permissions, or a
+-- link, without any. Nothing else can be written over.
 abbrev pub IsPlaceOf : Metadata → Result (Option Permissions) Failure → Type 0
 IsPlaceOf found (Ok (Some mode)) =
     IsFile (file_type found) × (permissions_mode mode ≡ metadata_mode found)
@@ -38,8 +37,8 @@ IsPlaceOf found (Ok None) = IsSymlink (file_type found)
 IsPlaceOf found (Err fault) =
     (fault ≡ failure.Other) × ¬ (IsFile (file_type found)) × ¬ (IsSymlink (file_type found))
 
--- What is answered where asking for what lies there gave an error: that the place is free, exactly
--- where nothing is found.
+-- What lies there by an error of the system: nothing, exactly where the error is that nothing is
+-- found. Every other error is a failure.
 abbrev pub IsNoPlace : Error → Result (Option Permissions) Failure → Type 0
 IsNoPlace error (Ok (Some mode)) = ⊥
 IsNoPlace error (Ok None) = IsNotFound error

@@ -1,5 +1,6 @@
--- How a run of the program ends, by its words: what the two streams got, and the status.
-use Rattle.std.specs.Prelude.{◌≡◌, ◌⊎◌, ℕ, List, [], Option, Result, Ok, Err, map}
+-- How a run of the program ends, by the words of its command line: what was printed, and the
+-- status.
+use Rattle.std.specs.Prelude.{◌≡◌, ◌⊎◌, List, [], Option, Result, Ok, Err, map}
 use Rattle.std.specs.Io.KnownBytes.{Appends}
 use Rattle.clap.specs.Faults.{fault_of}
 use Rattle.clap.specs.Kinds.{IsAmong, Kinds}
@@ -7,6 +8,7 @@ use Rattle.clap.specs.declared.error.kind.ErrorKind.{ErrorKind}
 use Rattle.clap.specs.declared.error.kind.ErrorKind.TheVariants.{DisplayHelp, DisplayVersion}
 use Rattle.clap.specs.declared.error.kind.ErrorKind.TheVariants.{MissingSubcommand, OutOfMemory}
 use Rattle.clap.specs.declared.error.kind.ErrorKind.TheVariants.{ValueValidation}
+use Rattle.nix_names.specs.Bytes.{Bytes}
 use Rattle.subcommands.specs.CheckLines.{IsReport}
 use Rattle.subcommands.specs.CommandLine.{command_line}
 use Rattle.subcommands.specs.DrvEndings.{DrvEnds}
@@ -25,19 +27,19 @@ use Rattle.subcommands.specs.declared.status.Status.TheVariants.{Done, Refused, 
 use Rattle.subcommands.specs.declared.stop.Stop.{Stop}
 use Rattle.subcommands.specs.declared.stop.Stop.TheVariants.{Unwritable}
 
--- what standard output, or standard error, held before, and holds then
+-- what standard output, or standard error, held before the run, and holds after it
 abbrev pub Stream : Type 0
-Stream = Option (List ℕ) × Option (List ℕ)
+Stream = Option Bytes × Option Bytes
 
 -- nothing was written
 abbrev pub IsUntouched : Stream → Type 0
 IsUntouched stream = stream.1 ≡ stream.0
 
--- How `check` ends: with its lines, or with what stops it and nothing printed, but where standard
--- output refuses them.
+-- How `check` ends: with its lines; or with the reason why there are none, and nothing printed,
+-- unless standard output refused the lines.
 abbrev pub CheckEnds : CheckRequest → Stream → Result Status Stop → Type 0
 CheckEnds request out (Ok status) =
-    (text : List ℕ)
+    (text : Bytes)
     × IsReport (λ _ answer. may_give answer) request.store_dir.now
     (map (λ w. w.now) request.drvs.items) text status
     × Appends out.0 out.1 text
@@ -52,7 +54,8 @@ SubcommandEnds may (AddDrv request) out outcome = DrvEnds request out.0 out.1 ou
 SubcommandEnds may (Plan request) out outcome = PlanEnds request out.0 out.1 outcome
 SubcommandEnds may (Realise request) out outcome = RealiseEnds may request out.0 out.1 outcome
 
--- What is told of such an end: its own status and nothing else, or why it stopped.
+-- What standard error gets: nothing where the subcommand ended well, else the line of what stopped
+-- it.
 abbrev pub IsToldEnd : Result Status Stop → Stream → Status → Type 0
 IsToldEnd (Ok done) err status = (status ≡ done) × IsUntouched err
 IsToldEnd (Err stop) err status = IsTold err.0 err.1 stop status
@@ -63,30 +66,31 @@ RequestEnds may request out err status =
     (outcome : Result Status Stop) × SubcommandEnds may request out outcome
     × IsToldEnd outcome err status
 
--- the faults that `clap` finds in the words, help and the version among them
-unfoldable pub faults_in : (words : List (List ℕ)) → Kinds
+-- the faults that `clap` finds in the words; a call for help or the version is among them
+unfoldable pub faults_in : (words : List Bytes) → Kinds
 faults_in words = fault_of command_line words
 
 -- The words ask for this, and have no fault.
-abbrev pub IsAsked : (words : List (List ℕ)) → Request → Type 0
+abbrev pub IsAsked : (words : List Bytes) → Request → Type 0
 IsAsked words request = IsRequest words request × (faults_in words ≡ [])
 
--- A fault of the program's own: it has no memory, or misses a subcommand or a number of builders.
+-- A fault that the program finds itself: memory is refused, the subcommand is missing, or the
+-- number of builders is invalid.
 abbrev pub IsOwnFault : ErrorKind → Type 0
 IsOwnFault kind = (kind ≡ OutOfMemory) ⊎ ((kind ≡ MissingSubcommand) ⊎ (kind ≡ ValueValidation))
 
 -- Why the words are not taken.
-abbrev pub IsUsageFault : (words : List (List ℕ)) → ErrorKind → Type 0
+abbrev pub IsUsageFault : (words : List Bytes) → ErrorKind → Type 0
 IsUsageFault words kind = IsOwnFault kind ⊎ IsAmong kind (faults_in words)
 
--- How a run ends that shows the help or the version: they are printed, or standard output refuses
--- them.
+-- How a run ends that shows the help or the version: the text is printed, or standard output
+-- refuses it.
 abbrev pub ShownEnds : (err : Stream) → Status → Type 0
 ShownEnds err status =
     ((status ≡ Done) × IsUntouched err) ⊎ IsTold err.0 err.1 Unwritable status
 
--- How a run ends whose words are not taken. A mistake in them goes to standard error alone; the run
--- is cut short for want of memory, or where that is refused.
+-- How a run ends whose words are not taken. A mistake in them is printed on standard error alone.
+-- The run is cut short for want of memory, or where standard error refuses the text.
 abbrev pub UsageEnds : ErrorKind → (out err : Stream) → Status → Type 0
 UsageEnds DisplayHelp out err status = ShownEnds err status
 UsageEnds DisplayVersion out err status = ShownEnds err status
@@ -95,7 +99,7 @@ UsageEnds kind out err status =
     IsUntouched out × ((status ≡ Refused) ⊎ (status ≡ CutShort))
 
 -- How a run ends: by what the words ask for, or by what is wrong with them.
-abbrev pub ProgramEnds : May → (words : List (List ℕ)) → (out err : Stream) → Status → Type 0
+abbrev pub ProgramEnds : May → (words : List Bytes) → (out err : Stream) → Status → Type 0
 ProgramEnds may words out err status =
     ((request : Request) × IsAsked words request × RequestEnds may request out err status)
     ⊎ ((kind : ErrorKind) × IsUsageFault words kind × UsageEnds kind out err status)

@@ -1,7 +1,8 @@
--- How a run of `realise` ends: its status, and what standard output got.
-use Rattle.std.specs.Prelude.{◌≡◌, ◌⊎◌, ℕ, List, Option, Result, Ok, Err, if◌then◌else◌}
+-- How a run of `realise` ends: its status, and what was printed.
+use Rattle.std.specs.Prelude.{◌≡◌, ◌⊎◌, Option, Result, Ok, Err, if◌then◌else◌}
 use Rattle.std.specs.Io.KnownBytes.{Appends}
 use Rattle.std.specs.List.{list_all}
+use Rattle.nix_names.specs.Bytes.{Bytes}
 use Rattle.sched_core.specs.Books.{Ledger}
 use Rattle.sched_core.specs.Reports.{IsReportIn}
 use Rattle.sched_core.specs.Runs.{History, Run as RunOver, state_in}
@@ -22,7 +23,7 @@ use Rattle.subcommands.specs.declared.stop.Stop.TheVariants.{JournalNotWritten, 
 use Rattle.subcommands.specs.declared.stop.Stop.TheVariants.{Unwritable}
 use Rattle.subcommands.specs.declared.task.Task.{Task}
 
--- the status: all is done where each root was built or reused
+-- the status: `Done` where each root was built or reused
 abbrev pub roots_status : RunOver → History → Status
 roots_status run history =
     if list_all (λ d. is_good (state_in run history d)) run.graph.roots
@@ -42,20 +43,20 @@ abbrev pub IsFallingShort : May → RealiseRequest → Task → RunFault → Typ
 IsFallingShort may request task fault = (book : Option Ledger)
     × IsRunFault may task.plan request.run.system.now task.journal.entries request.jobs fault book
 
--- How a run ends with a settled book: standard output gets its report, and nothing where the
--- journal cannot be written.
-abbrev pub BookEnds : Ledger → (before after : Option (List ℕ)) → Result Status Stop → Type 0
+-- How a run ends with a settled book: its report is printed, or nothing where the journal can't be
+-- written or memory is refused.
+abbrev pub BookEnds : Ledger → (before after : Option Bytes) → Result Status Stop → Type 0
 BookEnds book before after (Ok status) =
-    ((text : List ℕ) × IsReportIn book.run book.history text × Appends before after text)
+    ((text : Bytes) × IsReportIn book.run book.history text × Appends before after text)
     × (status ≡ roots_status book.run book.history)
 BookEnds book before after (Err JournalNotWritten) = after ≡ before
 BookEnds book before after (Err NoMemory) = after ≡ before
 BookEnds book before after (Err Unwritable) = Unit {0}
 BookEnds book before after (Err stop) = ⊥
 
--- How a run ends over a plan and a journal: with a settled book, or with the workers' fault and
--- nothing printed.
-abbrev pub RunEnds : May → RealiseRequest → Task → (before after : Option (List ℕ))
+-- How a run ends over a plan and a journal: with a settled book; or with the fault of the workers,
+-- and nothing printed.
+abbrev pub RunEnds : May → RealiseRequest → Task → (before after : Option Bytes)
     → Result Status Stop → Type 0
 RunEnds may request task before after result =
     ((book : Ledger) × IsSettledBook may request task book × BookEnds book before after result)
@@ -63,10 +64,9 @@ RunEnds may request task before after result =
     × IsFallingShort may request task fault)
 
 -- How a run ends, by what the journal file gave. Nothing is printed where the request is refused,
--- where it is found out that the journal can't be written, or where there is no memory for that or
--- for the builders.
+-- where the journal can't be written, or where memory is refused before the workers start.
 abbrev pub RealiseEndsBy : May → RealiseRequest → (gave : FileBytes)
-    → (before after : Option (List ℕ)) → Result Status Stop → Type 0
+    → (before after : Option Bytes) → Result Status Stop → Type 0
 RealiseEndsBy may request gave before after result =
     ((stop : Stop) × (result ≡ Err stop) × (after ≡ before)
     × IsTaking (λ _ answer. may_give answer) request.run gave (Err stop))
@@ -75,7 +75,7 @@ RealiseEndsBy may request gave before after result =
     ⊎ (((result ≡ Err JournalNotWritten) ⊎ (result ≡ Err NoMemory)) × (after ≡ before))))
 
 -- how a run ends: nothing is known of what the journal file gave
-abbrev pub RealiseEnds : May → RealiseRequest → (before after : Option (List ℕ))
+abbrev pub RealiseEnds : May → RealiseRequest → (before after : Option Bytes)
     → Result Status Stop → Type 0
 RealiseEnds may request before after result =
     (gave : FileBytes) × RealiseEndsBy may request gave before after result

@@ -1,9 +1,10 @@
--- What a command line asks for: the subcommand that `clap` meets, and its words and options, with
--- the defaults where none stand (the documentation of clap 4, `ArgMatches`).
+-- What a command line asks for: the subcommand that `clap` finds, and its words and options, with
+-- the default values of options that aren't given (the documentation of clap 4, `ArgMatches`).
 use Rattle.std.specs.Prelude.{◌≡◌, Bool, false, ℕ, List, [], Option, Some, None, codes, map, option_map}
 use Rattle.std.specs.Prelude.{unwrap_or}
 use Rattle.std.specs.Str.Parse.{IsNumeral, digits_value, without_leading_plus}
 use Rattle.clap.specs.Words.{Row, all_of, first_of, one_of, subcommand_of}
+use Rattle.nix_names.specs.Bytes.{Bytes, Dir, Name}
 use Rattle.nix_names.specs.Names.{same_bytes}
 use Rattle.subcommands.specs.CommandLine.{command_line}
 use Rattle.subcommands.specs.declared.options.AddDrvRequest.{AddDrvRequest}
@@ -16,24 +17,24 @@ use Rattle.subcommands.specs.declared.options.Request.{Request}
 use Rattle.subcommands.specs.declared.options.Request.TheVariants.{Check, AddText, AddDrv, Plan}
 use Rattle.subcommands.specs.declared.options.Request.TheVariants.{Realise}
 
--- the store folder among what was found
-abbrev pub store_dir_in : List Row → List ℕ
+-- the store folder among the words and options that were found
+abbrev pub store_dir_in : List Row → Dir
 store_dir_in rows = unwrap_or (first_of (codes "store-dir") rows) (codes "/nix/store")
 
--- the system
-abbrev pub system_in : List Row → List ℕ
+-- the system among them
+abbrev pub system_in : List Row → Bytes
 system_in rows = unwrap_or (first_of (codes "system") rows) (codes "x86_64-linux")
 
 -- the word with this name
-abbrev pub word_in : (name : List ℕ) → List Row → List ℕ
+abbrev pub word_in : (name : Name) → List Row → Bytes
 word_in name rows = unwrap_or (first_of name rows) []
 
 -- the words DRV, in their order
-abbrev pub drvs_in : List Row → List (List ℕ)
+abbrev pub drvs_in : List Row → List Bytes
 drvs_in rows = unwrap_or (all_of (codes "DRV") rows) []
 
--- whether this is what a flag that was given has for a value
-abbrev pub is_yes : Option (List ℕ) → Bool
+-- whether a flag was given, by its value
+abbrev pub is_yes : Option Bytes → Bool
 is_yes (Some text) = same_bytes text (codes "true")
 is_yes None = false
 
@@ -42,10 +43,10 @@ abbrev pub dot_in : List Row → Bool
 dot_in rows = is_yes (first_of (codes "dot") rows)
 
 -- the text is this number in decimal
-abbrev pub IsNumber : Option (List ℕ) → ℕ → Type 0
+abbrev pub IsNumber : Option Bytes → ℕ → Type 0
 IsNumber None number = ⊥
 IsNumber (Some text) number =
-    let digits : List ℕ = without_leading_plus text in
+    let digits : Bytes = without_leading_plus text in
     IsNumeral 10 digits × (number ≡ digits_value 10 digits)
 
 -- what is asked of `check`
@@ -84,19 +85,19 @@ pub record IsRealise (rows : List Row) (request : RealiseRequest) : Type 0 where
   pub run : IsRun rows request.run
   pub jobs : IsNumber (one_of (codes "jobs") rows) request.jobs
 
--- what is asked by a subcommand with this name, with what was found behind it
-abbrev pub IsAskedBy : (name : List ℕ) → List Row → Request → Type 0
+-- what is asked by a subcommand with this name and these words and options
+abbrev pub IsAskedBy : (name : Name) → List Row → Request → Type 0
 IsAskedBy name rows (Check request) = (name ≡ codes "check") × IsCheck rows request
 IsAskedBy name rows (AddText request) = (name ≡ codes "add-text") × IsAddText rows request
 IsAskedBy name rows (AddDrv request) = (name ≡ codes "add-drv") × IsAddDrv rows request
 IsAskedBy name rows (Plan request) = (name ≡ codes "plan") × IsPlanned rows request
 IsAskedBy name rows (Realise request) = (name ≡ codes "realise") × IsRealise rows request
 
--- the same of the subcommand that was met, if there is one
-abbrev pub IsAskedIn : Option (List ℕ × List Row) → Request → Type 0
+-- what is asked by the subcommand that was found, if there is one
+abbrev pub IsAskedIn : Option (Name × List Row) → Request → Type 0
 IsAskedIn None request = ⊥
 IsAskedIn (Some (name, rows)) request = IsAskedBy name rows request
 
 -- what is asked by the words of a command line, whose first one is the program's own name
-abbrev pub IsRequest : List (List ℕ) → Request → Type 0
+abbrev pub IsRequest : (words : List Bytes) → Request → Type 0
 IsRequest words request = IsAskedIn (subcommand_of command_line words) request

@@ -4,7 +4,7 @@ use Rattle.subcommands.specs.declared.status.Status.{Status}
 use Rattle.subcommands.specs.declared.status.Status.TheVariants.{Done, Unrealised, Refused}
 use Rattle.subcommands.specs.declared.status.Status.TheVariants.{CutShort}
 
--- the number by which the process tells how its run ended
+-- the process's exit status for a run's status
 abbrev pub code_of : Status → ℕ
 code_of Done = 0
 code_of Unrealised = 1

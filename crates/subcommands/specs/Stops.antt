@@ -1,6 +1,7 @@
 -- What ends a run: its line, the number of the fault, and the status of the run.
-use Rattle.std.specs.Prelude.{◌≡◌, ◌⊎◌, ℕ, List, [], ◌∷◌, ◌++◌, Option, codes}
+use Rattle.std.specs.Prelude.{◌≡◌, ◌⊎◌, ℕ, [], ◌∷◌, ◌++◌, Option, codes}
 use Rattle.std.specs.Io.KnownBytes.{Appends}
+use Rattle.nix_names.specs.Bytes.{Bytes}
 use Rattle.drv_graph.specs.Faults.{node_number_of}
 use Rattle.nix_names.specs.Faults.{number_of as name_number_of}
 use Rattle.nix_names.specs.Names.{IsStoreDir}
@@ -20,12 +21,12 @@ use Rattle.subcommands.specs.declared.stop.Stop.TheVariants.{NotWritten, Journal
 use Rattle.subcommands.specs.declared.stop.Stop.TheVariants.{NoPath, Run}
 use Rattle.subcommands.specs.declared.stop.Stop.TheVariants.{NoMemory, Unwritable}
 
--- what ends a run on whose journal this fault is answered
+-- what ends a run for this fault of its journal
 abbrev pub stop_of : TableFault → Stop
 stop_of table.NoMemory = NoMemory
 stop_of fault = BadJournal fault
 
--- the number in the table of faults
+-- the fault's number in the table of faults
 abbrev pub number_of : Stop → ℕ
 number_of (BadName name) = 6
 number_of (BadStoreDir dir) = 7
@@ -42,8 +43,8 @@ number_of (NotWritten path) = 74
 number_of JournalNotWritten = 74
 number_of Unwritable = 74
 
--- what the fault is found in: a word as it was given, a path, the journal or the run
-abbrev pub blamed_of : Stop → List ℕ
+-- what the line blames: a word as it was given, a path, the journal or the run
+abbrev pub blamed_of : Stop → Bytes
 blamed_of (BadStoreDir dir) = dir.now
 blamed_of (Unreadable file) = file.now
 blamed_of (TooLong file) = file.now
@@ -60,7 +61,7 @@ blamed_of NoMemory = codes "run"
 blamed_of Unwritable = codes "run"
 
 -- the fault's name and its value
-abbrev pub stop_fault_words : Stop → List ℕ
+abbrev pub stop_fault_words : Stop → Bytes
 stop_fault_words (BadStoreDir dir) = codes "BadStoreDir"
 stop_fault_words (Unreadable file) = codes "Unreadable"
 stop_fault_words (TooLong file) = codes "TooLong"
@@ -76,13 +77,13 @@ stop_fault_words (Run fault) = run_fault_words fault
 stop_fault_words NoMemory = codes "NoMemory"
 stop_fault_words Unwritable = codes "Unwritable"
 
--- the line on standard error
-abbrev pub stop_line : Stop → List ℕ
+-- the line of the fault on standard error
+abbrev pub stop_line : Stop → Bytes
 stop_line stop =
     codes "nix_realise: " ++ blamed_of stop ++ codes ": " ++ stop_fault_words stop ++ 10 ∷ []
 
--- the status: one for what was given and is refused, and one for a journal that can't be read,
--- workers that end too early, want of memory and a refused write
+-- the status of the run: `Refused` for a word, a file or a journal that is refused; `CutShort` for
+-- a journal that can't be read, workers that end too early, want of memory and a refused write
 abbrev pub status_of : Stop → Status
 status_of (BadStoreDir dir) = Refused
 status_of (Unreadable file) = Refused
@@ -101,13 +102,13 @@ status_of Unwritable = CutShort
 
 -- A run ends with the line and the status of what ends it, or is cut short where the line could not
 -- be made or written.
-abbrev pub IsTold : (before after : Option (List ℕ)) → Stop → Status → Type 0
+abbrev pub IsTold : (before after : Option Bytes) → Stop → Status → Type 0
 IsTold before after stop status =
     ((status ≡ status_of stop) × Appends before after (stop_line stop)) ⊎ (status ≡ CutShort)
 
--- what `check` ends with in place of its report: a folder that is none, want of memory, or a folder
--- and a refused write
-abbrev pub IsStopOf : List ℕ → Stop → Type 0
+-- why `check` prints no report: the given word is no store folder; or memory is refused; or it is a
+-- store folder, and a write is refused
+abbrev pub IsStopOf : (given : Bytes) → Stop → Type 0
 IsStopOf given (BadStoreDir dir) = (dir.now ≡ given) × ¬ (IsStoreDir given)
 IsStopOf given NoMemory = Unit {0}
 IsStopOf given Unwritable = IsStoreDir given

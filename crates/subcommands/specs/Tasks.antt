@@ -1,8 +1,9 @@
--- What `plan` and `realise` make of a request and of what its files gave: a plan and a journal, or
--- the first of its faults.
-use Rattle.std.specs.Prelude.{◌≡◌, ◌⊎◌, ℕ, List, All, Some, None, Result, Ok, Err, map}
+-- What `plan` and `realise` take from a request and its files: a plan and a journal, or the first
+-- fault.
+use Rattle.std.specs.Prelude.{◌≡◌, ◌⊎◌, List, All, Some, None, Result, Ok, Err, map}
 use Rattle.std.specs.Borrow.{Bor}
 use Rattle.std.specs.Global.{Vec}
+use Rattle.nix_names.specs.Bytes.{Bytes, Dir, Path}
 use Rattle.nix_names.specs.Firsts.{IsFirst}
 use Rattle.nix_names.specs.Names.{IsStoreDir}
 use Rattle.nix_names.specs.StorePaths.{path_fault}
@@ -19,33 +20,33 @@ use Rattle.subcommands.specs.declared.stop.Stop.TheVariants.{NoMemory}
 use Rattle.subcommands.specs.declared.task.Task.{Task}
 
 -- the words are paths of the folder
-abbrev pub ArePaths : (dir : List ℕ) → (words : List (List ℕ)) → Type 0
+abbrev pub ArePaths : (dir : Dir) → (words : List Bytes) → Type 0
 ArePaths dir words = All (λ word. path_fault dir word ≡ None) words
 
 -- a word is the first that is no path of the folder, and has this fault
-abbrev pub IsFirstStray : (dir : List ℕ) → (words : List (List ℕ)) → (word : List ℕ) → NameFault
+abbrev pub IsFirstStray : (dir : Dir) → (words : List Bytes) → (word : Bytes) → NameFault
     → Type 0
 IsFirstStray dir words word fault =
     IsFirst (λ w. path_fault dir w ≡ None) (λ w. path_fault dir w ≡ Some fault) words word
 
--- What is answered for a word: the path that it spells.
-abbrev pub IsPathOf : (dir : List ℕ) → Bor (List ℕ) → Result (List ℕ) Stop → Type 0
+-- The path that a word spells, or a fault.
+abbrev pub IsPathOf : (dir : Dir) → Bor Bytes → Result Path Stop → Type 0
 IsPathOf dir word (Ok path) = (path ≡ word.now) × (path_fault dir word.now ≡ None)
 IsPathOf dir word (Err (NoPath blamed fault)) =
     (blamed ≡ word) × (path_fault dir word.now ≡ Some fault)
 IsPathOf dir word (Err NoMemory) = Unit {0}
 IsPathOf dir word (Err stop) = ⊥
 
--- What is answered for some words: the paths that they spell.
-abbrev pub ArePathsOf : (dir : List ℕ) → (words : List (List ℕ)) → Result (Vec (List ℕ)) Stop
+-- The paths that some words spell, or a fault.
+abbrev pub ArePathsOf : (dir : Dir) → (words : List Bytes) → Result (Vec Path) Stop
     → Type 0
 ArePathsOf dir words (Ok paths) = (paths.items ≡ words) × ArePaths dir words
 ArePathsOf dir words (Err (NoPath blamed fault)) = IsFirstStray dir words blamed.now fault
 ArePathsOf dir words (Err NoMemory) = Unit {0}
 ArePathsOf dir words (Err stop) = ⊥
 
--- What is answered for some roots: their plan.
-abbrev pub IsPlanOf : (dir : List ℕ) → (gives : List ℕ → Answer → Type 0) → List (List ℕ)
+-- The plan of some roots, or a fault.
+abbrev pub IsPlanOf : (dir : Dir) → (gives : Path → Answer → Type 0) → (roots : List Path)
     → Result Graph Stop → Type 0
 IsPlanOf dir gives roots (Ok plan) = IsPlan dir gives roots plan
 IsPlanOf dir gives roots (Err (BadDrv path fault)) =
@@ -54,23 +55,23 @@ IsPlanOf dir gives roots (Err NoMemory) = Unit {0}
 IsPlanOf dir gives roots (Err stop) = ⊥
 
 -- the words DRV of a request
-abbrev pub words_of : RunRequest → List (List ℕ)
+abbrev pub words_of : RunRequest → List Bytes
 words_of request = map (λ w. w.now) request.drvs.items
 
--- The store folder is one, and the words DRV are paths of it.
+-- The store folder is well-formed, and the words DRV are paths of it.
 abbrev pub HasRoots : RunRequest → Type 0
 HasRoots request =
     IsStoreDir request.store_dir.now × ArePaths request.store_dir.now (words_of request)
 
--- And these derivations have this plan.
-abbrev pub HasPlan : (gives : List ℕ → Answer → Type 0) → RunRequest → Graph → Type 0
+-- And this is the plan of these derivations.
+abbrev pub HasPlan : (gives : Path → Answer → Type 0) → RunRequest → Graph → Type 0
 HasPlan gives request plan =
     HasRoots request × IsPlan request.store_dir.now gives (words_of request) plan
 
--- What is answered in place of a plan. The store folder is tested first, then the words DRV, and each
+-- Why there is no plan. The store folder is tested first, then the words DRV, then the plan. Each
 -- fault comes only where nothing is wrong with what is tested before it, by answers that the source
--- may give; want of memory never stands in the place of a refused folder.
-abbrev pub IsNotPlanned : (gives : List ℕ → Answer → Type 0) → RunRequest → Stop → Type 0
+-- may give. Want of memory is never answered in place of a refused folder.
+abbrev pub IsNotPlanned : (gives : Path → Answer → Type 0) → RunRequest → Stop → Type 0
 IsNotPlanned gives request (BadStoreDir blamed) =
     (blamed ≡ request.store_dir) × ¬ (IsStoreDir request.store_dir.now)
 IsNotPlanned gives request (NoPath blamed fault) =
@@ -82,8 +83,9 @@ IsNotPlanned gives request (BadDrv path fault) =
 IsNotPlanned gives request NoMemory = ¬ (¬ (IsStoreDir request.store_dir.now))
 IsNotPlanned gives request stop = ⊥
 
--- What is answered. Behind the plan comes the journal: its fault comes only where there is a plan.
-abbrev pub IsTaking : (gives : List ℕ → Answer → Type 0) → RunRequest → (gave : FileBytes)
+-- The plan and the journal of a request, or the first fault. A fault of the journal comes only
+-- where there is a plan.
+abbrev pub IsTaking : (gives : Path → Answer → Type 0) → RunRequest → (gave : FileBytes)
     → Result Task Stop → Type 0
 IsTaking gives request gave (Ok task) =
     HasPlan gives request task.plan × IsJournalOf request.store_dir.now gave (Ok task.journal)
