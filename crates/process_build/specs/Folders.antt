@@ -22,7 +22,7 @@ aside_of store_dir number = store_dir ++ codes "/.nix_realise-left-" ++ decimal 
 abbrev pub places_of : Job → (folder : Bytes) → List Bytes
 places_of job folder = map (λ output. output.path) job.outputs.items ++ folder ∷ []
 
--- whether nothing is left at a path, by what its removal gave; want of memory is a failure here too
+-- whether nothing is left at a path, by what its removal gave; want of memory stays a failure
 abbrev pub gone_after : Result (Unit {0}) Failure → Result Bool Failure
 gone_after (Ok done) = Ok true
 gone_after (Err NotFound) = Ok true
