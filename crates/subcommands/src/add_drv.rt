@@ -15,10 +15,10 @@ use crate::store_dir::store_dir;
 use std::io::Write;
 use std::rt::Files;
 
-/// Fills the outputs of a file's draft, writes the derivation at its path, in place of what is
-/// there, and prints the path. The store folder is tested before a file is opened; what is refused
-/// then, and in which order, is `added_drv`'s answer.
-/// Nothing is printed where the draft is refused or its file is not written.
+/// Fills the outputs of a file's draft, writes the derivation at its path, in place of the file
+/// that is there, and prints the path. The store folder is tested before a file is opened. The
+/// faults and their order are those of `added_drv`. Nothing is printed where the draft is refused
+/// or the derivation's file is not written.
 pub fn add_drv<'a, R: Files + AllocGlobal, O: Write>(
     rt: &R,
     request: &AddDrvRequest<'a>,

@@ -18,11 +18,11 @@ use std::io;
 use std::io::Write;
 use std::rt::Files;
 
-/// Prints the path of a file's bytes as a text without references, and then, unless the path is
-/// valid by the journal, writes them there and the journal with one entry more. The store folder is
-/// tested before a file is opened, and both files are read then; what is refused, and in which
-/// order, is `added_text`'s answer. Nothing is printed where the text is refused, and nothing is
-/// written where the path's line is.
+/// Prints the path of a file's bytes as a text without references. Then, unless the path is valid
+/// by the journal, writes the text at its path, and the journal with one more entry. The store
+/// folder is tested before a file is opened; then both files are read. The faults and their order
+/// are those of `added_text`. Nothing is printed where the text is refused, and nothing is written
+/// where standard output refuses the path's line.
 pub fn add_text<'a, R: Files + AllocGlobal, O: Write>(
     rt: &R,
     request: &AddTextRequest<'a>,
@@ -83,7 +83,7 @@ fn write_files<'a, R: Files + AllocGlobal>(
     Ok(())
 }
 
-/// Writes a text at its path, in place of what is there, and hands the path back.
+/// Writes a text at its path, in place of the file that is there, and hands the path back.
 pub fn write_text<'a, R: Files + AllocGlobal>(
     rt: &R,
     path: StorePath,

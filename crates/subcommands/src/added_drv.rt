@@ -1,5 +1,5 @@
-//! What `add-drv` makes of a draft: the filled derivation's path and its text. No file is reached
-//! here but through the source.
+//! The answer of `add-drv`: the filled derivation's path and its text. Files are read through the
+//! source alone.
 ghost use Rattle.std.specs.Prelude.{◌≡◌, IfErr, IfOk};
 ghost use Rattle.nix_drv.specs.Derivation.{IsDrvText};
 ghost use Rattle.subcommands.specs.AddedDrv.{IsAddingDrv, IsDraftOf, IsDraftRead, IsFillingOf};
@@ -24,13 +24,15 @@ pub struct AddedDrv {
     pub text: Vec<u8>,
 }
 
-/// The derivation of a draft under the request's folder and name, its outputs filled; the source
-/// gives the derivations that it reaches. `draft` is what the draft's file gave. In this order:
-/// `BadStoreDir`, `Unreadable`, `BadDraft` with the fault of the draft's text, then those of
-/// `fill_outputs`: `BadName` for its `Name`, `BadDraft` for a fault of the draft, `BadDrv` for one
-/// of a derivation that it reaches. `NoMemory` may come in the place of all but the first.
+/// The derivation of a draft, with its outputs filled, under the request's folder and name. The
+/// source gives the derivations that the draft reaches; `draft` is what the draft's file gave.
 ///
-/// The draft is read once, and its filled text written twice.
+/// The faults, in this order: `BadStoreDir`; `Unreadable`; `BadDraft` with the fault of the draft's
+/// text; then those of `fill_outputs`: `BadName` for its `Name`, `BadDraft` for a fault of the
+/// draft, `BadDrv` for a fault of a derivation that the draft reaches. `NoMemory` may be answered
+/// in place of each but the first.
+///
+/// The draft is read once, and its filled text is written twice.
 pub fn added_drv<'a, S: DrvSource>(
     alloc: Global,
     source: &mut S,
@@ -88,7 +90,7 @@ fn filled<'a, S: DrvSource>(
     }
 }
 
-// What ends a run where filling its draft answers a fault.
+// What ends a run whose draft can't be filled, for this fault.
 fn stop_of<'a>(request: &AddDrvRequest<'a>, fault: GraphFault) -> Stop<'a>
     ensures { result ≡ fill_stop request.now fault }
 {

@@ -1,4 +1,4 @@
-//! What `add-text` makes of a text: its path, and the journal with it. No file is reached here.
+//! The answer of `add-text`: a text's path, and the journal with it. No file is read here.
 ghost use Rattle.std.specs.Prelude.{◌≡◌, [], ℕ, List, IfOk, IfErr, IsTrue, if◌then◌else◌};
 ghost use Rattle.sha2.specs.Sha256.{sha256};
 ghost use Rattle.nix_names.specs.Names.{is_name};
@@ -28,17 +28,17 @@ pub struct AddedText {
     pub journal: Option<Vec<u8>>,
 }
 
-/// The path of a text without references under the request's folder and name, and the journal's
-/// bytes with one entry more, behind all others: the path, with SHA-256 of the text's bytes. Where
-/// the path is valid already there are none.
+/// The path of a text without references, under the request's folder and name, and the journal's
+/// new bytes. The journal gets one more entry, after all others: the path, with the SHA-256 digest
+/// of the text's bytes. Where the path is valid already, there are no new bytes.
 ///
-/// `text` and `journal` are what the text's file and the journal file gave. In this order:
-/// `BadStoreDir`, `Unreadable`, `TooLong` for more than 4,194,304 bytes, `BadName`,
-/// `JournalUnreadable`, `BadJournal` with the fault of `Journal::read`. `NoMemory` may come in the
-/// place of all but the first.
+/// `text` and `journal` are what the text's file and the journal file gave. The faults, in this
+/// order: `BadStoreDir`; `Unreadable`; `TooLong` for more than 4,194,304 bytes; `BadName`;
+/// `JournalUnreadable`; `BadJournal` with the fault of `Journal::read`. `NoMemory` may be answered
+/// in place of each but the first.
 ///
-/// Costs one SHA-256 over the text's bytes, and one reading of the journal, which is written once,
-/// in version 2, where the path is new.
+/// Costs one SHA-256 over the text's bytes and one reading of the journal. Where the path is new,
+/// the journal is written once, in version 2.
 pub fn added_text<'a>(
     alloc: Global,
     request: &AddTextRequest<'a>,
@@ -59,7 +59,7 @@ pub fn added_text<'a>(
     })
 }
 
-// The text's bytes, which are at most as many as a text may have.
+// The text's bytes, if they are not too many.
 fn text_within<'a>(file: &'a str, text: Result<Vec<u8>, FileFault>) -> Result<Vec<u8>, Stop<'a>>
     ensures { IsTextOf file.entry (file_bytes text) result }
 {
@@ -109,8 +109,8 @@ fn renewed_journal<'a>(
     Ok(Some(journal.write(alloc)?))
 }
 
-/// The journal whose text the journal file gave. In this order: `JournalUnreadable`, `BadJournal`
-/// with the fault of `Journal::read`; `NoMemory` may come in the place of each.
+/// The journal whose text the journal file gave. The faults, in this order: `JournalUnreadable`;
+/// `BadJournal` with the fault of `Journal::read`. `NoMemory` may be answered in place of each.
 pub fn journal_of<'a>(
     alloc: Global,
     dir: &StoreDir,
@@ -125,8 +125,8 @@ pub fn journal_of<'a>(
     }
 }
 
-// Registers a text without references under its path, with SHA-256 of its bytes, and says whether
-// it did: a path that is valid stays as it is. `NoMemory` is the only fault, and changes nothing.
+// Registers a text without references under its path, with the SHA-256 digest of its bytes, unless
+// the path is valid. Says whether it did. `NoMemory` is the only fault, and changes nothing.
 fn register_text(
     alloc: Global,
     journal: &mut Journal,

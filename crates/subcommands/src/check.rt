@@ -9,9 +9,9 @@ use nix_drv::{DrvFault, DrvSource};
 use nix_names::StoreDir;
 use std::alloc::Global;
 
-/// One line for each word in the order given, `ok WORD` or `bad WORD: FAULT`, and the status:
-/// `Done` where no line is bad, else `Refused`. `NoMemory` is the only error. Each file is fetched
-/// and passed over once.
+/// One line for each word, in their order, `ok WORD` or `bad WORD: FAULT`, and the status: `Done`
+/// where no line is bad, else `Refused`. `NoMemory` is the only error. Each file is fetched and
+/// read through once.
 pub fn check_lines<S: DrvSource>(
     alloc: Global,
     source: &mut S,

@@ -65,7 +65,7 @@ fn top<'a>(alloc: Global) -> Command<'a>
         .subcommand_required(true)
 }
 
-// A command with the subcommands that add to a store, too.
+// A command with the subcommands that add to a store: `add-text` and `add-drv`.
 fn with_adding<'a>(alloc: Global, command: Command<'a>) -> Result<Command<'a>, AllocError>
     ensures { IfOk result (λ more. app_of more ≡ with_subcommand
         (with_subcommand (app_of command.entry) add_text_line.top) add_drv_line.top) }
@@ -75,7 +75,7 @@ fn with_adding<'a>(alloc: Global, command: Command<'a>) -> Result<Command<'a>, A
         .subcommand(add_drv_command(alloc)?)
 }
 
-// A command with the subcommands that are over a run, too.
+// A command with the subcommands that take a plan and a journal: `plan` and `realise`.
 fn with_running<'a>(alloc: Global, command: Command<'a>) -> Result<Command<'a>, AllocError>
     ensures { IfOk result (λ more. app_of more ≡ with_subcommand
         (with_subcommand (app_of command.entry) plan_line.top) realise_line.top) }
@@ -153,7 +153,7 @@ fn realise_command<'a>(alloc: Global) -> Result<Command<'a>, AllocError>
     .arg(wanted_drvs(alloc))
 }
 
-// A subcommand that is over a run, with the options that each such has.
+// A subcommand that takes a plan and a journal, with the options that both have.
 fn run_command<'a>(alloc: Global, name: &'a str, about: &'a str) -> Result<Command<'a>, AllocError>
     ensures { IfOk result (λ command. app_of command ≡ run_options name.entry.now) }
 {
@@ -204,7 +204,7 @@ fn system<'a>(alloc: Global) -> Arg<'a>
         .default_value(DEFAULT_SYSTEM)
 }
 
-// The option that says how many builders run at a time.
+// The option with the number of builders that run at a time.
 fn jobs<'a>(alloc: Global) -> Arg<'a>
     ensures rule { rule_of result ≡ jobs_option }
     ensures local { result.global ≡ false }
@@ -228,7 +228,7 @@ fn dot<'a>(alloc: Global) -> Arg<'a>
         .action(ArgAction::SetTrue)
 }
 
-// The words that are paths of derivations, one or more.
+// One or more words, each the path of a derivation.
 fn drvs<'a>(alloc: Global, help: &'a str) -> Arg<'a>
     ensures rule { rule_of result ≡ drv_words }
     ensures local { result.global ≡ false }
@@ -239,7 +239,7 @@ fn drvs<'a>(alloc: Global, help: &'a str) -> Arg<'a>
         .action(ArgAction::Append)
 }
 
-// The words that are paths of derivations of which the outputs are wanted.
+// One or more words, each the path of a derivation whose outputs are wanted.
 fn wanted_drvs<'a>(alloc: Global) -> Arg<'a>
     ensures rule { rule_of result ≡ drv_words }
     ensures local { result.global ≡ false }
@@ -247,7 +247,7 @@ fn wanted_drvs<'a>(alloc: Global) -> Arg<'a>
     drvs(alloc, "Paths of derivations whose outputs are wanted")
 }
 
-// A word that has to be given.
+// A required word.
 fn word<'a>(alloc: Global, id: &'a str, help: &'a str) -> Arg<'a>
     ensures rule { rule_of result ≡ required_word id.entry.now }
     ensures local { result.global ≡ false }

@@ -16,7 +16,7 @@ use std::alloc::{AllocError, Global};
 use store_run::RunFault;
 use valid_table::TableFault;
 
-/// Adds the words of a fault on names.
+/// Adds the words of a fault of a name.
 pub fn write_name_fault(fault: NameFault, out: &mut Vec<u8>) -> Result<(), AllocError>
     ensures { OnOk result (out.new.items ≡ out.old.items ++ name_fault_words fault) }
 {
@@ -32,8 +32,8 @@ pub fn write_name_fault(fault: NameFault, out: &mut Vec<u8>) -> Result<(), Alloc
     }
 }
 
-/// Adds the words of a fault on derivations: a place in decimal, a path as it stands, a text as the
-/// derivations' language spells it.
+/// Adds the words of a fault of a derivation: a place in decimal, a path without quotes, a text as
+/// the derivations' language spells it.
 pub fn write_drv_fault(fault: &DrvFault, out: &mut Vec<u8>) -> Result<(), AllocError>
     ensures { OnOk result (out.new.items ≡ out.old.items ++ drv_fault_words fault.now) }
 {
@@ -51,7 +51,7 @@ pub fn write_drv_fault(fault: &DrvFault, out: &mut Vec<u8>) -> Result<(), AllocE
     }
 }
 
-/// Adds the words of a fault on journals: a line's number in decimal, a path as it stands.
+/// Adds the words of a fault of a journal: a line's number in decimal, a path without quotes.
 pub fn write_table_fault(fault: &TableFault, out: &mut Vec<u8>) -> Result<(), AllocError>
     ensures { OnOk result (out.new.items ≡ out.old.items ++ table_fault_words fault.now) }
 {
@@ -68,7 +68,7 @@ pub fn write_table_fault(fault: &TableFault, out: &mut Vec<u8>) -> Result<(), Al
     }
 }
 
-/// Adds the words of a fault on workers.
+/// Adds the words of a fault of a run.
 pub fn write_run_fault(fault: RunFault, out: &mut Vec<u8>) -> Result<(), AllocError>
     ensures { OnOk result (out.new.items ≡ out.old.items ++ run_fault_words fault) }
 {
@@ -123,7 +123,7 @@ fn write_why(stop: &Stop<'_>, out: &mut Vec<u8>) -> Result<(), AllocError>
     out.extend_from_slice(b"\n")
 }
 
-/// Adds a name alone.
+/// Adds a fault's name without a value.
 pub fn write_name(name: &[u8], out: &mut Vec<u8>) -> Result<(), AllocError>
     ensures { OnOk result (out.new.items ≡ out.old.items ++ name.now) }
 {

@@ -1,4 +1,4 @@
-//! Files that are read.
+//! Reading files.
 ghost use Rattle.std.specs.Prelude.{◌≡◌, ◌≤◌, IfErr, IfOk, length};
 ghost use Rattle.std.specs.Fs.{file_type};
 ghost use Rattle.process_build.specs.Errors.{IsFailure, IsNoMemory};
@@ -12,8 +12,8 @@ use std::io::Read;
 use std::rt::Files;
 use std::{fs, io};
 
-/// How many bytes of a text's file are read: one more than a text may have, so that a longer one is
-/// known by their number.
+/// How many bytes of a text's file are read: one more than a text may have, so that a file that is
+/// too long is known by the number of its bytes.
 pub const MAX_READ: u64 = MAX_LEN as u64 + 1;
 
 /// Why a file gave no bytes.
@@ -48,7 +48,7 @@ impl From<Failure> for FileFault {
     }
 }
 
-/// The first bytes of the file at a path, at most so many of them, be it a file of any kind.
+/// The first bytes of the file at a path, which may be of any kind; at most `most` bytes.
 pub fn read_start<R: Files>(
     alloc: Global,
     files: &R,
@@ -62,7 +62,7 @@ pub fn read_start<R: Files>(
     if let Err(error) = file.take(most).read_to_end(&mut bytes) {
         return Err(unread(error));
     }
-    // A reader of bytes that are not known may say more than it was asked for.
+    // Nothing is known of the reader: it may claim to have read more than it was asked for.
     bytes.truncate(most as usize);
     Ok(bytes)
 }
@@ -78,8 +78,8 @@ fn unread(error: io::Error) -> Failure
     }
 }
 
-/// The same of a regular file, which a link may lead to. What is none is never opened: a pipe
-/// would hold the program up.
+/// The first bytes of the regular file at a path, to which a link may lead. No other kind of file
+/// is ever opened: a pipe would hold the program up.
 pub fn read_regular<R: Files>(
     alloc: Global,
     files: &R,
@@ -92,7 +92,7 @@ pub fn read_regular<R: Files>(
     read_start(alloc, files, path, most)
 }
 
-// Whether a regular file lies at a path, by what asking for it gave; a fault where none does.
+// A fault where no regular file lies at a path, by what the system answered for the path.
 fn is_regular(asked: io::Result<Metadata>) -> Result<(), Failure>
     ensures found { IfOk asked (λ found. IsRegular (file_type found) result) }
     ensures fault { IfErr asked (λ error. IfErr result (IsFailure error)) }
@@ -105,7 +105,8 @@ fn is_regular(asked: io::Result<Metadata>) -> Result<(), Failure>
     }
 }
 
-/// The bytes of a text's file of any kind, one more than a text may have at most.
+/// The bytes of a text's file, which may be of any kind; at most one byte more than a text may
+/// have.
 pub fn read_text<R: Files + AllocGlobal>(rt: &R, path: &str) -> Result<Vec<u8>, FileFault>
     ensures { IfOk result (λ bytes. length bytes.items ≤ 4194305) }
 {

@@ -11,8 +11,8 @@ use std::alloc::Global;
 use std::marker::Model;
 use std::rt::Files;
 
-/// The files on disk, each under the text of its path. A contract sees how often one could not be
-/// read.
+/// The files on disk, each under the text of its path. A contract sees how often a file could not
+/// be read.
 #[derive(Drop)]
 pub struct FolderSource<'a, R> {
     files: &'a R,
@@ -42,7 +42,7 @@ impl<'a, R> FolderSource<'a, R> {
         self.failures
     }
 
-    // What a failed read answers, counted where the device is to blame.
+    // The answer of a failed read, which is counted where the device is to blame.
     fn fault_of(&mut self, failure: Failure) -> SourceFault
         ensures missing { (result ≡ SourceFault.Missing) ↔ (failure ≡ Failure.NotFound) }
         ensures memory { (result ≡ SourceFault.NoMemory) ↔ (failure ≡ Failure.NoMemory) }

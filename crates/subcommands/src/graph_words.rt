@@ -1,4 +1,4 @@
-//! The words of faults on derivations that reach others.
+//! The words of faults of derivations in a plan.
 ghost use Rattle.std.specs.Prelude.{◌≡◌, ◌++◌, ◌∷◌, [], OnOk};
 ghost use Rattle.nix_drv.specs.Strings.{string_text};
 ghost use Rattle.subcommands.specs.GraphWords.{node_fault_words, output_fault_words, with_values};
@@ -8,7 +8,7 @@ use drv_graph::{NodeFault, OutputFault};
 use nix_drv::write_string;
 use std::alloc::AllocError;
 
-/// Adds the words of a fault on one derivation.
+/// Adds the words of a fault of one derivation.
 pub fn write_node_fault(fault: &NodeFault, out: &mut Vec<u8>) -> Result<(), AllocError>
     ensures { OnOk result (out.new.items ≡ out.old.items ++ node_fault_words fault.now) }
 {
@@ -22,8 +22,8 @@ pub fn write_node_fault(fault: &NodeFault, out: &mut Vec<u8>) -> Result<(), Allo
     }
 }
 
-// Adds the words of a fault on a derivation's outputs: a path as it stands, an output's name as the
-// derivations' language spells it.
+// Adds the words of a fault of a derivation's outputs: a path without quotes, an output's name as
+// the derivations' language spells it.
 fn write_output_fault(fault: &OutputFault, out: &mut Vec<u8>) -> Result<(), AllocError>
     ensures { OnOk result (out.new.items ≡ out.old.items ++ output_fault_words fault.now) }
 {
@@ -76,7 +76,7 @@ fn write_string_and_path(
     out.extend_from_slice(b")")
 }
 
-// Adds a name and the parenthesis behind it.
+// Adds a name and the opening parenthesis after it.
 fn open(name: &[u8], out: &mut Vec<u8>) -> Result<(), AllocError>
     ensures { OnOk result (out.new.items ≡ out.old.items ++ name.now ++ 40 ∷ []) }
 {

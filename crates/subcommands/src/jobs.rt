@@ -23,7 +23,7 @@ impl Model for Jobs {
 }
 
 impl Jobs {
-    /// So many workers, if they are from 1 to 64.
+    /// The number of workers, if it is from 1 to 64.
     pub fn new(count: u8) -> Option<Jobs>
         ensures { MatchOption result (AreWorkers count → ⊥) (λ jobs. jobs ≡ count) }
     {
@@ -33,7 +33,7 @@ impl Jobs {
         Some(Jobs { count })
     }
 
-    /// How many they are.
+    /// The number itself.
     pub fn count(&self) -> u8
         ensures value { result ≡ self.now }
         ensures workers { AreWorkers result }

@@ -38,7 +38,8 @@ impl JournalFile {
         Ok(JournalFile { path })
     }
 
-    /// The bytes of the file, one more than a journal may have at most; none where it is not found.
+    /// The bytes of the file, at most one byte more than a journal may have; no bytes where it is
+    /// not found.
     pub fn read<R: Files + AllocGlobal>(&self, rt: &R) -> Result<Vec<u8>, FileFault>
         ensures { IfOk result (λ bytes. length bytes.items ≤ 134217729) }
     {
@@ -46,7 +47,7 @@ impl JournalFile {
         given_bytes(alloc, read_regular(alloc, rt, self.path.as_str(), MAX_READ))
     }
 
-    /// Finds out whether the file can be written, and leaves all as it is.
+    /// Tests whether the file can be written, and changes nothing.
     pub fn try_out<'a, R: Files + AllocGlobal>(&self, rt: &R) -> Result<(), Stop<'a>>
         ensures { IfErr result (λ stop. (stop ≡ Stop.NoMemory) ⊎ (stop ≡ Stop.JournalNotWritten)) }
     {
@@ -56,7 +57,7 @@ impl JournalFile {
         }
     }
 
-    /// Puts a file with these bytes in the place of the one that is there, if any.
+    /// Puts a file with these bytes in place of the journal file, if there is one.
     pub fn write<'a, 'b, R: Files + AllocGlobal>(
         &'b self,
         rt: &R,

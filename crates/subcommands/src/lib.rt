@@ -6,21 +6,21 @@
 //! | `command` | the command line that `clap` reads |
 //! | `words` | the words of a command line, read by `clap` |
 //! | `store_dir` | the store folder of a command line |
-//! | `files` | files that are read |
+//! | `files` | reading files |
 //! | `folder` | derivations read from the files of a folder |
 //! | `whole_file` | a file that is written whole or not at all |
 //! | `journal_file` | the journal file: its path, read and written |
 //! | `stop` | why a run ends without its report |
 //! | `status` | the status of a run |
 //! | `fault_words`, `graph_words` | the words of faults |
-//! | `verdict`, `check` | what `check` says of one word; its lines |
-//! | `added_text`, `add_text` | what `add-text` makes of a text; the subcommand |
-//! | `added_drv`, `add_drv` | what `add-drv` makes of a draft; the subcommand |
-//! | `task`, `taken` | what `plan` and `realise` are over: a plan and a journal |
+//! | `verdict`, `check` | the verdict of `check` on one word; its lines |
+//! | `added_text`, `add_text` | the answer of `add-text`; the subcommand |
+//! | `added_drv`, `add_drv` | the answer of `add-drv`; the subcommand |
+//! | `task`, `taken` | what `plan` and `realise` take: a plan and a journal |
 //! | `plan` | the subcommand `plan` |
-//! | `settled` | what a book says at the end of a run |
+//! | `settled` | the status, the journal and the report of a run, by its book |
 //! | `builders`, `realise` | the builders of a run; the subcommand `realise` |
-//! | `printing`, `program` | what is printed; one run of the program |
+//! | `printing`, `program` | printing; one run of the program |
 #![tactic(auto)]
 
 mod add_drv;

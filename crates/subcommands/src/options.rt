@@ -6,13 +6,13 @@ use crate::jobs::Jobs;
 pub enum Request<'a> {
     /// `check`: are these texts store derivations, each under its own path?
     Check(CheckRequest<'a>),
-    /// `add-text`: a file's bytes are put into the store.
+    /// `add-text`: put a file's bytes into the store.
     AddText(AddTextRequest<'a>),
-    /// `add-drv`: a draft is filled and put into the store.
+    /// `add-drv`: fill a draft and put it into the store.
     AddDrv(AddDrvRequest<'a>),
-    /// `plan`: it is foretold what `realise` would report.
+    /// `plan`: forecast the report of `realise`.
     Plan(PlanRequest<'a>),
-    /// `realise`: the outputs of derivations are made valid.
+    /// `realise`: make the outputs of derivations valid.
     Realise(RealiseRequest<'a>),
 }
 
@@ -49,7 +49,7 @@ pub struct AddDrvRequest<'a> {
     pub file: &'a str,
 }
 
-/// What a run is over, by the words of `plan` and of `realise`.
+/// The words that `plan` and `realise` share.
 #[derive(Debug, Drop)]
 pub struct RunRequest<'a> {
     /// The store folder, as it was given.
@@ -66,7 +66,7 @@ pub struct RunRequest<'a> {
 /// The words of `plan`.
 #[derive(Debug, Drop)]
 pub struct PlanRequest<'a> {
-    /// What the run would be over.
+    /// The words of the run that is forecast.
     pub run: RunRequest<'a>,
     /// Whether the forecast is printed as a graph in Graphviz's language.
     pub dot: bool,
@@ -75,7 +75,7 @@ pub struct PlanRequest<'a> {
 /// The words of `realise`.
 #[derive(Debug, Drop)]
 pub struct RealiseRequest<'a> {
-    /// What the run is over.
+    /// The words of the run.
     pub run: RunRequest<'a>,
     /// How many builders run at a time.
     pub jobs: Jobs,

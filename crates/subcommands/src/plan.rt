@@ -16,8 +16,8 @@ use std::io::Write;
 use std::rt::Files;
 
 /// Prints what `realise` would report for the request, if each builder that it starts made its
-/// outputs, as a report or as a graph. The plan is loaded, then the journal is read; what is refused
-/// is told. Nothing is written but to standard output, and nothing is started.
+/// outputs: as a report or as a graph. The plan is loaded, then the journal is read; the first
+/// fault ends the run. Nothing is written but to standard output, and no builder is started.
 pub fn plan<'a, R, O>(rt: &R, request: &PlanRequest<'a>, out: &mut O) -> Result<Status, Stop<'a>>
 where
     R: Files + AllocGlobal,
@@ -64,7 +64,7 @@ fn forecast_of<'a>(
     }
 }
 
-// What is printed of a forecast.
+// The text that is printed for a forecast.
 fn text_of<'a>(forecast: &Forecast, dot: bool) -> Result<Vec<u8>, Stop<'a>>
     ensures ok { IfOk result
         (λ text. IsPrinted dot forecast.now.run forecast.now.entries text.items) }

@@ -1,4 +1,4 @@
-//! Bytes and texts that are printed.
+//! Printing bytes and texts.
 ghost use Rattle.std.specs.Prelude.{◌≡◌, IfSome, OnOk};
 ghost use Rattle.std.specs.Io.KnownBytes.{Appends};
 
@@ -6,7 +6,7 @@ use std::fmt::Display;
 use std::io;
 use std::io::Write;
 
-/// Writes bytes, and hands them on with all that stands before them.
+/// Writes bytes, and flushes them with all that was written before.
 pub fn print_bytes<W: Write>(bytes: &[u8], to: &mut W) -> io::Result<()>
     ensures { OnOk result (Appends (W.contents to.old) (W.contents to.new) bytes.now) }
 {
@@ -14,7 +14,7 @@ pub fn print_bytes<W: Write>(bytes: &[u8], to: &mut W) -> io::Result<()>
     to.flush()
 }
 
-/// Writes a text, and hands it on with all that stands before it.
+/// Writes a text, and flushes it with all that was written before.
 pub fn print_text<D: Display + Drop, W: Write>(text: D, to: &mut W) -> io::Result<()>
     ensures { OnOk result
         (IfSome (D.output text) (Appends (W.contents to.old) (W.contents to.new))) }

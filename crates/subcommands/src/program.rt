@@ -56,7 +56,7 @@ where
     }
 }
 
-// Runs a subcommand, and ends with its status or with the line that tells why it stopped.
+// Runs a subcommand, and ends with its status or with the line of what stopped it.
 fn run_request<R, M, O, E>(
     rt: &R,
     make: &M,
@@ -109,7 +109,7 @@ fn end<E: Write>(alloc: Global, outcome: Result<Status, Stop<'_>>, err: &mut E) 
     }
 }
 
-/// Ends a run on a command line that has a word which is not UTF-8.
+/// Ends a run whose command line has a word that is not UTF-8.
 pub fn refuse_words<O: Write, E: Write>(alloc: Global, out: &mut O, err: &mut E) -> Status
     ensures { UsageEnds ErrorKind.ValueValidation
         (O.contents out.old, O.contents out.new) (E.contents err.old, E.contents err.new) result }
@@ -121,7 +121,7 @@ pub fn refuse_words<O: Write, E: Write>(alloc: Global, out: &mut O, err: &mut E)
 }
 
 /// Ends a run with a line that names the fault, and gives its status. Where there is no memory for
-/// the line, or it is refused, the run is cut short.
+/// the line, or standard error refuses it, the run is cut short.
 pub fn print_stop<E: Write>(alloc: Global, stop: &Stop<'_>, err: &mut E) -> Status
     ensures { IsTold (E.contents err.old) (E.contents err.new) stop.now result }
 {
@@ -134,11 +134,11 @@ pub fn print_stop<E: Write>(alloc: Global, stop: &Stop<'_>, err: &mut E) -> Stat
     }
 }
 
-/// Ends a run for want of memory, and takes none.
+/// Ends a run for want of memory, and needs no memory.
 pub fn print_no_memory<E: Write>(err: &mut E) -> Status
     ensures { result ≡ Status.CutShort }
 {
-    // The status is the same where the line is refused.
+    // The status is the same where standard error refuses the line.
     let _ = print_bytes(NO_MEMORY_LINE, err);
     Status::CutShort
 }

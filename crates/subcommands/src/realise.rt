@@ -23,11 +23,11 @@ use store_run::{Build, RunFault, Watch};
 use valid_table::Outlet;
 use valid_view::{Name, Naming};
 
-/// Builds what is wanted of the request's derivations, writes the journal and prints the report.
-/// The plan is loaded, then the journal is read, and then it is found out whether it can be written;
-/// what is refused is told and nothing is run. Once the workers gave a book the journal is written,
-/// whatever became of them; nothing is printed where they ended before all was settled, or where the
-/// journal is not written.
+/// Builds the wanted derivations of the request, writes the journal and prints the report. The plan
+/// is loaded, then the journal is read, and then it is tested whether the journal can be written;
+/// the first fault ends the run, and nothing is built. Once the workers gave a book, the journal is
+/// written, whether the book is settled or not. Nothing is printed where the book isn't settled, or
+/// where the journal is not written.
 pub fn realise<'a, R, M, O>(
     rt: &R,
     make: &M,
@@ -47,8 +47,8 @@ where
     run_task(rt, request, &file, &task, builders, out)
 }
 
-/// Builds what is wanted of a task, by one worker for each builder, writes the journal and prints
-/// the report.
+/// Builds the wanted derivations of a task, by one worker for each builder, writes the journal and
+/// prints the report.
 pub fn run_task<'a, R, B, O>(
     rt: &R,
     request: &RealiseRequest<'a>,
@@ -109,7 +109,7 @@ fn end<'a, R: Files + AllocGlobal, V: Outlet, O: Write>(
     ended
 }
 
-// Ends a run for a fault of its workers; where they left a book its journal is written.
+// Ends a run for a fault of its workers. Where they left a book, its journal is written.
 fn fall_short<'a, R: Files + AllocGlobal, V: Outlet>(
     rt: &R,
     file: &JournalFile,
@@ -119,7 +119,7 @@ fn fall_short<'a, R: Files + AllocGlobal, V: Outlet>(
     ensures { result ≡ Stop.Run fault }
 {
     if let Some(book) = book {
-        // The first fault is the one that is told.
+        // Only the first fault is reported.
         let _ = write_book(rt, file, &book);
         book.close();
     }
@@ -145,7 +145,7 @@ fn tell<'a, R: Files + AllocGlobal, V: Outlet, O: Write>(
     }
 }
 
-// Puts the journal of a book in the place of the one that is there.
+// Puts the journal of a book in place of the journal file.
 fn write_book<'a, R: Files + AllocGlobal, V: Outlet>(
     rt: &R,
     file: &JournalFile,

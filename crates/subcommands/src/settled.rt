@@ -1,4 +1,4 @@
-//! What the book of a run says at its end: the status, the journal's bytes and the report.
+//! The status, the journal's bytes and the report at the end of a run, by its book.
 ghost use Rattle.std.specs.Prelude.{◌≡◌, IfErr, IfOk};
 ghost use Rattle.valid_table.specs.Written.{written_text};
 ghost use Rattle.sched_core.specs.Books.{IsRunSettled};

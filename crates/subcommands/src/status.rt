@@ -2,16 +2,16 @@
 ghost use Rattle.std.specs.Prelude.{◌≡◌};
 ghost use Rattle.subcommands.specs.Statuses.{code_of};
 
-/// How a run ended, for whoever started the program.
+/// How a run ended, as its exit status tells.
 #[derive(Clone, Copy, Debug, PartialEq, Eq)]
 pub enum Status {
-    /// All that was asked for was done.
+    /// The whole request was done.
     Done,
     /// A root of `realise` failed or was refused.
     Unrealised,
-    /// What was given is refused, or a word of `check` is bad.
+    /// A word, a file or the journal is refused, or a line of `check` is bad.
     Refused,
-    /// Memory was wanting, the journal could not be read, the workers ended too early, or a write
+    /// Memory was refused, the journal could not be read, the workers ended too early, or a write
     /// was refused.
     CutShort,
 }

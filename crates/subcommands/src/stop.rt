@@ -12,7 +12,7 @@ use valid_table::TableFault;
 /// Why a run ends without its report.
 #[derive(Drop)]
 pub enum Stop<'a> {
-    /// This text, given as the store folder, is none.
+    /// This text, given as the store folder, is not well-formed.
     BadStoreDir(&'a str),
     /// The file with this path, as it was given, cannot be read.
     Unreadable(&'a str),
@@ -20,7 +20,7 @@ pub enum Stop<'a> {
     TooLong(&'a str),
     /// The file with this path, as it was given, is no draft that can be filled.
     BadDraft(&'a str, NodeFault),
-    /// This text, given as a name, is none.
+    /// This text, given as a name, is not well-formed.
     BadName(&'a str),
     /// This text, given as the path of a derivation, is no path of the store folder.
     NoPath(&'a str, NameFault),
@@ -61,7 +61,8 @@ impl Stop<'_> {
         }
     }
 
-    /// The status of the run: `Refused` where the input is, else `CutShort`.
+    /// The status of the run: `Refused` where a word, a file or the journal is refused, else
+    /// `CutShort`.
     pub fn status(&self) -> Status
         ensures { result ≡ status_of self.now }
     {
@@ -83,7 +84,7 @@ impl Stop<'_> {
         }
     }
 
-    /// What the fault is found in: a word as it was given, a path, the journal or the run.
+    /// What the line blames: a word as it was given, a path, the journal or the run.
     pub fn blamed(&self) -> &[u8]
         ensures { result.now ≡ blamed_of self.now }
     {
@@ -121,7 +122,7 @@ impl<T: Drop> From<AllocFailed<T>> for Stop<'_> {
     }
 }
 
-// A fault on the journal of a run.
+// What ends a run for this fault of its journal.
 impl From<TableFault> for Stop<'_> {
     ghost use Rattle.subcommands.specs.Stops.{stop_of};
 

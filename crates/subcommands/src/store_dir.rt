@@ -5,7 +5,8 @@ use crate::stop::Stop;
 use nix_names::{NameFault, StoreDir};
 use std::alloc::Global;
 
-/// The store folder with this text: `BadStoreDir` where it is none, be there memory or not.
+/// The store folder with this text. `BadStoreDir` where the text is no store folder, whether there
+/// is memory or not.
 pub fn store_dir<'a>(alloc: Global, text: &'a str) -> Result<StoreDir, Stop<'a>>
     ensures { IsStoreDirOf text.entry result }
 {

@@ -1,4 +1,4 @@
-//! What a run is over, by the files on disk.
+//! The plan and the journal of a run, by the files on disk.
 ghost use Rattle.std.specs.Prelude.{Err, IfErr, IfOk, Ok};
 ghost use Rattle.subcommands.specs.AddedText.{FileBytes};
 ghost use Rattle.subcommands.specs.Folders.{may_give};
@@ -12,8 +12,8 @@ use crate::stop::Stop;
 use crate::task::{Task, planned};
 use std::rt::Files;
 
-/// The journal file of a request, and what its run is over. The plan is loaded, then the journal is
-/// read.
+/// The journal file of a request, and the plan and journal of its run. The plan is loaded, then the
+/// journal is read.
 pub fn taken<'a, R: Files + AllocGlobal>(
     rt: &R,
     request: &RunRequest<'a>,

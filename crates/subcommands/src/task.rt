@@ -1,5 +1,5 @@
-//! What a run of `plan` or `realise` is over: the plan of its roots, and the journal. No file is
-//! reached here but through the source.
+//! The task of `plan` and `realise`: the plan of their roots, and the journal. Files are read
+//! through the source alone.
 ghost use Rattle.std.specs.Prelude.{◌≡◌, IfErr, IfOk, map};
 ghost use Rattle.subcommands.specs.Tasks.{ArePathsOf, HasPlan, IsNotPlanned, IsPathOf, IsPlanOf};
 
@@ -12,19 +12,19 @@ use nix_names::{NameFault, StoreDir, StorePath, parse_path};
 use std::alloc::Global;
 use valid_table::Journal;
 
-/// What a run is over.
+/// What a run takes: a plan and a journal.
 #[derive(Drop)]
 pub struct Task {
-    /// What the roots reach.
+    /// The derivations that the roots reach.
     pub plan: Plan,
-    /// What is valid.
+    /// The valid paths.
     pub journal: Journal,
 }
 
-/// The store folder of a request, and the plan of its derivations, which the source gives. In this
-/// order: `BadStoreDir`; `NoPath` for the first word that is no path of the folder; `BadDrv` with a
-/// fault of `Plan::load`. `NoMemory` may come in the place of all but the first. No file is reached
-/// but through the source, and none before all words are paths.
+/// The store folder of a request, and the plan of its derivations, which the source gives. The
+/// faults, in this order: `BadStoreDir`; `NoPath` for the first word that is no path of the folder;
+/// `BadDrv` with a fault of `Plan::load`. `NoMemory` may be answered in place of each but the
+/// first. Files are read through the source alone, and none is read unless all words are paths.
 pub fn planned<'a, S: DrvSource>(
     alloc: Global,
     source: &mut S,
@@ -40,7 +40,7 @@ pub fn planned<'a, S: DrvSource>(
     Ok((dir, plan))
 }
 
-// The paths that are spelled by some words, in their order.
+// The paths that some words spell, in their order.
 fn paths_of<'a>(
     alloc: Global,
     dir: &StoreDir,
@@ -55,7 +55,7 @@ fn paths_of<'a>(
     Ok(paths)
 }
 
-// The path that is spelled by a word.
+// The path that a word spells.
 fn path_of<'a>(alloc: Global, dir: &StoreDir, word: &'a str) -> Result<StorePath, Stop<'a>>
     ensures { IsPathOf dir.now word.entry result }
 {

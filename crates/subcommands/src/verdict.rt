@@ -1,4 +1,4 @@
-//! What `check` says of one word.
+//! The verdict of `check` on one word.
 ghost use Rattle.std.specs.Prelude.{◌≡◌, ◌++◌, IfOk, IfErr, OnOk};
 ghost use Rattle.nix_drv.specs.Sources.{GivesSame};
 ghost use Rattle.subcommands.specs.CheckLines.{IsVerdict, bad_line, is_good, line_of};
@@ -9,16 +9,16 @@ use nix_drv::{DrvFault, DrvSource, SourceFault, check_text};
 use nix_names::{NameFault, StoreDir, parse_path};
 use std::alloc::{AllocError, Global};
 
-/// What is said of a word that should be the path of a store derivation.
+/// A verdict on a word that should be the path of a store derivation.
 #[derive(Drop)]
 pub enum Verdict {
-    /// Its file is a derivation's text and stands under its own path.
+    /// Its file is a derivation's text, at its own path.
     Good,
     /// It is no path of the store folder.
     NoPath(NameFault),
     /// Its file cannot be read.
     Unreadable,
-    /// Its file is no derivation's text, or stands under a path that is not its own.
+    /// Its file is no derivation's text, or lies at a path that is not its own.
     Refused(DrvFault),
 }
 
@@ -31,8 +31,8 @@ impl Verdict {
     }
 }
 
-/// Looks at one word: is it a path of the store folder, can its file be read, is the file a
-/// derivation's text under its own path? `NoMemory` is the only error.
+/// Checks one word: is it a path of the store folder, can its file be read, is the file a
+/// derivation's text at its own path? `NoMemory` is the only error.
 pub fn judge<S: DrvSource>(
     alloc: Global,
     source: &mut S,
@@ -70,7 +70,7 @@ pub fn write_line(word: &[u8], verdict: &Verdict, out: &mut Vec<u8>) -> Result<(
     }
 }
 
-// Adds the line of a word with which nothing is wrong.
+// Adds the line of a good word.
 fn write_good_line(word: &[u8], out: &mut Vec<u8>) -> Result<(), AllocError>
     ensures { OnOk result (out.new.items ≡ out.old.items ++ line_of word.now Verdict.Good) }
 {
@@ -79,7 +79,7 @@ fn write_good_line(word: &[u8], out: &mut Vec<u8>) -> Result<(), AllocError>
     out.extend_from_slice(b"\n")
 }
 
-// Adds the line of a word with which something is wrong.
+// Adds the line of a bad word.
 fn write_bad_line(word: &[u8], verdict: &Verdict, out: &mut Vec<u8>) -> Result<(), AllocError>
     ensures { OnOk result
         (out.new.items ≡ out.old.items ++ bad_line word.now (verdict_words verdict.now)) }
@@ -91,7 +91,7 @@ fn write_bad_line(word: &[u8], verdict: &Verdict, out: &mut Vec<u8>) -> Result<(
     out.extend_from_slice(b"\n")
 }
 
-// Adds the words of what is wrong with a word; none where nothing is.
+// Adds the words of a verdict's fault; none where the word is good.
 fn write_verdict_fault(verdict: &Verdict, out: &mut Vec<u8>) -> Result<(), AllocError>
     ensures { OnOk result (out.new.items ≡ out.old.items ++ verdict_words verdict.now) }
 {

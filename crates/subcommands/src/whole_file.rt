@@ -11,8 +11,8 @@ use std::path::{Path, PathBuf};
 use std::rt::Files;
 use std::{fs, io};
 
-/// That a file was written: its path and its bytes. Only `write_whole` makes one, and it must be
-/// used.
+/// Evidence that a file was written: its path and its bytes. Only `write_whole` makes one, and it
+/// must be used.
 pub struct Written<'a> {
     path: &'a str,
     bytes: &'a [u8],
@@ -25,15 +25,15 @@ impl Written<'_> {
     }
 }
 
-/// Puts a file with these bytes at a path, in place of the file or the link that is there, be it
-/// one that must not be written; a fault where anything else is there. Who opens the path finds the
-/// old file whole or the new one whole, also where this process is killed on the way. The new file
+/// Puts a file with these bytes at a path, in place of the file or the link that is there, even a
+/// read-only file; a fault where anything else is there. A process that opens the path finds the
+/// whole old file or the whole new one, even if this process is killed on the way. The new file
 /// gets the permissions of the file that it replaces.
 ///
-/// The bytes are written under another name in the same folder, which begins with a dot, are
-/// handed to the disk, and then get the path's name. A fault removes that file and leaves the path
-/// as it was; a process that is killed leaves it behind. That a loss of power keeps the new name is
-/// not promised.
+/// The bytes are written to a file in the same folder, whose name begins with a dot. They are
+/// synced to the disk, and then the file is renamed to the path. At a fault that file is removed,
+/// and the path is left as it was; a process that is killed leaves the file behind. After a loss of
+/// power the path may have the old file.
 pub fn write_whole<'a, R: Files + AllocGlobal>(
     rt: &R,
     path: &'a str,
@@ -46,23 +46,23 @@ pub fn write_whole<'a, R: Files + AllocGlobal>(
     let (file, temporary) = create_beside(rt, path)?;
     let put = put_at(rt, file, mode, bytes, temporary.as_path(), path);
     if let Err(failure) = put {
-        // The first fault is the one that is told.
+        // Only the first fault is reported.
         let _ = fs::remove_file(rt, temporary.as_path());
         return Err(failure);
     }
     Ok(Written { path, bytes })
 }
 
-/// Finds out whether a file can be written at a path: what is in its place may be replaced, and a
-/// file can be made in its folder. That one is removed, and the path is left as it is.
+/// Tests whether a file can be written at a path: what lies there may be replaced, and a file can
+/// be made in its folder. The made file is removed again, and the path is left as it is.
 pub fn try_out<R: Files + AllocGlobal>(rt: &R, path: &str) -> Result<(), Failure> {
     place_of(fs::symlink_metadata(rt, path))?;
     let (_file, temporary) = create_beside(rt, path)?;
     Ok(fs::remove_file(rt, temporary.as_path())?)
 }
 
-// The permissions of the file in the place of one that is to be written, none where nothing or a
-// link is there, by what asking for it gave; a fault where anything else is.
+// The permissions of the file that will be replaced, by what the system answered for its path; none
+// where nothing or a link is there, a fault where anything else is.
 fn place_of(asked: io::Result<Metadata>) -> Result<Option<Permissions>, Failure>
     ensures found { IfOk asked (λ found. IsPlaceOf found result) }
     ensures fault { IfErr asked (λ error. IsNoPlace error result) }
@@ -76,7 +76,7 @@ fn place_of(asked: io::Result<Metadata>) -> Result<Option<Permissions>, Failure>
     }
 }
 
-// The same where this was found.
+// The same where something lies there.
 fn place_with(found: &Metadata) -> Result<Option<Permissions>, Failure>
     ensures { IsPlaceOf found.now result }
 {
@@ -87,8 +87,8 @@ fn place_with(found: &Metadata) -> Result<Option<Permissions>, Failure>
     }
 }
 
-// A new file in the folder of a path, under the first name that is free there: another process may
-// be writing under one, and one that was killed may have left its own.
+// A new file in the folder of a path, under the first free name. Another process may be writing
+// under a name, and a killed process may have left its own file.
 fn create_beside<R: Files + AllocGlobal>(
     rt: &R,
     path: &str,
@@ -106,7 +106,7 @@ fn create_beside<R: Files + AllocGlobal>(
     Err(Failure::Other)
 }
 
-// The path with this number under which the bytes for a path are written, in the same folder.
+// The path, in the folder of a path, at which the bytes for it are written; numbered.
 fn temporary_path(alloc: Global, path: &str, number: u32) -> Result<PathBuf, AllocError> {
     let name = temporary_name(alloc, number)?;
     Path::new(path).with_file_name(alloc, name.as_str())
@@ -135,7 +135,7 @@ fn put_at<R: Files>(
     Ok(fs::rename(rt, temporary, path)?)
 }
 
-// Writes all the bytes, and hands them to the disk.
+// Writes all the bytes, and syncs them to the disk.
 fn fill<F: Write + OpenFile>(file: &mut F, bytes: &[u8]) -> Result<(), Failure>
     ensures { OnOk result (Appends (F.contents file.old) (F.contents file.new) bytes.now) }
 {

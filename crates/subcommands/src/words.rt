@@ -32,7 +32,7 @@ pub fn request<'a>(alloc: Global, words: &'a [&'a str]) -> Result<Request<'a>, E
     }
 }
 
-// What the matches of the subcommand with this name say.
+// The request of the subcommand with this name, by its matches.
 fn subcommand_request<'a>(
     alloc: Global,
     name: &str,
@@ -58,7 +58,7 @@ fn no_subcommand(alloc: Global) -> Result<Error, AllocError>
     command(alloc)?.error(ErrorKind::MissingSubcommand, "a subcommand is required")
 }
 
-// The usage fault of a command line whose number of builders is none.
+// The usage fault of a command line whose number of builders is invalid.
 fn no_jobs(alloc: Global) -> Result<Error, AllocError>
     ensures { IfOk result (λ e. kind_of e ≡ ErrorKind.ValueValidation) }
 {
@@ -68,7 +68,7 @@ fn no_jobs(alloc: Global) -> Result<Error, AllocError>
     )
 }
 
-/// The usage fault of a command line that has a word which is not UTF-8.
+/// The usage fault of a command line with a word that is not UTF-8.
 pub fn not_text(alloc: Global) -> Result<Error, AllocError>
     ensures { IfOk result (λ e. kind_of e ≡ ErrorKind.ValueValidation) }
 {
@@ -78,7 +78,7 @@ pub fn not_text(alloc: Global) -> Result<Error, AllocError>
     )
 }
 
-// What the matches of `check` say.
+// The request of `check`, by its matches.
 fn check_request<'a>(alloc: Global, found: &ArgMatches<'a>) -> Result<CheckRequest<'a>, AllocError>
     ensures { IfOk result (IsCheck (rows_of (found_of found.now))) }
 {
@@ -88,7 +88,7 @@ fn check_request<'a>(alloc: Global, found: &ArgMatches<'a>) -> Result<CheckReque
     })
 }
 
-// What the matches of `add-text` say.
+// The request of `add-text`, by its matches.
 fn add_text_request<'a>(found: &ArgMatches<'a>) -> AddTextRequest<'a>
     ensures { IsAddText (rows_of (found_of found.now)) result }
 {
@@ -100,7 +100,7 @@ fn add_text_request<'a>(found: &ArgMatches<'a>) -> AddTextRequest<'a>
     }
 }
 
-// What the matches of `add-drv` say.
+// The request of `add-drv`, by its matches.
 fn add_drv_request<'a>(found: &ArgMatches<'a>) -> AddDrvRequest<'a>
     ensures { IsAddDrv (rows_of (found_of found.now)) result }
 {
@@ -111,7 +111,7 @@ fn add_drv_request<'a>(found: &ArgMatches<'a>) -> AddDrvRequest<'a>
     }
 }
 
-// What the matches of `plan` say.
+// The request of `plan`, by its matches.
 fn plan_request<'a>(alloc: Global, found: &ArgMatches<'a>) -> Result<PlanRequest<'a>, AllocError>
     ensures { IfOk result (IsPlanned (rows_of (found_of found.now))) }
 {
@@ -121,7 +121,7 @@ fn plan_request<'a>(alloc: Global, found: &ArgMatches<'a>) -> Result<PlanRequest
     })
 }
 
-// What the matches of `realise` say.
+// The request of `realise`, by its matches.
 fn realise_request<'a>(alloc: Global, found: &ArgMatches<'a>) -> Result<RealiseRequest<'a>, Error>
     ensures ok { IfOk result (IsRealise (rows_of (found_of found.now))) }
     ensures err { IfErr result (λ e. IsOwnFault (kind_of e)) }
@@ -133,7 +133,7 @@ fn realise_request<'a>(alloc: Global, found: &ArgMatches<'a>) -> Result<RealiseR
     Ok(RealiseRequest { run, jobs })
 }
 
-// What the matches of `plan` and of `realise` say of what a run is over.
+// The words that `plan` and `realise` share, by their matches.
 fn run_request<'a>(alloc: Global, found: &ArgMatches<'a>) -> Result<RunRequest<'a>, AllocError>
     ensures { IfOk result (IsRun (rows_of (found_of found.now))) }
 {
@@ -145,7 +145,7 @@ fn run_request<'a>(alloc: Global, found: &ArgMatches<'a>) -> Result<RunRequest<'
     })
 }
 
-// The store folder that the matches give, or the usual one.
+// The store folder that the matches give, or the default one.
 #[tactic(auto, using(crate::proofs::Rows::first_row))]
 fn store_dir_of<'a>(found: &ArgMatches<'a>) -> &'a str
     ensures { result.now ≡ store_dir_in (rows_of (found_of found.now)) }
@@ -153,7 +153,7 @@ fn store_dir_of<'a>(found: &ArgMatches<'a>) -> &'a str
     found.get_str(STORE_DIR).unwrap_or(DEFAULT_STORE_DIR)
 }
 
-// The system that the matches give, or the usual one.
+// The system that the matches give, or the default one.
 #[tactic(auto, using(crate::proofs::Rows::first_row))]
 fn system_of<'a>(found: &ArgMatches<'a>) -> &'a str
     ensures { result.now ≡ system_in (rows_of (found_of found.now)) }
@@ -199,7 +199,7 @@ fn drvs_of<'a>(alloc: Global, found: &ArgMatches<'a>) -> Result<Vec<&'a str>, Al
 }
 
 // How many builders the matches ask for; none where that is no number from 1 to 64, which `clap`
-// refuses before.
+// has refused before.
 fn jobs_of(found: &ArgMatches<'_>) -> Option<Jobs>
     ensures { IfSome result (λ jobs.
         IsNumber (one_of (codes "jobs") (rows_of (found_of found.now))) jobs) }
