@@ -27,7 +27,7 @@ fn main(rt: HostRuntime) -> ExitCode {
     ExitCode::from(status.code())
 }
 
-// Whether the terminal is said to understand no escapes.
+// Whether the terminal understands no escapes, by the variable `TERM`.
 fn is_dumb<R: Env + AllocGlobal>(rt: &R) -> bool {
     match env::var(rt, "TERM") {
         Ok(term) => term.as_str() == "dumb",
@@ -52,8 +52,8 @@ where
     }
 }
 
-// Gives the writer behind a buffer as it stands. What is still in the buffer was refused, and is not
-// offered again.
+// Gives the writer of a buffer, without flushing the buffer. The bytes that are still in it were
+// refused, and are not written again.
 fn let_go<W: Write + Drop>(buffer: BufWriter<W>) -> W
     ensures { result ≡ writer_inner buffer }
 {
@@ -98,7 +98,7 @@ fn arguments<R: Env + AllocGlobal>(rt: &R) -> io::Result<Vec<String>> {
     Ok(env::args(rt)?.collect(rt.alloc())?)
 }
 
-// The arguments as texts.
+// The texts of the arguments.
 fn texts(alloc: Global, arguments: &[String]) -> Result<Vec<&str>, AllocError>
     ensures { IfOk result (λ words.
         map (λ w. w.now) words.items ≡ map string_bytes arguments.now) }
