@@ -8,7 +8,7 @@ use Rattle.std.proofs.lemmas.Option.{get_or_from_slice_get, same_Some, slice_get
 use Rattle.nix_names.specs.Firsts.{IsFirstWhere}
 use Rattle.nix_names.proofs.FirstElements.{first_within}
 use Rattle.nix_drv.specs.Derivation.{Drv, EnvEntry, Input, Output}
-use Rattle.drv_graph.specs.Checking.{AreExpected, EntriesFit, FitBefore, FitsIn, HasMisfit, IsEnvFault, IsEnvMismatch, IsFirstPair, IsKindFault, IsMismatch, IsNameFault, IsPathFault, IsSoundCheck, IsUnknownOutput, IsUseFault, IsValueFault, PathFits}
+use Rattle.drv_graph.specs.Checking.{AreExpected, EntriesFit, FitBefore, FitsExpected, HasMisfit, IsEnvFault, IsEnvMismatch, IsFirstPair, IsKindFault, IsMismatch, IsNameFault, IsPathFault, IsSoundCheck, IsUnknownOutput, IsUseFault, IsValueFault, PathFits}
 use Rattle.drv_graph.specs.Expected.{IsExpected, path_name}
 use Rattle.drv_graph.specs.ExpectedPaths.{IsMaskedDigest, output_path}
 use Rattle.drv_graph.specs.UsedInputs.{uses_of}
@@ -187,7 +187,7 @@ module _ (in_draft : Bool) (dir name : List ℕ) (kind : Kind) (drv : Drv) (hash
   at_place k o at = beside Expected drv.outputs paths k o expected at
 
   pub paths_fit : FitBefore (PathFits in_draft) drv.outputs paths (length drv.outputs)
-      → PathsFit (FitsIn in_draft) Expected drv
+      → PathsFit (FitsExpected in_draft) Expected drv
   paths_fit fit k d below =
       let at = slice_get-get_or drv.outputs k d below in
       let found = at_place k (get_or drv.outputs k d) at in
@@ -195,22 +195,23 @@ module _ (in_draft : Bool) (dir name : List ℕ) (kind : Kind) (drv : Drv) (hash
 
   no_other : (k : ℕ) (o : Output) → slice_get drv.outputs k ≡ Some o
       → FitBefore (EntriesFit in_draft drv.env) drv.outputs paths (k + 1)
-      → HasOtherEntry (FitsIn in_draft) Expected drv o → ⊥
+      → HasOtherEntry (FitsExpected in_draft) Expected drv o → ⊥
   no_other k o at fit (entry, path, has, key, is, misfit) =
       let found = at_place k o at in
       let one : path ≡ found.0 = one_path dir name kind drv hashes o path found.0 is found.2 in
       fit k o found.0 (omega arith) at found.1
-      (entry, has, key, subst (λ (p : List ℕ). FitsIn in_draft entry.value p → ⊥) one misfit)
+      (entry, has, key, subst (λ (p : List ℕ). FitsExpected in_draft entry.value p → ⊥) one misfit)
 
   pub entries_fit : FitBefore (EntriesFit in_draft drv.env) drv.outputs paths (length drv.outputs)
-      → All (λ o. HasOtherEntry (FitsIn in_draft) Expected drv o → ⊥) drv.outputs
+      → All (λ o. HasOtherEntry (FitsExpected in_draft) Expected drv o → ⊥) drv.outputs
   entries_fit fit k d below =
       no_other k (get_or drv.outputs k d) (slice_get-get_or drv.outputs k d below)
       (λ j o path before. fit j o path (omega (arith, before)))
 
   pub first_mismatch : (o : Output) (path : List ℕ)
       → IsFirstPair (PathFits in_draft) (λ p q. PathFits in_draft p q → ⊥) drv.outputs paths o path
-      → IsFirstWhere (λ (p : Output). (q : List ℕ) × Expected p q × (FitsIn in_draft p.path q → ⊥))
+      → IsFirstWhere (λ (p : Output). (q : List ℕ) × Expected p q
+      × (FitsExpected in_draft p.path q → ⊥))
       drv.outputs o × Expected o path
   first_mismatch o path pair =
       let found = at_place pair.place o pair.is_output in
@@ -229,7 +230,7 @@ module _ (in_draft : Bool) (dir name : List ℕ) (kind : Kind) (drv : Drv) (hash
               let same : q ≡ beside_it.0 = one_path dir name kind drv hashes
               (get_or (take pair.place drv.outputs) k d) q beside_it.0 is beside_it.2 in
               misfit (subst
-              (λ (r : List ℕ). FitsIn in_draft (get_or (take pair.place drv.outputs) k d).path
+              (λ (r : List ℕ). FitsExpected in_draft (get_or (take pair.place drv.outputs) k d).path
               r) (sym same)
               (pair.before k (get_or (take pair.place drv.outputs) k d) beside_it.0 at.0 at.1
               beside_it.1));
@@ -240,7 +241,7 @@ module _ (in_draft : Bool) (dir name : List ℕ) (kind : Kind) (drv : Drv) (hash
   pub first_other : (o : Output) (path : List ℕ)
       → IsFirstPair (EntriesFit in_draft drv.env) (λ p q. HasMisfit in_draft drv.env p.name q)
       drv.outputs paths o path
-      → IsFirstWhere (HasOtherEntry (FitsIn in_draft) Expected drv) drv.outputs o
+      → IsFirstWhere (HasOtherEntry (FitsExpected in_draft) Expected drv) drv.outputs o
   first_other o path pair =
       let found = at_place pair.place o pair.is_output in
       let one : found.0 ≡ path = same_Some found.0 path (sym found.1 ∙ pair.is_path) in
@@ -261,7 +262,7 @@ module _ (in_draft : Bool) (dir name : List ℕ) (kind : Kind) (drv : Drv) (hash
   -- what is wrong with the values is what the check answers
   pub value_is_checked : (used : List Drv) (fault : OutputFault) → AreSound name drv used kind
       → IsValueFault in_draft drv paths fault
-      → IsOutputsCheck (FitsIn in_draft) dir name drv used hashes (Err fault)
+      → IsOutputsCheck (FitsExpected in_draft) dir name drv used hashes (Err fault)
   value_is_checked used (OutputMismatch output path) sound (o, pair, is) =
       let first = first_mismatch o path pair in (kind, sound, (o, first.0, first.1, is))
   value_is_checked used (EnvMismatch output) sound (fit, (o, path, pair, is)) =
@@ -276,7 +277,7 @@ module _ (in_draft : Bool) (dir name : List ℕ) (kind : Kind) (drv : Drv) (hash
   pub all_right : (used : List Drv) → AreSound name drv used kind
       → FitBefore (PathFits in_draft) drv.outputs paths (length drv.outputs)
       → FitBefore (EntriesFit in_draft drv.env) drv.outputs paths (length drv.outputs)
-      → IsOutputsCheck (FitsIn in_draft) dir name drv used hashes (Ok kind)
+      → IsOutputsCheck (FitsExpected in_draft) dir name drv used hashes (Ok kind)
   all_right used sound fit entries = (sound, paths_fit fit, entries_fit entries)
 
 -- what holds anyway holds where a call succeeds
@@ -415,8 +416,8 @@ one_entry env i j a b rises at_a at_b same =
 pub entry_answer : (in_draft : Bool) (env : List EnvEntry) (name path : List ℕ) (answer : Bool)
     (place : ℕ) (entry : EnvEntry) → IsRising (map (λ (e : EnvEntry). e.key) env)
     → slice_get (map (λ (e : EnvEntry). e.key) env) place ≡ Some name → slice_get env place
-    ≡ Some entry → MatchBool answer (FitsIn in_draft entry.value path)
-    (FitsIn in_draft entry.value path → ⊥)
+    ≡ Some entry → MatchBool answer (FitsExpected in_draft entry.value path)
+    (FitsExpected in_draft entry.value path → ⊥)
     → MatchBool answer (HasMisfit in_draft env name path → ⊥) (HasMisfit in_draft env name path)
 entry_answer in_draft env name path true place entry rises at_key at fits =
     λ (other, has, key, misfit).
@@ -426,7 +427,7 @@ entry_answer in_draft env name path true place entry rises at_key at fits =
     ∙ ap (option_map (λ (e : EnvEntry). e.key)) at) ∙ at_key in
     let same : other ≡ entry = one_entry env found.0 place other entry rises found.1 at
     (key ∙ sym (same_Some entry.key name here)) in
-    misfit (subst (λ (e : EnvEntry). FitsIn in_draft e.value path) (sym same) fits)
+    misfit (subst (λ (e : EnvEntry). FitsExpected in_draft e.value path) (sym same) fits)
 entry_answer in_draft env name path false place entry rises at_key at fits =
     let here : Some entry.key ≡ Some name = sym
     (slice_get-map (λ (e : EnvEntry). e.key) env place

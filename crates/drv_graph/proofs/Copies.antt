@@ -8,7 +8,7 @@ use Rattle.drv_graph.specs.Kinds.{HasKind}
 use Rattle.drv_graph.specs.Nodes.{Node, inputs_of}
 use Rattle.drv_graph.specs.Plans.{AreNumbers, Graph}
 use Rattle.drv_graph.specs.SoundGraphs.{IsSound}
-use Rattle.drv_graph.specs.PlanNodes.{AreKept, HasHash, IsKept, IsSameNode, node_of, nodes_of, output_paths_of}
+use Rattle.drv_graph.specs.PlanNodes.{AreKept, HasHash, IsPlanNode, IsSameNode, node_of, nodes_of, output_paths_of}
 use Rattle.drv_graph.specs.Twins.{are_twins}
 use Rattle.drv_graph.specs.declared.node.PlanNode.{PlanNode}
 
@@ -30,7 +30,8 @@ same_nodes (x ∷ xs) (y ∷ ys) zip =
     let rest = same_nodes xs ys zip.1 in
     cc
 
-same_kept : (nodes : List Node) (x y : PlanNode) → IsSameNode x y → IsKept nodes x → IsKept nodes y
+same_kept : (nodes : List Node) (x y : PlanNode) → IsSameNode x y → IsPlanNode nodes x
+    → IsPlanNode nodes y
 same_kept nodes x y same right = record {
   numbers = subst (λ ns. AreNumbers nodes ns (inputs_of y.drv)) (sym same.inputs)
       (subst (λ d. AreNumbers nodes x.inputs.items (inputs_of d)) (sym same.drv) right.numbers);
@@ -46,17 +47,18 @@ same_kept nodes x y same right = record {
 }
 
 all_kept : (nodes : List Node) (xs ys : List PlanNode) → AllZip IsSameNode xs ys
-    → All (IsKept nodes) xs → All (IsKept nodes) ys
+    → All (IsPlanNode nodes) xs → All (IsPlanNode nodes) ys
 all_kept nodes [] [] zip right = right
 all_kept nodes [] (y ∷ ys) zip right = absurd zip
 all_kept nodes (x ∷ xs) [] zip right = absurd zip
 all_kept nodes (x ∷ xs) (y ∷ ys) zip right =
-    All-cons (IsKept nodes) y ys (same_kept nodes x y zip.0 (All-head (IsKept nodes) x xs right))
-    (all_kept nodes xs ys zip.1 (All-tail (IsKept nodes) x xs right))
+    All-cons (IsPlanNode nodes) y ys (same_kept nodes x y zip.0
+    (All-head (IsPlanNode nodes) x xs right))
+    (all_kept nodes xs ys zip.1 (All-tail (IsPlanNode nodes) x xs right))
 
 -- copies are kept right
 pub kept_copies : (xs ys : List PlanNode) → AllZip IsSameNode xs ys → AreKept xs → AreKept ys
-kept_copies xs ys zip right = subst (λ ns. All (IsKept ns) ys) (sym (same_nodes xs ys zip))
+kept_copies xs ys zip right = subst (λ ns. All (IsPlanNode ns) ys) (sym (same_nodes xs ys zip))
     (all_kept (nodes_of xs) xs ys zip right)
 
 -- a copied plan is seen as the same graph

@@ -10,7 +10,7 @@ use Rattle.nix_names.specs.StorePaths.{IsPathOf}
 use Rattle.nix_names.proofs.RisingLists.{IsBelow, first_below, not_below_itself, rising_later}
 use Rattle.nix_names.proofs.FirstElements.{no_first}
 use Rattle.nix_drv.specs.Derivation.{Drv, Input, IsDrvText}
-use Rattle.nix_drv.specs.OwnPath.{IsOwnPath, paths_of, text_path}
+use Rattle.nix_drv.specs.OwnPath.{IsOwnPath, referenced_paths, text_path}
 use Rattle.nix_drv.specs.Parts.{drv_of, input_of, path_of}
 use Rattle.nix_drv.specs.References.{IsReferencesOf, IsStrayFault}
 use Rattle.nix_drv.specs.Sources.{Answer}
@@ -26,7 +26,7 @@ use Rattle.drv_graph.specs.Nodes.{AreHashes, Node, inputs_of}
 use Rattle.drv_graph.specs.Placing.{IsPlaced}
 use Rattle.drv_graph.specs.PlanNodes.{AreKept, nodes_of}
 use Rattle.drv_graph.specs.Plans.{AreDrvsOf, AreNumbers, Graph, IsPlan, each_once}
-use Rattle.drv_graph.specs.UsedInputs.{drvs_of, hashes_of}
+use Rattle.drv_graph.specs.UsedInputs.{drvs_of_uses, hashes_of}
 use Rattle.drv_graph.specs.Walks.{IsUsed}
 use Rattle.drv_graph.specs.declared.fault.GraphFault.{GraphFault}
 use Rattle.drv_graph.specs.declared.fault.GraphFault.TheVariants.{NoMemory, At, Draft, Name}
@@ -53,10 +53,11 @@ stray_draft dir paths NotADrvName some stray = absurd stray
 stray_draft dir paths NotSorted some stray = absurd stray
 
 -- where all paths are of the folder there is no first that isn't
-none_stray : (dir : List ℕ) (draft : Drv) → All (IsPathOf dir) (paths_of draft)
+none_stray : (dir : List ℕ) (draft : Drv) → All (IsPathOf dir) (referenced_paths draft)
     → AreInStore dir draft
 none_stray dir draft all text stray =
-    no_first (IsPathOf dir) (λ t. IsPathOf dir t → ⊥) (λ t is not. not is) (paths_of draft) text
+    no_first (IsPathOf dir) (λ t. IsPathOf dir t → ⊥) (λ t is not. not is) (referenced_paths draft)
+    text
     stray all
 
 -- ---- the draft's inputs
@@ -98,13 +99,14 @@ numbers_loaded dir gives roots (Err fault) rises loaded = tt
 pub are_used : (kept : List PlanNode) (numbers : List ℕ) (used given : List UsedInput) (draft : Drv)
     → AreKept kept → AreNumbers (nodes_of kept) numbers (inputs_of draft)
     → AllZip (IsUsed kept) numbers used
-    → given ≡ used → AreUsed (nodes_of kept) draft (drvs_of given) (hashes_of given)
+    → given ≡ used → AreUsed (nodes_of kept) draft (drvs_of_uses given) (hashes_of given)
 are_used kept numbers used given draft right are zip same =
     let paths = used_paths kept numbers used (inputs_of draft) zip are in
-    subst (λ (us : List UsedInput). AreUsed (nodes_of kept) draft (drvs_of us) (hashes_of us))
+    subst (λ (us : List UsedInput). AreUsed (nodes_of kept) draft (drvs_of_uses us) (hashes_of us))
     (sym same)
     (record {
-      are_used = subst (λ (ps : List (List ℕ)). AreDrvsOf (nodes_of kept) ps (drvs_of used)) paths
+      are_used = subst (λ (ps : List (List ℕ)). AreDrvsOf (nodes_of kept) ps (drvs_of_uses used))
+          paths
           (used_drvs kept numbers used zip);
       are_hashes = subst (λ (ps : List (List ℕ)). AreHashes (nodes_of kept) ps (hashes_of used))
           paths (used_hashes kept numbers used right zip);
@@ -199,8 +201,8 @@ module _ (dir : List ℕ) (gives : List ℕ → Answer → Type 0) (name : List 
               ),
             )
 
-        same_paths : paths_of filled ≡ paths_of draft
-        unfolding paths_of
+        same_paths : referenced_paths filled ≡ referenced_paths draft
+        unfolding referenced_paths
         same_paths = ap (λ (inputs : List Input). map (λ (i : Input). i.path) inputs
             ++ filled.sources) is_filled.filled_is.inputs
             ∙ ap (λ (sources : List (List ℕ)). inputs_of draft ++ sources)

@@ -90,7 +90,8 @@ module _ {X : Type 0} (p : X → Bool) where
 
 module _ (kept : List PlanNode) (drv : Drv) (owners : List ℕ → Option ℕ) (first : ℕ) (path : List ℕ)
     (right : AreOwners owners (outputs_of kept ++ output_paths_of drv ∷ []))
-    (own : AreOwnedBy owners first (output_paths_of drv)) (has : Contains (output_paths_of drv) path)
+    (own : AreOwnedBy owners first (output_paths_of drv))
+    (has : Contains (output_paths_of drv) path)
   where
     abbrev all : List (List (List ℕ))
     all = outputs_of kept ++ output_paths_of drv ∷ []

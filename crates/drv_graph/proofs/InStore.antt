@@ -13,7 +13,7 @@ use Rattle.nix_names.proofs.PathFaults.{no_fault_of_path}
 use Rattle.nix_names.proofs.PathDigests.{store_path_is_path}
 use Rattle.nix_names.proofs.Lists.{All-from_contains, All-left, Contains-first, Contains-from_map, Contains-map}
 use Rattle.nix_drv.specs.Derivation.{Drv, Output}
-use Rattle.nix_drv.specs.OwnPath.{paths_of}
+use Rattle.nix_drv.specs.OwnPath.{referenced_paths}
 use Rattle.nix_drv.specs.Parts.{output_of}
 use Rattle.nix_drv.specs.declared.derivation.Output.{Output as OutputStruct}
 use Rattle.std.proofs.lemmas.Option.{none-some}
@@ -49,14 +49,14 @@ only_memory dir text fault is (inl wrong) other =
 only_memory dir text fault is (inr none) other = other none.1
 
 -- a derivation's inputs and sources are in the folder where all of its paths are
-pub inputs_in_store : (dir : List ℕ) (drv : Drv) → All (IsPathOf dir) (paths_of drv)
+pub inputs_in_store : (dir : List ℕ) (drv : Drv) → All (IsPathOf dir) (referenced_paths drv)
     → All (IsPathOf dir) (inputs_of drv)
-unfolding paths_of
+unfolding referenced_paths
 inputs_in_store dir drv all = All-left (IsPathOf dir) (inputs_of drv) drv.sources all
 
-pub sources_in_store : (dir : List ℕ) (drv : Drv) → All (IsPathOf dir) (paths_of drv)
+pub sources_in_store : (dir : List ℕ) (drv : Drv) → All (IsPathOf dir) (referenced_paths drv)
     → All (IsPathOf dir) drv.sources
-unfolding paths_of
+unfolding referenced_paths
 sources_in_store dir drv all = All-from_contains (IsPathOf dir) drv.sources
     (λ x has. All-contains (IsPathOf dir) (inputs_of drv ++ drv.sources) x all
     (Contains-append_right (inputs_of drv) drv.sources x has))
@@ -98,8 +98,10 @@ outputs_in_store dir nodes node kind right =
     All-from_contains (IsPathOf dir) (output_paths_of node.drv) (λ path has.
     let from = Contains-from_map (λ (o : Output). o.path) node.drv.outputs path has in
     let fit = All-contains (λ (o : Output). (p : List ℕ)
-    × IsExpected dir (drv_name_of node.path) kind node.drv right.hashes o p × IsThePath o.path p) node.drv.outputs from.0
+    × IsExpected dir (drv_name_of node.path) kind node.drv right.hashes o p × IsThePath o.path p)
+    node.drv.outputs from.0
     right.check.1 from.1 in
     subst (IsPathOf dir) (sym fit.2 ∙ from.2)
-    (expected_in_store dir (drv_name_of node.path) kind node.drv right.hashes right.check.0.has_kind right.check.0.named
+    (expected_in_store dir (drv_name_of node.path) kind node.drv right.hashes
+    right.check.0.has_kind right.check.0.named
     from.0 from.1 fit.0 fit.1))

@@ -11,7 +11,7 @@ use Rattle.nix_drv.specs.Derivation.{Drv}
 use Rattle.drv_graph.specs.Loading.{AreDistinct}
 use Rattle.drv_graph.specs.Nodes.{Node, inputs_of, paths_of}
 use Rattle.drv_graph.specs.Plans.{AreDrvsOf, AreNumbers, Graph}
-use Rattle.drv_graph.specs.PlanNodes.{AreKept, IsKept, drvs_of, node_of, nodes_of, output_paths_of}
+use Rattle.drv_graph.specs.PlanNodes.{AreKept, IsPlanNode, drvs_of, node_of, nodes_of, output_paths_of}
 use Rattle.drv_graph.specs.SoundGraphs.{IsSound}
 use Rattle.drv_graph.specs.Twins.{are_twins_at, first_twin_of}
 use Rattle.drv_graph.specs.declared.node.PlanNode.{PlanNode}
@@ -54,7 +54,8 @@ pub kept_distinct : (kept : List PlanNode) (roots : List ℕ) (n : ℕ) (node : 
     < length (nodes_of kept) → node ≡ get_or kept n node → AreKept kept
     → IsSound (record { nodes = nodes_of kept; roots = roots }) → AreDistinct node.outputs.items
 kept_distinct kept roots n node lt is are sound =
-    let own : IsKept (nodes_of kept) node = All-contains (IsKept (nodes_of kept)) kept node are
+    let own : IsPlanNode (nodes_of kept) node =
+    All-contains (IsPlanNode (nodes_of kept)) kept node are
     (Contains-from_get kept n node (kept_at kept n node lt is)) in
     subst AreDistinct (sym own.outputs)
     (All-contains (λ (m : Node). AreDistinct (output_paths_of m.drv)) (nodes_of kept)
@@ -65,7 +66,8 @@ kept_distinct kept roots n node lt is are sound =
 pub kept_first : (kept : List PlanNode) (n : ℕ) (node : PlanNode) → n < length (nodes_of kept)
     → node ≡ get_or kept n node → AreKept kept → node.first ≡ first_twin_of (nodes_of kept) n
 kept_first kept n node lt is are =
-    let own : IsKept (nodes_of kept) node = All-contains (IsKept (nodes_of kept)) kept node are
+    let own : IsPlanNode (nodes_of kept) node =
+    All-contains (IsPlanNode (nodes_of kept)) kept node are
     (Contains-from_get kept n node (kept_at kept n node lt is)) in
     own.first
     ∙ ap (λ o. position_or_len (λ (m : Node). are_twins_at (Some m) o) (nodes_of kept))
@@ -127,7 +129,8 @@ pub inputs_smaller : (kept : List PlanNode) (roots : List ℕ) (d : ℕ) (node :
     < length (nodes_of kept) → node ≡ get_or kept d node → AreKept kept
     × IsSound (record { nodes = nodes_of kept; roots = roots }) → All (λ n. n < d) node.inputs.items
 inputs_smaller kept roots d node lt is right =
-    let own : IsKept (nodes_of kept) node = All-contains (IsKept (nodes_of kept)) kept node right.0
+    let own : IsPlanNode (nodes_of kept) node =
+    All-contains (IsPlanNode (nodes_of kept)) kept node right.0
     (Contains-from_get kept d node (kept_at kept d node lt is)) in
     All-from_contains (λ n. n < d) node.inputs.items
     (smaller (record { nodes = nodes_of kept; roots = roots }) d (node_of node)

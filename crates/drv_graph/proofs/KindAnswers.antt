@@ -11,7 +11,7 @@ use Rattle.nix_drv.specs.Derivation.{Drv, Output}
 use Rattle.drv_graph.specs.Checking.{IsFixedKind, IsKindFault, SaysSome}
 use Rattle.drv_graph.specs.declared.fault.OutputFault.{OutputFault}
 use Rattle.drv_graph.specs.declared.fault.OutputFault.TheVariants.{NoMemory, MixedOutputs, UnknownMethod, BadName, UnknownOutput, OutputMismatch, EnvMismatch}
-use Rattle.drv_graph.specs.Kinds.{AreMixed, HasKind, IsAddressed, IsFixed, IsTaken, IsUnknown, algo_of}
+use Rattle.drv_graph.specs.Kinds.{AreMixed, HasKind, IsAddressed, IsFixed, MayBeDeclared, HasUnknownMethod, algo_of}
 use Rattle.drv_graph.specs.declared.kinds.Kind.{Kind}
 use Rattle.drv_graph.specs.declared.kinds.Kind.TheVariants.{Addressed, Fixed}
 use Rattle.drv_graph.specs.declared.kinds.Method.{Method}
@@ -68,7 +68,8 @@ pub unknown : (drv : Drv) (outputs : List Output) (only : Output) (name : List �
     ≡ drv.outputs → outputs ≡ only ∷ [] → only.name ≡ codes "out"
     → (o : Output) × Contains outputs o × (IsAddressed o → ⊥)
     → ((method : Method) (digest : Digest) → IsFixed only method digest → ⊥) → name ≡ only.name
-    → (AreMixed drv → ⊥) × ((o : Output) × Contains drv.outputs o × IsUnknown o × (name ≡ o.name))
+    → (AreMixed drv → ⊥) × ((o : Output) × Contains drv.outputs o × HasUnknownMethod o
+    × (name ≡ o.name))
 unknown drv outputs only name here is named says none same = (
   not_mixed drv only (sym here ∙ is) named,
   (
@@ -118,7 +119,8 @@ not_recursive Sha256 e = cc
 not_recursive Sha512 e = cc
 
 -- method and algorithm are told by their spelling
-one_method : (a b : Method) (d e : Digest) → IsTaken a d → IsTaken b e → algo_of a d ≡ algo_of b e
+one_method : (a b : Method) (d e : Digest) → MayBeDeclared a d → MayBeDeclared b e
+    → algo_of a d ≡ algo_of b e
     → (a ≡ b) × (algorithm_of d ≡ algorithm_of e)
 one_method Flat Flat d e taken taken' same =
     (refl, one_name (algorithm_of d) (algorithm_of e) same)

@@ -17,8 +17,8 @@ use Rattle.drv_graph.specs.Loading.{AreDistinct}
 use Rattle.drv_graph.specs.Nodes.{Node, inputs_of, output_paths_of, paths_of}
 use Rattle.drv_graph.specs.Owners.{AreOwnedBy, AreOwners, IsClash, IsOwning, outputs_of, owned}
 use Rattle.drv_graph.specs.Plans.{AreLawful, AreNumbers, AreTwins, IsLawful, MayAnswer, ShareOutput}
-use Rattle.drv_graph.specs.PlanNodes.{AreKept, HasHash, IsKept, node_of, nodes_of, text_path_of}
-use Rattle.drv_graph.specs.Walks.{HasAllNumbers, IsFound, IsLeaving, IsLeavingFault, IsVisit, SetsEntry, kept_visit, marked, visited}
+use Rattle.drv_graph.specs.PlanNodes.{AreKept, HasHash, IsPlanNode, node_of, nodes_of, text_path_of}
+use Rattle.drv_graph.specs.Walks.{HasAllNumbers, IsWalkSoFar, IsLeaving, IsLeavingFault, IsVisit, SetsEntry, kept_visit, marked, visited}
 use Rattle.indexmap.specs.IndexMap.{keys}
 use Rattle.drv_graph.specs.declared.fault.GraphFault.{GraphFault}
 use Rattle.drv_graph.specs.declared.fault.GraphFault.TheVariants.{NoMemory}
@@ -109,10 +109,10 @@ lawful_push dir nodes node all one before (x ∷ xs) other parts =
     all before rest.0 other (same_from_push nodes (before ++ other ∷ rest.0) node rest.1 whole).0
 
 -- what is kept stays right as nodes are added behind its first twin
-kept_grows : (nodes more : List Node) (kept : PlanNode) → IsKept nodes kept
+kept_grows : (nodes more : List Node) (kept : PlanNode) → IsPlanNode nodes kept
     → position_or_len (λ (n : Node). are_twins n.drv kept.drv) (nodes ++ more)
     ≡ position_or_len (λ (n : Node). are_twins n.drv kept.drv) nodes
-    → IsKept (nodes ++ more) kept
+    → IsPlanNode (nodes ++ more) kept
 kept_grows nodes more kept right stays = record {
   numbers = numbers_grow nodes more kept.inputs.items (inputs_of kept.drv) right.numbers;
   has_kind = right.has_kind;
@@ -155,18 +155,19 @@ apart_drv kept drv owners right earlier has =
     (get_pushed left (output_paths_of drv)))
 
 -- what is kept is right with one derivation more
-kept_push : (kept : List PlanNode) (one : PlanNode) → AreKept kept → IsKept (nodes_of kept) one
+kept_push : (kept : List PlanNode) (one : PlanNode) → AreKept kept → IsPlanNode (nodes_of kept) one
     → AreKept (kept ++ one ∷ [])
 kept_push kept one right new =
     let nodes = nodes_of kept in
     let twins : PlanNode → Node → Bool = λ k n. are_twins n.drv k.drv in
-    let grow : (k : PlanNode) → IsKept nodes k → position_or_len (twins k) (nodes ++ node_of one ∷ [])
-    ≡ position_or_len (twins k) nodes → IsKept (nodes_of (kept ++ one ∷ [])) k =
-    λ k is stays. subst (λ ns. IsKept ns k) (sym (map_push node_of kept one))
+    let grow : (k : PlanNode) → IsPlanNode nodes k
+    → position_or_len (twins k) (nodes ++ node_of one ∷ [])
+    ≡ position_or_len (twins k) nodes → IsPlanNode (nodes_of (kept ++ one ∷ [])) k =
+    λ k is stays. subst (λ ns. IsPlanNode ns k) (sym (map_push node_of kept one))
     (kept_grows nodes (node_of one ∷ []) k is stays) in
-    All-push (IsKept (nodes_of (kept ++ one ∷ []))) kept one
-    (All-from_contains (IsKept (nodes_of (kept ++ one ∷ []))) kept
-    (λ k has. grow k (All-contains (IsKept nodes) kept k right has)
+    All-push (IsPlanNode (nodes_of (kept ++ one ∷ []))) kept one
+    (All-from_contains (IsPlanNode (nodes_of (kept ++ one ∷ []))) kept
+    (λ k has. grow k (All-contains (IsPlanNode nodes) kept k right has)
     (position_grows (twins k) nodes (node_of one ∷ []) (node_of k) (Contains-map node_of kept k has)
     (twins_alone k.drv))))
     (grow one new (position_push (twins one) nodes (node_of one) (twins_alone one.drv)))
@@ -178,7 +179,7 @@ found_right :
     AreKept kept →
     AreDistinct (paths_of (nodes_of kept)) →
     AreLawful dir (nodes_of kept) →
-    IsKept (nodes_of kept) one →
+    IsPlanNode (nodes_of kept) one →
     (Contains (paths_of (nodes_of kept)) one.path → ⊥) →
     MayAnswer dir (nodes_of kept) (node_of one) (Ok one.kind) →
     All (λ (n : Node). AreDistinct (output_paths_of n.drv)) (nodes_of kept) →
@@ -187,7 +188,7 @@ found_right :
     AreOwners owners (outputs_of kept ++ outputs ∷ []) →
     after.nodes.items ≡ kept ++ one ∷ [] →
     owned after.owners ≡ owners →
-    IsFound dir after
+    IsWalkSoFar dir after
 found_right dir kept after one owners outputs right distinct lawful is_kept new answer others once
     are entered grown same = record {
       kept = subst AreKept (sym grown) (kept_push kept one right is_kept);
@@ -242,7 +243,7 @@ pub leaving_kept :
     (dir : List ℕ) (before after : Found) (visit : Visit) (kind : Kind) (hash : List ℕ)
     (outputs sources : Vec (List ℕ)) (first : ℕ) (given : List PlanNode) (entered : List (List ℕ))
     (owners : List ℕ → Option ℕ) (result : Result ⊤ GraphFault) →
-    IsFound dir before →
+    IsWalkSoFar dir before →
     IsVisit (nodes_of before.nodes.items) visit →
     HasAllNumbers visit →
     (Contains (paths_of (nodes_of before.nodes.items)) visit.path → ⊥) →
@@ -274,7 +275,7 @@ leaving_kept dir before after visit kind hash outputs sources first given entere
     × AreOwnedBy owners first entered =
     subst (λ k. AreOwners owners (outputs_of k ++ entered ∷ []) × AreOwnedBy owners first entered)
     same owning in
-    let is_kept : IsKept (nodes_of kept) (kept_visit visit kind hash outputs sources first) =
+    let is_kept : IsPlanNode (nodes_of kept) (kept_visit visit kind hash outputs sources first) =
     record {
       numbers = numbers;
       has_kind = right.0.check.0.has_kind;

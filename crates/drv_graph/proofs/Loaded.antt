@@ -13,9 +13,9 @@ use Rattle.nix_drv.specs.Sources.{Answer, GivesSame}
 use Rattle.drv_graph.specs.Loading.{AreDistinct, max_nodes}
 use Rattle.drv_graph.specs.Nodes.{Node, output_paths_of, paths_of}
 use Rattle.drv_graph.specs.Owners.{AreOwners, outputs_of, owned}
-use Rattle.drv_graph.specs.Plans.{AreLawful, AreLeft, AreNumbers, IsPlan, IsReached, MayStand, MayUse, each_once}
+use Rattle.drv_graph.specs.Plans.{AreLawful, AreLeft, AreNumbers, IsPlan, IsReachedBy, MayBeAt, MayUse, each_once}
 use Rattle.drv_graph.specs.Plans.AreLeft.{none_left}
-use Rattle.drv_graph.specs.PlanNodes.{AreKept, IsKept, node_of, nodes_of}
+use Rattle.drv_graph.specs.PlanNodes.{AreKept, IsPlanNode, node_of, nodes_of}
 use Rattle.drv_graph.specs.SoundGraphs.{IsSound}
 use Rattle.drv_graph.specs.Walks.{AreMarks, IsEmptyFound, IsReachedAll, IsVisited, IsWalked, marked}
 use Rattle.drv_graph.specs.declared.found.Found.{Found}
@@ -69,7 +69,7 @@ pub loading_begins : (dir : List ℕ) (gives : List ℕ → Answer → Type 0) (
 loading_begins dir gives roots found numbers empty none once = record {
   walked = record {
     right = record {
-      kept = subst AreKept (sym empty.0) (All-nil (IsKept []));
+      kept = subst AreKept (sym empty.0) (All-nil (IsPlanNode []));
       distinct = subst (λ l. IsDistinct (pointwise nat_eq) (paths_of (nodes_of l))) (sym empty.0)
           distinct_none;
       lawful = subst (λ l. AreLawful dir (nodes_of l)) (sym empty.0) (no_nodes dir);
@@ -79,10 +79,10 @@ loading_begins dir gives roots found numbers empty none once = record {
       owners = subst (λ l. AreOwners (owned found.owners) (outputs_of l)) (sym empty.0)
           (owners_none (owned found.owners) (empty_get found.owners empty.2));
     };
-    given = subst (λ l. All (λ (n : Node). MayStand dir gives n.path n.drv) (nodes_of l))
-        (sym empty.0) (All-nil (λ (n : Node). MayStand dir gives n.path n.drv));
-    reached = subst (λ l. All (IsReached (MayUse dir gives) roots) (paths_of (nodes_of l)))
-        (sym empty.0) (All-nil (IsReached (MayUse dir gives) roots));
+    given = subst (λ l. All (λ (n : Node). MayBeAt dir gives n.path n.drv) (nodes_of l))
+        (sym empty.0) (All-nil (λ (n : Node). MayBeAt dir gives n.path n.drv));
+    reached = subst (λ l. All (IsReachedBy (MayUse dir gives) roots) (paths_of (nodes_of l)))
+        (sym empty.0) (All-nil (IsReachedBy (MayUse dir gives) roots));
     marks = subst (λ l. AreMarks (marked found.marks) (paths_of (nodes_of l)) []) (sym empty.0)
         (marks_none (marked found.marks) (empty_get found.marks empty.1));
     count = no_keys found empty;

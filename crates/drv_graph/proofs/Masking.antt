@@ -20,7 +20,7 @@ use Rattle.nix_drv.specs.declared.derivation.Parts.{Parts}
 use Rattle.drv_graph.specs.Uniting.{masked_output}
 use Rattle.std.specs.Vec.{with_items}
 use Rattle.std.proofs.lemmas.List.{with_items_is}
-use Rattle.nix_drv.specs.Places.{IsPlaceOf}
+use Rattle.nix_drv.specs.Places.{IsPlaceOfKey}
 use Rattle.drv_graph.specs.Modulo.{IsModuloText, IsUnited, masked, masked_entry, names_of, replaced, with_inputs}
 use Rattle.nix_names.proofs.Lists.{Contains-first, Contains-later}
 
@@ -69,14 +69,14 @@ masked_other names entry none =
 
 -- the same by what was found
 pub masked_found : (names : List (List ℕ)) (entry : EnvEntry) (key : List ℕ) (found : Option ℕ)
-    → IsPlaceOf names key found → key ≡ entry.key → is_some found ≡ true
+    → IsPlaceOfKey names key found → key ≡ entry.key → is_some found ≡ true
     → record { key = entry.key; value = [] } ≡ masked_entry names entry
 masked_found names entry key None place same is = absurd (false≢true is)
 masked_found names entry key (Some place) at same is =
     masked_under names entry place (at ∙ ap (λ (k : List ℕ). Some k) same)
 
 pub masked_missing : (names : List (List ℕ)) (entry : EnvEntry) (key : List ℕ) (found : Option ℕ)
-    → IsPlaceOf names key found → key ≡ entry.key → is_some found ≡ false
+    → IsPlaceOfKey names key found → key ≡ entry.key → is_some found ≡ false
     → entry ≡ masked_entry names entry
 masked_missing names entry key None none same is =
     masked_other names entry (λ has. none (subst (λ (k : List ℕ). Contains names k) (sym same) has))

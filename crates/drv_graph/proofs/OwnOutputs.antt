@@ -22,7 +22,7 @@ use Rattle.drv_graph.specs.Kinds.{HasKind}
 use Rattle.drv_graph.specs.Loading.{AreDistinct}
 use Rattle.drv_graph.specs.Nodes.{Node, output_paths_of}
 use Rattle.drv_graph.specs.Outputs.{IsThePath, IsWellNamed, PathsFit}
-use Rattle.drv_graph.specs.Plans.{MayAnswer, MayStand}
+use Rattle.drv_graph.specs.Plans.{MayAnswer, MayBeAt}
 use Rattle.drv_graph.specs.declared.kinds.Kind.{Kind}
 use Rattle.drv_graph.specs.declared.kinds.Kind.TheVariants.{Addressed, Fixed}
 use Rattle.drv_graph.proofs.PathLists.{other_path}
@@ -129,9 +129,9 @@ own_outputs dir before node kind right rising =
 
 -- a plan's derivations stand at the paths of derivations' files
 pub all_named : (dir : List ℕ) (gives : List ℕ → Answer → Type 0) (nodes : List Node)
-    → All (λ (n : Node). MayStand dir gives n.path n.drv) nodes
+    → All (λ (n : Node). MayBeAt dir gives n.path n.drv) nodes
     → All (λ (n : Node). IsDrvPath n.path) nodes
 all_named dir gives nodes given =
     All-from_contains (λ (n : Node). IsDrvPath n.path) nodes
-    (λ n has. (All-contains (λ (m : Node). MayStand dir gives m.path m.drv) nodes n given
+    (λ n has. (All-contains (λ (m : Node). MayBeAt dir gives m.path m.drv) nodes n given
     has).found.read.named)

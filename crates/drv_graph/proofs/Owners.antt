@@ -9,7 +9,7 @@ use Rattle.std.proofs.lemmas.Option.{none-some, same_Some, slice_get_read, slice
 use Rattle.drv_graph.specs.Loading.{AreDistinct}
 use Rattle.drv_graph.specs.Nodes.{Node, output_paths_of}
 use Rattle.drv_graph.specs.Owners.{AreEntered, AreOwnedBy, AreOwners, HasAsMany, IsClash, IsEntering, IsOwning, first_owner, outputs_of}
-use Rattle.drv_graph.specs.PlanNodes.{AreKept, IsKept, node_of, nodes_of}
+use Rattle.drv_graph.specs.PlanNodes.{AreKept, IsPlanNode, node_of, nodes_of}
 use Rattle.drv_graph.specs.Plans.{HaveSamePaths}
 use Rattle.drv_graph.specs.Walks.{SetsEntry}
 use Rattle.drv_graph.specs.declared.fault.GraphFault.{GraphFault}
@@ -39,7 +39,8 @@ pub apart_or_same : (owners : List ℕ → Option ℕ) (left : Lists) (i j : ℕ
 apart_or_same owners left i j a b right at at' =
     let mine = right.of_each i a at in
     let other = right.of_each j b at' in
-    let one : (path : List ℕ) → Contains a path → Contains b path → mine.0 ≡ other.0 = λ path is is'.
+    let one : (path : List ℕ) → Contains a path → Contains b path → mine.0 ≡ other.0 =
+    λ path is is'.
     same_Some mine.0 other.0 (sym ((mine.2 path).0 is) ∙ (other.2 path).0 is') in
     ⊎_elim
     (λ same. inr (λ path. (
@@ -253,7 +254,8 @@ enter_step before now after paths i path key owner old number lt is copied once 
     same sets =
     let taken : take i paths ++ path ∷ [] ≡ take (i + 1) paths =
     ap (λ p. take i paths ++ p ∷ []) is ∙ sym (take_more paths i path lt) in
-    let here : before path ≡ owner = sym (unchanged before now paths i path number once lt is entered)
+    let here : before path ≡ owner = sym (unchanged before now paths i path number once lt is
+    entered)
     ∙ ap now (sym copied) ∙ sym found ∙ same in (
       λ other has. ⊎_elim (λ earlier. were other earlier) (λ last. ap before (sym last) ∙ here)
           (Contains-push_cases (take i paths) path other
@@ -372,7 +374,8 @@ clash_long kept owners (first ∷ rest) n node are all right once e at differs =
     let same_list : found.0 ≡ its = same_element (outputs_of kept) n found.0 its found.1
     (get_mapped (λ (k : PlanNode). output_paths_of k.drv) kept n node at) in
     let among : Contains kept node = Contains-from_get kept n node at in
-    let is_kept : IsKept (nodes_of kept) node = All-contains (IsKept (nodes_of kept)) kept node are
+    let is_kept : IsPlanNode (nodes_of kept) node =
+    All-contains (IsPlanNode (nodes_of kept)) kept node are
     among in
     let distinct : AreDistinct its =
     All-contains (λ (m : Node). AreDistinct (output_paths_of m.drv)) (nodes_of kept) (node_of node)
@@ -437,7 +440,8 @@ owning_all kept owners after own (Some m) first many entered are right once many
     subst (IsEntering owners after (Some m) own first) all entering in
     let entered_right = subst (AreEntered owners after own) earlier both.1 in
     let node = many_are.0 in
-    let is_kept : IsKept (nodes_of kept) node = All-contains (IsKept (nodes_of kept)) kept node are
+    let is_kept : IsPlanNode (nodes_of kept) node =
+    All-contains (IsPlanNode (nodes_of kept)) kept node are
     (Contains-from_get kept m node many_are.1) in
     let made = owners_twin owners after (outputs_of kept) own (output_paths_of node.drv) m right
     (get_mapped (λ (k : PlanNode). output_paths_of k.drv) kept m node many_are.1) once

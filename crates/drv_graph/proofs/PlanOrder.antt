@@ -5,7 +5,7 @@ use Rattle.std.proofs.lemmas.List.Elements.{Contains-append_left, Contains-push}
 use Rattle.std.proofs.lemmas.Option.{same_Some}
 use Rattle.drv_graph.specs.Loading.{AreDistinct}
 use Rattle.drv_graph.specs.Nodes.{Node, inputs_of, paths_of}
-use Rattle.drv_graph.specs.Plans.{AreLeft, IsReached, Leads, Uses}
+use Rattle.drv_graph.specs.Plans.{AreLeft, IsReachedBy, LeadsBy, Uses}
 use Rattle.drv_graph.specs.Plans.AreLeft.{none_left, passed_over, left_behind_inputs}
 use Rattle.drv_graph.proofs.PathLists.{same_place}
 use Rattle.nix_names.proofs.Lists.{Contains-cons_cases, Contains-first, Contains-later, Contains-nothing, Contains-push_cases, get_from_contains, get_mapped}
@@ -128,7 +128,7 @@ same_node nodes a b once has_a has_b same =
 
 -- one more step
 pub leads_more : (Step : List ℕ → List ℕ → Type 0) (from to next : List ℕ) (steps : List (List ℕ))
-    → Leads Step from to steps → Step to next → Leads Step from next (steps ++ next ∷ [])
+    → LeadsBy Step from to steps → Step to next → LeadsBy Step from next (steps ++ next ∷ [])
 leads_more Step from to next [] leads step = (
   subst (λ (p : List ℕ). Step p next) (sym leads) step,
   refl,
@@ -138,7 +138,7 @@ leads_more Step from to next (first ∷ steps) leads step =
 
 -- what is used by what is reached is reached
 pub reached_more : (Step : List ℕ → List ℕ → Type 0) (roots : List (List ℕ)) (path next : List ℕ)
-    → IsReached Step roots path → Step path next → IsReached Step roots next
+    → IsReachedBy Step roots path → Step path next → IsReachedBy Step roots next
 reached_more Step roots path next reached step = record {
   root = reached.root;
   is_root = reached.is_root;
@@ -148,15 +148,15 @@ reached_more Step roots path next reached step = record {
 
 -- a root is reached
 pub reached_root : (Step : List ℕ → List ℕ → Type 0) (roots : List (List ℕ)) (root : List ℕ)
-    → Contains roots root → IsReached Step roots root
+    → Contains roots root → IsReachedBy Step roots root
 reached_root Step roots root has = record { root = root; is_root = has; steps = []; leads = refl }
 
 -- all that a plan has is reached from its roots
 pub plan_reached : (nodes : List Node) (roots : List (List ℕ))
     → AreLeft nodes [] roots (paths_of nodes) → (path : List ℕ) → Contains (paths_of nodes) path
-    → IsReached (Uses nodes) roots path
+    → IsReachedBy (Uses nodes) roots path
 plan_reached nodes roots order =
-    left_all (IsReached (Uses nodes) roots)
+    left_all (IsReachedBy (Uses nodes) roots)
     (λ node input is_node reached is_input. reached_more (Uses nodes) roots node.path input reached
     (record { node = node; is_node = is_node; is_from = refl; is_input = is_input }))
     order
@@ -166,7 +166,7 @@ plan_reached nodes roots order =
 -- a closed list has all that is reached from its paths
 closed_leads : (nodes : List Node) (paths : List (List ℕ)) → AreDistinct (paths_of nodes)
     → AreClosed nodes paths → (from to : List ℕ) (steps : List (List ℕ)) → Contains paths from
-    → Leads (Uses nodes) from to steps → Contains paths to
+    → LeadsBy (Uses nodes) from to steps → Contains paths to
 closed_leads nodes paths once closed from to [] has leads = subst (Contains paths) leads has
 closed_leads nodes paths once closed from to (next ∷ steps) has leads =
     let own = closed from has in
@@ -179,7 +179,8 @@ closed_leads nodes paths once closed from to (next ∷ steps) has leads =
 
 -- a plan has all that is reached from its roots
 pub plan_whole : (nodes : List Node) (roots : List (List ℕ)) → AreDistinct (paths_of nodes)
-    → AreLeft nodes [] roots (paths_of nodes) → (path : List ℕ) → IsReached (Uses nodes) roots path
+    → AreLeft nodes [] roots (paths_of nodes) → (path : List ℕ)
+    → IsReachedBy (Uses nodes) roots path
     → Contains (paths_of nodes) path
 plan_whole nodes roots once order path reached =
     closed_leads nodes (paths_of nodes) once

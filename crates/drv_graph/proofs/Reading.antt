@@ -10,7 +10,7 @@ use Rattle.nix_drv.specs.Derivation.{Drv}
 use Rattle.nix_drv.specs.Sources.{Answer}
 use Rattle.nix_drv.specs.declared.fault.DrvFault.{DrvFault}
 use Rattle.drv_graph.specs.Nodes.{inputs_of}
-use Rattle.drv_graph.specs.Plans.{MayStand}
+use Rattle.drv_graph.specs.Plans.{MayBeAt}
 use Rattle.drv_graph.specs.Loading.{max_nodes}
 use Rattle.drv_graph.specs.Walks.{Advances, Descends, IsMeeting, IsReadingFault, IsTextFaultAt, Opens, SetsEntry, marked}
 use Rattle.drv_graph.specs.declared.fault.GraphFault.{GraphFault}
@@ -22,7 +22,8 @@ use Rattle.drv_graph.proofs.Marks.{sets_entry}
 -- a text with a fault
 pub reading_wrong : (dir : List ℕ) (gives : List ℕ → Answer → Type 0) (path : List ℕ) (count : ℕ)
     (bytes given : List ℕ) (text : DrvFault) (fault : GraphFault) → count < max_nodes
-    → gives path (Ok bytes) → given ≡ bytes → IsCheck dir path given (Err text) → IsTextFaultAt path text fault
+    → gives path (Ok bytes) → given ≡ bytes → IsCheck dir path given (Err text)
+    → IsTextFaultAt path text fault
     → IsReadingFault dir gives path count fault
 reading_wrong dir gives path count bytes given text NoMemory room gave same check at = tt
 reading_wrong dir gives path count bytes given text (At p found) room gave same check at =
@@ -38,7 +39,7 @@ pub opens_made :
     (before after : IndexMap (List ℕ) (Option ℕ) S) (path key : List ℕ) (drv : Drv)
     (visit : Visit) (old : Option (Option ℕ)) (count : ℕ) →
     visit.path ≡ path →
-    MayStand dir gives path drv × (count < max_nodes) →
+    MayBeAt dir gives path drv × (count < max_nodes) →
     visit.drv ≡ drv →
     visit.inputs.items ≡ inputs_of drv →
     visit.numbers.items ≡ [] →
@@ -60,7 +61,7 @@ opens_made dir gives before after path key drv visit old count is_path read is_d
     ∙ ap (λ o. length before.entries + (if is_some o then 0 else 1)) absent in
     record {
       is_path = is_path;
-      stands = subst (MayStand dir gives path) (sym is_drv) read.0;
+      stands = subst (MayBeAt dir gives path) (sym is_drv) read.0;
       inputs = inputs ∙ ap (λ d. inputs_of d) (sym is_drv);
       none = none;
       room = omega (arith, read.1, counted, long);

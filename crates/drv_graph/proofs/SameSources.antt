@@ -6,7 +6,7 @@ use Rattle.nix_drv.specs.Derivation.{Drv}
 use Rattle.nix_drv.specs.Sources.{Answer, GivesSame}
 use Rattle.drv_graph.specs.Loading.{IsLoading, MayCheck}
 use Rattle.drv_graph.specs.Nodes.{Node}
-use Rattle.drv_graph.specs.Plans.{IsReached, Leads, MayStand, MayUse}
+use Rattle.drv_graph.specs.Plans.{IsReachedBy, LeadsBy, MayBeAt, MayUse}
 use Rattle.drv_graph.specs.Walks.{IsWalked}
 use Rattle.drv_graph.specs.declared.fault.GraphFault.{GraphFault}
 use Rattle.drv_graph.specs.declared.fault.GraphFault.TheVariants.{NoMemory, At, Draft, Name}
@@ -19,14 +19,14 @@ pub gives_back : (G H : List ℕ → Answer → Type 0) → GivesSame G H → Gi
 gives_back G H same path answer = ((same path answer).1, (same path answer).0)
 
 leads_by : (Step Other : List ℕ → List ℕ → Type 0) → ((a b : List ℕ) → Step a b → Other a b)
-    → (from to : List ℕ) (steps : List (List ℕ)) → Leads Step from to steps
-    → Leads Other from to steps
+    → (from to : List ℕ) (steps : List (List ℕ)) → LeadsBy Step from to steps
+    → LeadsBy Other from to steps
 leads_by Step Other on from to [] leads = leads
 leads_by Step Other on from to (next ∷ steps) leads =
     (on from next leads.0, leads_by Step Other on next to steps leads.1)
 
 module _ (dir : List ℕ) (G H : List ℕ → Answer → Type 0) (same : GivesSame G H) where
-  stands_by : (path : List ℕ) (drv : Drv) → MayStand dir H path drv → MayStand dir G path drv
+  stands_by : (path : List ℕ) (drv : Drv) → MayBeAt dir H path drv → MayBeAt dir G path drv
   stands_by path drv stands = record {
     bytes = stands.bytes;
     given = (same path (Ok stands.bytes)).1 stands.given;
@@ -40,8 +40,8 @@ module _ (dir : List ℕ) (G H : List ℕ → Answer → Type 0) (same : GivesSa
     is_input = step.is_input;
   }
 
-  reached_by : (roots : List (List ℕ)) (path : List ℕ) → IsReached (MayUse dir H) roots path
-      → IsReached (MayUse dir G) roots path
+  reached_by : (roots : List (List ℕ)) (path : List ℕ) → IsReachedBy (MayUse dir H) roots path
+      → IsReachedBy (MayUse dir G) roots path
   reached_by roots path reached = record {
     root = reached.root;
     is_root = reached.is_root;
@@ -50,10 +50,10 @@ module _ (dir : List ℕ) (G H : List ℕ → Answer → Type 0) (same : GivesSa
         reached.leads;
   }
 
-  given_by : (nodes : List Node) → All (λ (n : Node). MayStand dir H n.path n.drv) nodes
-      → All (λ (n : Node). MayStand dir G n.path n.drv) nodes
-  given_by nodes all = All-weaker (λ (n : Node). MayStand dir H n.path n.drv)
-      (λ (n : Node). MayStand dir G n.path n.drv) (λ n. stands_by n.path n.drv) nodes all
+  given_by : (nodes : List Node) → All (λ (n : Node). MayBeAt dir H n.path n.drv) nodes
+      → All (λ (n : Node). MayBeAt dir G n.path n.drv) nodes
+  given_by nodes all = All-weaker (λ (n : Node). MayBeAt dir H n.path n.drv)
+      (λ (n : Node). MayBeAt dir G n.path n.drv) (λ n. stands_by n.path n.drv) nodes all
 
   checked_by : (path : List ℕ) (answer : Result Kind OutputFault) → MayCheck dir H path answer
       → MayCheck dir G path answer
@@ -74,7 +74,7 @@ module _ (dir : List ℕ) (G H : List ℕ → Answer → Type 0) (same : GivesSa
   walked_by roots found pending walked = record {
     right = walked.right;
     given = given_by _ walked.given;
-    reached = All-weaker (IsReached (MayUse dir H) roots) (IsReached (MayUse dir G) roots)
+    reached = All-weaker (IsReachedBy (MayUse dir H) roots) (IsReachedBy (MayUse dir G) roots)
         (reached_by roots) _ walked.reached;
     marks = walked.marks;
     count = walked.count;
@@ -98,7 +98,7 @@ module _ (dir : List ℕ) (G H : List ℕ → Answer → Type 0) (same : GivesSa
         paths = at.1.1.paths;
         distinct = at.1.1.distinct;
         many = at.1.1.many;
-        reached = All-weaker (IsReached (MayUse dir H) roots) (IsReached (MayUse dir G) roots)
+        reached = All-weaker (IsReachedBy (MayUse dir H) roots) (IsReachedBy (MayUse dir G) roots)
             (reached_by roots) at.1.1.paths at.1.1.reached;
       },
     ),

@@ -70,7 +70,8 @@ some_element [] some = absurd (some refl)
 some_element (o ∷ os) some = (o, Contains-first o os)
 
 -- a derivation with outputs of a kind has one
-pub some_output : (drv : Drv) (kind : Kind) → HasKind drv kind → (o : Output) × Contains drv.outputs o
+pub some_output : (drv : Drv) (kind : Kind) → HasKind drv kind → (o : Output)
+    × Contains drv.outputs o
 some_output drv Addressed has = some_element drv.outputs has.0
 some_output drv (Fixed method digest) has =
     (has.0, subst (λ (os : List Output). Contains os has.0) (sym has.1.0) (Contains-first has.0 []))

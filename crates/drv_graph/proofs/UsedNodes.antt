@@ -10,8 +10,8 @@ use Rattle.drv_graph.specs.Nodes.{Node, AreHashes, IsHashBy, inputs_of, paths_of
 use Rattle.drv_graph.specs.Nodes.AreHashes.{no_hashes, one_more_hash}
 use Rattle.drv_graph.specs.Outputs.{IsOutputsCheck, IsThePath}
 use Rattle.drv_graph.specs.Plans.{AreDrvsOf, AreNumbers, MayAnswer}
-use Rattle.drv_graph.specs.PlanNodes.{AreKept, HasHash, IsKept, node_of, nodes_of}
-use Rattle.drv_graph.specs.UsedInputs.{drvs_of, hashes_of, paths_of as used_paths_of}
+use Rattle.drv_graph.specs.PlanNodes.{AreKept, HasHash, IsPlanNode, node_of, nodes_of}
+use Rattle.drv_graph.specs.UsedInputs.{drvs_of_uses, hashes_of, paths_of_uses as used_paths_of}
 use Rattle.drv_graph.specs.Walks.{IsLeavingFault, IsOutputFaultAt, IsUsed, visited}
 use Rattle.drv_graph.specs.declared.fault.GraphFault.{GraphFault}
 use Rattle.drv_graph.specs.declared.fault.GraphFault.TheVariants.{NoMemory, At, Draft, Name}
@@ -58,7 +58,7 @@ used_paths kept (n ∷ ns) (u ∷ us) (p ∷ ps) zip e =
 
 -- the derivations that are used are those of the inputs
 pub used_drvs : (kept : List PlanNode) (ns : List ℕ) (us : List UsedInput)
-    → AllZip (IsUsed kept) ns us → AreDrvsOf (nodes_of kept) (used_paths_of us) (drvs_of us)
+    → AllZip (IsUsed kept) ns us → AreDrvsOf (nodes_of kept) (used_paths_of us) (drvs_of_uses us)
 used_drvs kept [] [] zip = tt
 used_drvs kept [] (u ∷ us) zip = absurd zip
 used_drvs kept (n ∷ ns) [] zip = absurd zip
@@ -74,7 +74,8 @@ used_hashes kept (n ∷ ns) (u ∷ us) right zip =
     let used = zip.0 in
     let node = used.node in
     let here = Contains-from_get kept n node used.is_node in
-    let own : IsKept (nodes_of kept) node = All-contains (IsKept (nodes_of kept)) kept node right
+    let own : IsPlanNode (nodes_of kept) node =
+    All-contains (IsPlanNode (nodes_of kept)) kept node right
     here in
     let rest = used_hashes kept ns us right zip.1 in
     let one = one_more_hash (node_of node) node.kind own.has_hash.of_inputs node.hash
@@ -138,18 +139,19 @@ pub answer_is :
     AllZip (IsUsed kept) visit.numbers.items us →
     name ≡ drv_name_of visit.path →
     given ≡ us →
-    IsOutputsCheck IsThePath dir name visit.drv (drvs_of given) (hashes_of given) answer →
+    IsOutputsCheck IsThePath dir name visit.drv (drvs_of_uses given) (hashes_of given) answer →
     MayAnswer dir (nodes_of kept) (visited visit) answer
 answer_is dir kept visit us given name answer right numbers zip named same checked = record {
-  used = drvs_of us;
+  used = drvs_of_uses us;
   hashes = hashes_of us;
-  are_used = subst (λ paths. AreDrvsOf (nodes_of kept) paths (drvs_of us))
+  are_used = subst (λ paths. AreDrvsOf (nodes_of kept) paths (drvs_of_uses us))
       (used_paths kept visit.numbers.items us (inputs_of visit.drv) zip numbers)
       (used_drvs kept visit.numbers.items us zip);
   are_hashes = hashes_are kept visit us right numbers zip;
-  check = subst (λ l. IsOutputsCheck IsThePath dir (drv_name_of visit.path) visit.drv (drvs_of l)
+  check = subst (λ l. IsOutputsCheck IsThePath dir (drv_name_of visit.path) visit.drv
+      (drvs_of_uses l)
       (hashes_of l) answer) same
-      (subst (λ n. IsOutputsCheck IsThePath dir n visit.drv (drvs_of given) (hashes_of given)
+      (subst (λ n. IsOutputsCheck IsThePath dir n visit.drv (drvs_of_uses given) (hashes_of given)
       answer) named checked);
 }
 
@@ -162,7 +164,7 @@ pub check_right :
     AllZip (IsUsed kept) visit.numbers.items us →
     name ≡ drv_name_of visit.path →
     given ≡ us →
-    IsOutputsCheck IsThePath dir name visit.drv (drvs_of given) (hashes_of given) (Ok kind) →
+    IsOutputsCheck IsThePath dir name visit.drv (drvs_of_uses given) (hashes_of given) (Ok kind) →
     hashed ≡ us →
     IsHashBy kind visit.drv (hashes_of hashed) hash →
     MayAnswer dir (nodes_of kept) (visited visit) (Ok kind)
@@ -186,7 +188,7 @@ pub check_wrong :
     AllZip (IsUsed kept) visit.numbers.items us →
     name ≡ drv_name_of visit.path →
     given ≡ us →
-    IsOutputsCheck IsThePath dir name visit.drv (drvs_of given) (hashes_of given) (Err fault) →
+    IsOutputsCheck IsThePath dir name visit.drv (drvs_of_uses given) (hashes_of given) (Err fault) →
     IsOutputFaultAt visit.path fault answer →
     IsLeavingFault dir kept visit answer
 check_wrong dir kept visit us given name fault NoMemory right numbers zip named same checked at = tt

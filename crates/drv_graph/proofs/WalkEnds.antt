@@ -11,10 +11,10 @@ use Rattle.nix_names.proofs.RisingLists.{equal_from_eq}
 use Rattle.nix_drv.specs.Sources.{Answer}
 use Rattle.drv_graph.specs.Loading.{AreDistinct, IsLoading, IsOnCycle, MayCheck, ReachTooMany, max_nodes}
 use Rattle.drv_graph.specs.Nodes.{Node, inputs_of, paths_of}
-use Rattle.drv_graph.specs.Plans.{AreLeft, IsReached, Leads, MayAnswer, MayStand, MayUse}
+use Rattle.drv_graph.specs.Plans.{AreLeft, IsReachedBy, LeadsBy, MayAnswer, MayBeAt, MayUse}
 use Rattle.drv_graph.specs.Plans.AreLeft.{none_left}
 use Rattle.drv_graph.specs.PlanNodes.{node_of, nodes_of}
-use Rattle.drv_graph.specs.Walks.{AreMarks, HasAllNumbers, IsFaultAt, IsLeavingFault, IsMeetingFault, IsReadingFault, Leaves, SetsEntry, marked, pending_of, visited}
+use Rattle.drv_graph.specs.Walks.{AreMarks, HasAllNumbers, IsFaultAt, IsLeavingFault, IsMeetingFault, IsReadingFault, LeavesVisit, SetsEntry, marked, pending_of, visited}
 use Rattle.drv_graph.specs.declared.fault.GraphFault.{GraphFault}
 use Rattle.drv_graph.specs.declared.fault.GraphFault.TheVariants.{NoMemory, At, Draft, Name}
 use Rattle.drv_graph.specs.declared.fault.NodeFault.TheVariants.{Unreadable, TooMany, Text, Cycle, Outputs, OutputClash}
@@ -56,16 +56,16 @@ pub walk_leaves :
     (start : List Node) (found after : Found) (visit : Visit) (visits : List Visit) →
     IsWalk dir gives roots root start found (visit ∷ visits) →
     HasAllNumbers visit →
-    Leaves dir found after visit →
+    LeavesVisit dir found after visit →
     IsWalk dir gives roots root start after visits
 walk_leaves dir gives roots root start found after visit visits walk all leaves = record {
   walked = record {
     right = leaves.found;
-    given = subst (All (λ (n : Node). MayStand dir gives n.path n.drv)) (sym leaves.nodes)
-        (All-push (λ (n : Node). MayStand dir gives n.path n.drv) (nodes_of found.nodes.items)
+    given = subst (All (λ (n : Node). MayBeAt dir gives n.path n.drv)) (sym leaves.nodes)
+        (All-push (λ (n : Node). MayBeAt dir gives n.path n.drv) (nodes_of found.nodes.items)
         (visited visit) walk.walked.given is.stands);
-    reached = subst (All (IsReached (MayUse dir gives) roots)) (sym paths_grown)
-        (All-push (IsReached (MayUse dir gives) roots) (paths_of (nodes_of found.nodes.items))
+    reached = subst (All (IsReachedBy (MayUse dir gives) roots)) (sym paths_grown)
+        (All-push (IsReachedBy (MayUse dir gives) roots) (paths_of (nodes_of found.nodes.items))
         visit.path walk.walked.reached is.reached);
     marks = subst (λ l. AreMarks (marked after.marks) l (pending_of visits)) (sym paths_grown)
         (marks_left (marked found.marks) (marked after.marks)
@@ -142,7 +142,7 @@ walk_leaves dir gives roots root start found after visit visits walk all leaves 
 leads_up : (dir : List ℕ) (gives : List ℕ → Answer → Type 0) (roots : List (List ℕ)) (root : List ℕ)
     (nodes : List Node) (v : Visit) (vs : List Visit) (path : List ℕ)
     → AreOpen dir gives roots root nodes (v ∷ vs) → Contains (pending_of (v ∷ vs)) path
-    → (steps : List (List ℕ)) × Leads (MayUse dir gives) path v.path steps
+    → (steps : List (List ℕ)) × LeadsBy (MayUse dir gives) path v.path steps
 leads_up dir gives roots root nodes v [] path are has =
     ⊎_elim (λ same. ([], sym same)) (λ none. absurd (Contains-nothing path none))
     (Contains-cons_cases v.path [] path has)
@@ -160,10 +160,10 @@ leads_up dir gives roots root nodes v (w ∷ ws) path are has =
 pending_reached : (dir : List ℕ) (gives : List ℕ → Answer → Type 0) (roots : List (List ℕ))
     (root : List ℕ) (nodes : List Node) (visits : List Visit) (path : List ℕ)
     → AreOpen dir gives roots root nodes visits → Contains (pending_of visits) path
-    → IsReached (MayUse dir gives) roots path
+    → IsReachedBy (MayUse dir gives) roots path
 pending_reached dir gives roots root nodes [] path are has = absurd (Contains-nothing path has)
 pending_reached dir gives roots root nodes (v ∷ vs) path are has =
-    ⊎_elim (λ same. subst (IsReached (MayUse dir gives) roots) same are.0.reached)
+    ⊎_elim (λ same. subst (IsReachedBy (MayUse dir gives) roots) same are.0.reached)
     (λ below. pending_reached dir gives roots root nodes vs path are.3 below)
     (Contains-cons_cases v.path (pending_of vs) path has)
 
@@ -186,12 +186,12 @@ on_cycle dir gives roots root nodes (v ∷ vs) path are wanted has =
 met_reached : (dir : List ℕ) (gives : List ℕ → Answer → Type 0) (roots : List (List ℕ))
     (root : List ℕ) (start : List Node) (found : Found) (visits : List Visit)
     → IsWalk dir gives roots root start found visits → (path : List ℕ)
-    → Contains (keys found.marks) path → IsReached (MayUse dir gives) roots path
+    → Contains (keys found.marks) path → IsReachedBy (MayUse dir gives) roots path
 met_reached dir gives roots root start found visits walk path has =
     by (marked found.marks path) refl
   where
     by : (mark : Option (Option ℕ)) → marked found.marks path ≡ mark
-        → IsReached (MayUse dir gives) roots path
+        → IsReachedBy (MayUse dir gives) roots path
     by None is = absurd
         (false≢true
         (sym (ap is_some is)
@@ -199,14 +199,14 @@ met_reached dir gives roots root start found visits walk path has =
     by (Some None) is = pending_reached dir gives roots root (nodes_of found.nodes.items) visits
         path walk.pending ((walk.walked.marks.is_pending path).0 is)
     by (Some (Some n)) is =
-        All-contains (IsReached (MayUse dir gives) roots) (paths_of (nodes_of found.nodes.items))
+        All-contains (IsReachedBy (MayUse dir gives) roots) (paths_of (nodes_of found.nodes.items))
         path walk.walked.reached
         (Contains-from_get (paths_of (nodes_of found.nodes.items)) n path
         ((walk.walked.marks.numbered path n).0 is))
 
 too_many : (dir : List ℕ) (gives : List ℕ → Answer → Type 0) (roots : List (List ℕ)) (root : List ℕ)
     (start : List Node) (found : Found) (visits : List Visit) (path : List ℕ)
-    → IsWalk dir gives roots root start found visits → IsReached (MayUse dir gives) roots path
+    → IsWalk dir gives roots root start found visits → IsReachedBy (MayUse dir gives) roots path
     → marked found.marks path ≡ None → AreDistinct (keys found.marks) → max_nodes
     ≤ length (keys found.marks) → ReachTooMany (MayUse dir gives) roots
 too_many dir gives roots root start found visits path walk reached none distinct many =
@@ -217,8 +217,8 @@ too_many dir gives roots root start found visits path walk reached none distinct
           (λ has. false≢true (sym (ap is_some none)
           ∙ (hash_map_contains_key_iff nat_list_eq_equiv equal_from_eq found.marks path).1 has));
       many = omega (arith, many, length_push (keys found.marks) path);
-      reached = All-push (IsReached (MayUse dir gives) roots) (keys found.marks) path
-          (All-from_contains (IsReached (MayUse dir gives) roots) (keys found.marks)
+      reached = All-push (IsReachedBy (MayUse dir gives) roots) (keys found.marks) path
+          (All-from_contains (IsReachedBy (MayUse dir gives) roots) (keys found.marks)
           (met_reached dir gives roots root start found visits walk)) reached;
     }
 
@@ -235,7 +235,7 @@ pub meeting_fault :
 meeting_fault dir gives roots root start found visits path fault has_root walk wanted (inl cycle) =
     by fault cycle.0
   where
-    reached : IsReached (MayUse dir gives) roots path
+    reached : IsReachedBy (MayUse dir gives) roots path
     reached = wanted_reached dir gives roots root (nodes_of found.nodes.items) visits path has_root
         walk.pending wanted
 
@@ -243,7 +243,7 @@ meeting_fault dir gives roots root start found visits path fault has_root walk w
     by NoMemory at = tt
     by (At p found_fault) at =
         subst (λ f. IsLoading dir gives roots (Err (At p f))) (sym at.1)
-        (subst (λ q. IsReached (MayUse dir gives) roots q × IsOnCycle (MayUse dir gives) q)
+        (subst (λ q. IsReachedBy (MayUse dir gives) roots q × IsOnCycle (MayUse dir gives) q)
         (sym at.0) (
           reached,
           on_cycle dir gives roots root (nodes_of found.nodes.items) visits path
@@ -254,7 +254,7 @@ meeting_fault dir gives roots root start found visits path fault has_root walk w
 meeting_fault dir gives roots root start found visits path fault has_root walk wanted
     (inr reading) = by fault reading.0
   where
-    reached : IsReached (MayUse dir gives) roots path
+    reached : IsReachedBy (MayUse dir gives) roots path
     reached = wanted_reached dir gives roots root (nodes_of found.nodes.items) visits path has_root
         walk.pending wanted
 
@@ -338,7 +338,7 @@ leaving_fault dir gives roots root start found visit visits (At p OutputClash) w
             at.1.1;
         earlier = other;
         is_earlier = at.2.1;
-        reached = All-contains (IsReached (MayUse dir gives) roots) left other.path
+        reached = All-contains (IsReachedBy (MayUse dir gives) roots) left other.path
             walk.walked.reached there;
         differs = differs;
         shares = at.2.2;

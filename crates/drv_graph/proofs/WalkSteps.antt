@@ -10,7 +10,7 @@ use Rattle.nix_drv.specs.Derivation.{Drv}
 use Rattle.nix_drv.specs.Sources.{Answer, GivesSame}
 use Rattle.drv_graph.specs.Loading.{IsLoading}
 use Rattle.drv_graph.specs.Nodes.{Node, paths_of}
-use Rattle.drv_graph.specs.Plans.{MayStand}
+use Rattle.drv_graph.specs.Plans.{MayBeAt}
 use Rattle.drv_graph.specs.PlanNodes.{nodes_of}
 use Rattle.drv_graph.specs.Walks.{IsGoingOn, IsMeetingFault, IsReadingFault, IsVisit, IsVisited, LeavesNone, Opens, marked, pending_of}
 use Rattle.drv_graph.specs.declared.fault.GraphFault.{GraphFault}
@@ -37,7 +37,7 @@ pub gives_itself : (G : List ℕ → Answer → Type 0) → GivesSame G G
 gives_itself G path answer = (λ g. g, λ g. g)
 
 same_stands : (dir : List ℕ) (G H : List ℕ → Answer → Type 0) (path : List ℕ) (drv : Drv)
-    → GivesSame G H → MayStand dir H path drv → MayStand dir G path drv
+    → GivesSame G H → MayBeAt dir H path drv → MayBeAt dir G path drv
 same_stands dir G H path drv same stands = record {
   bytes = stands.bytes;
   given = (same path (Ok stands.bytes)).1 stands.given;

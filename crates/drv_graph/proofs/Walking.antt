@@ -8,10 +8,10 @@ use Rattle.nix_drv.specs.Sources.{Answer}
 use Rattle.drv_graph.specs.Loading.{AreDistinct}
 use Rattle.drv_graph.specs.Nodes.{Node, inputs_of, output_paths_of, paths_of}
 use Rattle.drv_graph.specs.Owners.{AreOwners, outputs_of, owned}
-use Rattle.drv_graph.specs.Plans.{AreLawful, AreLeft, AreNumbers, IsReached, MayStand, MayUse}
+use Rattle.drv_graph.specs.Plans.{AreLawful, AreLeft, AreNumbers, IsReachedBy, MayBeAt, MayUse}
 use Rattle.drv_graph.specs.Plans.AreLeft.{passed_over, left_behind_inputs}
 use Rattle.drv_graph.specs.PlanNodes.{AreKept, nodes_of}
-use Rattle.drv_graph.specs.Walks.{Advances, AreMarks, IsFound, IsVisit, IsWalked, LeavesNone, Opens, marked, pending_of, visited}
+use Rattle.drv_graph.specs.Walks.{Advances, AreMarks, IsWalkSoFar, IsVisit, IsWalked, LeavesNone, Opens, marked, pending_of, visited}
 use Rattle.drv_graph.specs.declared.found.Found.{Found}
 use Rattle.drv_graph.specs.declared.found.Visit.{Visit}
 use Rattle.drv_graph.proofs.Marks.{marks_opened, new_not_left, new_not_pending}
@@ -23,8 +23,8 @@ use Rattle.nix_names.proofs.Lists.{Contains-from_get, drop_at, take_at}
 pub record IsOpen (dir : List ℕ) (gives : List ℕ → Answer → Type 0) (roots : List (List ℕ))
     (nodes : List Node) (visit : Visit) : Type 0 where
   pub is_visit : IsVisit nodes visit
-  pub stands : MayStand dir gives visit.path visit.drv
-  pub reached : IsReached (MayUse dir gives) roots visit.path
+  pub stands : MayBeAt dir gives visit.path visit.drv
+  pub reached : IsReachedBy (MayUse dir gives) roots visit.path
 
 -- the path that is asked for next: by the innermost open derivation, or as the root
 abbrev pub IsWanted : (root : List ℕ) → List Visit → List ℕ → Type 0
@@ -108,7 +108,7 @@ uses_input dir gives roots nodes v path n is wanted =
 pub wanted_reached : (dir : List ℕ) (gives : List ℕ → Answer → Type 0) (roots : List (List ℕ))
     (root : List ℕ) (nodes : List Node) (visits : List Visit) (path : List ℕ) → Contains roots root
     → AreOpen dir gives roots root nodes visits → IsWanted root visits path
-    → IsReached (MayUse dir gives) roots path
+    → IsReachedBy (MayUse dir gives) roots path
 wanted_reached dir gives roots root nodes [] path has_root are wanted =
     record { root = root; is_root = has_root; steps = []; leads = sym wanted }
 wanted_reached dir gives roots root nodes (v ∷ vs) path has_root are wanted =
@@ -116,8 +116,8 @@ wanted_reached dir gives roots root nodes (v ∷ vs) path has_root are wanted =
     (uses_input dir gives roots nodes v path (length v.numbers.items) are.0 wanted)
 
 -- what was left stays right where nothing is left
-found_same : (dir : List ℕ) (found after : Found) → LeavesNone found after → IsFound dir found
-    → IsFound dir after
+found_same : (dir : List ℕ) (found after : Found) → LeavesNone found after → IsWalkSoFar dir found
+    → IsWalkSoFar dir after
 found_same dir found after none right = record {
   kept = subst (λ l. AreKept l.items) (sym none.nodes) right.kept;
   distinct = subst (λ l. AreDistinct (paths_of (nodes_of l.items))) (sym none.nodes) right.distinct;
@@ -149,7 +149,7 @@ walk_opens dir gives roots root start found after visits path child has_root wal
     let own : child.path ≡ path = opens.is_path in
     let wanted_child : IsWanted root visits child.path =
     subst (IsWanted root visits) (sym own) wanted in
-    let reached : IsReached (MayUse dir gives) roots child.path =
+    let reached : IsReachedBy (MayUse dir gives) roots child.path =
     wanted_reached dir gives roots root (nodes_of found.nodes.items) visits child.path has_root
     walk.pending wanted_child in
     let new_left : Contains left child.path → ⊥ =
@@ -160,8 +160,8 @@ walk_opens dir gives roots root start found after visits path child has_root wal
     → ⊥ = subst (λ p. Contains (pending_of visits) p → ⊥) (sym own)
     (new_not_pending (marked found.marks) left (pending_of visits) path walk.walked.marks
     opens.is_new) in
-    let stands : MayStand dir gives child.path child.drv =
-    subst (λ p. MayStand dir gives p child.drv) (sym own) opens.stands in
+    let stands : MayBeAt dir gives child.path child.drv =
+    subst (λ p. MayBeAt dir gives p child.drv) (sym own) opens.stands in
     let marks : AreMarks (marked after.marks) left (child.path ∷ pending_of visits) =
     subst (λ p. AreMarks (marked after.marks) left (p ∷ pending_of visits)) (sym own)
     (marks_opened (marked found.marks) (marked after.marks) left (pending_of visits) path
@@ -175,9 +175,9 @@ walk_opens dir gives roots root start found after visits path child has_root wal
     record {
       walked = record {
         right = found_same dir found after none walk.walked.right;
-        given = subst (All (λ (n : Node). MayStand dir gives n.path n.drv)) (sym nodes_same)
+        given = subst (All (λ (n : Node). MayBeAt dir gives n.path n.drv)) (sym nodes_same)
             walk.walked.given;
-        reached = subst (λ ns. All (IsReached (MayUse dir gives) roots) (paths_of ns))
+        reached = subst (λ ns. All (IsReachedBy (MayUse dir gives) roots) (paths_of ns))
             (sym nodes_same) walk.walked.reached;
         marks = subst (λ ns. AreMarks (marked after.marks) (paths_of ns)
             (child.path ∷ pending_of visits)) (sym nodes_same) marks;
@@ -260,16 +260,16 @@ walk_advances dir gives roots root start found after visit next visits walk none
             ∙ ap (λ d. inputs_of d) (sym step.drv);
         numbers = numbers;
       };
-      stands = subst (λ p. MayStand dir gives p next.drv) (sym step.path)
-          (subst (MayStand dir gives visit.path) (sym step.drv) is.stands);
-      reached = subst (IsReached (MayUse dir gives) roots) (sym step.path) is.reached;
+      stands = subst (λ p. MayBeAt dir gives p next.drv) (sym step.path)
+          (subst (MayBeAt dir gives visit.path) (sym step.drv) is.stands);
+      reached = subst (IsReachedBy (MayUse dir gives) roots) (sym step.path) is.reached;
     } in
     record {
       walked = record {
         right = found_same dir found after none walk.walked.right;
-        given = subst (All (λ (n : Node). MayStand dir gives n.path n.drv)) (sym nodes_same)
+        given = subst (All (λ (n : Node). MayBeAt dir gives n.path n.drv)) (sym nodes_same)
             walk.walked.given;
-        reached = subst (λ l. All (IsReached (MayUse dir gives) roots) (paths_of l))
+        reached = subst (λ l. All (IsReachedBy (MayUse dir gives) roots) (paths_of l))
             (sym nodes_same) walk.walked.reached;
         marks = subst (λ m. AreMarks (marked m) (paths_of (nodes_of after.nodes.items))
             (pending_of (next ∷ visits))) (sym step.marks)

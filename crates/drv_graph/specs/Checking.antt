@@ -7,7 +7,7 @@ use Rattle.nix_names.specs.Firsts.{IsFirstWhere}
 use Rattle.nix_names.specs.declared.digest.Digest.{Digest}
 use Rattle.nix_drv.specs.Derivation.{Drv, Output, EnvEntry}
 use Rattle.drv_graph.specs.Expected.{IsExpected}
-use Rattle.drv_graph.specs.Kinds.{HasKind, AreMixed, IsAddressed, IsFixed, IsUnknown}
+use Rattle.drv_graph.specs.Kinds.{HasKind, AreMixed, IsAddressed, IsFixed, HasUnknownMethod}
 use Rattle.drv_graph.specs.Outputs.{AreSound, IsKnownUse, IsOutputsCheck, IsThePath, IsThePathOrEmpty, IsWellNamed, Use, uses}
 use Rattle.drv_graph.specs.declared.kinds.Kind.{Kind}
 use Rattle.drv_graph.specs.declared.kinds.Kind.TheVariants.{Fixed}
@@ -39,7 +39,7 @@ IsFixedKind o result = ⊥
 abbrev pub IsKindFault : Drv → OutputFault → Type 0
 IsKindFault drv MixedOutputs = AreMixed drv
 IsKindFault drv (UnknownMethod output) = (AreMixed drv → ⊥)
-    × ((o : Output) × Contains drv.outputs o × IsUnknown o × (output.items ≡ o.name))
+    × ((o : Output) × Contains drv.outputs o × HasUnknownMethod o × (output.items ≡ o.name))
 IsKindFault drv NoMemory = AreMixed drv → ⊥
 IsKindFault drv fault = ⊥
 
@@ -73,9 +73,9 @@ IsSoundCheck name drv used (Err NoMemory) = AreMixed drv → ⊥
 IsSoundCheck name drv used result = ⊥
 
 -- a value is the expected path; in a draft it may also be empty
-abbrev pub FitsIn : (in_draft : Bool) → (value : Bytes) → (path : Path) → Type 0
-FitsIn false value path = IsThePath value path
-FitsIn true value path = IsThePathOrEmpty value path
+abbrev pub FitsExpected : (in_draft : Bool) → (value : Bytes) → (path : Path) → Type 0
+FitsExpected false value path = IsThePath value path
+FitsExpected true value path = IsThePathOrEmpty value path
 
 -- each output before a place fits the path at the output's own place
 abbrev pub FitBefore : (Fits : Output → Path → Type 0) → List Output → (paths : List Path)
@@ -95,12 +95,12 @@ pub record IsFirstPair (Fits Wrong : Output → Path → Type 0) (outputs : List
 
 -- an output's path fits this path
 abbrev pub PathFits : (in_draft : Bool) → Output → (path : Path) → Type 0
-PathFits in_draft output path = FitsIn in_draft output.path path
+PathFits in_draft output path = FitsExpected in_draft output.path path
 
 -- an entry of the environment under this name has a value that doesn't fit the path
 abbrev pub HasMisfit : (in_draft : Bool) → List EnvEntry → (name : Name) → (path : Path) → Type 0
 HasMisfit in_draft env name path = (entry : EnvEntry) × Contains env entry × (entry.key ≡ name)
-    × (FitsIn in_draft entry.value path → ⊥)
+    × (FitsExpected in_draft entry.value path → ⊥)
 
 -- no entry of the environment under an output's name has such a value
 abbrev pub EntriesFit : (in_draft : Bool) → List EnvEntry → Output → (path : Path) → Type 0
@@ -160,7 +160,7 @@ AreExpected dir name kind drv hashes paths = AllZip (IsExpected dir name kind dr
 abbrev pub IsExpecting : (in_draft : Bool) → (dir : Dir) → (name : Name) → Drv → (used : List Drv)
     → (hashes : List Hash) → Result (Kind × Vec Path Global) OutputFault → Type 0
 IsExpecting in_draft dir name drv used hashes (Ok found) =
-    IsOutputsCheck (FitsIn in_draft) dir name drv used hashes (Ok found.0)
+    IsOutputsCheck (FitsExpected in_draft) dir name drv used hashes (Ok found.0)
     × AreExpected dir name found.0 drv hashes found.1.items
 IsExpecting in_draft dir name drv used hashes (Err fault) =
-    IsOutputsCheck (FitsIn in_draft) dir name drv used hashes (Err fault)
+    IsOutputsCheck (FitsExpected in_draft) dir name drv used hashes (Err fault)

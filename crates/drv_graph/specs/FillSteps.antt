@@ -7,7 +7,7 @@ use Rattle.nix_names.specs.StorePaths.{IsPathOf}
 use Rattle.nix_drv.specs.Checked.{IsFirstStray}
 use Rattle.nix_drv.specs.Derivation.{Drv, IsDrvText}
 use Rattle.nix_drv.specs.Outcome.{max_len}
-use Rattle.nix_drv.specs.OwnPath.{paths_of, text_path}
+use Rattle.nix_drv.specs.OwnPath.{referenced_paths, text_path}
 use Rattle.nix_drv.specs.References.{IsReferencesOf}
 use Rattle.nix_drv.specs.declared.fault.DrvFault.TheVariants.{TooLong, BadReference}
 use Rattle.drv_graph.specs.Checking.{AreExpected}
@@ -41,13 +41,13 @@ IsStrayRefused dir paths fault = (fault ≡ NoMemory)
 pub record IsTarget (dir : Dir) (name : Name) (draft : Drv) (target : Target) : Type 0 where
   pub names : AreNames name
   pub file : target.file.items ≡ file_name name
-  pub in_store : All (IsPathOf dir) (paths_of draft)
-  pub refs : IsReferencesOf (paths_of draft) target.refs.items
+  pub in_store : All (IsPathOf dir) (referenced_paths draft)
+  pub refs : IsReferencesOf (referenced_paths draft) target.refs.items
 
 -- the name is refused; or the names are right, and a reference is refused
 abbrev pub IsTargetRefused : (dir : Dir) → (name : Name) → Drv → GraphFault → Type 0
 IsTargetRefused dir name draft fault = IsNameRefused name fault
-    ⊎ (AreNames name × IsStrayRefused dir (paths_of draft) fault)
+    ⊎ (AreNames name × IsStrayRefused dir (referenced_paths draft) fault)
 
 -- Among some nodes, these are the derivations of a draft's inputs and their modulo hashes.
 pub record AreUsed (nodes : List Node) (draft : Drv) (used : List Drv) (hashes : List Hash)

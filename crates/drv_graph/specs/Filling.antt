@@ -8,7 +8,7 @@ use Rattle.nix_names.specs.Names.{is_name}
 use Rattle.nix_drv.specs.Checked.{IsFirstStray}
 use Rattle.nix_drv.specs.Derivation.{Drv, EnvEntry, IsDrvText, Output}
 use Rattle.nix_drv.specs.Outcome.{max_len}
-use Rattle.nix_drv.specs.OwnPath.{IsOwnPath, paths_of}
+use Rattle.nix_drv.specs.OwnPath.{IsOwnPath, referenced_paths}
 use Rattle.nix_drv.specs.Sources.{Answer}
 use Rattle.nix_drv.specs.declared.fault.DrvFault.TheVariants.{TooLong, BadReference}
 use Rattle.drv_graph.specs.Expected.{IsExpected}
@@ -17,7 +17,7 @@ use Rattle.drv_graph.specs.Loading.{IsTrueAt}
 use Rattle.drv_graph.specs.Modulo.{names_of}
 use Rattle.drv_graph.specs.Nodes.{AreHashes, inputs_of}
 use Rattle.drv_graph.specs.Outputs.{IsOutputsCheck, IsThePathOrEmpty}
-use Rattle.drv_graph.specs.Plans.{AreDrvsOf, Graph, IsPlan, IsReached, MayUse}
+use Rattle.drv_graph.specs.Plans.{AreDrvsOf, Graph, IsPlan, IsReachedBy, MayUse}
 use Rattle.drv_graph.specs.declared.fault.GraphFault.{GraphFault}
 use Rattle.drv_graph.specs.declared.fault.GraphFault.TheVariants.{NoMemory, At, Draft, Name as NoName}
 use Rattle.drv_graph.specs.declared.fault.NodeFault.{NodeFault}
@@ -81,13 +81,13 @@ pub record IsFilledText (dir : Dir) (gives : Path → Answer → Type 0) (name :
 
 -- a draft's references are all paths of the folder
 abbrev pub AreInStore : (dir : Dir) → Drv → Type 0
-AreInStore dir draft = (text : Bytes) → IsFirstStray dir (paths_of draft) text → ⊥
+AreInStore dir draft = (text : Bytes) → IsFirstStray dir (referenced_paths draft) text → ⊥
 
 -- the fault is true of the draft, or of its filled text
 abbrev pub IsTrueOfDraft : (dir : Dir) → (gives : Path → Answer → Type 0) → (name : Name)
     → Drv → NodeFault → Type 0
 IsTrueOfDraft dir gives name draft (Text (BadReference text)) =
-    IsFirstStray dir (paths_of draft) text.items
+    IsFirstStray dir (referenced_paths draft) text.items
 IsTrueOfDraft dir gives name draft (Text TooLong) = AreInStore dir draft
     × ((filled : Drv) × (bytes : Bytes) × IsFilledText dir gives name draft filled bytes
     × (max_len < length bytes))
@@ -108,7 +108,7 @@ IsFilling dir gives name draft (Ok made) =
     × IsOwnPath dir (file_name name) made.0 bytes made.1)
 IsFilling dir gives name draft (Err NoName) = AreNames name → ⊥
 IsFilling dir gives name draft (Err (At path fault)) =
-    AreNames name × AreInStore dir draft × IsReached (MayUse dir gives) (inputs_of draft) path
+    AreNames name × AreInStore dir draft × IsReachedBy (MayUse dir gives) (inputs_of draft) path
     × IsTrueAt dir gives (inputs_of draft) path fault
 IsFilling dir gives name draft (Err (Draft fault)) = AreNames name
     × IsTrueOfDraft dir gives name draft fault

@@ -18,9 +18,9 @@ algo_of Flat digest = name_of (algorithm_of digest)
 algo_of Recursive digest = codes "r:sha256"
 
 -- the method accepts the digest: a whole tree is hashed by SHA-256 alone
-abbrev pub IsTaken : Method → Digest → Type 0
-IsTaken Flat digest = ⊤
-IsTaken Recursive digest = algorithm_of digest ≡ Sha256
+abbrev pub MayBeDeclared : Method → Digest → Type 0
+MayBeDeclared Flat digest = ⊤
+MayBeDeclared Recursive digest = algorithm_of digest ≡ Sha256
 
 -- the output is input-addressed: its algorithm and its hash are empty
 abbrev pub IsAddressed : Output → Type 0
@@ -29,7 +29,7 @@ IsAddressed output = (output.algo ≡ []) × (output.hash ≡ [])
 -- the output's content has this digest, in lower-case hex digits, by this method
 abbrev pub IsFixed : Output → Method → Digest → Type 0
 IsFixed output method digest = (output.algo ≡ algo_of method digest)
-    × (output.hash ≡ digits_of digest) × IsDigest digest × IsTaken method digest
+    × (output.hash ≡ digits_of digest) × IsDigest digest × MayBeDeclared method digest
 
 -- the output is the derivation's only one, and named `out`
 abbrev pub IsOnlyOut : Drv → Output → Type 0
@@ -50,6 +50,6 @@ AreMixed drv =
     × (IsOnlyOut drv output → ⊥))
 
 -- The output isn't input-addressed, and its method or its hash isn't known.
-pub record IsUnknown (output : Output) : Type 0 where
+pub record HasUnknownMethod (output : Output) : Type 0 where
   pub says : IsAddressed output → ⊥
   pub none : (method : Method) (digest : Digest) → IsFixed output method digest → ⊥

@@ -10,7 +10,7 @@ use Rattle.nix_drv.specs.Sources.{Answer, most_failures}
 use Rattle.nix_drv.specs.declared.fault.DrvFault.TheVariants.{NoMemory as NoSpace}
 use Rattle.nix_drv.specs.declared.source.SourceFault.TheVariants.{Missing, Device}
 use Rattle.drv_graph.specs.Nodes.{Node, paths_of}
-use Rattle.drv_graph.specs.Plans.{AreLawful, AreTwins, Graph, IsPlan, IsReached, Leads, MayAnswer, MayStand, MayUse, ShareOutput}
+use Rattle.drv_graph.specs.Plans.{AreLawful, AreTwins, Graph, IsPlan, IsReachedBy, LeadsBy, MayAnswer, MayBeAt, MayUse, ShareOutput}
 use Rattle.drv_graph.specs.declared.fault.GraphFault.{GraphFault}
 use Rattle.drv_graph.specs.declared.fault.GraphFault.TheVariants.{NoMemory, At}
 use Rattle.drv_graph.specs.declared.fault.NodeFault.{NodeFault}
@@ -32,13 +32,13 @@ pub record ReachTooMany (Step : (user input : Path) → Type 0) (roots : List Pa
   pub paths : List Path
   pub distinct : AreDistinct paths
   pub many : max_nodes < length paths
-  pub reached : All (IsReached Step roots) paths
+  pub reached : All (IsReachedBy Step roots) paths
 
 -- A path is reached from itself.
 pub record IsOnCycle (Step : (user input : Path) → Type 0) (path : Path) : Type 0 where
   pub user : Path
   pub steps : List Path
-  pub leads : Leads Step path user steps
+  pub leads : LeadsBy Step path user steps
   pub closes : Step user path
 
 -- What the check of the outputs of the derivation at a path may answer. Its inputs are among other
@@ -46,10 +46,10 @@ pub record IsOnCycle (Step : (user input : Path) → Type 0) (path : Path) : Typ
 pub record MayCheck (dir : Dir) (gives : Path → Answer → Type 0) (path : Path)
     (answer : Result Kind OutputFault) : Type 0 where
   pub drv : Drv
-  pub stands : MayStand dir gives path drv
+  pub stands : MayBeAt dir gives path drv
   pub nodes : List Node
   pub distinct : AreDistinct (paths_of nodes)
-  pub given : All (λ (n : Node). MayStand dir gives n.path n.drv) nodes
+  pub given : All (λ (n : Node). MayBeAt dir gives n.path n.drv) nodes
   pub lawful : AreLawful dir nodes
   pub few : length nodes < max_nodes
   pub check : MayAnswer dir nodes (record { path = path; drv = drv }) answer
@@ -62,7 +62,7 @@ pub record Clashes (dir : Dir) (gives : Path → Answer → Type 0) (roots : Lis
   pub checked : MayCheck dir gives path (Ok kind)
   pub earlier : Node
   pub is_earlier : Contains checked.nodes earlier
-  pub reached : IsReached (MayUse dir gives) roots earlier.path
+  pub reached : IsReachedBy (MayUse dir gives) roots earlier.path
   pub differs : earlier.path ≢ path
   pub shares : ShareOutput earlier.drv checked.drv
   pub no_twin : AreTwins earlier.drv checked.drv → ⊥
@@ -84,7 +84,7 @@ IsTrueAt dir gives roots path OutputClash = Clashes dir gives roots path
 abbrev pub IsLoading : (dir : Dir) → (gives : Path → Answer → Type 0) → (roots : List Path)
     → Result Graph GraphFault → Type 0
 IsLoading dir gives roots (Ok graph) = IsPlan dir gives roots graph
-IsLoading dir gives roots (Err (At path fault)) = IsReached (MayUse dir gives) roots path
+IsLoading dir gives roots (Err (At path fault)) = IsReachedBy (MayUse dir gives) roots path
     × IsTrueAt dir gives roots path fault
 IsLoading dir gives roots (Err NoMemory) = ⊤
 IsLoading dir gives roots result = ⊥

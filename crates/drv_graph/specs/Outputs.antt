@@ -5,7 +5,7 @@ use Rattle.nix_names.specs.Bytes.{Bytes, Dir, Path, Name, Hash}
 use Rattle.nix_names.specs.Names.{is_name}
 use Rattle.nix_names.specs.Firsts.{IsFirstWhere}
 use Rattle.nix_drv.specs.Derivation.{Drv, Output, Input, EnvEntry}
-use Rattle.drv_graph.specs.Kinds.{HasKind, AreMixed, IsUnknown}
+use Rattle.drv_graph.specs.Kinds.{HasKind, AreMixed, HasUnknownMethod}
 use Rattle.drv_graph.specs.declared.kinds.Kind.{Kind}
 use Rattle.drv_graph.specs.Expected.{IsExpected, path_name}
 use Rattle.drv_graph.specs.Modulo.{names_of}
@@ -65,9 +65,9 @@ HasOtherEntry Fits Expected drv output =
 
 -- What the check of a derivation's outputs answers, by its name, its inputs' derivations and their
 -- hashes. The first of these that holds: mixed outputs; a method or a hash that isn't known; a name
--- that is no name of a store path; the first use of an output that isn't there; the first output with a path that
--- doesn't fit the expected one; the first output with such an entry. Want of memory may come in
--- place of any but the first.
+-- that is no name of a store path; the first use of an output that isn't there; the first output
+-- with a path that doesn't fit the expected one; the first output with such an entry. Want of
+-- memory may come in place of any but the first.
 abbrev pub IsOutputsCheck : (Fits : Bytes → Path → Type 0) → (dir : Dir) → (name : Name) → Drv
     → (used : List Drv) → (hashes : List Hash) → Result Kind OutputFault → Type 0
 IsOutputsCheck Fits dir name drv used hashes (Ok kind) =
@@ -76,7 +76,7 @@ IsOutputsCheck Fits dir name drv used hashes (Ok kind) =
 IsOutputsCheck Fits dir name drv used hashes (Err MixedOutputs) = AreMixed drv
 IsOutputsCheck Fits dir name drv used hashes (Err (UnknownMethod output)) =
     (AreMixed drv → ⊥)
-    × ((o : Output) × Contains drv.outputs o × IsUnknown o × (output.items ≡ o.name))
+    × ((o : Output) × Contains drv.outputs o × HasUnknownMethod o × (output.items ≡ o.name))
 IsOutputsCheck Fits dir name drv used hashes (Err BadName) =
     (kind : Kind) × HasKind drv kind
     × ((o : Output) × Contains drv.outputs o × (IsWellNamed name o → ⊥))

@@ -27,7 +27,7 @@ pub record HasHash (nodes : List Node) (drv : Drv) (kind : Kind) (hash : Hash) :
   pub is_hash : IsHashBy kind drv of_inputs hash
 
 -- What is kept beside a derivation is right; `first` is the number of its first twin.
-pub record IsKept (nodes : List Node) (kept : PlanNode) : Type 0 where
+pub record IsPlanNode (nodes : List Node) (kept : PlanNode) : Type 0 where
   pub numbers : AreNumbers nodes kept.inputs.items (inputs_of kept.drv)
   pub has_kind : HasKind kept.drv kept.kind
   pub has_hash : HasHash nodes kept.drv kept.kind kept.hash
@@ -37,7 +37,7 @@ pub record IsKept (nodes : List Node) (kept : PlanNode) : Type 0 where
 
 -- what is kept beside each derivation of a plan is right
 abbrev pub AreKept : List PlanNode → Type 0
-AreKept kept = All (IsKept (nodes_of kept)) kept
+AreKept kept = All (IsPlanNode (nodes_of kept)) kept
 
 -- the path of an output, as its text has it
 abbrev pub text_path_of : OutputStruct → Path

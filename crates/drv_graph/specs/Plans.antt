@@ -19,18 +19,18 @@ pub record Graph : Type 0 where
   pub roots : List ℕ
 
 -- a list of steps leads from one path to another
-abbrev pub Leads : (Step : (user input : Path) → Type 0) → (from to : Path) → (steps : List Path)
+abbrev pub LeadsBy : (Step : (user input : Path) → Type 0) → (from to : Path) → (steps : List Path)
     → Type 0
-Leads Step from to [] = from ≡ to
-Leads Step from to (next ∷ steps) = Step from next × Leads Step next to steps
+LeadsBy Step from to [] = from ≡ to
+LeadsBy Step from to (next ∷ steps) = Step from next × LeadsBy Step next to steps
 
 -- A path is reached from one of some roots by a list of steps.
-pub record IsReached (Step : (user input : Path) → Type 0) (roots : List Path) (path : Path)
+pub record IsReachedBy (Step : (user input : Path) → Type 0) (roots : List Path) (path : Path)
     : Type 0 where
   pub root : Path
   pub is_root : Contains roots root
   pub steps : List Path
-  pub leads : Leads Step root path steps
+  pub leads : LeadsBy Step root path steps
 
 -- A step from a user to an input within some nodes.
 pub record Uses (nodes : List Node) (from next : Path) : Type 0 where
@@ -40,7 +40,7 @@ pub record Uses (nodes : List Node) (from next : Path) : Type 0 where
   pub is_input : Contains (inputs_of node.drv) next
 
 -- A source may give, at a path, the text of a derivation whose own path that is.
-pub record MayStand (dir : Dir) (gives : Path → Answer → Type 0) (path : Path) (drv : Drv)
+pub record MayBeAt (dir : Dir) (gives : Path → Answer → Type 0) (path : Path) (drv : Drv)
     : Type 0 where
   pub bytes : Bytes
   pub given : gives path (Ok bytes)
@@ -50,7 +50,7 @@ pub record MayStand (dir : Dir) (gives : Path → Answer → Type 0) (path : Pat
 pub record MayUse (dir : Dir) (gives : Path → Answer → Type 0) (from next : Path)
     : Type 0 where
   pub drv : Drv
-  pub stands : MayStand dir gives from drv
+  pub stands : MayBeAt dir gives from drv
   pub is_input : Contains (inputs_of drv) next
 
 -- *Plan order*: some paths are left in turn, after those that were left before. A path that was
@@ -122,11 +122,11 @@ AreNumbers nodes numbers paths = map (λ n. slice_get (paths_of nodes) n) number
 -- within the plan, each once.
 pub record IsPlan (dir : Dir) (gives : Path → Answer → Type 0) (roots : List Path)
     (graph : Graph) : Type 0 where
-  pub given : All (λ (n : Node). MayStand dir gives n.path n.drv) graph.nodes
+  pub given : All (λ (n : Node). MayBeAt dir gives n.path n.drv) graph.nodes
   pub in_order : AreLeft graph.nodes [] roots (paths_of graph.nodes)
   pub reached : (path : Path) → Contains (paths_of graph.nodes) path
-      → IsReached (Uses graph.nodes) roots path
-  pub whole : (path : Path) → IsReached (Uses graph.nodes) roots path
+      → IsReachedBy (Uses graph.nodes) roots path
+  pub whole : (path : Path) → IsReachedBy (Uses graph.nodes) roots path
       → Contains (paths_of graph.nodes) path
   pub lawful : AreLawful dir graph.nodes
   pub few : length graph.nodes ≤ 65536

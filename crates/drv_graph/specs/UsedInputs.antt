@@ -7,12 +7,12 @@ use Rattle.drv_graph.specs.Outputs.{Use}
 use Rattle.drv_graph.specs.declared.outputs.UsedInput.{UsedInput}
 
 -- the paths of inputs
-abbrev pub paths_of : List UsedInput → List Path
-paths_of used = map (λ (u : UsedInput). u.path.now) used
+abbrev pub paths_of_uses : List UsedInput → List Path
+paths_of_uses used = map (λ (u : UsedInput). u.path.now) used
 
 -- the derivations of inputs
-abbrev pub drvs_of : List UsedInput → List Drv
-drvs_of used = map (λ (u : UsedInput). u.drv.now) used
+abbrev pub drvs_of_uses : List UsedInput → List Drv
+drvs_of_uses used = map (λ (u : UsedInput). u.drv.now) used
 
 -- the modulo hashes of inputs
 abbrev pub hashes_of : List UsedInput → List Hash

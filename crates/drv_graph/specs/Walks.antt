@@ -13,7 +13,7 @@ use Rattle.nix_drv.specs.declared.fault.DrvFault.TheVariants.{NoMemory as NoSpac
 use Rattle.nix_drv.specs.declared.source.SourceFault.TheVariants.{Missing, Device}
 use Rattle.drv_graph.specs.Loading.{AreDistinct, IsLoading, max_nodes}
 use Rattle.drv_graph.specs.Nodes.{Node, inputs_of, output_paths_of, paths_of}
-use Rattle.drv_graph.specs.Plans.{AreLawful, AreLeft, AreNumbers, AreTwins, IsReached, MayAnswer, MayStand, MayUse, ShareOutput, each_once}
+use Rattle.drv_graph.specs.Plans.{AreLawful, AreLeft, AreNumbers, AreTwins, IsReachedBy, MayAnswer, MayBeAt, MayUse, ShareOutput, each_once}
 use Rattle.drv_graph.specs.Owners.{AreOwners, outputs_of, owned}
 use Rattle.drv_graph.specs.PlanNodes.{AreKept, HasHash, nodes_of}
 use Rattle.drv_graph.specs.declared.kinds.Kind.{Kind}
@@ -80,7 +80,7 @@ kept_visit visit kind hash outputs sources first =
     }
 
 -- What a walk found so far is right.
-pub record IsFound (dir : Dir) (found : Found) : Type 0 where
+pub record IsWalkSoFar (dir : Dir) (found : Found) : Type 0 where
   pub kept : AreKept found.nodes.items
   pub distinct : AreDistinct (paths_of (nodes_of found.nodes.items))
   pub lawful : AreLawful dir (nodes_of found.nodes.items)
@@ -89,9 +89,9 @@ pub record IsFound (dir : Dir) (found : Found) : Type 0 where
   pub owners : AreOwners (owned found.owners) (outputs_of found.nodes.items)
 
 -- A derivation was left: it is the last node now.
-pub record Leaves (dir : Dir) (before after : Found) (visit : Visit) : Type 0 where
+pub record LeavesVisit (dir : Dir) (before after : Found) (visit : Visit) : Type 0 where
   pub nodes : nodes_of after.nodes.items ≡ nodes_of before.nodes.items ++ visited visit ∷ []
-  pub found : IsFound dir after
+  pub found : IsWalkSoFar dir after
   pub marks : SetsEntry (marked before.marks) (marked after.marks) visit.path
       (Some (length before.nodes.items))
   pub count : length (keys after.marks) ≡ length (keys before.marks)
@@ -111,7 +111,7 @@ IsLeavingFault dir kept visit fault = ⊥
 -- what leaving an open derivation answers
 abbrev pub IsLeaving : (dir : Dir) → (before after : Found) → Visit → Result ⊤ GraphFault
     → Type 0
-IsLeaving dir before after visit (Ok _) = Leaves dir before after visit
+IsLeaving dir before after visit (Ok _) = LeavesVisit dir before after visit
 IsLeaving dir before after visit (Err fault) = IsLeavingFault dir before.nodes.items visit fault
 
 -- An input, with its path, its derivation and its modulo hash, is the derivation with this number.
@@ -124,11 +124,12 @@ pub record IsUsed (kept : List PlanNode) (number : ℕ) (used : UsedInput) : Typ
 
 -- what the check of an open derivation's outputs answers: their kind, and the derivation's modulo
 -- hash
-abbrev pub IsChecking : (dir : Dir) → (kept : List PlanNode) → Visit
+abbrev pub IsOutputsChecking : (dir : Dir) → (kept : List PlanNode) → Visit
     → Result (Kind × Hash) GraphFault → Type 0
-IsChecking dir kept visit (Ok made) = MayAnswer dir (nodes_of kept) (visited visit) (Ok made.0)
+IsOutputsChecking dir kept visit (Ok made) =
+    MayAnswer dir (nodes_of kept) (visited visit) (Ok made.0)
     × HasHash (nodes_of kept) visit.drv made.0 made.1
-IsChecking dir kept visit (Err fault) = IsLeavingFault dir kept visit fault
+IsOutputsChecking dir kept visit (Err fault) = IsLeavingFault dir kept visit fault
 
 -- this fault at this path, or refused memory
 abbrev pub IsFaultAt : (path : Path) → NodeFault → GraphFault → Type 0
@@ -173,14 +174,14 @@ IsFetching gives path result = ⊥
 -- what reading the derivation at a path answers; `count` paths were met before
 abbrev pub IsReadingOf : (dir : Dir) → (gives : Path → Answer → Type 0) → (path : Path)
     → (count : ℕ) → Result Drv GraphFault → Type 0
-IsReadingOf dir gives path count (Ok drv) = MayStand dir gives path drv × (count < max_nodes)
+IsReadingOf dir gives path count (Ok drv) = MayBeAt dir gives path drv × (count < max_nodes)
 IsReadingOf dir gives path count (Err fault) = IsReadingFault dir gives path count fault
 
 -- A derivation was opened, and its path is marked as open.
 pub record Opens {S : Type 0} (dir : Dir) (gives : Path → Answer → Type 0)
     (before after : IndexMap Path (Option ℕ) S) (path : Path) (visit : Visit) : Type 0 where
   pub is_path : visit.path ≡ path
-  pub stands : MayStand dir gives path visit.drv
+  pub stands : MayBeAt dir gives path visit.drv
   pub inputs : visit.inputs.items ≡ inputs_of visit.drv
   pub none : visit.numbers.items ≡ []
   pub room : length (keys before) < max_nodes
@@ -267,7 +268,7 @@ pub record LeavesNone (before after : Found) : Type 0 where
 abbrev pub IsGoingOn : (dir : Dir) → (gives : Path → Answer → Type 0) → (before after : Found)
     → (below : List Visit) → (visit : Visit) → (visits : List Visit) → Result ⊤ GraphFault → Type 0
 IsGoingOn dir gives before after below visit visits (Ok _) =
-    (HasAllNumbers visit × Leaves dir before after visit × (visits ≡ below))
+    (HasAllNumbers visit × LeavesVisit dir before after visit × (visits ≡ below))
     ⊎ ((next : Visit) × LeavesNone before after × Advances before.marks after.marks visit next
     × (visits ≡ below ++ next ∷ []))
     ⊎ ((child : Visit) × LeavesNone before after
@@ -280,9 +281,9 @@ IsGoingOn dir gives before after below visit visits (Err fault) =
 -- What was left and what is open is right: the source may give it, and the roots reach it.
 pub record IsWalked (dir : Dir) (gives : Path → Answer → Type 0) (roots : List Path)
     (found : Found) (pending : List Path) : Type 0 where
-  pub right : IsFound dir found
-  pub given : All (λ (n : Node). MayStand dir gives n.path n.drv) (nodes_of found.nodes.items)
-  pub reached : All (IsReached (MayUse dir gives) roots) (paths_of (nodes_of found.nodes.items))
+  pub right : IsWalkSoFar dir found
+  pub given : All (λ (n : Node). MayBeAt dir gives n.path n.drv) (nodes_of found.nodes.items)
+  pub reached : All (IsReachedBy (MayUse dir gives) roots) (paths_of (nodes_of found.nodes.items))
   pub marks : AreMarks (marked found.marks) (paths_of (nodes_of found.nodes.items)) pending
   pub count : length (keys found.marks) ≡ length found.nodes.items + length pending
   pub few : length (keys found.marks) ≤ max_nodes

@@ -6,7 +6,7 @@ ghost use Rattle.nix_names.specs.StorePaths.{store_path};
 ghost use Rattle.nix_drv.specs.Parts.{output_of};
 ghost use Rattle.drv_graph.specs.Checking.{AreExpected};
 ghost use Rattle.drv_graph.specs.Expected.{flat_text, path_name};
-ghost use Rattle.drv_graph.specs.Kinds.{HasKind, IsTaken};
+ghost use Rattle.drv_graph.specs.Kinds.{HasKind, MayBeDeclared};
 ghost use Rattle.drv_graph.specs.ExpectedPaths.{IsFixedPath, IsMaskedDigest, output_path};
 ghost use Rattle.drv_graph.specs.Outputs.{IsWellNamed};
 
@@ -105,7 +105,7 @@ fn fixed_path(
     digest: &Digest,
 ) -> Result<StorePath, AllocError>
     requires named { IsTrue (is_name name.now) }
-    requires taken { IsTaken method digest.now }
+    requires taken { MayBeDeclared method digest.now }
     ensures { IfOk result (λ path. IsFixedPath dir.now name.now method digest.now path) }
 {
     match method {

@@ -5,7 +5,7 @@ ghost use Rattle.nix_names.specs.Rising.{IsRising};
 ghost use Rattle.nix_names.specs.StorePaths.{IsPathOf};
 ghost use Rattle.nix_drv.specs.Derivation.{IsDrvText};
 ghost use Rattle.nix_drv.specs.Outcome.{max_len};
-ghost use Rattle.nix_drv.specs.OwnPath.{paths_of};
+ghost use Rattle.nix_drv.specs.OwnPath.{referenced_paths};
 ghost use Rattle.nix_drv.specs.References.{IsReferencesOf};
 ghost use Rattle.nix_drv.specs.Sources.{GivesSame};
 ghost use Rattle.drv_graph.specs.Filling.{AreNames, IsFilling, file_name};
@@ -13,7 +13,7 @@ ghost use Rattle.drv_graph.specs.FillSteps.{AreDraftPaths, AreOutputsRefused, Is
 ghost use Rattle.drv_graph.specs.Loading.{IsCountedFault, IsLoading};
 ghost use Rattle.drv_graph.specs.Nodes.{inputs_of};
 ghost use Rattle.drv_graph.specs.Plans.{AreNumbers};
-ghost use Rattle.drv_graph.specs.UsedInputs.{drvs_of, hashes_of, paths_of as used_paths_of};
+ghost use Rattle.drv_graph.specs.UsedInputs.{drvs_of_uses, hashes_of, paths_of_uses as used_paths_of};
 
 use crate::fault::{GraphFault, NodeFault, OutputFault};
 use crate::found::used_inputs;
@@ -100,9 +100,9 @@ fn draft_references(
     dir: &StoreDir,
     draft: &Derivation,
 ) -> Result<Vec<StorePath>, GraphFault>
-    ensures ok { IfOk result (λ refs. All (IsPathOf dir.now) (paths_of draft.now)
-        × IsReferencesOf (paths_of draft.now) refs.items) }
-    ensures err { IfErr result (IsStrayRefused dir.now (paths_of draft.now)) }
+    ensures ok { IfOk result (λ refs. All (IsPathOf dir.now) (referenced_paths draft.now)
+        × IsReferencesOf (referenced_paths draft.now) refs.items) }
+    ensures err { IfErr result (IsStrayRefused dir.now (referenced_paths draft.now)) }
 {
     match references(alloc, dir, draft) {
         Ok(refs) => Ok(refs),
@@ -157,10 +157,12 @@ fn draft_paths(
 ) -> Result<Vec<StorePath>, GraphFault>
     requires { used_paths_of used.now ≡ inputs_of draft.now }
     ensures ok { IfOk result
-        (λ paths. AreDraftPaths dir.now name.now draft.now (drvs_of used.now) (hashes_of used.now)
+        (λ paths. AreDraftPaths dir.now name.now draft.now (drvs_of_uses used.now)
+        (hashes_of used.now)
         paths.items) }
     ensures err { IfErr result
-        (AreOutputsRefused dir.now name.now draft.now (drvs_of used.now) (hashes_of used.now)) }
+        (AreOutputsRefused dir.now name.now draft.now (drvs_of_uses used.now)
+        (hashes_of used.now)) }
 {
     match expected_outputs(alloc, dir, name, draft, used, true) {
         Ok((_, paths)) => Ok(paths),

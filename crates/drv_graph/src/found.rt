@@ -7,7 +7,7 @@ ghost use Rattle.drv_graph.specs.Expected.{drv_name_of};
 ghost use Rattle.drv_graph.specs.Nodes.{inputs_of, paths_of};
 ghost use Rattle.drv_graph.specs.Plans.{AreNumbers};
 ghost use Rattle.drv_graph.specs.PlanNodes.{AreKept, nodes_of};
-ghost use Rattle.drv_graph.specs.Walks.{HasAllNumbers, IsChecking, IsFound, IsLeaving, IsOutputFaultAt, IsUsed, IsVisit, SetsEntry, kept_visit, marked};
+ghost use Rattle.drv_graph.specs.Walks.{HasAllNumbers, IsOutputsChecking, IsWalkSoFar, IsLeaving, IsOutputFaultAt, IsUsed, IsVisit, SetsEntry, kept_visit, marked};
 
 use crate::fault::{GraphFault, NodeFault, OutputFault};
 use crate::kinds::Kind;
@@ -54,7 +54,7 @@ pub(crate) fn leave(
     found: &mut Found,
     visit: Visit,
 ) -> Result<(), GraphFault>
-    requires found { IsFound dir.now found.old }
+    requires found { IsWalkSoFar dir.now found.old }
     requires visit { IsVisit (nodes_of found.old.nodes.items) visit }
     requires walked { HasAllNumbers visit }
     requires pending { marked found.old.marks visit.path ≡ Some None }
@@ -86,7 +86,7 @@ fn check_visit(
     requires kept { AreKept kept.now }
     requires numbers { AreNumbers (nodes_of kept.now) visit.now.numbers.items
         (inputs_of visit.now.drv) }
-    ensures { IsChecking dir.now kept.now visit.now result }
+    ensures { IsOutputsChecking dir.now kept.now visit.now result }
 {
     let used = used_inputs(alloc, kept, &visit.numbers)?;
     let name = drv_name(&visit.path);

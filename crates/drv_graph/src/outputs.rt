@@ -8,7 +8,7 @@ ghost use Rattle.drv_graph.specs.Expected.{path_name};
 ghost use Rattle.drv_graph.specs.Kinds.{HasKind};
 ghost use Rattle.drv_graph.specs.Nodes.{IsHashBy, fixed_text, inputs_of};
 ghost use Rattle.drv_graph.specs.Outputs.{IsKnownUse, IsOutputsCheck, IsThePath, IsWellNamed, uses};
-ghost use Rattle.drv_graph.specs.UsedInputs.{drvs_of, hashes_of, paths_of, uses_of};
+ghost use Rattle.drv_graph.specs.UsedInputs.{drvs_of_uses, hashes_of, paths_of_uses, uses_of};
 
 use crate::expected::{expected_paths, path_name};
 use crate::fault::OutputFault;
@@ -38,8 +38,8 @@ pub(crate) fn check_outputs(
     drv: &Derivation,
     used: &[UsedInput],
 ) -> Result<Kind, OutputFault>
-    requires { paths_of used.now ≡ inputs_of drv.now }
-    ensures { IsOutputsCheck IsThePath dir.now name.now drv.now (drvs_of used.now)
+    requires { paths_of_uses used.now ≡ inputs_of drv.now }
+    ensures { IsOutputsCheck IsThePath dir.now name.now drv.now (drvs_of_uses used.now)
         (hashes_of used.now) result }
 {
     let (kind, _) = expected_outputs(alloc, dir, name, drv, used, false)?;
@@ -56,8 +56,9 @@ pub(crate) fn expected_outputs(
     used: &[UsedInput],
     in_draft: bool,
 ) -> Result<(Kind, Vec<StorePath>), OutputFault>
-    requires { paths_of used.now ≡ inputs_of drv.now }
-    ensures { IsExpecting in_draft dir.now name.now drv.now (drvs_of used.now) (hashes_of used.now)
+    requires { paths_of_uses used.now ≡ inputs_of drv.now }
+    ensures { IsExpecting in_draft dir.now name.now drv.now (drvs_of_uses used.now)
+        (hashes_of used.now)
         result }
 {
     let kind = check_sound(alloc, name, drv, used)?;
@@ -87,8 +88,8 @@ fn check_sound(
     drv: &Derivation,
     used: &[UsedInput],
 ) -> Result<Kind, OutputFault>
-    requires { paths_of used.now ≡ inputs_of drv.now }
-    ensures { IsSoundCheck name.now drv.now (drvs_of used.now) result }
+    requires { paths_of_uses used.now ≡ inputs_of drv.now }
+    ensures { IsSoundCheck name.now drv.now (drvs_of_uses used.now) result }
 {
     let kind = kind_of(alloc, drv)?;
     check_names(alloc, name, drv.outputs())?;
@@ -121,9 +122,11 @@ fn is_well_named(alloc: Global, name: &[u8], output: &[u8]) -> Result<bool, Allo
 
 // Tests that the inputs have all outputs that are used of them.
 fn check_uses(alloc: Global, inputs: &[Input], used: &[UsedInput]) -> Result<(), OutputFault>
-    requires { paths_of used.now ≡ map path_of inputs.now }
-    ensures ok { OnOk result (All IsKnownUse (uses (map input_of inputs.now) (drvs_of used.now))) }
-    ensures err { IfErr result (IsUseFault (uses (map input_of inputs.now) (drvs_of used.now))) }
+    requires { paths_of_uses used.now ≡ map path_of inputs.now }
+    ensures ok { OnOk result
+        (All IsKnownUse (uses (map input_of inputs.now) (drvs_of_uses used.now))) }
+    ensures err { IfErr result
+        (IsUseFault (uses (map input_of inputs.now) (drvs_of_uses used.now))) }
 {
     for (place, input) in inputs.iter().enumerate() {
         let by = &used[place];
@@ -164,7 +167,7 @@ pub(crate) fn modulo_hash(
     used: &[UsedInput],
 ) -> Result<[u8; 32], AllocError>
     requires kind { HasKind drv.now kind }
-    requires paths { paths_of used.now ≡ inputs_of drv.now }
+    requires paths { paths_of_uses used.now ≡ inputs_of drv.now }
     ensures { IfOk result (IsHashBy kind drv.now (hashes_of used.now)) }
 {
     match kind {

@@ -70,7 +70,8 @@ fn enter(
     number: usize,
 ) -> Result<bool, AllocError>
     requires { AreDistinct paths.now }
-    ensures { IfOk result (IsEntering (owned owners.old) (owned owners.new) owner paths.now number) }
+    ensures { IfOk result
+        (IsEntering (owned owners.old) (owned owners.new) owner paths.now number) }
 {
     for path in paths {
         let key = path.copy(alloc)?;

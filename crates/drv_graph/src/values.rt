@@ -2,7 +2,7 @@
 ghost use Rattle.std.specs.Prelude.{◌≡◌, ◌↔◌, length, map, IsTrue, IfOk, IfErr, OnOk};
 ghost use Rattle.std.specs.Bool.{MatchBool};
 ghost use Rattle.nix_drv.specs.Parts.{output_of};
-ghost use Rattle.drv_graph.specs.Checking.{EntriesFit, FitBefore, FitsIn, HasMisfit, IsEnvFault, IsEnvMismatch, IsMismatch, IsPathFault, IsValueFault, PathFits};
+ghost use Rattle.drv_graph.specs.Checking.{EntriesFit, FitBefore, FitsExpected, HasMisfit, IsEnvFault, IsEnvMismatch, IsMismatch, IsPathFault, IsValueFault, PathFits};
 
 use crate::fault::OutputFault;
 use nix_drv::{Derivation, Output};
@@ -111,8 +111,8 @@ fn entry_fits(drv: &Derivation, output: &Output, path: &StorePath, in_draft: boo
 
 // Whether a value is this path, or empty in a draft.
 fn fits(value: &[u8], path: &StorePath, in_draft: bool) -> bool
-    ensures { MatchBool result (FitsIn in_draft value.now path.now)
-        (FitsIn in_draft value.now path.now → ⊥) }
+    ensures { MatchBool result (FitsExpected in_draft value.now path.now)
+        (FitsExpected in_draft value.now path.now → ⊥) }
 {
     (in_draft && value.is_empty()) || value == path.text()
 }

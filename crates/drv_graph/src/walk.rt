@@ -5,9 +5,9 @@ ghost use Rattle.nix_names.specs.StorePaths.{IsPathOf};
 ghost use Rattle.nix_drv.specs.Sources.{Answer, GivesSame, IsGiven};
 ghost use Rattle.drv_graph.specs.Loading.{IsCountedFault};
 ghost use Rattle.drv_graph.specs.Nodes.{inputs_of, paths_of};
-ghost use Rattle.drv_graph.specs.Plans.{MayStand};
+ghost use Rattle.drv_graph.specs.Plans.{MayBeAt};
 ghost use Rattle.drv_graph.specs.PlanNodes.{nodes_of};
-ghost use Rattle.drv_graph.specs.Walks.{IsFetching, IsFound, IsGoingOn, IsMeeting, IsOpening, IsReadingOf, IsStepping, IsTextFaultAt, IsVisit, IsWalked, IsWalking, marked};
+ghost use Rattle.drv_graph.specs.Walks.{IsFetching, IsWalkSoFar, IsGoingOn, IsMeeting, IsOpening, IsReadingOf, IsStepping, IsTextFaultAt, IsVisit, IsWalked, IsWalking, marked};
 
 use crate::fault::{GraphFault, NodeFault};
 use crate::found::{Found, Visit, leave};
@@ -71,7 +71,7 @@ fn go_on<S: DrvSource>(
     visits: &mut Vec<Visit>,
     mut visit: Visit,
 ) -> Result<(), GraphFault>
-    requires found { IsFound dir.now found.old }
+    requires found { IsWalkSoFar dir.now found.old }
     requires visit { IsVisit (nodes_of found.old.nodes.items) visit }
     requires pending { marked found.old.marks visit.path ≡ Some None }
     requires is_new { Contains (paths_of (nodes_of found.old.nodes.items)) visit.path → ⊥ }

@@ -109,7 +109,8 @@ drawn graph state marks listed start text roots empty is =
     ++ codes "}\n")
     (sym (flat_map-map marked number listed)
     ∙ same_texts marked rooted (numbers_of listed)
-    (λ d. ap (λ b. lines_if_some (λ node. node_line node.path (state d) b) (slice_get graph.nodes d))
+    (λ d. ap (λ b. lines_if_some (λ node. node_line node.path (state d) b)
+    (slice_get graph.nodes d))
     (roots.each d)))
     ∙ ap (λ (es : List ℕ). codes "digraph plan {\n" ++ flat_map rooted (numbers_of listed) ++ es
     ++ codes "}\n") (sym (flat_map-map edges number listed))

@@ -22,7 +22,7 @@ use Rattle.sched_core.proofs.Tests.{all_pass}
 use Rattle.sched_core.proofs.Wanting.{any_default}
 use Rattle.forecast.specs.Forecasts.{built_table, forecast, foretold}
 use Rattle.forecast.specs.Holding.{AreForetold, IsHeld, state_at, state_of}
-use Rattle.forecast.specs.Texts.{IsForecast, IsText, line_at, line_of}
+use Rattle.forecast.specs.Texts.{IsForecast, IsForecastText, line_at, line_of}
 use Rattle.forecast.specs.declared.prospect.Prospect.{Prospect}
 use Rattle.forecast.proofs.Passing.{AreGood}
 
@@ -102,7 +102,7 @@ same_at nodes lines s t d same = ⊎_elim
 -- the text by what is held is the forecast
 pub held_text : (run : Run) (opening : List Entry) (wanted : List Bool)
     (prospects : List Prospect) (text : List ℕ) → IsHeld run opening wanted prospects
-    → IsText run.graph (IsMarked wanted (length run.graph.nodes)) (state_at prospects) text
+    → IsForecastText run.graph (IsMarked wanted (length run.graph.nodes)) (state_at prospects) text
     → IsForecast run opening text
 held_text run opening wanted prospects text held is = record {
   wanted = is.wanted;

@@ -17,34 +17,35 @@ use Rattle.sched_core.proofs.OneReport.{one_report}
 use Rattle.sched_core.proofs.StateLaws.{all_same}
 use Rattle.forecast.specs.Forecasts.{foretold}
 use Rattle.forecast.specs.Texts.{line_at, line_of}
-use Rattle.forecast.specs.Truths.{Build, HasEnded, Line, NoneFailed, Output, Refuse, ReportsComeTrue, Reuse, WholeComesTrue, foretelling, reporting}
+use Rattle.forecast.specs.Truths.{Build, HasEnded, ForecastLine, NoneFailed, Output, Refuse, ReportsComeTrue, Reuse, WholeComesTrue, foretelling, reporting}
 use Rattle.forecast.proofs.Foretelling.{IsClosed, forecasts_are_closed}
 use Rattle.forecast.proofs.Spared.{states_come_true}
 
 -- ---- what is told of a derivation, and of its outputs
 
-abbrev told : List Node → Node → State → List Line
+abbrev told : List Node → Node → State → List ForecastLine
 told nodes node Done = Build node.path ∷ []
 told nodes node Reused = Reuse node.path ∷ []
 told nodes node (Refused cause) = Refuse node.path (refusal_words nodes node.drv cause) ∷ []
 told nodes node state = []
 
-abbrev outputs_told : Node → State → List Line
+abbrev outputs_told : Node → State → List ForecastLine
 outputs_told node state = if is_good state then map Output (output_paths_of node.drv) else []
 
-abbrev of_node : (Node → List Line) → Option Node → List Line
+abbrev of_node : (Node → List ForecastLine) → Option Node → List ForecastLine
 of_node lines (Some node) = lines node
 of_node lines None = []
 
-abbrev told_at : List Node → (state : ℕ → State) → ℕ → List Line
+abbrev told_at : List Node → (state : ℕ → State) → ℕ → List ForecastLine
 told_at nodes state d = of_node (λ node. told nodes node (state d)) (slice_get nodes d)
 
-abbrev outputs_told_at : List Node → (state : ℕ → State) → ℕ → List Line
+abbrev outputs_told_at : List Node → (state : ℕ → State) → ℕ → List ForecastLine
 outputs_told_at nodes state d = of_node (λ node. outputs_told node (state d)) (slice_get nodes d)
 
 -- ---- how it is told
 
-line_alone : (tell : Line → List ℕ) (line : Line) → tell line ≡ flat_map tell (line ∷ [])
+line_alone : (tell : ForecastLine → List ℕ) (line : ForecastLine)
+    → tell line ≡ flat_map tell (line ∷ [])
 line_alone tell line = sym (append-nil (tell line))
 
 foretold_line : (nodes : List Node) (node : Node) (s : State)
@@ -83,14 +84,15 @@ reported_outputs paths true = sym (flat_map-map reporting Output paths)
 reported_outputs paths false = refl
 
 -- of a node, if it is there
-told_of_node : (tell : Line → List ℕ) (texts : Node → List ℕ) (lines : Node → List Line)
+told_of_node : (tell : ForecastLine → List ℕ) (texts : Node → List ℕ)
+    (lines : Node → List ForecastLine)
     (node : Option Node) → ((n : Node) → texts n ≡ flat_map tell (lines n))
     → lines_if_some texts node ≡ flat_map tell (of_node lines node)
 told_of_node tell texts lines (Some node) each = each node
 told_of_node tell texts lines None each = refl
 
 -- of some numbers
-told_of_all : (tell : Line → List ℕ) (texts : ℕ → List ℕ) (lines : ℕ → List Line)
+told_of_all : (tell : ForecastLine → List ℕ) (texts : ℕ → List ℕ) (lines : ℕ → List ForecastLine)
     (numbers : List ℕ) → ((d : ℕ) → Contains numbers d → texts d ≡ flat_map tell (lines d))
     → flat_map texts numbers ≡ flat_map tell (flat_map lines numbers)
 told_of_all tell texts lines [] each = refl

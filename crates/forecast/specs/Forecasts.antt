@@ -32,7 +32,8 @@ built_table rows state d = built_if_ready (table rows state d)
 -- the state that is foretold of a derivation by this table, from those of its inputs and its
 -- earlier twins, which have smaller numbers
 unfoldable pub forecast : Rows → ℕ → State
-forecast rows d = built_table rows (λ i. slice_index_or (states_by (built_table rows) d) i Blocked) d
+forecast rows d = built_table rows (λ i. slice_index_or (states_by (built_table rows) d) i Blocked)
+    d
 
 -- the state that is foretold of a derivation in a run that opens with these entries: nothing has
 -- happened yet

@@ -4,6 +4,5 @@ pub mod Holding
 pub mod Pictures
 pub mod Texts
 pub mod Truths
-
 -- What only private contracts and proofs cite.
 pub mod Marks

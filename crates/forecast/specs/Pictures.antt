@@ -1,7 +1,7 @@
--- *Picture of a forecast*: a graph in Graphviz's language (graphviz.org, "DOT Language"; which nodes,
--- edges, labels and colours it has is this product's own). A text in quotes needs no more than the
--- quotes: a path has only A-Z a-z 0-9 + - . _ ? = and slashes, a name and an output's name have no
--- slash either.
+-- *Picture of a forecast*: a graph in Graphviz's language (graphviz.org, "DOT Language"; which
+-- nodes, edges, labels and colours it has is this product's own). A text in quotes needs no more
+-- than the quotes: a path has only A-Z a-z 0-9 + - . _ ? = and slashes, a name and an output's name
+-- have no slash either.
 use Rattle.std.specs.Prelude.{◌≡◌, Bool, true, false, ℕ, List, [], ◌∷◌, ◌++◌, flat_map, codes, slice_get, if◌then◌else◌}
 use Rattle.nix_names.specs.Bytes.{Bytes, Path, Name}
 use Rattle.nix_names.specs.Names.{same_bytes}
@@ -67,8 +67,8 @@ awaits_inputs Done = true
 awaits_inputs (Refused (InputNotRealised input)) = true
 awaits_inputs state = false
 
--- the edges from a derivation to the inputs that it waits for, in its text's order, which is that of
--- their paths
+-- the edges from a derivation to the inputs that it waits for, in its text's order, which is that
+-- of their paths
 abbrev pub edge_lines : Node → State → Bytes
 edge_lines node state =
     if awaits_inputs state then flat_map (edge_line node.path) node.drv.inputs else []
@@ -89,8 +89,8 @@ drawing nodes state is_root numbers =
     codes "digraph plan {\n" ++ flat_map (node_at nodes state is_root) numbers
     ++ flat_map (edges_at nodes state) numbers ++ codes "}\n"
 
--- The text is the picture of a plan, of which these derivations are wanted, by these foretold states:
--- the wanted ones are drawn, by path.
+-- The text is the picture of a plan, of which these derivations are wanted, by these foretold
+-- states: the wanted ones are drawn, by path.
 pub record IsDrawing (graph : Graph) (is_wanted : ℕ → Type 0) (state : ℕ → State) (text : Bytes)
     : Type 0 where
   pub wanted : List ℕ

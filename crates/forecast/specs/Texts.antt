@@ -29,7 +29,8 @@ line_at nodes state d = lines_if_some (λ node. line_of nodes node (state d)) (s
 -- The text is that of a plan, of which these derivations are wanted, by these foretold states: the
 -- lines of the wanted ones, by path, then the lines of each root's outputs, in the order of the
 -- roots.
-pub record IsText (graph : Graph) (is_wanted : ℕ → Type 0) (state : ℕ → State) (text : Bytes)
+pub record IsForecastText (graph : Graph) (is_wanted : ℕ → Type 0) (state : ℕ → State)
+    (text : Bytes)
     : Type 0 where
   pub wanted : List ℕ
   pub by_path : AreByPath graph.nodes is_wanted wanted
@@ -38,7 +39,8 @@ pub record IsText (graph : Graph) (is_wanted : ℕ → Type 0) (state : ℕ → 
 
 -- the text is the forecast of a run that opens with these entries
 abbrev pub IsForecast : Run → (opening : List Entry) → (text : Bytes) → Type 0
-IsForecast run opening text = IsText run.graph (IsWanted run opening) (foretold run opening) text
+IsForecast run opening text = IsForecastText run.graph (IsWanted run opening)
+    (foretold run opening) text
 
 -- whether each root is foretold to be built or reused
 abbrev pub is_whole : Run → (opening : List Entry) → Bool

@@ -23,7 +23,8 @@ pub record HasEnded (run : Run) (history : History) : Type 0 where
 
 -- the builder of a derivation failed
 abbrev pub HasFailed : History → ℕ → Type 0
-HasFailed history d = (lease : ℕ) × ((reason : Reason) × Contains history.events (Fail d lease reason))
+HasFailed history d = (lease : ℕ) × ((reason : Reason)
+    × Contains history.events (Fail d lease reason))
 
 -- no builder failed
 abbrev pub NoneFailed : History → Type 0
@@ -51,21 +52,21 @@ StatesComeTrue = (run : Run) (history : History) → HasEnded run history → No
     → state_in run history d ≡ foretold run history.opening d
 
 -- A line that tells of a derivation that is built, reused or refused, or of an output.
-pub data Line : Type 0 where
-  Build : (path : Path) → Line
-  Reuse : (path : Path) → Line
-  Refuse : (path : Path) (why : Bytes) → Line
-  Output : (path : Path) → Line
+pub data ForecastLine : Type 0 where
+  Build : (path : Path) → ForecastLine
+  Reuse : (path : Path) → ForecastLine
+  Refuse : (path : Path) (why : Bytes) → ForecastLine
+  Output : (path : Path) → ForecastLine
 
 -- how a forecast writes a line
-abbrev pub foretelling : Line → Bytes
+abbrev pub foretelling : ForecastLine → Bytes
 foretelling (Build path) = path_line (codes "build ") path
 foretelling (Reuse path) = path_line (codes "reuse ") path
 foretelling (Refuse path why) = why_line (codes "refuse ") path why
 foretelling (Output path) = path_line (codes "output ") path
 
 -- how a report writes a line
-abbrev pub reporting : Line → Bytes
+abbrev pub reporting : ForecastLine → Bytes
 reporting (Build path) = path_line (codes "built ") path
 reporting (Reuse path) = path_line (codes "reused ") path
 reporting (Refuse path why) = why_line (codes "refused ") path why
@@ -73,7 +74,7 @@ reporting (Output path) = path_line (codes "output ") path
 
 -- A forecast and a report tell the same, line by line.
 pub record TellTheSame (text report : Bytes) : Type 0 where
-  pub lines : List Line
+  pub lines : List ForecastLine
   pub is_forecast : text ≡ flat_map foretelling lines
   pub is_report : report ≡ flat_map reporting lines
 

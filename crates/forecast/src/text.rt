@@ -1,11 +1,12 @@
-//! The text of a forecast: what is foretold of each wanted derivation, and the outputs of the roots.
+//! The text of a forecast: what is foretold of each wanted derivation, and the outputs of the
+//! roots.
 ghost use Rattle.std.specs.Prelude.{◌≡◌, ◌<◌, ◌++◌, IfErr, IfOk, OnOk, flat_map, length};
 ghost use Rattle.sched_core.specs.Listing.{AreWithin, IsMarked};
 ghost use Rattle.sched_core.specs.Reports.{outputs_at};
 ghost use Rattle.sched_core.specs.declared.fault.BookFault.TheVariants.{NoMemory};
 ghost use Rattle.sched_core.specs.declared.listing.Listed.{Listed};
 ghost use Rattle.forecast.specs.Holding.{state_at, state_of};
-ghost use Rattle.forecast.specs.Texts.{IsText, line_at};
+ghost use Rattle.forecast.specs.Texts.{IsForecastText, line_at};
 
 use crate::prospect::{Prospect, prospect_at};
 use drv_graph::Plan;
@@ -23,7 +24,7 @@ pub(crate) fn text_of(
 ) -> Result<Vec<u8>, BookFault>
     requires wanted { length wanted.now ≡ length plan.now.nodes }
     requires prospects { length prospects.now ≡ length plan.now.nodes }
-    ensures ok { IfOk result (λ text. IsText plan.now
+    ensures ok { IfOk result (λ text. IsForecastText plan.now
         (IsMarked wanted.now (length plan.now.nodes)) (state_at prospects.now) text.items) }
     ensures err { IfErr result (λ fault. fault ≡ NoMemory) }
 {

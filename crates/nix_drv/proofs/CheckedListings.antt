@@ -10,7 +10,7 @@ use Rattle.indexmap.specs.IndexMap.{insert_entry}
 use Rattle.nix_names.specs.Names.{same_bytes}
 use Rattle.nix_drv.specs.ListedFiles.{entries_of, pairs_of}
 use Rattle.nix_drv.specs.declared.listing.ListedFile.{ListedFile}
-use Rattle.nix_drv.specs.Sources.{Answers, GivesSame, IsCounted, IsGiven, Listing, after_fetch, bytes_at, counted, found_answer, is_failing, listing_gives, most_failures, next_answer}
+use Rattle.nix_drv.specs.Sources.{IsFetched, GivesSame, IsCounted, IsGiven, Listing, after_fetch, bytes_at, counted, found_answer, is_failing, listing_gives, most_failures, next_answer}
 use Rattle.nix_drv.specs.declared.source.SourceFault.{SourceFault}
 use Rattle.nix_drv.specs.declared.source.SourceFault.TheVariants.{Missing, Device, NoMemory}
 
@@ -29,7 +29,7 @@ keeps_gives old new is_after =
 
 given_for : (old : Listing) (path : List ℕ) (failing : Bool) (found : Option (List ℕ))
     → bytes_at old.files path ≡ found → (result : Result (Vec ℕ) SourceFault)
-    → Answers (cond failing (Err Device) (found_answer found)) result
+    → IsFetched (cond failing (Err Device) (found_answer found)) result
     → IsGiven (listing_gives old path) result
 given_for old path true found at (Ok fetched) answer = absurd answer
 given_for old path true found at (Err fault) answer =
@@ -44,7 +44,7 @@ given_for old path false None at (Err fault) answer =
 
 -- what the next fetch answers is given
 pub answer_is_given : (old : Listing) (path : List ℕ) (result : Result (Vec ℕ) SourceFault)
-    → Answers (next_answer old path) result → IsGiven (listing_gives old path) result
+    → IsFetched (next_answer old path) result → IsGiven (listing_gives old path) result
 answer_is_given old path result answer = given_for old path (is_failing old)
     (bytes_at old.files path) refl result answer
 
@@ -56,7 +56,8 @@ counted_above n =
     ]
 
 counted_for : (failing : Bool) (found : Option (List ℕ)) (before : ℕ)
-    (result : Result (Vec ℕ) SourceFault) → Answers (cond failing (Err Device) (found_answer found))
+    (result : Result (Vec ℕ) SourceFault) → IsFetched
+    (cond failing (Err Device) (found_answer found))
     result → IsCounted before (cond failing (counted before) before) result
 counted_for true found before (Ok fetched) answer = absurd answer
 counted_for true found before (Err fault) answer =
@@ -71,7 +72,7 @@ counted_for false None before (Err fault) answer =
 
 -- a failed fetch is counted
 pub device_is_counted : (old new : Listing) (path : List ℕ) (result : Result (Vec ℕ) SourceFault)
-    → new ≡ after_fetch old → Answers (next_answer old path) result
+    → new ≡ after_fetch old → IsFetched (next_answer old path) result
     → IsCounted old.failures new.failures result
 device_is_counted old new path result is_after answer =
     subst (λ (l : Listing). IsCounted old.failures l.failures result) (sym is_after)

@@ -12,7 +12,7 @@ use Rattle.nix_names.proofs.PathFaults.{no_fault_of_path}
 use Rattle.nix_names.proofs.FirstElements.{first_within}
 use Rattle.nix_drv.specs.Checked.{IsFirstStray}
 use Rattle.nix_drv.specs.Derivation.{Drv, Input as DrvInput}
-use Rattle.nix_drv.specs.OwnPath.{paths_of}
+use Rattle.nix_drv.specs.OwnPath.{referenced_paths}
 use Rattle.nix_drv.specs.Parts.{bytes_of, input_of, path_of}
 use Rattle.nix_drv.specs.References.{IsStrayFault}
 use Rattle.nix_drv.specs.declared.derivation.Input.{Input}
@@ -133,9 +133,10 @@ added_more view front refs after text items i d below at same before pushed =
     ∙ ap (λ (all : List (List ℕ)). front ++ all) (sym (items_more view items i d below at))
 
 -- a derivation's paths begin with those of its inputs
-inputs_first : (drv : Drv) (inputs : List Input) → map input_of inputs ≡ drv.inputs → paths_of drv
+inputs_first : (drv : Drv) (inputs : List Input) → map input_of inputs ≡ drv.inputs
+    → referenced_paths drv
     ≡ map path_of inputs ++ drv.sources
-unfolding paths_of
+unfolding referenced_paths
 inputs_first drv inputs same =
     ap (λ (front : List (List ℕ)). front ++ drv.sources)
     (ap (map (λ (input : DrvInput). input.path)) (sym same)
@@ -143,7 +144,7 @@ inputs_first drv inputs same =
 
 -- a derivation's paths are those of its inputs, then its sources
 pub paths_are : (drv : Drv) (inputs : List Input) (sources : List (Vec ℕ)) → map input_of inputs
-    ≡ drv.inputs → map bytes_of sources ≡ drv.sources → paths_of drv ≡ map path_of inputs
+    ≡ drv.inputs → map bytes_of sources ≡ drv.sources → referenced_paths drv ≡ map path_of inputs
     ++ map bytes_of sources
 paths_are drv inputs sources same_inputs same_sources = inputs_first drv inputs same_inputs
     ∙ ap (λ (behind : List (List ℕ)). map path_of inputs ++ behind) (sym same_sources)
@@ -151,7 +152,7 @@ paths_are drv inputs sources same_inputs same_sources = inputs_first drv inputs 
 -- what is wrong with the inputs' paths is what is wrong with the derivation's
 pub inputs_fault : (dir : List ℕ) (drv : Drv) (inputs : List Input) (found : DrvFault)
     → map input_of inputs ≡ drv.inputs → IsStrayFault dir (map path_of inputs) found
-    → IsStrayFault dir (paths_of drv) found
+    → IsStrayFault dir (referenced_paths drv) found
 inputs_fault dir drv inputs found same stray =
     subst (λ (all : List (List ℕ)). IsStrayFault dir all found) (sym (inputs_first drv inputs same))
     (fault_within dir [] (map path_of inputs) drv.sources found
@@ -162,7 +163,7 @@ inputs_fault dir drv inputs found same stray =
 pub sources_fault : (dir : List ℕ) (drv : Drv) (inputs : List Input) (sources : List (Vec ℕ))
     (found : DrvFault) → map input_of inputs ≡ drv.inputs → map bytes_of sources ≡ drv.sources
     → All (IsPathOf dir) (map path_of inputs) → IsStrayFault dir (map bytes_of sources) found
-    → IsStrayFault dir (paths_of drv) found
+    → IsStrayFault dir (referenced_paths drv) found
 sources_fault dir drv inputs sources found same_inputs same_sources good stray =
     subst (λ (all : List (List ℕ)). IsStrayFault dir all found)
     (sym (paths_are drv inputs sources same_inputs same_sources
@@ -173,7 +174,7 @@ sources_fault dir drv inputs sources found same_inputs same_sources good stray =
 pub all_good : (dir : List ℕ) (drv : Drv) (inputs : List Input) (sources : List (Vec ℕ))
     → map input_of inputs ≡ drv.inputs → map bytes_of sources ≡ drv.sources
     → All (IsPathOf dir) (map path_of inputs) → All (IsPathOf dir) (map bytes_of sources)
-    → All (IsPathOf dir) (paths_of drv)
+    → All (IsPathOf dir) (referenced_paths drv)
 all_good dir drv inputs sources same_inputs same_sources good_inputs good_sources =
     subst (λ (all : List (List ℕ)). All (IsPathOf dir) all)
     (sym (paths_are drv inputs sources same_inputs same_sources))

@@ -5,12 +5,12 @@ use Rattle.nix_names.specs.StorePaths.{IsPathOf, name_of}
 use Rattle.nix_drv.specs.Checked.{IsFoundAt}
 use Rattle.nix_drv.specs.Derivation.{Drv, IsDrvText}
 use Rattle.nix_drv.specs.Outcome.{max_len}
-use Rattle.nix_drv.specs.OwnPath.{IsOwnPath, paths_of, text_path}
+use Rattle.nix_drv.specs.OwnPath.{IsOwnPath, referenced_paths, text_path}
 use Rattle.nix_drv.specs.References.{IsReferencesOf}
 
 -- the text path with the references of a text is its own path
 pub own_path_of : (dir name bytes : List ℕ) (drv : Drv) (refs lent : List (List ℕ)) (own : List ℕ)
-    → IsReferencesOf (paths_of drv) refs → lent ≡ refs → own ≡ text_path dir name bytes lent
+    → IsReferencesOf (referenced_paths drv) refs → lent ≡ refs → own ≡ text_path dir name bytes lent
     → IsOwnPath dir name drv bytes own
 own_path_of dir name bytes drv refs lent own is_refs same is_own = record {
   refs = refs;
@@ -22,7 +22,7 @@ own_path_of dir name bytes drv refs lent own is_refs same is_own = record {
 -- a text that was read is found at its own path
 pub found_at : (dir path bytes name : List ℕ) (drv : Drv) (own : List ℕ) → name ≡ name_of path
     → is_drv_name name ≡ true → length bytes ≤ max_len → IsDrvText drv bytes
-    → All (IsPathOf dir) (paths_of drv) → IsOwnPath dir name drv bytes own
+    → All (IsPathOf dir) (referenced_paths drv) → IsOwnPath dir name drv bytes own
     → IsFoundAt dir path bytes drv own
 found_at dir path bytes name drv own named is_drv within is_text good is_own = record {
   read = record {

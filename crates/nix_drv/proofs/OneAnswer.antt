@@ -9,7 +9,7 @@ use Rattle.nix_drv.specs.Grammar.{Grammar, IsLongestFront}
 use Rattle.nix_drv.specs.Order.{IsFirstViolation}
 use Rattle.nix_drv.specs.Derivation.{Drv, derivation_form, drv_value}
 use Rattle.nix_drv.specs.Outcome.{IsReading}
-use Rattle.nix_drv.specs.OwnPath.{IsOwnPath, paths_of}
+use Rattle.nix_drv.specs.OwnPath.{IsOwnPath, referenced_paths}
 use Rattle.nix_drv.specs.Checked.{IsCheck, IsFirstStray}
 use Rattle.nix_drv.specs.Laws.{HasOneReading, HasOneCheck, SaysSame}
 use Rattle.nix_drv.proofs.Back.{one_drv}
@@ -116,8 +116,8 @@ abbrev Follows : (dir path bytes : List ℕ) → Result Drv DrvFault → Result 
 Follows dir path bytes (Err fault) answer = answer ≡ Err fault
 Follows dir path bytes (Ok drv) answer =
     ((spelled : Vec ℕ) × (answer ≡ Err (BadReference spelled))
-    × IsFirstStray dir (paths_of drv) spelled.items)
-    ⊎ ((own : List ℕ) × All (IsPathOf dir) (paths_of drv)
+    × IsFirstStray dir (referenced_paths drv) spelled.items)
+    ⊎ ((own : List ℕ) × All (IsPathOf dir) (referenced_paths drv)
     × IsOwnPath dir (name_of path) drv bytes own × IsByOwn path drv own answer)
 
 record Settled (dir path bytes : List ℕ) (answer : Result Drv DrvFault) : Type 0 where
@@ -186,13 +186,13 @@ follows_once : (dir path bytes : List ℕ) (read a b : Result Drv DrvFault)
 follows_once dir path bytes (Err fault) a b p q = says_same a b (p ∙ sym q)
 follows_once dir path bytes (Ok drv) a b (inl p) (inl q) =
     let texts : SaysSame (Err (BadReference p.0)) (Err (BadReference q.0)) =
-    first_stray_is dir (paths_of drv) p.0.items q.0.items p.2 q.2 in
+    first_stray_is dir (referenced_paths drv) p.0.items q.0.items p.2 q.2 in
     subst (λ (x : Result Drv DrvFault). SaysSame x b) (sym p.1)
     (subst (λ (x : Result Drv DrvFault). SaysSame (Err (BadReference p.0)) x) (sym q.1) texts)
 follows_once dir path bytes (Ok drv) a b (inl p) (inr q) =
-    absurd (no_stray dir (paths_of drv) p.0.items p.2 q.1)
+    absurd (no_stray dir (referenced_paths drv) p.0.items p.2 q.1)
 follows_once dir path bytes (Ok drv) a b (inr p) (inl q) =
-    absurd (no_stray dir (paths_of drv) q.0.items q.2 p.1)
+    absurd (no_stray dir (referenced_paths drv) q.0.items q.2 p.1)
 follows_once dir path bytes (Ok drv) a b (inr p) (inr q) =
     by_own path drv p.0 q.0 a b (one_own_path dir (name_of path) drv bytes p.0 q.0 p.2 q.2) p.3 q.3
 

@@ -23,7 +23,7 @@ use Rattle.nix_drv.specs.Derivation.{Drv, EnvEntry, Input, Output, derivation_fo
 use Rattle.nix_drv.specs.Grammar.{Str}
 use Rattle.nix_drv.specs.Order.{Each, InOrder, KeysRise, key}
 use Rattle.nix_drv.specs.Parts.{drv_of, entry_of, input_of, output_of}
-use Rattle.nix_drv.specs.Places.{IsPlaceOf, env_keys, output_names}
+use Rattle.nix_drv.specs.Places.{IsPlaceOfKey, env_keys, output_names}
 use Rattle.nix_drv.specs.declared.derivation.EnvEntry.{EnvEntry as EnvEntryStruct}
 use Rattle.nix_drv.specs.declared.derivation.Input.{Input as InputStruct}
 use Rattle.nix_drv.specs.declared.derivation.Output.{Output as OutputStruct}
@@ -49,7 +49,7 @@ tied x y e = (bytes_decides x y).0 (texts_ties x y ∙ ap is_eq e)
 pub place_found : {X : Type 0} (key_of : X → List ℕ) (xs : List X) (wanted : List ℕ) (i : ℕ) → i
     < length xs
     → HoldsAt (λ y. slice_cmp nat_cmp (key_of y) wanted ≡ Equal) xs i
-    → IsPlaceOf (map key_of xs) wanted (Some i)
+    → IsPlaceOfKey (map key_of xs) wanted (Some i)
 place_found key_of xs wanted i below ties =
     let d = element xs i below in
     let within : i < length (map key_of xs) = omega (arith, length-map xs key_of) in
@@ -81,7 +81,7 @@ pub place_none : {X : Type 0} (key_of : X → List ℕ) (xs : List X) (wanted : 
     → (IsNonDecreasingBy (λ y. ordering_index (slice_cmp nat_cmp (key_of y) wanted)) xs
     → IsPartitionPoint (λ y. slice_cmp nat_cmp (key_of y) wanted ≡ Less)
     (λ y. slice_cmp nat_cmp (key_of y) wanted ≡ Greater) xs i)
-    → IsPlaceOf (map key_of xs) wanted None
+    → IsPlaceOfKey (map key_of xs) wanted None
 place_none key_of xs wanted i rises parts (j, below, is) =
     let within : j < length xs = omega (arith, length-map xs key_of) in
     let d = element xs j within in
@@ -191,7 +191,7 @@ names_rise_here parts drv k input view ordered at =
 
 -- what a search among the names of an input tells
 pub used_found : (inputs : List Input) (k : ℕ) (input : Input) (name : List ℕ) (place : ℕ)
-    → slice_get inputs k ≡ Some input → IsPlaceOf input.names name (Some place)
+    → slice_get inputs k ≡ Some input → IsPlaceOfKey input.names name (Some place)
     → IfSome (slice_get inputs k) (λ used. IsTrue true ↔ Contains used.names name)
 used_found inputs k input name place at found =
     subst (λ (o : Option Input). IfSome o (λ used. IsTrue true ↔ Contains used.names name))
@@ -205,7 +205,7 @@ used_found inputs k input name place at found =
     )
 
 pub used_none : (inputs : List Input) (k : ℕ) (input : Input) (name : List ℕ) → slice_get inputs k
-    ≡ Some input → IsPlaceOf input.names name None
+    ≡ Some input → IsPlaceOfKey input.names name None
     → IfSome (slice_get inputs k) (λ used. IsTrue false ↔ Contains used.names name)
 used_none inputs k input name at none =
     subst (λ (o : Option Input). IfSome o (λ used. IsTrue false ↔ Contains used.names name))

@@ -5,7 +5,7 @@ use Rattle.std.specs.Ordering.{is_lt}
 use Rattle.std.proofs.lemmas.Bool.{cases_Bool}
 use Rattle.nix_names.proofs.RisingLists.{below_from_lt}
 use Rattle.nix_drv.specs.Grammar.{ListOrder, Rising, Free, Grammar, Fixed, Str, Then, Many, Value, text}
-use Rattle.nix_drv.specs.Order.{key, is_less, breaks, IsViolationAmong, IsViolation, InOrder, MayStand, Each, KeysRise}
+use Rattle.nix_drv.specs.Order.{key, is_less, breaks, IsViolationAmong, IsViolation, InOrder, MayBeKeys, Each, KeysRise}
 
 -- the keys with the one before them, if there is one
 abbrev behind : Option (List ℕ) → List (List ℕ) → List (List ℕ)
@@ -16,8 +16,8 @@ not_both : (b : Bool) → b ≡ true → not b ≡ true → ⊥
 not_both b is isnt = let t : false ≡ true = sym (ap not is) ∙ isnt in absurd cc
 
 stands_more : (order : ListOrder) (before : Option (List ℕ)) (k : List ℕ) (ks : List (List ℕ))
-    → (breaks order before k ≡ true → ⊥) → MayStand order (k ∷ ks)
-    → MayStand order (behind before (k ∷ ks))
+    → (breaks order before k ≡ true → ⊥) → MayBeKeys order (k ∷ ks)
+    → MayBeKeys order (behind before (k ∷ ks))
 stands_more Free before k ks none h = tt
 stands_more Rising None k ks none h = h
 stands_more Rising (Some a) k ks none h = (
@@ -26,18 +26,18 @@ stands_more Rising (Some a) k ks none h = (
 )
 
 breaks_none : (order : ListOrder) (before : Option (List ℕ)) (k : List ℕ) (ks : List (List ℕ))
-    → MayStand order (behind before (k ∷ ks)) → breaks order before k ≡ true → ⊥
+    → MayBeKeys order (behind before (k ∷ ks)) → breaks order before k ≡ true → ⊥
 breaks_none Free before k ks h e = let t : false ≡ true = e in absurd cc
 breaks_none Rising None k ks h e = let t : false ≡ true = e in absurd cc
 breaks_none Rising (Some a) k ks h e = not_both (is_less a k) (ap is_lt h.0) e
 
-stands_last : (order : ListOrder) (before : Option (List ℕ)) → MayStand order (behind before [])
+stands_last : (order : ListOrder) (before : Option (List ℕ)) → MayBeKeys order (behind before [])
 stands_last Free before = tt
 stands_last Rising None = tt
 stands_last Rising (Some a) = tt
 
 stands_later : (order : ListOrder) (before : Option (List ℕ)) (k : List ℕ) (ks : List (List ℕ))
-    → MayStand order (behind before (k ∷ ks)) → MayStand order (k ∷ ks)
+    → MayBeKeys order (behind before (k ∷ ks)) → MayBeKeys order (k ∷ ks)
 stands_later Free before k ks h = tt
 stands_later Rising None k ks h = h
 stands_later Rising (Some a) k ks h = h.1
@@ -47,7 +47,7 @@ among_rises : {A : Type 0} (order : ListOrder) (key_of text_of : A → List ℕ)
     → ((p : ℕ) (v : A) → ((r : ℕ) → Within p v r → ⊥) → Rises v)
     → (before : Option (List ℕ)) (p : ℕ) (vs : List A)
     → ((r : ℕ) → IsViolationAmong order key_of text_of Within before p vs r → ⊥)
-    → MayStand order (behind before (map key_of vs)) × Each Rises vs
+    → MayBeKeys order (behind before (map key_of vs)) × Each Rises vs
 among_rises order key_of text_of Within Rises one before p [] none = (stands_last order before, tt)
 among_rises order key_of text_of Within Rises one before p (v ∷ vs) none =
     let later = among_rises order key_of text_of Within Rises one (Some (key_of v))
@@ -60,7 +60,7 @@ rises_among : {A : Type 0} (order : ListOrder) (key_of text_of : A → List ℕ)
     (Within : ℕ → A → ℕ → Type 0) (Rises : A → Type 0)
     → ((p : ℕ) (v : A) → Rises v → (r : ℕ) → Within p v r → ⊥)
     → (before : Option (List ℕ)) (p : ℕ) (vs : List A)
-    → MayStand order (behind before (map key_of vs)) → Each Rises vs → (r : ℕ)
+    → MayBeKeys order (behind before (map key_of vs)) → Each Rises vs → (r : ℕ)
     → IsViolationAmong order key_of text_of Within before p vs r → ⊥
 rises_among order key_of text_of Within Rises one before p [] stands each r at = at
 rises_among order key_of text_of Within Rises one before p (v ∷ vs) stands each r (inl at) =

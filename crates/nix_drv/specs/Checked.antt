@@ -6,7 +6,7 @@ use Rattle.nix_names.specs.Firsts.{IsFirst}
 use Rattle.nix_names.specs.StorePaths.{IsDrvPath, IsPathOf, name_of}
 use Rattle.nix_drv.specs.Derivation.{Drv, IsDrvText}
 use Rattle.nix_drv.specs.Outcome.{IsReading, max_len}
-use Rattle.nix_drv.specs.OwnPath.{IsOwnPath, paths_of}
+use Rattle.nix_drv.specs.OwnPath.{IsOwnPath, referenced_paths}
 use Rattle.nix_drv.specs.declared.fault.DrvFault.{DrvFault}
 use Rattle.nix_drv.specs.declared.fault.DrvFault.TheVariants.{NoMemory, Syntax, Order, TooLong, TextPathMismatch, NotADrvName, NotSorted, BadReference}
 
@@ -26,7 +26,7 @@ IsFirstStray dir = IsFirst (IsPathOf dir) (λ text. IsPathOf dir text → ⊥)
 pub record IsFoundAt (dir : Dir) (path : Path) (bytes : Bytes) (drv : Drv) (own : Path)
     : Type 0 where
   pub read : IsReadAt path bytes drv
-  pub in_store : All (IsPathOf dir) (paths_of drv)
+  pub in_store : All (IsPathOf dir) (referenced_paths drv)
   pub own_path : IsOwnPath dir (name_of path) drv bytes own
 
 -- What the check of the bytes at a path of the folder answers. It answers a fault exactly where it
@@ -41,7 +41,7 @@ IsCheck dir path bytes (Err TooLong) = IsDrvPath path × IsReading bytes (Err To
 IsCheck dir path bytes (Err (Syntax place)) = IsDrvPath path × IsReading bytes (Err (Syntax place))
 IsCheck dir path bytes (Err (Order place)) = IsDrvPath path × IsReading bytes (Err (Order place))
 IsCheck dir path bytes (Err (BadReference text)) = (drv : Drv) × IsReadAt path bytes drv
-    × IsFirstStray dir (paths_of drv) text.items
+    × IsFirstStray dir (referenced_paths drv) text.items
 IsCheck dir path bytes (Err (TextPathMismatch expected)) = (drv : Drv)
     × IsFoundAt dir path bytes drv expected × (expected ≢ path)
 IsCheck dir path bytes (Err NoMemory) = IsDrvPath path × (length bytes ≤ max_len)

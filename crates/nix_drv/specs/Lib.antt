@@ -13,7 +13,6 @@ pub mod Places
 pub mod References
 pub mod Sources
 pub mod Strings
-
 -- What only private contracts and proofs cite.
 pub mod Behind
 pub mod Listings

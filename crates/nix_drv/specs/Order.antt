@@ -64,9 +64,9 @@ pub record IsFirstViolation (g : Grammar) (v : Value g) (place : ℕ) : Type 0 w
   pub least : (other : ℕ) → IsViolation g 0 v other → place ≤ other
 
 -- the keys of a list's elements rise, where the list must rise
-abbrev pub MayStand : ListOrder → List Bytes → Type 0
-MayStand Free ks = Unit {0}
-MayStand Rising ks = IsRising ks
+abbrev pub MayBeKeys : ListOrder → List Bytes → Type 0
+MayBeKeys Free ks = Unit {0}
+MayBeKeys Rising ks = IsRising ks
 
 -- each element of a list has a property
 abbrev pub Each : {A : Type 0} → (A → Type 0) → List A → Type 0
@@ -78,4 +78,4 @@ unfoldable pub KeysRise : (g : Grammar) → Value g → Type 0
 KeysRise (Fixed bytes) v = Unit {0}
 KeysRise Str v = Unit {0}
 KeysRise (Then a b) v = KeysRise a v.0 × KeysRise b v.1
-KeysRise (Many order g) vs = MayStand order (map (key g) vs) × Each (KeysRise g) vs
+KeysRise (Many order g) vs = MayBeKeys order (map (key g) vs) × Each (KeysRise g) vs

@@ -18,8 +18,8 @@ text_path dir name bytes refs = store_path (text_kind refs) (sha256 bytes) dir n
 
 -- the paths that a derivation refers to, in the order of its text: those of its input derivations,
 -- then its sources
-unfoldable pub paths_of : Drv → List Path
-paths_of drv = map (λ input. input.path) drv.inputs ++ drv.sources
+unfoldable pub referenced_paths : Drv → List Path
+referenced_paths drv = map (λ input. input.path) drv.inputs ++ drv.sources
 
 -- The path is the own path of a derivation's text: its references are the derivation's paths, each
 -- once, in rising order.
@@ -27,7 +27,7 @@ pub record IsOwnPath (dir : Dir) (name : Name) (drv : Drv) (bytes : Bytes) (path
     : Type 0 where
   pub refs : List Path
   pub rising : IsRising refs
-  pub same : (ref : Path) → (Contains refs ref ↔ Contains (paths_of drv) ref)
+  pub same : (ref : Path) → (Contains refs ref ↔ Contains (referenced_paths drv) ref)
   pub is_path : path ≡ text_path dir name bytes refs
 
 -- a derivation's text has at most one own path in a folder, under a name

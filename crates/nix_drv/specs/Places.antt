@@ -4,9 +4,9 @@ use Rattle.nix_names.specs.Bytes.{Name}
 use Rattle.nix_drv.specs.Derivation.{Drv, Output, EnvEntry}
 
 -- a place of a key among some keys, or none where it is not among them
-abbrev pub IsPlaceOf : (keys : List Name) → (key : Name) → Option ℕ → Type 0
-IsPlaceOf keys key None = Contains keys key → ⊥
-IsPlaceOf keys key (Some place) = slice_get keys place ≡ Some key
+abbrev pub IsPlaceOfKey : (keys : List Name) → (key : Name) → Option ℕ → Type 0
+IsPlaceOfKey keys key None = Contains keys key → ⊥
+IsPlaceOfKey keys key (Some place) = slice_get keys place ≡ Some key
 
 -- the names of a derivation's outputs
 abbrev pub output_names : Drv → List Name

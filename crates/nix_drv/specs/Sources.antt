@@ -96,8 +96,8 @@ next_answer listing path = if is_failing listing then Err Device
     else found_answer (bytes_at listing.files path)
 
 -- what was fetched is the answer; where the answer has bytes, memory may be refused instead
-abbrev pub Answers : Answer → Result (Vec ℕ) SourceFault → Type 0
-Answers (Ok bytes) (Ok fetched) = fetched.items ≡ bytes
-Answers (Ok bytes) (Err fault) = fault ≡ NoMemory
-Answers (Err wanted) (Ok fetched) = ⊥
-Answers (Err wanted) (Err fault) = fault ≡ wanted
+abbrev pub IsFetched : Answer → Result (Vec ℕ) SourceFault → Type 0
+IsFetched (Ok bytes) (Ok fetched) = fetched.items ≡ bytes
+IsFetched (Ok bytes) (Err fault) = fault ≡ NoMemory
+IsFetched (Err wanted) (Ok fetched) = ⊥
+IsFetched (Err wanted) (Err fault) = fault ≡ wanted

@@ -4,7 +4,7 @@ ghost use Rattle.nix_names.specs.Names.{is_name};
 ghost use Rattle.nix_names.specs.StorePaths.{IsPathOf};
 ghost use Rattle.nix_drv.specs.Checked.{IsCheck};
 ghost use Rattle.nix_drv.specs.Order.{key as key_of};
-ghost use Rattle.nix_drv.specs.OwnPath.{IsOwnPath, paths_of};
+ghost use Rattle.nix_drv.specs.OwnPath.{IsOwnPath, referenced_paths};
 ghost use Rattle.nix_drv.specs.References.{IsReferencesOf, IsStrayFault};
 
 use crate::derivation::Derivation;
@@ -51,9 +51,9 @@ fn own_path(
 ) -> Result<StorePath, DrvFault>
     requires { IsTrue (is_name name.now) }
     ensures ok { IfOk result
-        (λ own. All (IsPathOf dir.now) (paths_of drv.now)
+        (λ own. All (IsPathOf dir.now) (referenced_paths drv.now)
         × IsOwnPath dir.now name.now drv.now bytes.now own) }
-    ensures err { IfErr result (IsStrayFault dir.now (paths_of drv.now)) }
+    ensures err { IfErr result (IsStrayFault dir.now (referenced_paths drv.now)) }
 {
     let refs = references(alloc, dir, drv)?;
     Ok(named_text_path(alloc, dir, name, bytes, &refs)?)
@@ -68,9 +68,9 @@ pub fn references(
     drv: &Derivation,
 ) -> Result<Vec<StorePath>, DrvFault>
     ensures ok { IfOk result
-        (λ refs. All (IsPathOf dir.now) (paths_of drv.now)
-        × IsReferencesOf (paths_of drv.now) refs.items) }
-    ensures err { IfErr result (IsStrayFault dir.now (paths_of drv.now)) }
+        (λ refs. All (IsPathOf dir.now) (referenced_paths drv.now)
+        × IsReferencesOf (referenced_paths drv.now) refs.items) }
+    ensures err { IfErr result (IsStrayFault dir.now (referenced_paths drv.now)) }
 {
     let mut refs = Vec::new(alloc);
     add_paths(alloc, dir, drv.inputs(), &mut refs)?;

@@ -10,7 +10,7 @@ ghost use Rattle.nix_drv.specs.Derivation.{IsLooseText, derivation_form, drv_val
 ghost use Rattle.nix_drv.specs.Parts.{bytes_of, output_of, input_of, entry_of, drv_of};
 ghost use Rattle.nix_drv.specs.Ordering.{IsOrdering};
 ghost use Rattle.nix_drv.specs.Outcome.{IsCopying, IsMaking};
-ghost use Rattle.nix_drv.specs.Places.{IsPlaceOf, env_keys, output_names};
+ghost use Rattle.nix_drv.specs.Places.{IsPlaceOfKey, env_keys, output_names};
 
 use crate::fault::DrvFault;
 use crate::forms::{copy_parts, pass_parts, write_parts};
@@ -219,7 +219,7 @@ impl Derivation {
     /// The place of the output with this name among the outputs, if there is one. Takes no memory,
     /// and compares some log2(n) names, where n is the number of outputs.
     pub fn output_place(&self, name: &[u8]) -> Option<usize>
-        ensures found { IsPlaceOf (output_names self.now) name.now result }
+        ensures found { IsPlaceOfKey (output_names self.now) name.now result }
         ensures rising { IsRising (output_names self.now) }
     {
         let by_name = |output: &Output| -> Ordering
@@ -251,7 +251,7 @@ impl Derivation {
     /// The place of the entry with this key in the environment, if there is one. Takes no memory,
     /// and compares some log2(n) keys, where n is the number of entries.
     pub fn env_place(&self, key: &[u8]) -> Option<usize>
-        ensures found { IsPlaceOf (env_keys self.now) key.now result }
+        ensures found { IsPlaceOfKey (env_keys self.now) key.now result }
         ensures rising { IsRising (env_keys self.now) }
     {
         let by_key = |entry: &EnvEntry| -> Ordering

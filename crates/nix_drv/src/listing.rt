@@ -2,7 +2,7 @@
 ghost use Rattle.std.specs.Prelude.{◌≡◌, ◌≤◌, ℕ, List, IfOk, IfErr};
 ghost use Rattle.std.specs.Option.{option_copied};
 ghost use Rattle.nix_drv.specs.ListedFiles.{entries_of, pairs_of};
-ghost use Rattle.nix_drv.specs.Sources.{Answers, GivesSame, IsCounted, IsGiven, IsListingOf, after_fetch, bytes_at, listing_gives, next_answer};
+ghost use Rattle.nix_drv.specs.Sources.{IsFetched, GivesSame, IsCounted, IsGiven, IsListingOf, after_fetch, bytes_at, listing_gives, next_answer};
 
 use crate::source::{DrvSource, SourceFault};
 use indexmap::IndexMap;
@@ -44,7 +44,7 @@ impl Model for ListSource {
 }
 
 impl ListSource {
-    /// The source with these files. The fetches with these numbers, counted from 0, fail. Answers
+    /// The source with these files. The fetches with these numbers, counted from 0, fail. IsFetched
     /// `NoMemory` where memory is refused, and no other fault. Costs one entry of a hash table for
     /// each file.
     pub fn new(
@@ -73,7 +73,7 @@ impl ListSource {
     // The next fetch of the path.
     fn next(&mut self, alloc: Global, path: &[u8]) -> Result<Vec<u8>, SourceFault>
         ensures after { self.new ≡ after_fetch self.old }
-        ensures answer { Answers (next_answer self.old path.now) result }
+        ensures answer { IsFetched (next_answer self.old path.now) result }
     {
         let is_failing = self.failing.contains(&self.fetches);
         self.fetches = self.fetches.saturating_add(1);
@@ -103,7 +103,7 @@ impl DrvSource for ListSource {
         ensures counts { self.old.failures ≤ self.new.failures }
 
         ensures after { self.new ≡ after_fetch self.old }
-        ensures answer { Answers (next_answer self.old path.now) result }
+        ensures answer { IsFetched (next_answer self.old path.now) result }
     {
         self.next(alloc, path.text())
     }

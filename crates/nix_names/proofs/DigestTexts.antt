@@ -54,7 +54,8 @@ one_digest a b is_a is_b algorithm digits =
     let size : size_of (algorithm_of b) ≡ size_of (algorithm_of a) = ap size_of (sym algorithm) in
     let bytes = one_list (size_of (algorithm_of a)) (bytes_of a) (bytes_of b) is_a
     (is_b.0 ∙ size, is_b.1) digits in
-    let again : digest_with (algorithm_of b) (bytes_of b) ≡ digest_with (algorithm_of a) (bytes_of a)
+    let again : digest_with (algorithm_of b) (bytes_of b) ≡ digest_with (algorithm_of a)
+    (bytes_of a)
     = ap (λ which. digest_with which (bytes_of b)) (sym algorithm)
     ∙ ap (digest_with (algorithm_of a)) (sym bytes) in
     sym (made_again a) ∙ sym again ∙ made_again b

@@ -119,7 +119,13 @@ lesser_hash p q rest others of_p of_q less =
     ∙ bytes_less 0 (take 8 p) (take 8 q) (drop 8 p ++ rest) (drop 8 q ++ others)
     (eight p of_p ∙ sym (eight q of_q))
     (small_first 8 p (all_digits p of_p)) (small_first 8 q (all_digits q of_q))
-    (omega (arith, less, eight_spelt (take 8 p) (eight p of_p), eight_spelt (take 8 q) (eight q of_q)))
+    (omega (
+      arith,
+      less,
+      eight_spelt (take 8 p) (eight p of_p),
+      eight_spelt (take 8 q)
+          (eight q of_q),
+    ))
   where
     split : (p rest : List ℕ) → p ++ rest ≡ take 8 p ++ (drop 8 p ++ rest)
     split p rest = ap (λ xs. xs ++ rest) (sym (take-append-drop 8 p))

@@ -1,4 +1,5 @@
--- What a list of numbers is in a definition. Where no name of these stands, it is a list of numbers.
+-- What a list of numbers is in a definition. Where no name of these stands, it is a list of
+-- numbers.
 use Rattle.std.specs.Prelude.{ℕ, List}
 
 -- some bytes, in order: a text, a file, a value of the environment

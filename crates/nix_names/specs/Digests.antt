@@ -1,5 +1,5 @@
--- Digests of a file's bytes: an algorithm and the bytes that it gives (RFC 1321; FIPS 180-4), and how
--- they are written (Nix manual, "nix hash convert": base 16).
+-- Digests of a file's bytes: an algorithm and the bytes that it gives (RFC 1321; FIPS 180-4), and
+-- how they are written (Nix manual, "nix hash convert": base 16).
 use Rattle.std.specs.Prelude.{◌≡◌, ◌++◌, ◌∷◌, ◌<◌, ℕ, All, codes, length}
 use Rattle.hex.specs.Hex.{encode_lower}
 use Rattle.nix_names.specs.Bytes.{Bytes, Name, Hash}

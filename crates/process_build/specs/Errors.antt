@@ -15,8 +15,8 @@ abbrev pub IsNotFound : Error → Type 0
 IsNotFound error = error_kind error ≡ kind.NotFound
 
 -- something lies at the path already
-abbrev pub IsTaken : Error → Type 0
-IsTaken error = error_kind error ≡ kind.AlreadyExists
+abbrev pub IsOccupied : Error → Type 0
+IsOccupied error = error_kind error ≡ kind.AlreadyExists
 
 -- a signal interrupted the call, which did nothing
 abbrev pub IsInterruption : Error → Type 0
@@ -27,4 +27,4 @@ IsInterruption error = error_kind error ≡ kind.Interrupted
 abbrev pub IsFailure : Error → Failure → Type 0
 IsFailure error failure =
     ((failure ≡ NoMemory) ↔ IsNoMemory error) × ((failure ≡ NotFound) ↔ IsNotFound error)
-    × ((failure ≡ Taken) ↔ IsTaken error)
+    × ((failure ≡ Taken) ↔ IsOccupied error)

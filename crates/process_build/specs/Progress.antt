@@ -64,7 +64,7 @@ abbrev pub IsUnsettledOf : List Heard → ℕ → Type 0
 IsUnsettledOf calls n = IsLeast (most ∷ map unsettled_at calls) n
 
 -- The tally counts these calls.
-pub record IsTally (calls : List Heard) (tally : Tally) : Type 0 where
+pub record IsTallyOf (calls : List Heard) (tally : Tally) : Type 0 where
   pub begun : tally.begun ≡ count_of begins calls
   pub built : tally.built ≡ count_of ends_well calls
   pub failed : tally.failed ≡ count_of ends_badly calls
@@ -73,7 +73,7 @@ pub record IsTally (calls : List Heard) (tally : Tally) : Type 0 where
 
 -- the tally counts some calls
 abbrev pub IsHeard : Tally → Type 0
-IsHeard tally = (calls : List Heard) × IsTally calls tally
+IsHeard tally = (calls : List Heard) × IsTallyOf calls tally
 
 -- The numbers of these calls. Running are the jobs that began, less those that ended. Waiting are
 -- the unsettled derivations, less the running jobs. A difference is never below 0.
@@ -122,17 +122,17 @@ NumbersAddUp =
 -- the number of all derivations never falls when more calls are heard
 abbrev pub AllNeverFalls : Type 0
 AllNeverFalls =
-    (calls more : List Heard) (before after : Tally) → IsTally calls before
-    → IsTally (calls ++ more) after → before.all ≤ after.all
+    (calls more : List Heard) (before after : Tally) → IsTallyOf calls before
+    → IsTallyOf (calls ++ more) after → before.all ≤ after.all
 
 -- the number of unsettled derivations never rises when more calls are heard
 abbrev pub UnsettledNeverRises : Type 0
 UnsettledNeverRises =
-    (calls more : List Heard) (before after : Tally) → IsTally calls before
-    → IsTally (calls ++ more) after → after.unsettled ≤ before.unsettled
+    (calls more : List Heard) (before after : Tally) → IsTallyOf calls before
+    → IsTallyOf (calls ++ more) after → after.unsettled ≤ before.unsettled
 
 -- the order of the calls doesn't change the tally
 abbrev pub OrderIsNoMatter : Type 0
 OrderIsNoMatter =
     (calls others : List Heard) (left right : Tally) → IsPermutation calls others
-    → IsTally calls left → IsTally others right → left ≡ right
+    → IsTallyOf calls left → IsTallyOf others right → left ≡ right

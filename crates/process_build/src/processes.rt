@@ -18,11 +18,11 @@ use store_run::{Build, Watch};
 
 /// Builds each job by a process of its own, in a folder of its own within the store folder.
 ///
-/// The job's output paths and the build folder's are cleared first: a file, a link or an empty folder
-/// is removed, anything else is moved aside. The builder then runs in the build folder. Its standard
-/// input is empty, and what it prints is not shown. If its exit status is 0, what it left at the
-/// output paths is read. At the end the build folder is cleared in the same way, and what was moved
-/// aside is removed.
+/// The job's output paths and the build folder's are cleared first: a file, a link or an empty
+/// folder is removed, anything else is moved aside. The builder then runs in the build folder. Its
+/// standard input is empty, and what it prints is not shown. If its exit status is 0, what it left
+/// at the output paths is read. At the end the build folder is cleared in the same way, and what
+/// was moved aside is removed.
 #[derive(Drop)]
 pub struct ProcessBuild<'a, R, P> {
     rt: &'a R,

@@ -1,7 +1,7 @@
 //! The line of progress, which tells how far a run is.
 ghost use Rattle.std.specs.Prelude.{◌≡◌, List, OnOk, ℕ};
 ghost use Rattle.std.specs.Io.KnownBytes.{Appends};
-ghost use Rattle.process_build.specs.Progress.{Heard, IsHeard, IsShown, IsTally, shown_text};
+ghost use Rattle.process_build.specs.Progress.{Heard, IsHeard, IsShown, IsTallyOf, shown_text};
 
 use crate::builders::Builders;
 use crate::tally::{NO_LINE, Tally};
@@ -24,7 +24,7 @@ impl<W: Write> Shown<W> {
     // Tells the tally while a job runs, and else takes the line away.
     fn tell(&mut self, alloc: Global) -> io::Result<()>
         ensures tally { self.new.tally ≡ self.old.tally }
-        ensures told { (calls : List Heard) → IsTally calls self.old.tally → OnOk result
+        ensures told { (calls : List Heard) → IsTallyOf calls self.old.tally → OnOk result
             ((text : List ℕ) × IsShown calls text
             × Appends (W.contents self.old.to) (W.contents self.new.to) text) }
     {

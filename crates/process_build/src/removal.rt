@@ -8,8 +8,8 @@ use std::fs::Metadata;
 use std::rt::Files;
 use std::{fs, io};
 
-/// Clears paths of a store folder for one lease. What takes long to remove is moved aside at once and
-/// removed at the end.
+/// Clears paths of a store folder for one lease. What takes long to remove is moved aside at once
+/// and removed at the end.
 #[derive(Drop)]
 pub struct Clearing<'a, R> {
     rt: &'a R,
@@ -27,10 +27,10 @@ impl<'a, R: Files + AllocGlobal> Clearing<'a, R> {
         }
     }
 
-    /// Takes away what lies at a path, if anything does. A file, a link or an empty folder is removed.
-    /// Anything else, for example a folder that holds something, is moved aside, to a name of the store
-    /// folder that begins with `.nix_realise-left-`. No link is followed, and no permissions are
-    /// changed.
+    /// Takes away what lies at a path, if anything does. A file, a link or an empty folder is
+    /// removed. Anything else, for example a folder that holds something, is moved aside, to a name
+    /// of the store folder that begins with `.nix_realise-left-`. No link is followed, and no
+    /// permissions are changed.
     pub fn clear(&mut self, path: &str) -> Result<(), Failure> {
         if is_gone(remove(self.rt, path))? {
             return Ok(());

@@ -33,8 +33,8 @@ pub fn run_builder<P: Processes>(
     Ok(status.code())
 }
 
-// Starts a builder, or tries anew where a signal came between, as at the opening of its empty input:
-// then none was started.
+// Starts a builder, or tries anew where a signal came between, as at the opening of its empty
+// input: then none was started.
 fn start<P: Processes>(command: &mut Command, processes: &P) -> io::Result<Child<P::Started>> {
     for _ in 0..u64::MAX {
         match command.spawn(processes) {

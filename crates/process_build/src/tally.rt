@@ -1,13 +1,14 @@
 //! What the line of progress tells of the calls that it heard.
 ghost use Rattle.std.specs.Prelude.{◌≡◌, ◌∷◌, [], ◌++◌, IfOk, List, max, min, string_bytes};
-ghost use Rattle.process_build.specs.Progress.{AreNumbersOf, Began, Ended, Heard, IsTally, line_of};
+ghost use Rattle.process_build.specs.Progress.{AreNumbersOf, Began, Ended, Heard, IsTallyOf, line_of};
 
 use std::alloc::{AllocError, Global};
 
 /// What takes a terminal's line away: to its first column, and nothing from there on (ECMA-48, EL).
 pub const NO_LINE: &str = "\r\x1b[K";
 
-// What has a terminal cut what follows at its last column, and begin a new line there again (DECAWM).
+// What has a terminal cut what follows at its last column, and begin a new line there again
+// (DECAWM).
 const CUT: &str = "\x1b[?7l";
 
 const WRAP: &str = "\x1b[?7h";
@@ -26,7 +27,7 @@ pub struct Tally {
 impl Tally {
     /// Before any call.
     pub fn new() -> Tally
-        ensures { IsTally [] result }
+        ensures { IsTallyOf [] result }
     {
         Tally {
             begun: 0,
@@ -39,8 +40,8 @@ impl Tally {
 
     /// A job begins, while so many derivations are unsettled.
     pub fn begin(&mut self, unsettled: usize)
-        ensures { (calls : List Heard) → IsTally calls self.old
-            → IsTally (calls ++ Began unsettled ∷ []) self.new }
+        ensures { (calls : List Heard) → IsTallyOf calls self.old
+            → IsTallyOf (calls ++ Began unsettled ∷ []) self.new }
     {
         self.begun = self.begun.saturating_add(1);
         self.learn(unsettled);
@@ -48,8 +49,8 @@ impl Tally {
 
     /// A job ended, well or not, and so many derivations are unsettled.
     pub fn end(&mut self, is_good: bool, unsettled: usize)
-        ensures { (calls : List Heard) → IsTally calls self.old
-            → IsTally (calls ++ Ended is_good unsettled ∷ []) self.new }
+        ensures { (calls : List Heard) → IsTallyOf calls self.old
+            → IsTallyOf (calls ++ Ended is_good unsettled ∷ []) self.new }
     {
         if is_good {
             self.built = self.built.saturating_add(1);
@@ -73,7 +74,7 @@ impl Tally {
 
     /// The numbers that the line tells. A job runs that began and hasn't ended.
     pub fn numbers(&self) -> Numbers
-        ensures { (calls : List Heard) → IsTally calls self.now → AreNumbersOf calls result }
+        ensures { (calls : List Heard) → IsTallyOf calls self.now → AreNumbersOf calls result }
     {
         let running = self
             .begun

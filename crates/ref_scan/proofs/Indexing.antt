@@ -17,8 +17,8 @@ use Rattle.nix_names.specs.Rising.{IsRising}
 use Rattle.nix_names.specs.StorePaths.{hash_part_of, is_hash_part}
 use Rattle.nix_names.proofs.Lists.{Contains-map}
 use Rattle.nix_names.proofs.RisingLists.{IsBelow, equal_from_eq, members_of_dedup, not_below_itself, rising_dedup, sorted_from_rising}
-use Rattle.ref_scan.specs.Places.{ArePartsOf, IsPlaceOf, IsSieve, LetsThrough, key_of_part, part_at, slot_of, tag_of}
-use Rattle.ref_scan.specs.Marks.{IsMet, Marked}
+use Rattle.ref_scan.specs.Places.{ArePartsOf, IsPlaceOfPart, IsSieve, LetsThrough, key_of_part, part_at, slot_of, tag_of}
+use Rattle.ref_scan.specs.Marks.{IsPartMet, Marked}
 
 -- what a call promised at Ok, where it was Ok
 pub on_ok : {T E : Type 0} (r : Result T E) (P : Type 0) → IsOk r → OnOk r P → P
@@ -43,7 +43,8 @@ one_place parts i j rises lt lt' same =
     (λ (before : i < j). not_below_itself (part_at parts j)
     (subst (λ p. IsBelow p (part_at parts j)) same (below_later parts i j [] rises before lt')))
     (λ le. not_below_itself (part_at parts j)
-    (subst (IsBelow (part_at parts j)) same (below_later parts j i [] rises (omega (arith, ne, le)) lt)))
+    (subst (IsBelow (part_at parts j)) same (below_later parts j i [] rises (omega (arith, ne, le))
+    lt)))
     (cases_lt i j)))
     (cases_eq i j)
 
@@ -53,7 +54,7 @@ pub place_told :
     IsRising parts →
     IsSearchInRange found (length parts) →
     IsBinarySearchResult (λ y. slice_cmp nat_cmp y window) parts found →
-    IsPlaceOf parts window (result_ok found)
+    IsPlaceOfPart parts window (result_ok found)
 place_told parts window (Ok k) rises within here = (
   within,
   equal_from_eq (part_at parts k) window
@@ -168,7 +169,8 @@ sieve_more keys sieve key slots slot new is fits here stays before =
 -- ---- a mark
 
 -- a mark stays where one more is set
-mark_stays : (met : List Bool) (i k : ℕ) → i < length met → IsMet met k → IsMet (set met i true) k
+mark_stays : (met : List Bool) (i k : ℕ) → i < length met → IsPartMet met k
+    → IsPartMet (set met i true) k
 mark_stays met i k lt h =
     ⊎_elim
     (λ (e : k ≡ i). subst (λ j. get_or (set met i true) j false ≡ true) (sym e)
@@ -180,7 +182,7 @@ pub marked_one :
     (parts : List (List ℕ)) (met : List Bool) (window : List ℕ) (place : ℕ) →
     IsRising parts →
     length met ≡ length parts →
-    IsPlaceOf parts window (Some place) →
+    IsPlaceOfPart parts window (Some place) →
     Marked parts met (set met place true) window
 marked_one parts met window place rises count at =
     let lt : place < length met = omega (arith, at.0, count) in

@@ -26,7 +26,8 @@ number_below : (ns : List ℕ) (i j : ℕ) → NumbersRise ns → i < j → j < 
 number_below ns i zero rises before within = absurd (omega (arith, before))
 number_below ns i (suc j) rises before within =
     let after : j + 1 ≡ suc j = omega arith in
-    let next : get_or ns j 0 < get_or ns (suc j) 0 = subst (λ k. get_or ns j 0 < get_or ns k 0) after
+    let next : get_or ns j 0 < get_or ns (suc j) 0 =
+    subst (λ k. get_or ns j 0 < get_or ns k 0) after
     (rises j (omega (arith, within))) in
     elim (cases_lt i j) [
       | inl far ↦ omega (arith, next, number_below ns i j rises far (omega (arith, within)))
@@ -65,7 +66,8 @@ rising_by_keys (p ∷ q ∷ paths) are rises = (
   lesser_hash_part p q are.0 are.1.0 (rises 0 (omega arith)),
   rising_by_keys (q ∷ paths) are.1 (λ k lt.
       let after : suc k + 1 ≡ suc (k + 1) = omega arith in
-      subst (λ n. get_or (map key_of (q ∷ paths)) k 0 < get_or (map key_of (p ∷ q ∷ paths)) n 0) after
+      subst (λ n. get_or (map key_of (q ∷ paths)) k 0 < get_or (map key_of (p ∷ q ∷ paths)) n 0)
+      after
       (rises (suc k) (omega (arith, lt)))),
 )
 
@@ -79,10 +81,12 @@ parts_by_key paths keys are is rises =
     each k d lt =
         let within = length-map paths hash_part_of in
         let inside : k < length paths = omega (arith, lt, within) in
-        subst (λ part. IsTrue (is_hash_part part)) (sym (get_or-map hash_part_of paths k [] d inside))
+        subst (λ part. IsTrue (is_hash_part part))
+        (sym (get_or-map hash_part_of paths k [] d inside))
         (hash_part_of_is (get_or paths k []) (are k [] inside))
 
-pub keys_of_parts : (paths : List (List ℕ)) → map key_of paths ≡ map key_of_part (map hash_part_of paths)
+pub keys_of_parts : (paths : List (List ℕ)) → map key_of paths ≡ map key_of_part
+    (map hash_part_of paths)
 keys_of_parts [] = refl
 keys_of_parts (p ∷ paths) = ap (λ ks. key_of p ∷ ks) (keys_of_parts paths)
 
@@ -91,7 +95,8 @@ keys_of_parts (p ∷ paths) = ap (λ ks. key_of p ∷ ks) (keys_of_parts paths)
 -- the key of a part that stands among the parts
 key_at : (parts : List (List ℕ)) (keys window : List ℕ) → keys ≡ map key_of_part parts
     → Contains parts window
-    → (k : ℕ) × (k < length keys) × (part_at parts k ≡ window) × (get_or keys k 0 ≡ key_of_part window)
+    → (k : ℕ) × (k < length keys) × (part_at parts k ≡ window)
+    × (get_or keys k 0 ≡ key_of_part window)
 key_at parts keys window is has =
     let k = has.0 in
     let part : part_at parts k ≡ window = get_or_default parts k [] window has.1 ∙ has.2 in (

@@ -5,8 +5,8 @@ use Rattle.std.proofs.lemmas.Bool.{false≢true, cases_lt}
 use Rattle.std.proofs.lemmas.List.{get_or-replicate, length-map, length-replicate, get_or-map, get_or_past, take_at}
 use Rattle.nix_names.specs.StorePaths.{hash_part_of, is_hash_part}
 use Rattle.ref_scan.specs.Kept.{last_bytes}
-use Rattle.ref_scan.specs.Marks.{IsMet, Searched}
-use Rattle.ref_scan.specs.Places.{ArePartsOf, IsPlaceOf, part_at}
+use Rattle.ref_scan.specs.Marks.{IsPartMet, Searched}
+use Rattle.ref_scan.specs.Places.{ArePartsOf, IsPlaceOfPart, part_at}
 use Rattle.ref_scan.specs.Scan.{OccursIn, Within}
 use Rattle.ref_scan.specs.Scanned.{Scanned, Sought}
 use Rattle.ref_scan.proofs.Pieces.{Any-none, Any-left, Any-last, Any-last_cases, not_in_none, occurs_before_none}
@@ -83,7 +83,7 @@ scanned_fed permitted parts ended in_order present piece seam met one two tail a
                 (λ h. here (inr (inr h)))
                 ((second.each k at).0 m),
             λ h.
-                let old : Any P (ended ++ present ∷ []) → IsMet two k =
+                let old : Any P (ended ++ present ∷ []) → IsPartMet two k =
                 λ w. (second.each k at).1 (inl ((first.each k at).1
                 (inl ((before.marks k at).1 w)))) in
                 ⊎_elim
@@ -119,10 +119,10 @@ scanned_cut permitted parts ended in_order present met tail before = record {
 pub met_at :
     (sought : Sought) (met : List Bool) (tail part : List ℕ) (place : ℕ) →
     Scanned sought met tail →
-    IsPlaceOf sought.parts part (Some place) →
-    IsMet met place ↔ OccursIn part (sought.ended ++ sought.present ∷ [])
+    IsPlaceOfPart sought.parts part (Some place) →
+    IsPartMet met place ↔ OccursIn part (sought.ended ++ sought.present ∷ [])
 met_at sought met tail part place scanned at =
-    subst (λ p. IsMet met place ↔ OccursIn p (sought.ended ++ sought.present ∷ [])) at.1
+    subst (λ p. IsPartMet met place ↔ OccursIn p (sought.ended ++ sought.present ∷ [])) at.1
     (scanned.marks place at.0)
 
 -- the place of the part of a path, where the parts stand as the paths do
@@ -131,7 +131,7 @@ pub place_in_order :
     ArePartsOf paths parts in_order →
     IsTrue in_order →
     number < length paths →
-    IsPlaceOf parts (hash_part_of (get_or paths number [])) (Some number)
+    IsPlaceOfPart parts (hash_part_of (get_or paths number [])) (Some number)
 place_in_order paths parts in_order number of ordered lt =
     let same = of.as_paths ordered in (
       subst (λ n. number < n) (sym (ap length same ∙ length-map paths hash_part_of)) lt,

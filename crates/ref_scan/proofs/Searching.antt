@@ -4,7 +4,7 @@ use Rattle.std.specs.Prelude.{All, IsTrue}
 use Rattle.std.proofs.lemmas.List.{drop-drop, take_rest, get_or-take}
 use Rattle.nix_names.specs.Base32.{is_digit}
 use Rattle.nix_names.specs.StorePaths.{is_hash_part}
-use Rattle.ref_scan.specs.Marks.{IsMet, Marked, Searched}
+use Rattle.ref_scan.specs.Marks.{IsPartMet, Marked, Searched}
 use Rattle.ref_scan.specs.Places.{part_at}
 use Rattle.ref_scan.specs.Scan.{Within}
 use Rattle.ref_scan.proofs.Windows.{within_past, within_next, within_window, within_few, within_of_drop}
@@ -14,10 +14,11 @@ use Rattle.ref_scan.proofs.Windows.{within_past, within_next, within_window, wit
 pub record Searching (parts : List (List ℕ)) (old met : List Bool) (bytes : List ℕ) (start : ℕ)
     : Type 0 where
   pub count : length met ≡ length old
-  pub stays : (k : ℕ) → k < length parts → IsMet old k → IsMet met k
-  pub sound : (k : ℕ) → k < length parts → IsMet met k → IsMet old k ⊎ Within (part_at parts k) bytes
+  pub stays : (k : ℕ) → k < length parts → IsPartMet old k → IsPartMet met k
+  pub sound : (k : ℕ) → k < length parts → IsPartMet met k → IsPartMet old k
+      ⊎ Within (part_at parts k) bytes
   pub rest : (k : ℕ) → k < length parts → Within (part_at parts k) bytes
-      → IsMet met k ⊎ Within (part_at parts k) (drop start bytes)
+      → IsPartMet met k ⊎ Within (part_at parts k) (drop start bytes)
 
 abbrev AreParts : List (List ℕ) → Type 0
 AreParts parts = All (λ part. IsTrue (is_hash_part part)) parts
@@ -87,7 +88,8 @@ searching_end parts old met bytes start are before few =
         λ h. ⊎_elim
             (before.stays k at)
             (λ within. ⊎_elim (λ m. m)
-            (λ behind. absurd (within_few (part_at parts k) (drop start bytes) (are k [] at) few behind))
+            (λ behind. absurd (within_few (part_at parts k) (drop start bytes) (are k [] at) few
+            behind))
             (before.rest k at within))
             h,
       );

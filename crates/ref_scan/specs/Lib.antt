@@ -3,7 +3,6 @@ pub mod Faults
 pub mod Feed
 pub mod Scan
 pub mod Trees
-
 -- What only private contracts and proofs cite.
 pub mod Kept
 pub mod Marks

@@ -6,16 +6,17 @@ use Rattle.ref_scan.specs.Places.{part_at}
 use Rattle.ref_scan.specs.Scan.{Within}
 
 -- the hash part at a place has its mark
-abbrev pub IsMet : List Bool → ℕ → Type 0
-IsMet met k = slice_index_or met k false ≡ true
+abbrev pub IsPartMet : List Bool → ℕ → Type 0
+IsPartMet met k = slice_index_or met k false ≡ true
 
 -- Just those parts have a mark that had one before or occur in the bytes.
 pub record Searched (parts : List Bytes) (old new : List Bool) (bytes : Bytes) : Type 0 where
   pub count : length new ≡ length old
   pub each : (k : ℕ) → k < length parts
-      → IsMet new k ↔ (IsMet old k ⊎ Within (part_at parts k) bytes)
+      → IsPartMet new k ↔ (IsPartMet old k ⊎ Within (part_at parts k) bytes)
 
 -- Just those parts have a mark that had one before or are the window.
 pub record Marked (parts : List Bytes) (old new : List Bool) (window : Bytes) : Type 0 where
   pub count : length new ≡ length old
-  pub each : (k : ℕ) → k < length parts → IsMet new k ↔ (IsMet old k ⊎ (window ≡ part_at parts k))
+  pub each : (k : ℕ) → k < length parts → IsPartMet new k
+      ↔ (IsPartMet old k ⊎ (window ≡ part_at parts k))

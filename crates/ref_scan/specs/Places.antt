@@ -11,9 +11,9 @@ abbrev pub part_at : (parts : List Bytes) → (k : ℕ) → Bytes
 part_at parts k = slice_index_or parts k []
 
 -- the place of a window among the parts, if it is one of them
-abbrev pub IsPlaceOf : (parts : List Bytes) → (window : Bytes) → Option ℕ → Type 0
-IsPlaceOf parts window None = Contains parts window → ⊥
-IsPlaceOf parts window (Some k) = (k < length parts) × (part_at parts k ≡ window)
+abbrev pub IsPlaceOfPart : (parts : List Bytes) → (window : Bytes) → Option ℕ → Type 0
+IsPlaceOfPart parts window None = Contains parts window → ⊥
+IsPlaceOfPart parts window (Some k) = (k < length parts) × (part_at parts k ≡ window)
 
 -- the key of a part: its first eight characters as one big-endian number
 abbrev pub key_of_part : Bytes → ℕ

@@ -2,7 +2,7 @@
 use Rattle.std.specs.Prelude.{◌≡◌, ◌↔◌, ◌<◌, ℕ, Bool, List, [], ◌∷◌, ◌++◌, length}
 use Rattle.nix_names.specs.Bytes.{Bytes, Path}
 use Rattle.ref_scan.specs.Kept.{last_bytes}
-use Rattle.ref_scan.specs.Marks.{IsMet}
+use Rattle.ref_scan.specs.Marks.{IsPartMet}
 use Rattle.ref_scan.specs.Places.{ArePartsOf, part_at}
 use Rattle.ref_scan.specs.Scan.{OccursIn}
 
@@ -21,5 +21,5 @@ pub record Scanned (sought : Sought) (met : List Bool) (tail : Bytes) : Type 0 w
   pub of_paths : ArePartsOf sought.permitted sought.parts sought.in_order
   pub count : length met ≡ length sought.parts
   pub marks : (k : ℕ) → k < length sought.parts
-      → IsMet met k ↔ OccursIn (part_at sought.parts k) (sought.ended ++ sought.present ∷ [])
+      → IsPartMet met k ↔ OccursIn (part_at sought.parts k) (sought.ended ++ sought.present ∷ [])
   pub kept : tail ≡ last_bytes sought.present

@@ -2,7 +2,7 @@
 ghost use Rattle.std.specs.Prelude.{◌≡◌, ◌≢◌, ◌⊎◌, ◌<◌, [], ℕ, All, IfOk, IsTrue, false, length, map};
 ghost use Rattle.nix_names.specs.Keys.{key_of};
 ghost use Rattle.nix_names.specs.StorePaths.{IsStorePath, hash_part_of, is_hash_part};
-ghost use Rattle.ref_scan.specs.Places.{ArePartsOf, IsPlaceOf, IsSieve, LetsThrough, NumbersRise, key_of_part, mixed, slot_of, tag_of};
+ghost use Rattle.ref_scan.specs.Places.{ArePartsOf, IsPlaceOfPart, IsSieve, LetsThrough, NumbersRise, key_of_part, mixed, slot_of, tag_of};
 
 use nix_names::StorePath;
 use std::alloc::{AllocError, Global};
@@ -122,7 +122,7 @@ impl Index {
     // The place of a window that is one of the parts.
     #[inline(always)]
     pub(crate) fn place_of(&self, window: &[u8; 32]) -> Option<usize>
-        ensures { IsPlaceOf self.now.parts window.now result }
+        ensures { IsPlaceOfPart self.now.parts window.now result }
     {
         let key = key_of(window);
         let held = self.sieve[slot_of(self.sieve.len(), key)];
@@ -135,7 +135,7 @@ impl Index {
     // The same of a window whose key passed the sieve.
     fn place_behind(&self, window: &[u8; 32], key: u64) -> Option<usize>
         requires { key ≡ key_of_part window.now }
-        ensures { IsPlaceOf self.now.parts window.now result }
+        ensures { IsPlaceOfPart self.now.parts window.now result }
     {
         if self.in_order {
             self.place_by_key(window, key)
@@ -148,7 +148,7 @@ impl Index {
     fn place_by_key(&self, window: &[u8; 32], key: u64) -> Option<usize>
         requires in_order { IsTrue self.now.in_order }
         requires key { key ≡ key_of_part window.now }
-        ensures { IsPlaceOf self.now.parts window.now result }
+        ensures { IsPlaceOfPart self.now.parts window.now result }
     {
         let place = self.keys.binary_search(&key).ok()?;
         if self.paths[place].hash_part() == window.as_slice() {
@@ -207,7 +207,8 @@ fn sorted_parts(alloc: Global, paths: &[StorePath]) -> Result<Vec<[u8; 32]>, All
 // The hash part of each path.
 fn parts_of(alloc: Global, paths: &[StorePath]) -> Result<Vec<[u8; 32]>, AllocError>
     ensures value { IfOk result (λ parts. parts.items ≡ map hash_part_of paths.now) }
-    ensures are_parts { IfOk result (λ parts. All (λ part. IsTrue (is_hash_part part)) parts.items) }
+    ensures are_parts { IfOk result
+        (λ parts. All (λ part. IsTrue (is_hash_part part)) parts.items) }
 {
     let mut parts = Vec::with_capacity(alloc, paths.len())?;
     for path in paths {

@@ -62,7 +62,8 @@ places_have test from (t ∷ tallies) zero tally at passes =
     let same : t ≡ tally = cc in
     let here : test t ≡ true = ap test same ∙ passes in
     let first : from + 0 ≡ from = omega arith in
-    subst (λ is. Contains (before_if is from (places test (suc from) tallies)) (from + 0)) (sym here)
+    subst (λ is. Contains (before_if is from (places test (suc from) tallies)) (from + 0))
+    (sym here)
     (subst (Contains (from ∷ places test (suc from) tallies)) (sym first)
     (Contains-first from (places test (suc from) tallies)))
 places_have test from (t ∷ tallies) (suc i) tally at passes =

@@ -7,11 +7,11 @@ use Rattle.std.specs.Global.{Vec}
 use Rattle.std.specs.List.{slice_get}
 use Rattle.std.proofs.lemmas.Bool.{false≢true}
 use Rattle.std.proofs.lemmas.Option.{slice_get_within}
-use Rattle.drv_graph.specs.Plans.{Leads}
+use Rattle.drv_graph.specs.Plans.{LeadsBy}
 use Rattle.nix_names.proofs.RisingLists.{equal_from_eq, unequal_from_eq}
 use Rattle.valid_table.specs.PathInfos.{PathInfo}
 use Rattle.sched_core.specs.Linking.{HaveLinks, MayLink}
-use Rattle.sched_core.specs.Verdicts.{IsCyclic, RefersTo}
+use Rattle.sched_core.specs.Verdicts.{IsCyclic, OutputRefersTo}
 use Rattle.sched_core.specs.Walking.{Goes, HaveRound, IsGrounded, IsLinked, TellsRound, goes_nowhere, goes_on, grounded}
 use Rattle.sched_core.proofs.Linkages.{same_key}
 use Rattle.nix_names.proofs.Lists.{Contains-from_get, get_from_contains, same_element}
@@ -21,7 +21,7 @@ module _ (paths : List (List ℕ)) (infos : List PathInfo) (links : List (Vec �
   -- what links lead from and to, references do
   goes_leads : (from to : ℕ) → Goes links from to → (a b : List ℕ) → slice_get have.keys from
       ≡ Some a → slice_get have.keys to ≡ Some b
-      → (steps : List (List ℕ)) × Leads (RefersTo paths infos) a b steps
+      → (steps : List (List ℕ)) × LeadsBy (OutputRefersTo paths infos) a b steps
   goes_leads _ _ (goes_nowhere n) a b at at' = ([], same_element have.keys n a b at at')
   goes_leads _ _ (goes_on from next to linked rest) a b at at' =
       let h = have.are.sound from next linked in
@@ -52,16 +52,19 @@ module _ (paths : List (List ℕ)) (infos : List PathInfo) (links : List (Vec �
       second.1) in
       (first.0, second.0, there.0, back.0, apart, there.1, back.1)
 
-  leads_on : (a b c : List ℕ) (steps more : List (List ℕ)) → Leads (RefersTo paths infos) a b steps
-      → Leads (RefersTo paths infos) b c more → Leads (RefersTo paths infos) a c (steps ++ more)
-  leads_on a b c [] more is leads = subst (λ (p : List ℕ). Leads (RefersTo paths infos) p c more)
+  leads_on : (a b c : List ℕ) (steps more : List (List ℕ))
+      → LeadsBy (OutputRefersTo paths infos) a b steps
+      → LeadsBy (OutputRefersTo paths infos) b c more
+      → LeadsBy (OutputRefersTo paths infos) a c (steps ++ more)
+  leads_on a b c [] more is leads = subst (λ (p : List ℕ). LeadsBy (OutputRefersTo paths infos) p c
+      more)
       (sym is) leads
   leads_on a b c (next ∷ steps) more (refers, rest) leads =
       (refers, leads_on next b c steps more rest leads)
 
   -- an output that another one is linked to
   linked_by : (n : ℕ) (a next : List ℕ) → slice_get have.keys n ≡ Some a
-      → RefersTo paths infos a next → (m : ℕ) × (slice_get have.keys m ≡ Some next)
+      → OutputRefersTo paths infos a next → (m : ℕ) × (slice_get have.keys m ≡ Some next)
       × IsLinked links n m
   linked_by n a next at (k, info, here, has, refers, among) =
       let place = get_from_contains have.keys next ((have.once.same next).1 among) in (
@@ -73,28 +76,30 @@ module _ (paths : List (List ℕ)) (infos : List PathInfo) (links : List (Vec �
 
   -- the first step away from a path among those that lead to another
   first_away : (a b : List ℕ) (steps : List (List ℕ)) → a ≢ b
-      → Leads (RefersTo paths infos) a b steps
-      → (next : List ℕ) × (rest : List (List ℕ)) × (a ≢ next) × RefersTo paths infos a next
-      × Leads (RefersTo paths infos) next b rest
+      → LeadsBy (OutputRefersTo paths infos) a b steps
+      → (next : List ℕ) × (rest : List (List ℕ)) × (a ≢ next) × OutputRefersTo paths infos a next
+      × LeadsBy (OutputRefersTo paths infos) next b rest
   first_away a b [] apart is = absurd (apart is)
   first_away a b (next ∷ steps) apart (refers, rest) =
       by (pointwise nat_eq a next) refl
       (λ e. first_away a b steps apart
-      (subst (λ (p : List ℕ). Leads (RefersTo paths infos) p b steps)
+      (subst (λ (p : List ℕ). LeadsBy (OutputRefersTo paths infos) p b steps)
       (sym (equal_from_eq a next e)) rest))
     where
       by : (same : Bool) → pointwise nat_eq a next ≡ same
           → (pointwise nat_eq a next ≡ true → (later : List ℕ) × (more : List (List ℕ))
-          × (a ≢ later) × RefersTo paths infos a later
-          × Leads (RefersTo paths infos) later b more)
-          → (later : List ℕ) × (more : List (List ℕ)) × (a ≢ later) × RefersTo paths infos a later
-          × Leads (RefersTo paths infos) later b more
+          × (a ≢ later) × OutputRefersTo paths infos a later
+          × LeadsBy (OutputRefersTo paths infos) later b more)
+          → (later : List ℕ) × (more : List (List ℕ)) × (a ≢ later)
+          × OutputRefersTo paths infos a later
+          × LeadsBy (OutputRefersTo paths infos) later b more
       by true e past = past e
       by false e past = (next, steps, unequal_from_eq a next e, refers, rest)
 
   no_round : (n : ℕ) → IsGrounded links n → (a b : List ℕ) (there back : List (List ℕ))
       → slice_get have.keys n ≡ Some a → a ≢ b
-      → Leads (RefersTo paths infos) a b there → Leads (RefersTo paths infos) b a back → ⊥
+      → LeadsBy (OutputRefersTo paths infos) a b there
+      → LeadsBy (OutputRefersTo paths infos) b a back → ⊥
   no_round _ (grounded n next_is) a b there back at apart leads leads' =
       let step = first_away a b there apart leads in
       let to = linked_by n a step.0 at step.3 in

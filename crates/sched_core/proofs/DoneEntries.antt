@@ -16,7 +16,7 @@ use Rattle.drv_graph.specs.PlanNodes.{output_paths_of}
 use Rattle.drv_graph.specs.Plans.{Graph}
 use Rattle.drv_graph.specs.declared.kinds.Kind.{Kind}
 use Rattle.drv_graph.specs.declared.kinds.Kind.TheVariants.{Addressed, Fixed}
-use Rattle.valid_table.specs.Entries.{IsSortedOf, paths_of, registered}
+use Rattle.valid_table.specs.Entries.{IsSortedOf, paths_registered, registered}
 use Rattle.valid_table.specs.PathInfos.{PathInfo}
 use Rattle.valid_table.specs.Valid.{IsNotValid, IsOnce, IsValid}
 use Rattle.valid_table.specs.declared.entry.Entry.{Entry}
@@ -105,7 +105,8 @@ own_fitting entries drv kind infos has_kind own new = record {
 -- a registration stands in a list just where its path and its record stand beside each other
 beside : (all : List Registration) (path : List ℕ) (info : PathInfo)
     → Contains all (record { path = path; info = info }) ↔
-    ((n : ℕ) × (slice_get (paths_of all) n ≡ Some path) × (slice_get (infos_of all) n ≡ Some info))
+    ((n : ℕ) × (slice_get (paths_registered all) n ≡ Some path)
+    × (slice_get (infos_of all) n ≡ Some info))
 beside all path info = (there, back)
   where
     path_in : Registration → List ℕ
@@ -115,7 +116,7 @@ beside all path info = (there, back)
     info_in r = r.info
 
     there : Contains all (record { path = path; info = info })
-        → (n : ℕ) × (slice_get (paths_of all) n ≡ Some path)
+        → (n : ℕ) × (slice_get (paths_registered all) n ≡ Some path)
         × (slice_get (infos_of all) n ≡ Some info)
     there has =
         let at = get_from_contains all (record { path = path; info = info }) has in (
@@ -124,7 +125,7 @@ beside all path info = (there, back)
           slice_get-map info_in all at.0 ∙ ap (option_map info_in) at.1,
         )
 
-    back : ((n : ℕ) × (slice_get (paths_of all) n ≡ Some path)
+    back : ((n : ℕ) × (slice_get (paths_registered all) n ≡ Some path)
         × (slice_get (infos_of all) n ≡ Some info))
         → Contains all (record { path = path; info = info })
     back (n, path_at, info_at) =
@@ -137,7 +138,7 @@ beside all path info = (there, back)
         subst (Contains all) same (Contains-from_get all n one.0 one.1)
 
 sorted_entry : (node : Node) (infos : List PathInfo) (all outputs : List Registration)
-    → paths_of all ≡ output_paths_of node.drv
+    → paths_registered all ≡ output_paths_of node.drv
     → infos_of all ≡ infos → IsSortedOf all outputs
     → IsEntryOf node infos (Done node.path outputs)
 sorted_entry node infos all outputs paths same sorted = record {
@@ -193,7 +194,7 @@ pub done_is : (graph : Graph) (d : ℕ) (entries : List Entry) (kind : Kind) (pa
     (all outputs : List Registration) (path : List ℕ)
     → IsTold graph d kind paths → slice_get (node_paths graph.nodes) d ≡ Some path
     → AreFitting (registered entries) kind paths infos → (IsCyclic paths infos → ⊥)
-    → paths_of all ≡ paths → infos_of all ≡ infos → IsSortedOf all outputs
+    → paths_registered all ≡ paths → infos_of all ≡ infos → IsSortedOf all outputs
     → IsDoneEntry graph d entries infos (Done path outputs)
 done_is graph d entries kind paths infos all outputs path told is fitting acyclic are same sorted
     node at =
@@ -242,7 +243,7 @@ cycle_not_allowed graph d entries kind paths infos told cyclic node at allowed =
 pub can_be_sorted : (graph : Graph) (d : ℕ) (kind : Kind) (paths : List (List ℕ))
     (all : List Registration) → d < length graph.nodes
     → AreDistinct paths
-    → IsTold graph d kind paths → paths_of all ≡ paths → (all ≢ []) × IsOnce all
+    → IsTold graph d kind paths → paths_registered all ≡ paths → (all ≢ []) × IsOnce all
 can_be_sorted graph d kind paths all within distinct told are =
     let found = element_at graph.nodes d within in
     let node = found.0 in
@@ -250,7 +251,7 @@ can_be_sorted graph d kind paths all within distinct told are =
     node_at graph.nodes d node (λ n. paths ≡ output_paths_of n.drv) told.outputs found.1 in
     let has_kind = node_at graph.nodes d node (λ n. HasKind n.drv kind) told.has_kind found.1 in (
       λ none. some_outputs node.drv kind has_kind
-          (no_outputs node.drv.outputs (sym own ∙ sym are ∙ ap paths_of none)),
+          (no_outputs node.drv.outputs (sym own ∙ sym are ∙ ap paths_registered none)),
       subst AreDistinct (sym are) distinct,
     )
   where

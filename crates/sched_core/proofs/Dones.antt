@@ -16,8 +16,8 @@ use Rattle.drv_graph.specs.PlanNodes.{output_paths_of}
 use Rattle.drv_graph.specs.Plans.{Graph}
 use Rattle.drv_graph.specs.SoundGraphs.{IsSound}
 use Rattle.valid_table.specs.Adding.{AreClosed, AreNew}
-use Rattle.valid_table.specs.Closure.{Leads}
-use Rattle.valid_table.specs.Entries.{paths_of, registered, registered_by}
+use Rattle.valid_table.specs.Closure.{LeadsByReferences}
+use Rattle.valid_table.specs.Entries.{paths_registered, registered, registered_by}
 use Rattle.valid_table.specs.PathInfos.{PathInfo}
 use Rattle.valid_table.specs.Valid.{HasDrvPath, IsJournal, IsNotValid, IsValid, references_of}
 use Rattle.valid_table.specs.declared.entry.Entry.{Entry}
@@ -53,7 +53,8 @@ no_more_than xs ys distinct among =
 -- ---- what is registered
 
 pub reached_is_valid : (registrations : List Registration) (from to : List ℕ)
-    (steps : List (List ℕ)) → Leads registrations from to steps → IsValid registrations to
+    (steps : List (List ℕ)) → LeadsByReferences registrations from to steps
+    → IsValid registrations to
 reached_is_valid registrations from to [] leads = subst (IsValid registrations) leads.1 leads.0
 reached_is_valid registrations from to (next ∷ steps) leads =
     reached_is_valid registrations next to steps leads.1
@@ -93,7 +94,7 @@ records_for_paths run entries node infos allowed = allowed.records.own.count
 module _ (run : Run) (entries : List Entry) (node : Node) (infos : List PathInfo) (entry : Entry)
     (allowed : IsAllowed run.graph entries node infos) (is : IsEntryOf node infos entry) where
   new_outputs : AreNew (registered entries) is.outputs
-  new_outputs = All-from_contains (IsNotValid (registered entries)) (paths_of is.outputs)
+  new_outputs = All-from_contains (IsNotValid (registered entries)) (paths_registered is.outputs)
       (λ path there valid.
       let r = Contains-from_map (λ (x : Registration). x.path) is.outputs path there in
       let own = registered_output node infos entry is r.0 r.1 in
@@ -138,13 +139,13 @@ module _ (run : Run) (entries : List Entry) (node : Node) (infos : List PathInfo
       ≡ length node.drv.outputs
   done_counts distinct =
       let path_in : Registration → List ℕ = λ r. r.path in
-      let few = no_more_than (paths_of is.outputs) (output_paths_of node.drv)
-      (distinct_from_rising (paths_of is.outputs) is.rising)
+      let few = no_more_than (paths_registered is.outputs) (output_paths_of node.drv)
+      (distinct_from_rising (paths_registered is.outputs) is.rising)
       (λ path there.
       let r = Contains-from_map path_in is.outputs path there in
       subst (Contains (output_paths_of node.drv)) r.2
       (registered_output node infos entry is r.0 r.1).0) in
-      let many = no_more_than (output_paths_of node.drv) (paths_of is.outputs) distinct
+      let many = no_more_than (output_paths_of node.drv) (paths_registered is.outputs) distinct
       (output_registered node infos is.outputs entry is
       (records_for_paths run entries node infos allowed)) in
       ap (λ (e : Entry). length (registered_by e)) is.is_done

@@ -238,7 +238,8 @@ module _ (inputs : ℕ → Awaited) (count : ℕ) (users : List (List Edge)) (ta
 -- the state of a derivation becomes Building, Done or Failed
 pub heard_turned : (inputs : ℕ → Awaited) (count : ℕ) (users : List (List Edge))
     (tallies : List Tally) (d : ℕ) (tally : Tally) (after : State) (left : List Edge)
-    → length tallies ≡ count → AreUsers (λ e. all_of (inputs e)) count users → slice_get tallies d ≡ Some tally
+    → length tallies ≡ count → AreUsers (λ e. all_of (inputs e)) count users
+    → slice_get tallies d ≡ Some tally
     → Turns tally.state after → (phase_in after ≡ Idle → ⊥)
     → HaveHeard inputs tallies left
     → HaveHeard inputs (slice_set tallies d (record tally { state = after }))
@@ -350,7 +351,8 @@ pub heard_told : (inputs : ℕ → Awaited) (count : ℕ) (users : List (List Ed
     (tallies : List Tally) (edge : Edge) (w : ℕ) (tally new : Tally) (left : List Edge)
     → length tallies ≡ count → AreUsers (λ e. all_of (inputs e)) count users
     → slice_get tallies edge.user ≡ Some tally
-    → slice_get (all_of (inputs edge.user)) edge.place ≡ Some w → HaveHeard inputs tallies (edge ∷ left)
+    → slice_get (all_of (inputs edge.user)) edge.place ≡ Some w
+    → HaveHeard inputs tallies (edge ∷ left)
     → ((heard : List News) → CanHear (inputs edge.user) heard tally edge.place w
     → IsTally (inputs edge.user)
     (slice_set heard edge.place (news_of (kept (states_in tallies) w))) new)
@@ -396,7 +398,8 @@ heard_more inputs tallies tally first have hears = record {
         hears_others (inputs d) (kept (states_in tallies)) after (λ place. 0) (λ place. 0) t
         (λ place input known it knows. subst (λ s. Knows known (news_of s) 0)
         (sym (stays input
-        (lt_of_lt_of_le (first d input (Contains-from_get (all_of (inputs d)) place input it)) low))) knows)
+        (lt_of_lt_of_le (first d input (Contains-from_get (all_of (inputs d)) place input it))
+        low))) knows)
 
 -- ---- once nothing is left to tell, the states are those by the nearest twins
 

@@ -14,7 +14,7 @@ use Rattle.drv_graph.specs.Plans.{Graph}
 use Rattle.valid_table.specs.PathInfos.{PathInfo}
 use Rattle.valid_table.specs.Valid.{IsJournal}
 use Rattle.valid_table.specs.declared.entry.Entry.{Entry}
-use Rattle.sched_core.specs.Booking.{IsKept, events_left, history_of, run_over}
+use Rattle.sched_core.specs.Booking.{IsRunKept, events_left, history_of, run_over}
 use Rattle.sched_core.specs.Books.{CanBegin, IsDone}
 use Rattle.sched_core.specs.Courses.{AreNearest, AreStandings, AreWanted, Course, HasBegun}
 use Rattle.sched_core.specs.Legal.{IsLegal, legal_begin, legal_opening, legal_done, legal_fail, begins, is_begin}
@@ -30,7 +30,7 @@ use Rattle.sched_core.proofs.Seeds.{phase_push}
 -- ---- what has begun
 
 pub has_begun : (system : List ℕ) (history : History) (course : Course) (given room : ℕ)
-    → IsKept system history course given room
+    → IsRunKept system history course given room
     → (d lease : ℕ) → phase_of history.events d ≡ Begun lease → HasBegun course d
 has_begun system history course given room kept d lease is =
     ⊎_elim
@@ -82,12 +82,12 @@ room_set phases events d room event p within less fits =
 -- what is kept behind one event more
 behind_event : (system : List ℕ) (before after : History) (course : Course) (given more room d : ℕ)
     (event : Event) (p : Phase)
-    → IsKept system before course given room → IsLegal (run_over course system) after
+    → IsRunKept system before course given room → IsLegal (run_over course system) after
     → after.opening ≡ before.opening → after.events ≡ before.events ++ event ∷ [] → more
     ≡ begins after.events
     → ((e : ℕ) → phase_by event e ≡ (if d == e then p else Idle)) → ((q : Phase) → later q p ≡ p)
     → d < length course.phases → events_left p + 1 ≤ events_left (phase_of before.events d)
-    → IsKept system after (record course { phases = slice_set course.phases d p }) more room
+    → IsRunKept system after (record course { phases = slice_set course.phases d p }) more room
 behind_event system before after course given more room d event p kept legal opening events counted
     own last within less =
     record {
@@ -117,11 +117,11 @@ begins_by events event = sum_by_push (λ x. if is_begin x then 1 else 0) events 
 
 pub begin_kept : (system : List ℕ) (opening : ℕ) (entries : List Entry) (events after : List Event)
     (course later_course : Course) (given room later_room d : ℕ)
-    → IsKept system (history_of opening entries events) course given room
+    → IsRunKept system (history_of opening entries events) course given room
     → CanBegin (run_over course system) (history_of opening entries events) d
     → after ≡ events ++ Begin d given ∷ [] → later_course
     ≡ record course { phases = slice_set course.phases d (Begun given) } → later_room ≡ room
-    → IsKept system (history_of opening entries after) later_course (given + 1) later_room
+    → IsRunKept system (history_of opening entries after) later_course (given + 1) later_room
 begin_kept system opening entries events after course later_course given room later_room d kept can
     pushed set_ same =
     let history = history_of opening entries events in
@@ -142,11 +142,11 @@ begin_kept system opening entries events after course later_course given room la
 
 pub fail_kept : (system : List ℕ) (opening : ℕ) (entries : List Entry) (events after : List Event)
     (course later_course : Course) (given room later_room d lease : ℕ) (reason : Reason)
-    → IsKept system (history_of opening entries events) course given room → phase_of events d
+    → IsRunKept system (history_of opening entries events) course given room → phase_of events d
     ≡ Begun lease
     → after ≡ events ++ Fail d lease reason ∷ [] → later_course
     ≡ record course { phases = slice_set course.phases d (Broken reason) } → later_room ≡ room
-    → IsKept system (history_of opening entries after) later_course given later_room
+    → IsRunKept system (history_of opening entries after) later_course given later_room
 fail_kept system opening entries events after course later_course given room later_room d lease
     reason kept is pushed set_ same =
     let history = history_of opening entries events in
@@ -166,12 +166,13 @@ fail_kept system opening entries events after course later_course given room lat
 pub finish_kept : (system : List ℕ) (opening : ℕ) (entries more : List Entry)
     (events after : List Event) (course later_course : Course) (given room later_room d lease : ℕ)
     (infos : List PathInfo) (entry : Entry)
-    → IsKept system (history_of opening entries events) course given room → opening ≤ length entries
+    → IsRunKept system (history_of opening entries events) course given room
+    → opening ≤ length entries
     → phase_of events d ≡ Begun lease
     → IsDone (run_over course system) entries d infos entry
     → more ≡ entries ++ entry ∷ [] → after ≡ events ++ Finish d lease ∷ [] → later_course
     ≡ record course { phases = slice_set course.phases d Ended } → later_room ≡ room
-    → IsKept system (history_of opening more after) later_course given later_room
+    → IsRunKept system (history_of opening more after) later_course given later_room
 finish_kept system opening entries more events after course later_course given room later_room d
     lease infos entry kept opened is done added pushed set_ same =
     let history = history_of opening entries events in
@@ -200,7 +201,7 @@ finish_kept system opening entries more events after course later_course given r
 
 -- there is room for the event of a derivation that can still have one
 room_for : (system : List ℕ) (history : History) (course : Course) (given room : ℕ)
-    → IsKept system history course given room
+    → IsRunKept system history course given room
     → (d : ℕ) → d < length course.graph.nodes → 0 < events_left (phase_of history.events d)
     → length history.events < room
 room_for system history course given room kept d within some =
@@ -216,14 +217,14 @@ room_for system history course given room kept d within some =
     )
 
 pub room_to_begin : (system : List ℕ) (history : History) (course : Course) (given room : ℕ)
-    → IsKept system history course given room
+    → IsRunKept system history course given room
     → (d : ℕ) → CanBegin (run_over course system) history d → length history.events < room
 room_to_begin system history course given room kept d can =
     let idle = ready_is_idle (run_over course system) history d can.ready in
     room_for system history course given room kept d can.within (rw idle (omega arith))
 
 pub room_to_end : (system : List ℕ) (history : History) (course : Course) (given room : ℕ)
-    → IsKept system history course given room
+    → IsRunKept system history course given room
     → (d lease : ℕ) → phase_of history.events d ≡ Begun lease → length history.events < room
 room_to_end system history course given room kept d lease is =
     room_for system history course given room kept d
@@ -262,7 +263,7 @@ pub opening_kept : (system : List ℕ) (opening room : ℕ) (entries : List Entr
     → course.twins ≡ twins
     → length course.phases ≡ length graph.nodes
     → ((d : ℕ) → slice_index_or course.phases d Idle ≡ Idle) → 2 * length standings ≤ room
-    → IsKept system (history_of opening entries events) course 0 room
+    → IsRunKept system (history_of opening entries events) course 0 room
 opening_kept system opening room entries events course graph standings wanted twins journal counted
     none stand want near is_graph is_standings is_wanted is_twins count idle room_is =
     let all : take opening entries ≡ entries = ap (λ n. take n entries) counted

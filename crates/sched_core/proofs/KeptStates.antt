@@ -8,7 +8,7 @@ use Rattle.std.proofs.lemmas.Bool.{cases_lt}
 use Rattle.std.proofs.lemmas.List.{get_or_past}
 use Rattle.std.proofs.lemmas.Option.{slice_get_past}
 use Rattle.nix_drv.proofs.Fixed.{eqb_same}
-use Rattle.sched_core.specs.Booking.{IsKept, run_over}
+use Rattle.sched_core.specs.Booking.{IsRunKept, run_over}
 use Rattle.sched_core.specs.Books.{CanBegin, IsRunSettled, IsUnsettled, opened}
 use Rattle.sched_core.specs.Counts.{AreSoMany}
 use Rattle.sched_core.specs.Courses.{Course, IsNext, IsOpen, IsSettled, IsUnsettledIn, all_of, awaited_at, course_rows, course_state, listed}
@@ -32,7 +32,7 @@ use Rattle.sched_core.proofs.StateLaws.{AreSame, near_same}
 -- ---- states follow from rows that are the same
 
 twins_same : (system : List ℕ) (history : History) (course : Course) (given room : ℕ)
-    → IsKept system history course given room
+    → IsRunKept system history course given room
     → (d : ℕ) → listed (slice_index_or course.twins d None)
     ≡ last_alone (earlier_twins (run_over course system) history.opening d)
 twins_same system history course given room kept d =
@@ -45,7 +45,7 @@ twins_same system history course given room kept d =
     (cases_lt d (length course.graph.nodes))
 
 rows_same : (system : List ℕ) (history : History) (course : Course) (given room : ℕ)
-    → IsKept system history course given room
+    → IsRunKept system history course given room
     → AreSame (course_rows course)
     (nearest (rows_of (run_over course system) history.opening history.events))
 rows_same system history course given room kept =
@@ -64,7 +64,7 @@ rows_same system history course given room kept =
 
 -- a course tells the states
 pub states_told : (system : List ℕ) (history : History) (course : Course) (given room : ℕ)
-    → IsKept system history course given room
+    → IsRunKept system history course given room
     → (d : ℕ) → course_state course d ≡ state_in (run_over course system) history d
 states_told system history course given room kept d =
     near_same (course_rows course)
@@ -75,7 +75,7 @@ states_told system history course given room kept d =
 -- ---- what can be begun
 
 pub can_begin : (system : List ℕ) (history : History) (course : Course) (given room : ℕ)
-    → IsKept system history course given room
+    → IsRunKept system history course given room
     → (d : ℕ) → IsNext course d → CanBegin (run_over course system) history d
 can_begin system history course given room kept d next =
     record {
@@ -85,7 +85,7 @@ can_begin system history course given room kept d next =
     }
 
 pub is_next : (system : List ℕ) (history : History) (course : Course) (given room : ℕ)
-    → IsKept system history course given room
+    → IsRunKept system history course given room
     → (d : ℕ) → CanBegin (run_over course system) history d → IsNext course d
 is_next system history course given room kept d can = (
   can.within,
@@ -95,7 +95,7 @@ is_next system history course given room kept d can = (
 )
 
 pub unsettled_told : (system : List ℕ) (history : History) (course : Course) (given room : ℕ)
-    → IsKept system history course given room
+    → IsRunKept system history course given room
     → (count : ℕ) → AreSoMany (IsUnsettledIn course) count
     → AreSoMany (IsUnsettled (run_over course system) history) count
 unsettled_told system history course given room kept count =
@@ -112,7 +112,7 @@ unsettled_told system history course given room kept count =
     ))
 
 pub settled_told : (system : List ℕ) (history : History) (course : Course) (given room : ℕ)
-    → IsKept system history course given room
+    → IsRunKept system history course given room
     → IsSettled course ↔ IsRunSettled (run_over course system) history
 settled_told system history course given room kept = (
   λ settled d within wanted still.
@@ -171,7 +171,7 @@ begun_from_building run history d lease is =
 -- ---- whether a lease is out
 
 pub building_told : (system : List ℕ) (history : History) (course : Course) (given room : ℕ)
-    → IsKept system history course given room
+    → IsRunKept system history course given room
     → (d lease number : ℕ) → course_state course d ≡ Building lease → IsTrue (eqb lease number)
     ↔ (phase_of history.events d ≡ Begun number)
 building_told system history course given room kept d lease number is =
@@ -184,7 +184,7 @@ building_told system history course given room kept d lease number is =
     )
 
 pub not_building : (system : List ℕ) (history : History) (course : Course) (given room : ℕ)
-    → IsKept system history course given room
+    → IsRunKept system history course given room
     → (d number : ℕ) → ((lease : ℕ) → course_state course d ≡ Building lease → ⊥)
     → phase_of history.events d ≡ Begun number → ⊥
 not_building system history course given room kept d number none is =
@@ -194,7 +194,7 @@ not_building system history course given room kept d number none is =
 -- ---- the report
 
 pub report_told : (system : List ℕ) (history : History) (course : Course) (given room : ℕ)
-    → IsKept system history course given room
+    → IsRunKept system history course given room
     → (text : List ℕ) → IsReportOf course text → IsReportIn (run_over course system) history text
 report_told system history course given room kept text report =
     report_in (run_over course system) history course text refl kept.wanted
@@ -203,7 +203,7 @@ report_told system history course given room kept text report =
 -- ---- along how many edges users were told
 
 pub told_kept : (system : List ℕ) (history : History) (course : Course) (given room : ℕ)
-    → IsKept system history course given room
+    → IsRunKept system history course given room
     → course_told course ≡ told_in (run_over course system) history
 told_kept system history course given room kept =
     ap (λ n. n - course_ahead course) then'

@@ -189,7 +189,8 @@ pub near_smaller : (nodes : List Node) (wanted : List Bool) (twins : List (Optio
 near_smaller nodes wanted twins count near d =
     ⊎_elim
     (λ low. subst (All (λ t. t < d)) (sym (near.each d low))
-    (All-from_contains (λ t. t < d) (last_alone (wanted_with nodes wanted (first_twin_of nodes d) d))
+    (All-from_contains (λ t. t < d) (last_alone (wanted_with nodes wanted (first_twin_of nodes d)
+    d))
     (λ t has. All-contains (λ t. t < d) (wanted_with nodes wanted (first_twin_of nodes d) d) t
     (All-filter (is_wanted_with nodes wanted (first_twin_of nodes d)) (λ t. t < d)
     (range_with_len 0 d) (range_below d))

@@ -12,7 +12,7 @@ use Rattle.sched_core.specs.declared.job.Answer.{Answer}
 use Rattle.sched_core.specs.declared.job.Job.{Job}
 use Rattle.sched_core.specs.declared.reason.Reason.{Reason}
 use Rattle.sched_core.specs.declared.reason.Reason.TheVariants.{ExitStatus, NoStart, MissingOutput, NotFlatFile, HashMismatch, OutputCycle, TooLarge, ReadFault, OutOfMemory, Killed}
-use Rattle.sched_core.specs.Verdicts.{AreRecords, HasOneVerdict, IsCyclic, IsFaulty, IsFirstFault, IsFirstNumber, IsRecordOf, IsTaken, IsThere, IsTreeFault, IsVerdict, algorithm_for, digest_of, outputs_of, tree_at}
+use Rattle.sched_core.specs.Verdicts.{AreRecords, HasOneVerdict, IsCyclic, IsFaulty, IsFirstFault, IsFirstNumber, IsRecordOf, IsTaken, AreOutputsThere, IsTreeFault, IsVerdict, algorithm_for, digest_of, outputs_of, tree_at}
 use Rattle.sched_core.proofs.Verdicts.{TreeFault, mismatched, not_flat, one_tree, too_large, tree_fault_cases}
 
 some_is_one : {X : Type 0} (o : Option X) (x y : X) → o ≡ Some x → o ≡ Some y → x ≡ y
@@ -74,7 +74,8 @@ module _ (job : Job) (permitted : List (List ℕ)) (answer : Answer) where
     missing : (n : ℕ) → answer.status ≡ Some (pos 0)
         → IsFirstNumber (λ m. tree_at answer m ≡ None) (length job.outputs.items) n
         → Outcome (Err (MissingOutput n))
-    faulty : (why : Reason) → IsThere job answer → IsFirstFault job answer why → Outcome (Err why)
+    faulty : (why : Reason) → AreOutputsThere job answer → IsFirstFault job answer why
+        → Outcome (Err why)
     cyclic : (infos : List PathInfo) → IsTaken job answer → AreRecords job permitted answer infos
         → IsCyclic (outputs_of job) infos → Outcome (Err OutputCycle)
     well : (infos : List PathInfo) → IsTaken job answer → AreRecords job permitted answer infos

@@ -15,7 +15,7 @@ use Rattle.nix_drv.specs.declared.derivation.EnvEntry.{EnvEntry as EnvEntryStruc
 use Rattle.nix_drv.specs.declared.derivation.Output.{Output as OutputStruct}
 use Rattle.drv_graph.specs.Nodes.{Node}
 use Rattle.drv_graph.specs.PlanNodes.{drvs_of, output_paths_of}
-use Rattle.valid_table.specs.Entries.{paths_of, registered}
+use Rattle.valid_table.specs.Entries.{paths_registered, registered}
 use Rattle.valid_table.specs.Valid.{IsValid}
 use Rattle.valid_table.specs.declared.entry.Entry.{Entry}
 use Rattle.sched_core.specs.Courses.{AreStandings}
@@ -29,13 +29,14 @@ use Rattle.nix_names.proofs.Lists.{get_mapped}
 pub told_valid : (told : Bool) (entries : List Entry) (path : List ℕ) → IsTrue told
     ↔ IsValid (registered entries) path → told ≡ is_valid entries path
 told_valid true entries path (there, back) = sym
-    (list_any-from_Contains nat_list_eq_equiv path (paths_of (registered entries)) (there refl))
+    (list_any-from_Contains nat_list_eq_equiv path (paths_registered (registered entries))
+    (there refl))
 told_valid false entries path (there, back) = by (is_valid entries path) refl
   where
     by : (b : Bool) → is_valid entries path ≡ b → false ≡ b
     by true is = absurd
         (false≢true
-        (back (Contains-from_any equal_from_eq path (paths_of (registered entries)) is)))
+        (back (Contains-from_any equal_from_eq path (paths_registered (registered entries)) is)))
     by false is = refl
 
 -- The first standings, so many.

@@ -12,7 +12,8 @@ use Rattle.sched_core.specs.declared.reason.State.{State}
 use Rattle.sched_core.proofs.Wanting.{marked_within}
 
 -- by the same words of each element the texts are the same
-pub same_texts : {X : Type 0} (f g : X → List ℕ) (xs : List X) → ((x : X) → f x ≡ g x) → flat_map f xs
+pub same_texts : {X : Type 0} (f g : X → List ℕ) (xs : List X) → ((x : X) → f x ≡ g x)
+    → flat_map f xs
     ≡ flat_map g xs
 same_texts f g [] same = refl
 same_texts f g (x ∷ xs) same = ap (λ (ys : List ℕ). ys ++ flat_map f xs) (same x)

@@ -12,7 +12,7 @@ use Rattle.nix_names.specs.Names.{same_bytes}
 use Rattle.nix_drv.specs.Derivation.{Input, Output}
 use Rattle.drv_graph.specs.Nodes.{Node, inputs_of, paths_of as node_paths}
 use Rattle.drv_graph.specs.PlanNodes.{output_paths_of}
-use Rattle.valid_table.specs.Entries.{paths_of, registered, registered_by}
+use Rattle.valid_table.specs.Entries.{paths_registered, registered, registered_by}
 use Rattle.valid_table.specs.Valid.{IsValid}
 use Rattle.valid_table.specs.declared.entry.Entry.{Entry}
 use Rattle.valid_table.specs.declared.entry.Registration.{Registration}
@@ -144,7 +144,7 @@ opening_stays_valid run history legal path is =
     ap registered more.1 ∙ flat_map-append registered_by history.opening more.0 in
     subst (λ (rs : List Registration). IsValid rs path) (sym whole)
     (still_valid (registered history.opening) (registered more.0) path
-    (Contains-from_any equal_from_eq path (paths_of (registered history.opening)) is))
+    (Contains-from_any equal_from_eq path (paths_registered (registered history.opening)) is))
 
 -- ---- what it takes to be ready
 

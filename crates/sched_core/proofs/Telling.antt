@@ -437,7 +437,8 @@ module _ (tallies : List Tally) (agenda : Agenda) (d : ℕ) (none : Tally) (stat
       → IsSpreading inputs users (set tallies d now) (noted agenda d old now) []
   turned_spreading inputs users begun is = record {
     first = is.first;
-    edges = subst (λ n. AreUsers (λ e. all_of (inputs e)) n users) (sym (length-set tallies d now)) is.edges;
+    edges = subst (λ n. AreUsers (λ e. all_of (inputs e)) n users) (sym (length-set tallies d now))
+        is.edges;
     heard = subst (HaveHeard inputs (set tallies d now)) (left_noted users agenda d old now [])
         (heard_turned inputs (length tallies) users tallies d old state
         (users_of_all users agenda.work) refl is.edges old_at turned begun is.heard);

@@ -392,7 +392,8 @@ module _ (tally : Tally) (awaited : Awaited) (heard : List News) (twin : ℕ)
           can.is.failed
 
       same : state ≡ by_all tally.standing (news_by good ∷ behind) by_own
-      same = own_here ∙ sym (ap (λ b. if b then Reused else by_hindrance tally.standing by_own) failed)
+      same = own_here ∙ sym (ap (λ b. if b then Reused else by_hindrance tally.standing by_own)
+          failed)
           ∙ released_now tally.standing behind by_own good (blocked_before blocked)
 
       rests : phase_in (by_all tally.standing (news_by good ∷ behind) by_own) ≡ Idle
@@ -577,7 +578,8 @@ module _ (inputs : List ℕ) (t : ℕ) (state_of : ℕ → State) (tally : Tally
       hears_all with_twin state_of (set opened tally.inputs (news_by good)) result
       (told with_twin opened t can_release)
       (set_last (news_in state_of inputs) Open (news_by good) tally.inputs at_end
-      ∙ ap (λ n. news_in state_of inputs ++ n ∷ []) (ap news_by says ∙ news_closed (state_of t) closed)
+      ∙ ap (λ n. news_in state_of inputs ++ n ∷ [])
+      (ap news_by says ∙ news_closed (state_of t) closed)
       ∙ news_push state_of inputs t)
 
 -- one that waits for its inputs alone
@@ -585,7 +587,8 @@ pub hears_inputs : (inputs : List ℕ) (state_of : ℕ → State) (tally : Tally
     → IsTally (record { inputs = inputs; twins = [] }) (news_in state_of inputs ++ []) tally
     → Hears (record { inputs = inputs; twins = [] }) state_of (λ place. 0) tally
 hears_inputs inputs state_of tally is =
-    hears_all (record { inputs = inputs; twins = [] }) state_of (news_in state_of inputs ++ []) tally
+    hears_all (record { inputs = inputs; twins = [] }) state_of (news_in state_of inputs ++ [])
+    tally
     is (append-nil (news_in state_of inputs)
     ∙ ap (news_in state_of) (sym (append-nil inputs)))
 
@@ -596,7 +599,8 @@ tally_state tallies t none low =
     sym (get_or-map (λ (u : Tally). u.state) tallies t none Blocked low)
 
 -- what is listed of a number that is there
-pub listed_low : (twin : Option ℕ) (t bound : ℕ) → twin ≡ Some t → All (λ u. u < bound) (listed twin)
+pub listed_low : (twin : Option ℕ) (t bound : ℕ) → twin ≡ Some t
+    → All (λ u. u < bound) (listed twin)
     → t < bound
 listed_low twin t bound is low =
     subst (λ (o : Option ℕ). All (λ u. u < bound) (listed o)) is low 0 0 (omega arith)

@@ -142,14 +142,16 @@ module _ (paths others below left above : List (List ℕ)) (path : List ℕ)
     each = λ p. (
       λ has. ⊎_elim inl
           (λ more. ⊎_elim
-          (λ last. ⊎_elim (λ earlier. inr (inl earlier)) (λ is. inl (subst (Contains below) is there))
+          (λ last. ⊎_elim (λ earlier. inr (inl earlier))
+          (λ is. inl (subst (Contains below) is there))
           (Contains-push_cases left path p last))
           (λ up. inr (inr up)) more)
           ((before.each p).0 has),
       λ has. (before.each p).1
           (⊎_elim inl
           (λ more. inr
-          (⊎_elim (λ earlier. inl (Contains-append_left left (path ∷ []) p earlier)) inr more)) has),
+          (⊎_elim (λ earlier. inl (Contains-append_left left (path ∷ []) p earlier)) inr more))
+          has),
     );
   }
 
@@ -205,7 +207,8 @@ module _ (paths others below left above : List (List ℕ)) (path : List ℕ)
                   (λ more. ⊎_elim
                   (λ earlier. inr (inl (Contains-append_left left (path ∷ []) p earlier)))
                   (λ high. ⊎_elim
-                  (λ is. inr (inl (subst (Contains (left ++ path ∷ [])) is (Contains-push left path))))
+                  (λ is. inr (inl (subst (Contains (left ++ path ∷ [])) is
+                  (Contains-push left path))))
                   (λ rest. ⊎_elim
                   (λ behind. inl (subst (λ l. Contains l p) (sym parts)
                   (Contains-append_right front tail p behind)))

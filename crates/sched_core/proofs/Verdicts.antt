@@ -16,7 +16,7 @@ use Rattle.sched_core.specs.declared.job.Answer.{Answer}
 use Rattle.sched_core.specs.declared.job.Job.{Job}
 use Rattle.sched_core.specs.declared.reason.Reason.{Reason}
 use Rattle.sched_core.specs.declared.reason.Reason.TheVariants.{ExitStatus, NoStart, MissingOutput, NotFlatFile, HashMismatch, OutputCycle, TooLarge, ReadFault, OutOfMemory, Killed}
-use Rattle.sched_core.specs.Verdicts.{AreRecords, IsCyclic, IsExamining, IsFaulty, IsFirstFault, IsRecordAt, IsRecordOf, IsTaken, IsThere, IsTreeFault, IsVerdict, algorithm_for, digest_of, outputs_of, tree_at}
+use Rattle.sched_core.specs.Verdicts.{AreRecords, IsCyclic, IsExamining, IsFaulty, IsFirstFault, IsRecordAt, IsRecordOf, IsTaken, AreOutputsThere, IsTreeFault, IsVerdict, algorithm_for, digest_of, outputs_of, tree_at}
 
 -- What is known where the first outputs, so many, were looked at: nothing is missing there.
 abbrev pub ThereSoFar : Answer → ℕ → Type 0
@@ -53,7 +53,7 @@ sound_more job answer count tree before at taken n why below faulty =
     (eq-or-lt_of_le {n = n} {m = count} (omega arith))
 
 pub is_taken : (job : Job) (answer : Answer) (count : ℕ) → count ≡ length job.outputs.items
-    → IsThere job answer → SoundSoFar job answer count → IsTaken job answer
+    → AreOutputsThere job answer → SoundSoFar job answer count → IsTaken job answer
 is_taken job answer count all there sound =
     (there, λ n why below. sound n why (omega arith))
 
@@ -140,7 +140,7 @@ tree_fault_cases (Fixed method digest) tree Killed fault = absurd fault
 
 -- a fault of a tree behind trees that are taken is the first
 pub first_fault : (job : Job) (permitted : List (List ℕ)) (answer : Answer) (count : ℕ)
-    (tree : Tree) (why : Reason) → count < length job.outputs.items → IsThere job answer
+    (tree : Tree) (why : Reason) → count < length job.outputs.items → AreOutputsThere job answer
     → SoundSoFar job answer count → tree_at answer count ≡ Some tree
     → IsTreeFault job.kind tree why → IsVerdict job permitted answer (Err why)
 first_fault job permitted answer count tree why below there sound at fault =

@@ -14,13 +14,13 @@ use Rattle.sched_core.specs.declared.walk.Mark.{Mark}
 use Rattle.sched_core.specs.declared.walk.Mark.TheVariants.{New, Open, Closed}
 use Rattle.sched_core.specs.declared.walk.Node.{Node}
 use Rattle.sched_core.specs.declared.walk.Step.TheVariants.{Enter, Leave, Pass, Return}
-use Rattle.sched_core.specs.Walking.{AreInner, Goes, HaveRound, IsAfter, IsGrounded, IsLinked, IsMet, IsNext, IsStep, IsWalk, KeepsMet, fresh, goes_nowhere, goes_on, grounded, mark_weight, weight}
+use Rattle.sched_core.specs.Walking.{AreInner, Goes, HaveRound, IsAfter, IsGrounded, IsLinked, IsMet, IsNextLink, IsWalkStep, IsWalk, KeepsMet, fresh, goes_nowhere, goes_on, grounded, mark_weight, weight}
 use Rattle.sched_core.proofs.Places.{set_cases}
 use Rattle.nix_names.proofs.Lists.{Contains-first, Contains-from_get, element_at, get_from_contains, get_grows, get_push_cases, get_pushed, same_element}
 
 -- the last link that is left is a link
 next_linked : (links : List (Vec ℕ)) (nodes : List Node) (top to : ℕ) (node other : Node)
-    → IsNext links nodes top node to other → IsLinked links top to
+    → IsNextLink links nodes top node to other → IsLinked links top to
 next_linked links nodes top to node other next =
     (next.own, next.has, Contains-from_get next.own.items next.k to next.leads)
 
@@ -33,7 +33,7 @@ left_grounded links nodes top node after at none =
     after.passed top node linked.0 place.0 to at linked.1 (omega arith) place.1 apart)
 
 after_leave : (links : List (Vec ℕ)) (before after : List Node) (top : ℕ) → IsAfter links before
-    → IsStep links before after top Leave → IsAfter links after
+    → IsWalkStep links before after top Leave → IsAfter links after
 after_leave links before after top was (node, at, none, is) =
     subst (IsAfter links) (sym is) (record {
       count = length-set before top _ ∙ was.count;
@@ -52,7 +52,7 @@ after_leave links before after top was (node, at, none, is) =
     })
 
 after_pass : (links : List (Vec ℕ)) (before after : List Node) (top : ℕ) → IsAfter links before
-    → IsStep links before after top Pass → IsAfter links after
+    → IsWalkStep links before after top Pass → IsAfter links after
 after_pass links before after top was (node, to, other, next, passes, k, last, is) =
     subst (IsAfter links) (sym is) (record {
       count = length-set before top _ ∙ was.count;
@@ -104,7 +104,7 @@ after_open links before after to other was at is =
     })
 
 pub walk_leave : (links : List (Vec ℕ)) (before after : List Node) (rest : List ℕ) (top : ℕ)
-    → IsWalk links before (rest ++ top ∷ []) → IsStep links before after top Leave
+    → IsWalk links before (rest ++ top ∷ []) → IsWalkStep links before after top Leave
     → IsWalk links after rest
 walk_leave links before after rest top was step = record {
   after = after_leave links before after top was.after step;
@@ -122,7 +122,7 @@ walk_leave links before after rest top was step = record {
 }
 
 pub walk_pass : (links : List (Vec ℕ)) (before after : List Node) (trail : List ℕ) (top : ℕ)
-    → IsWalk links before trail → IsStep links before after top Pass → IsWalk links after trail
+    → IsWalk links before trail → IsWalkStep links before after top Pass → IsWalk links after trail
 walk_pass links before after trail top was (node, to, other, next, passes, k, last, is) =
     record {
       after = after_pass links before after top was.after
@@ -138,7 +138,7 @@ walk_pass links before after trail top was (node, to, other, next, passes, k, la
     }
 
 pub walk_enter : (links : List (Vec ℕ)) (before after : List Node) (rest : List ℕ) (top to : ℕ)
-    → IsWalk links before (rest ++ top ∷ []) → IsStep links before after top (Enter to)
+    → IsWalk links before (rest ++ top ∷ []) → IsWalkStep links before after top (Enter to)
     → IsWalk links after ((rest ++ top ∷ []) ++ to ∷ [])
 walk_enter links before after rest top to was (node, other, next, mark_new, is) =
     let trail = rest ++ top ∷ [] in
@@ -213,7 +213,7 @@ goes_to_last links (x ∷ y ∷ ys) top to chain (suc k, below, is) =
     goes_to_last links (y ∷ ys) top to (λ j. chain (suc j)) (k, omega arith, is)
 
 pub walk_return : (links : List (Vec ℕ)) (before after : List Node) (rest : List ℕ) (top : ℕ)
-    → IsWalk links before (rest ++ top ∷ []) → IsStep links before after top Return
+    → IsWalk links before (rest ++ top ∷ []) → IsWalkStep links before after top Return
     → HaveRound links
 walk_return links before after rest top was (node, to, other, next, mark, apart) =
     let has : Contains rest to = ⊎_elim (λ front. front) (λ is. absurd (apart is))
@@ -305,7 +305,7 @@ all_grounded links nodes walk met n below =
 pub next_of : (links : List (Vec ℕ)) (nodes : List Node) (top to : ℕ) (own : Vec ℕ) (d : Node)
     → AreInner links → IsAfter links nodes → top < length links → own ≡ get_or links top own
     → ((get_or nodes top d).left ≡ 0 → ⊥) → to ≡ get_or own.items ((get_or nodes top d).left - 1) to
-    → IsNext links nodes top (get_or nodes top d) to (get_or nodes to d)
+    → IsNextLink links nodes top (get_or nodes top d) to (get_or nodes to d)
 next_of links nodes top to own d inner after below own_is some to_is =
     let node = get_or nodes top d in
     let at : slice_get nodes top ≡ Some node =
@@ -328,7 +328,7 @@ next_of links nodes top to own d inner after below own_is some to_is =
     }
 
 pub next_within : (links : List (Vec ℕ)) (nodes : List Node) (top to : ℕ) (node other : Node)
-    → IsNext links nodes top node to other → to < length nodes
+    → IsNextLink links nodes top node to other → to < length nodes
 next_within links nodes top to node other next = slice_get_within nodes to other next.other_at
 
 -- What a step leaves: the walk goes on, with what was met, and less is left to do.
@@ -356,7 +356,8 @@ longer (y ∷ ys) x = ap suc (longer ys x)
 pub stepped_leave : (links : List (Vec ℕ)) (start : ℕ) (first before after : List Node)
     (trail later : List ℕ) (top : ℕ) → IsWalk links before trail → KeepsMet first before
     → IsMet before start
-    → slice_get trail (length trail - 1) ≡ Some top → IsStep links before after top Leave → later
+    → slice_get trail (length trail - 1) ≡ Some top → IsWalkStep links before after top Leave
+    → later
     ≡ take (length trail - 1) trail → Stepped links start first before after trail later
 stepped_leave links start first before after trail later top walk keeps met at step later_is =
     let rest = take (length trail - 1) trail in
@@ -375,7 +376,7 @@ stepped_leave links start first before after trail later top walk keeps met at s
 pub stepped_pass : (links : List (Vec ℕ)) (start : ℕ) (first before after : List Node)
     (trail : List ℕ) (top : ℕ) → IsWalk links before trail → KeepsMet first before
     → IsMet before start
-    → IsStep links before after top Pass → Stepped links start first before after trail trail
+    → IsWalkStep links before after top Pass → Stepped links start first before after trail trail
 stepped_pass links start first before after trail top walk keeps met
     (node, to, other, next, passes, k, last, is) =
     let new : Node = record { mark = node.mark; left = k } in
@@ -391,7 +392,7 @@ stepped_pass links start first before after trail top walk keeps met
 pub stepped_enter : (links : List (Vec ℕ)) (start : ℕ) (first before after : List Node)
     (trail later : List ℕ) (top to : ℕ) → IsWalk links before trail → KeepsMet first before
     → IsMet before start
-    → slice_get trail (length trail - 1) ≡ Some top → IsStep links before after top (Enter to)
+    → slice_get trail (length trail - 1) ≡ Some top → IsWalkStep links before after top (Enter to)
     → later ≡ trail ++ to ∷ [] → Stepped links start first before after trail later
 stepped_enter links start first before after trail later top to walk keeps met at
     (node, other, next, is_new, is) later_is =
@@ -414,7 +415,7 @@ stepped_enter links start first before after trail later top to walk keeps met a
 -- a step that leads back to the trail makes a round
 pub stepped_return : (links : List (Vec ℕ)) (before after : List Node) (trail : List ℕ) (top : ℕ)
     → IsWalk links before trail → slice_get trail (length trail - 1) ≡ Some top
-    → IsStep links before after top Return → HaveRound links
+    → IsWalkStep links before after top Return → HaveRound links
 stepped_return links before after trail top walk at step =
     walk_return links before after (take (length trail - 1) trail) top
     (subst (IsWalk links before) (split_last trail top at) walk) step

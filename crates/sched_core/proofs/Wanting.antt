@@ -195,7 +195,8 @@ marked_within wanted d is = ⊎_elim
 -- where no mark is set none is marked
 pub none_marked : (n d : ℕ) → slice_index_or (replicate n false) d false ≡ false
 none_marked n d = ⊎_elim (λ low. get_or-replicate n d false false low)
-    (λ past. get_or_past (replicate n false) d false (omega (arith, past, length-replicate n false)))
+    (λ past. get_or_past (replicate n false) d false
+    (omega (arith, past, length-replicate n false)))
     (cases_lt d n)
 
 -- the roots are marked

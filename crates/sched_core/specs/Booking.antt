@@ -36,7 +36,7 @@ history_of opening entries events = record {
 
 -- What is kept of a run: a legal history, the course of its derivations, how many have begun, and
 -- room for all events that may come.
-pub record IsKept (system : Bytes) (history : History) (course : Course) (given room : ℕ)
+pub record IsRunKept (system : Bytes) (history : History) (course : Course) (given room : ℕ)
     : Type 0 where
   pub legal : IsLegal (run_over course system) history
   pub standings : AreStandings system history.opening course.graph.nodes course.standings

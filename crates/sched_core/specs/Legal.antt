@@ -12,7 +12,7 @@ use Rattle.drv_graph.specs.Plans.{Graph}
 use Rattle.drv_graph.specs.declared.kinds.Kind.TheVariants.{Fixed}
 use Rattle.drv_graph.specs.declared.kinds.Method.{Method}
 use Rattle.valid_table.specs.Closure.{Reaches}
-use Rattle.valid_table.specs.Entries.{paths_of, registered}
+use Rattle.valid_table.specs.Entries.{paths_registered, registered}
 use Rattle.valid_table.specs.PathInfos.{PathInfo}
 use Rattle.valid_table.specs.Valid.{IsJournal, IsValid}
 use Rattle.valid_table.specs.declared.entry.Entry.{Entry}
@@ -77,7 +77,7 @@ pub record ArePermitted (registrations : List Registration)
 pub record IsEntryOf (node : Node) (infos : List PathInfo) (entry : Entry) : Type 0 where
   pub outputs : List Registration
   pub is_done : entry ≡ Done node.path outputs
-  pub rising : IsRising (paths_of outputs)
+  pub rising : IsRising (paths_registered outputs)
   pub each : (path : Path) (info : PathInfo)
       → Contains outputs (record { path = path; info = info })
       ↔ ((n : ℕ) × (slice_get (output_paths_of node.drv) n ≡ Some path)

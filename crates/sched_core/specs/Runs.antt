@@ -8,7 +8,7 @@ use Rattle.nix_drv.specs.Derivation.{Drv, EnvEntry, Output}
 use Rattle.drv_graph.specs.Nodes.{Node, inputs_of, paths_of}
 use Rattle.drv_graph.specs.PlanNodes.{output_paths_of}
 use Rattle.drv_graph.specs.Plans.{Graph}
-use Rattle.valid_table.specs.Entries.{registered, paths_of as registered_paths}
+use Rattle.valid_table.specs.Entries.{registered, paths_registered as registered_paths}
 use Rattle.valid_table.specs.declared.entry.Entry.{Entry}
 use Rattle.sched_core.specs.States.{Rows, phase_of, state}
 use Rattle.drv_graph.specs.Twins.{are_twins_at}

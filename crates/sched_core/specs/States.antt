@@ -104,8 +104,8 @@ by_phase (Begun lease) other = Building lease
 by_phase Ended other = Done
 by_phase (Broken reason) other = Failed reason
 
--- the table of states: the first that applies of the derivation's last event, whether all its outputs
--- were valid, its earlier twins, its own cause, and its inputs
+-- the table of states: the first that applies of the derivation's last event, whether all its
+-- outputs were valid, its earlier twins, its own cause, and its inputs
 unfoldable pub table : Rows → (state : ℕ → State) → ℕ → State
 table rows state d =
     by_phase (rows.phase d) (by_validity (rows.standing d) (by_twins state (rows.twins d)

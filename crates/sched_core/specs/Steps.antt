@@ -18,7 +18,8 @@ abbrev pub edges_ahead : (awaited : ℕ → List ℕ) → (state : ℕ → State
 edges_ahead awaited state count =
     total (λ d. if is_open (state d) then uses awaited count d else 0) count
 
--- what a derivation waits for: its inputs, in its text's order, and the nearest of its earlier twins
+-- what a derivation waits for: its inputs, in its text's order, and the nearest of its earlier
+-- twins
 abbrev pub awaited_by : Run → History → ℕ → List ℕ
 awaited_by run history d = inputs_at run.graph.nodes (slice_get run.graph.nodes d)
     ++ last_alone (earlier_twins run history.opening d)

@@ -74,10 +74,11 @@ abbrev pub by_heard : Standing → Awaited → List News → State
 by_heard standing awaited heard = by_all standing (of_twins awaited heard)
     (by_news awaited.inputs (of_inputs awaited heard))
 
--- A tally is right for what is known of all that the derivation waits for: the state is the table's,
--- `inputs` is the number of inputs, `waits` counts those that are neither Done nor Reused, `first` is
--- the place of the first that failed or is refused, or the number of inputs, `failed` is the number
--- of that input, if there is one, and `held` says whether nothing is known of the twin yet.
+-- A tally is right for what is known of all that the derivation waits for: the state is the
+-- table's, `inputs` is the number of inputs, `waits` counts those that are neither Done nor Reused,
+-- `first` is the place of the first that failed or is refused, or the number of inputs, `failed` is
+-- the number of that input, if there is one, and `held` says whether nothing is known of the twin
+-- yet.
 pub record IsTally (awaited : Awaited) (heard : List News) (tally : Tally) : Type 0 where
   pub one : length awaited.twins ≤ 1
   pub count : length heard ≡ length (all_of awaited)

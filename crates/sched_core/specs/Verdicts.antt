@@ -13,7 +13,7 @@ use Rattle.nix_names.specs.declared.digest.Algorithm.{Algorithm}
 use Rattle.nix_names.specs.declared.digest.Algorithm.TheVariants.{Md5, Sha1, Sha256, Sha512}
 use Rattle.nix_names.specs.declared.digest.Digest.{Digest}
 use Rattle.nix_names.specs.declared.digest.Digest.TheVariants.{Md5 as OfMd5, Sha1 as OfSha1, Sha256 as OfSha256, Sha512 as OfSha512}
-use Rattle.drv_graph.specs.Plans.{Leads}
+use Rattle.drv_graph.specs.Plans.{LeadsBy}
 use Rattle.drv_graph.specs.declared.kinds.Kind.{Kind}
 use Rattle.drv_graph.specs.declared.kinds.Kind.TheVariants.{Addressed, Fixed}
 use Rattle.ref_scan.specs.Scan.{IsFound}
@@ -79,8 +79,8 @@ abbrev pub IsFirstNumber : (Holds : ℕ → Type 0) → (count n : ℕ) → Type
 IsFirstNumber Holds count n = IsFirstWhere Holds (range_with_len 0 count) n
 
 -- the builder ended well, and left something at each output's path
-abbrev pub IsThere : Job → Answer → Type 0
-IsThere job answer = (answer.status ≡ Some (pos 0))
+abbrev pub AreOutputsThere : Job → Answer → Type 0
+AreOutputsThere job answer = (answer.status ≡ Some (pos 0))
     × ((n : ℕ) → n < length job.outputs.items → tree_at answer n ≡ None → ⊥)
 
 -- what lies at the output with this number isn't taken, for this reason
@@ -96,7 +96,7 @@ IsFirstFault job answer reason =
 
 -- what lies at each output's path is taken
 abbrev pub IsTaken : Job → Answer → Type 0
-IsTaken job answer = IsThere job answer
+IsTaken job answer = AreOutputsThere job answer
     × ((n : ℕ) (why : Reason) → n < length job.outputs.items → IsFaulty job answer why n → ⊥)
 
 -- a record is that of what lies at the output with this number
@@ -112,8 +112,8 @@ pub record AreRecords (job : Job) (permitted : List Path) (answer : Answer)
       → IsRecordAt (algorithm_for job.kind) permitted answer n info
 
 -- one output refers to another one, by their records
-abbrev pub RefersTo : (outputs : List Path) → List PathInfo → (from to : Path) → Type 0
-RefersTo outputs infos from to =
+abbrev pub OutputRefersTo : (outputs : List Path) → List PathInfo → (from to : Path) → Type 0
+OutputRefersTo outputs infos from to =
     (n : ℕ) × (info : PathInfo) × (slice_get outputs n ≡ Some from)
     × (slice_get infos n ≡ Some info) × Contains info.references to × Contains outputs to
 
@@ -121,7 +121,8 @@ RefersTo outputs infos from to =
 abbrev pub IsCyclic : (outputs : List Path) → List PathInfo → Type 0
 IsCyclic outputs infos =
     (a : Path) × (b : Path) × (there : List Path) × (back : List Path) × (a ≢ b)
-    × Leads (RefersTo outputs infos) a b there × Leads (RefersTo outputs infos) b a back
+    × LeadsBy (OutputRefersTo outputs infos) a b there
+    × LeadsBy (OutputRefersTo outputs infos) b a back
 
 -- *Verdict* on an answer: the records of the outputs, or the first reason why there are none
 abbrev pub IsVerdict : Job → (permitted : List Path) → Answer → Result (List PathInfo) Reason
@@ -134,11 +135,11 @@ IsVerdict job permitted answer (Err (ExitStatus n)) = (answer.status ≡ Some n)
 IsVerdict job permitted answer (Err (MissingOutput n)) =
     (answer.status ≡ Some (pos 0)) × IsFirstNumber (λ m. tree_at answer m ≡ None)
     (length job.outputs.items) n
-IsVerdict job permitted answer (Err TooLarge) = IsThere job answer
+IsVerdict job permitted answer (Err TooLarge) = AreOutputsThere job answer
     × IsFirstFault job answer TooLarge
-IsVerdict job permitted answer (Err NotFlatFile) = IsThere job answer
+IsVerdict job permitted answer (Err NotFlatFile) = AreOutputsThere job answer
     × IsFirstFault job answer NotFlatFile
-IsVerdict job permitted answer (Err HashMismatch) = IsThere job answer
+IsVerdict job permitted answer (Err HashMismatch) = AreOutputsThere job answer
     × IsFirstFault job answer HashMismatch
 IsVerdict job permitted answer (Err OutputCycle) =
     IsTaken job answer

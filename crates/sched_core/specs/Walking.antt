@@ -84,7 +84,7 @@ abbrev pub weight : Node → ℕ
 weight node = mark_weight node.mark + node.left
 
 -- The last link of a number that is left to be passed leads to this number, of which this is known.
-pub record IsNext (links : List (Vec ℕ)) (nodes : List Node) (top : ℕ) (node : Node) (to : ℕ)
+pub record IsNextLink (links : List (Vec ℕ)) (nodes : List Node) (top : ℕ) (node : Node) (to : ℕ)
     (other : Node) : Type 0 where
   pub own : Vec ℕ
   pub k : ℕ
@@ -96,20 +96,20 @@ pub record IsNext (links : List (Vec ℕ)) (nodes : List Node) (top : ℕ) (node
 
 -- one step at a number: it is left where no link is left, and else its last link that is left is
 -- passed, entered, or leads back to the trail
-abbrev pub IsStep : List (Vec ℕ) → (before after : List Node) → (top : ℕ) → Step → Type 0
-IsStep links before after top Leave =
+abbrev pub IsWalkStep : List (Vec ℕ) → (before after : List Node) → (top : ℕ) → Step → Type 0
+IsWalkStep links before after top Leave =
     (node : Node) × (slice_get before top ≡ Some node) × (node.left ≡ 0)
     × (after ≡ set before top (record { mark = Closed; left = 0 }))
-IsStep links before after top Pass =
-    (node : Node) × (to : ℕ) × (other : Node) × IsNext links before top node to other
+IsWalkStep links before after top Pass =
+    (node : Node) × (to : ℕ) × (other : Node) × IsNextLink links before top node to other
     × ((top ≢ to) → other.mark ≡ Closed)
     × (k : ℕ) × (suc k ≡ node.left)
     × (after ≡ set before top (record { mark = node.mark; left = k }))
-IsStep links before after top (Enter to) =
-    (node : Node) × (other : Node) × IsNext links before top node to other × (other.mark ≡ New)
+IsWalkStep links before after top (Enter to) =
+    (node : Node) × (other : Node) × IsNextLink links before top node to other × (other.mark ≡ New)
     × (after ≡ set before to (record { mark = Open; left = other.left }))
-IsStep links before after top Return =
-    (node : Node) × (to : ℕ) × (other : Node) × IsNext links before top node to other
+IsWalkStep links before after top Return =
+    (node : Node) × (to : ℕ) × (other : Node) × IsNextLink links before top node to other
     × (other.mark ≡ Open) × (top ≢ to)
 
 -- what a walk from a number tells: a round, or it ends, with the number met beside all that were

@@ -1,6 +1,6 @@
 //! The entry of a derivation that was built.
 ghost use Rattle.std.specs.Prelude.{◌≡◌, ◌<◌, ◌↔◌, All, IfErr, IfOk, IsTrue, length, map};
-ghost use Rattle.valid_table.specs.Entries.{paths_of, registered};
+ghost use Rattle.valid_table.specs.Entries.{paths_registered, registered};
 ghost use Rattle.valid_table.specs.PathInfos.{PathInfo};
 ghost use Rattle.valid_table.specs.Valid.{HasDrvPath, IsNotValid};
 ghost use Rattle.valid_table.specs.declared.entry.Registration.{Registration};
@@ -88,7 +88,7 @@ fn registrations_of(
     records: &[Record],
 ) -> Result<Vec<Registration>, AllocError>
     requires { length records.now ≡ length paths.now }
-    ensures paths { IfOk result (λ all. paths_of all.items ≡ paths.now) }
+    ensures paths { IfOk result (λ all. paths_registered all.items ≡ paths.now) }
     ensures infos { IfOk result (λ all. infos_of all.items ≡ records.now) }
 {
     let mut registrations = Vec::with_capacity(alloc, paths.len())?;

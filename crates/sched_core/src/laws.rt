@@ -7,8 +7,8 @@ ghost use Rattle.sched_core.specs.States.{StatesAgree, StatesAreOne};
 ghost use Rattle.sched_core.specs.VerdictLaws.{VerdictsAreRegistrable, VerdictsMayRefer};
 ghost use Rattle.sched_core.specs.Verdicts.{HasOneVerdict};
 
-/// Where the inputs and the earlier twins of each derivation have smaller numbers, each has the state
-/// that the table gives from the states of all, and no other states do.
+/// Where the inputs and the earlier twins of each derivation have smaller numbers, each has the
+/// state that the table gives from the states of all, and no other states do.
 pub fn states_solve_the_table()
     ensures agree { StatesAgree }
     ensures one { StatesAreOne }

@@ -25,8 +25,8 @@ struct Keyed<'a> {
 }
 
 /// The marked derivations of a plan, in the order of their paths: the mark of each stands at its
-/// number. An error where memory is refused, and no other. Costs a step for each derivation, and one
-/// sort of the marked ones.
+/// number. An error where memory is refused, and no other. Costs a step for each derivation, and
+/// one sort of the marked ones.
 pub fn marked_by_path<'a>(
     alloc: Global,
     plan: &'a Plan,

@@ -57,7 +57,7 @@ pub(crate) struct Prepared {
 
 impl Model for Progress {
     ghost use Rattle.std.specs.Prelude.{◌≤◌, length, vec_capacity};
-    ghost use Rattle.sched_core.specs.Booking.{IsKept, Progress, history_of, run_over};
+    ghost use Rattle.sched_core.specs.Booking.{IsRunKept, Progress, history_of, run_over};
 
     ghost Value = { Progress };
 
@@ -67,7 +67,7 @@ impl Model for Progress {
       room = p.journal.room;
     } };
 
-    ghost invariant = { λ p. IsKept p.system.items
+    ghost invariant = { λ p. IsRunKept p.system.items
         (history_of p.opening p.journal.entries p.events.items) p.course p.given
         (vec_capacity p.events) × (p.opening ≤ length p.journal.entries) };
 }

@@ -51,7 +51,8 @@ pub(crate) fn turn(
 // Tells the ends of all that are on the agenda's work, and of all that come there meanwhile.
 // Answers how many edges it followed.
 fn spread(users: &Users, tallies: &mut [Tally], agenda: &mut Agenda) -> usize
-    requires told { (awaited : ℕ → Awaited) × IsSpreading awaited users.now tallies.old agenda.old [] }
+    requires told { (awaited : ℕ → Awaited)
+        × IsSpreading awaited users.now tallies.old agenda.old [] }
     requires few { open_edges (sizes users.now) tallies.old
         + length (users_of_all users.now agenda.old.work) < 2 ^ 64 }
     ensures told { (awaited : ℕ → Awaited) → IsSpreading awaited users.now tallies.old agenda.old []

@@ -221,7 +221,8 @@ fn freed(state: State, held: bool, all: bool) -> State
 fn refused(standing: Standing, state: State, held: bool, input: usize) -> State
     ensures is { (twins : List News) (first : Option ℕ) → held ≡ is_held twins
         → state ≡ by_phase (phase_in state) (by_all standing twins (by_first first false))
-        → result ≡ by_phase (phase_in result) (by_all standing twins (by_first (Some input) false)) }
+        → result ≡ by_phase (phase_in result)
+        (by_all standing twins (by_first (Some input) false)) }
     ensures phase { phase_in result ≡ phase_in state }
     ensures turns { Turns state result }
 {

@@ -2,7 +2,7 @@
 ghost use Rattle.std.specs.Prelude.{◌≡◌, ◌↔◌, ℕ, List, Ok, Err, pos, Some, IfOk, IfErr, IsTrue, MatchResult, OnOk, length, map};
 ghost use Rattle.nix_names.specs.Rising.{IsRising};
 ghost use Rattle.sched_core.specs.declared.job.JobOutput.{JobOutput};
-ghost use Rattle.sched_core.specs.Verdicts.{AreRecords, IsCyclic, IsExamining, IsRecordOf, IsTaken, IsThere, IsTreeFault, IsVerdict, algorithm_for, digest_of, outputs_of};
+ghost use Rattle.sched_core.specs.Verdicts.{AreRecords, IsCyclic, IsExamining, IsRecordOf, IsTaken, AreOutputsThere, IsTreeFault, IsVerdict, algorithm_for, digest_of, outputs_of};
 ghost use Rattle.sched_core.specs.declared.reason.Reason.TheVariants.{OutOfMemory};
 
 use crate::checked::Checked;
@@ -70,7 +70,7 @@ fn paths_of(alloc: Global, outputs: &[JobOutput]) -> Result<Vec<StorePath>, Allo
 
 // Whether the builder ended well and left something at each output's path.
 fn check_complete(job: &Job, answer: &Answer) -> Result<(), Reason>
-    ensures there { OnOk result (IsThere job.now answer.now) }
+    ensures there { OnOk result (AreOutputsThere job.now answer.now) }
     ensures err { IfErr result (λ why. (permitted : List (List ℕ))
         → IsVerdict job.now permitted answer.now (Err why)) }
 {
@@ -98,7 +98,7 @@ fn check_status(answer: &Answer) -> Result<(), Reason>
 
 // Whether what lies at each output's path is taken. Takes no memory.
 fn check_trees(job: &Job, answer: &Answer) -> Result<(), Reason>
-    requires { IsThere job.now answer.now }
+    requires { AreOutputsThere job.now answer.now }
     ensures taken { OnOk result (IsTaken job.now answer.now) }
     ensures err { IfErr result (λ why. (permitted : List (List ℕ))
         → IsVerdict job.now permitted answer.now (Err why)) }

@@ -1,6 +1,6 @@
 //! A walk along links, depth first, for a round among numbers.
 ghost use Rattle.std.specs.Prelude.{◌≡◌, ◌<◌, ◌≤◌, [], IfOk, length, map};
-ghost use Rattle.sched_core.specs.Walking.{AreInner, IsAfter, IsStep, IsWalk, MayTell, TellsRound, fresh};
+ghost use Rattle.sched_core.specs.Walking.{AreInner, IsAfter, IsWalkStep, IsWalk, MayTell, TellsRound, fresh};
 
 use std::alloc::{AllocError, Global};
 
@@ -93,7 +93,7 @@ fn advance(links: &[Vec<usize>], nodes: &mut [Node], top: usize) -> Step
     requires inner { AreInner links.now }
     requires after { IsAfter links.now nodes.old }
     requires within { top < length links.now }
-    ensures { IsStep links.now nodes.old nodes.new top result }
+    ensures { IsWalkStep links.now nodes.old nodes.new top result }
 {
     let left = nodes[top].left;
     if left == 0 {

@@ -12,7 +12,7 @@ use Rattle.nix_drv.specs.Derivation.{Input}
 use Rattle.drv_graph.specs.Nodes.{Node, inputs_of, paths_of as node_paths}
 use Rattle.drv_graph.specs.PlanNodes.{output_paths_of}
 use Rattle.drv_graph.specs.SoundGraphs.{IsSound}
-use Rattle.valid_table.specs.Entries.{paths_of, registered, registered_by}
+use Rattle.valid_table.specs.Entries.{paths_registered, registered, registered_by}
 use Rattle.valid_table.specs.PathInfos.{PathInfo}
 use Rattle.valid_table.specs.Valid.{AreReferencesValid, IsOnce, IsValid, Registers}
 use Rattle.valid_table.specs.declared.entry.Entry.{Entry}
@@ -103,7 +103,7 @@ module _ (may : Job → Result Answer Reason → Type 0) (run : Run) (sound : Is
       (sym whole')
       (first_carried first (registered end.more) (registered end'.more) end.closed
       (subst IsOnce whole end.once) path
-      (Contains-from_any equal_from_eq path (paths_of first) is)))
+      (Contains-from_any equal_from_eq path (paths_registered first) is)))
 
   module _ (d : ℕ) (below : (i : ℕ) → i < d → IsAlikeAt run history other i) where
     input_alike : (i : ℕ) → Contains (inputs_in run d) i → IsAlikeAt run history other i
@@ -112,8 +112,8 @@ module _ (may : Job → Result Answer Reason → Type 0) (run : Run) (sound : Is
     twin_alike : (t : ℕ) → Contains (twins_in run history d) t → IsAlikeAt run history other t
     twin_alike t has = below t (is_earlier_twin run history.opening d t has).earlier
 
-    -- the outputs of a derivation that was reused are carried: they were valid at the opening, or are
-    -- those of an earlier twin
+    -- the outputs of a derivation that was reused are carried: they were valid at the opening, or
+    -- are those of an earlier twin
     reused_carried : phase_of history.events d ≡ Idle → Carries run history other d
     reused_carried idle good node at path has = by (good_is run history sound d good)
       where

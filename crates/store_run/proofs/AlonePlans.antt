@@ -107,7 +107,8 @@ module _ (recipe : Recipe) (out algo hash : List ℕ) where
     none_other : (o : Output) → Contains drv_with.outputs o
         → HasOtherEntry IsThePath Expected drv_with o → ⊥
     none_other o has (entry, path, among, key, is, unfit) =
-        let named : o.name ≡ codes "out" = sym (ap (λ (p : Output). p.name) (one_of output o has)) in
+        let named : o.name ≡ codes "out" =
+        sym (ap (λ (p : Output). p.name) (one_of output o has)) in
         unfit (env_value entry among (key ∙ named)
         ∙ one_path store recipe.name kind drv_with [] o out path (expected_at o has) is)
 

@@ -13,7 +13,7 @@ use Rattle.sched_core.specs.declared.reason.Reason.{Reason}
 use Rattle.sched_core.specs.declared.reason.Reason.TheVariants.{OutOfMemory}
 use Rattle.sched_core.proofs.ExaminedRecords.{verdicts_may_refer}
 use Rattle.store_run.specs.Builders.{IsAnswered, IsOutcomeVerdict, IsVerdictBehind, MayComeTo, answered_begin, answered_done, answered_fail}
-use Rattle.store_run.specs.Finding.{IsFoundBy, IsTold, MayBeFound, StaysPermitted}
+use Rattle.store_run.specs.Finding.{IsFoundBy, IsToldOfSeeds, MayBeFound, StaysPermitted}
 use Rattle.store_run.specs.declared.found.Found.TheVariants.{Examined, Unanswered}
 
 pub after_beginning : (may : Job → Result Answer Reason → Type 0) (before after : Ledger)
@@ -25,7 +25,7 @@ after_beginning may before after job number answered begins =
 -- a lease that was told of some entries, by which its job's seeds are valid
 pub told_at : {Told : Type 0} (names : Told → List Entry → Type 0) (entries : List Entry)
     (lease : Leased Told) → MatchOption lease.told ⊥ (λ told. names told entries)
-    → AreSeedsValid entries lease.job → IsTold names lease
+    → AreSeedsValid entries lease.job → IsToldOfSeeds names lease
 told_at {Told} names entries lease told seeds = by lease.told told
   where
     by : (o : Option Told) → MatchOption o ⊥ (λ t. names t entries)

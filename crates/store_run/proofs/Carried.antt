@@ -4,7 +4,7 @@ use Rattle.std.proofs.Common.{◌≡◌, inl, inr, ℕ, List, [], ◌∷◌, ◌
 use Rattle.std.specs.Prelude.{Contains}
 use Rattle.std.proofs.lemmas.List.Elements.{Contains-append_left}
 use Rattle.nix_names.proofs.Lists.{Contains-map}
-use Rattle.valid_table.specs.Closure.{Leads, Reaches}
+use Rattle.valid_table.specs.Closure.{LeadsByReferences, Reaches}
 use Rattle.valid_table.specs.PathInfos.{PathInfo}
 use Rattle.valid_table.specs.Valid.{AreReferencesValid, IsOnce, IsValid, Registers}
 use Rattle.valid_table.specs.declared.entry.Registration.{Registration}
@@ -26,15 +26,17 @@ IsCarried all other from = (to : List ℕ) (info : PathInfo) → Reaches all fro
 
 -- what leads on
 leads_on : (all : List Registration) (a b c : List ℕ) (there on : List (List ℕ))
-    → Leads all a b there → Leads all b c on → Leads all a c (there ++ on)
+    → LeadsByReferences all a b there → LeadsByReferences all b c on
+    → LeadsByReferences all a c (there ++ on)
 leads_on all a b c [] on there leads =
-    subst (λ (x : List ℕ). Leads all x c on) (sym there.1) leads
+    subst (λ (x : List ℕ). LeadsByReferences all x c on) (sym there.1) leads
 leads_on all a b c (next ∷ there) on leads more =
     (leads.0, leads_on all next b c there on leads.1 more)
 
 -- a carried path leads to the same paths by the same steps
 leads_carried : (all other : List Registration) (from to : List ℕ) (steps : List (List ℕ))
-    → IsCarried all other from → Leads all from to steps → Leads other from to steps
+    → IsCarried all other from → LeadsByReferences all from to steps
+    → LeadsByReferences other from to steps
 leads_carried all other from to [] carried leads =
     let had = registers_from_valid all from leads.0 in (
       valid_from_registers other from had.0 (carried from had.0 ([], (leads.0, refl)) had.1),
@@ -88,7 +90,7 @@ module _ (all other : List Registration) (seeds outputs : List (List ℕ))
     → Registers all path info → Contains info.references next → MayRefer all seeds outputs next)
   where
     output_leads : (from to : List ℕ) (steps : List (List ℕ)) → Contains outputs from
-        → Leads all from to steps → (info : PathInfo) → Registers all to info
+        → LeadsByReferences all from to steps → (info : PathInfo) → Registers all to info
         → Registers other to info
     output_leads from to [] own leads info has =
         records to info (subst (Contains outputs) leads.1 own) has

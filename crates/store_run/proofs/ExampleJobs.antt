@@ -14,7 +14,7 @@ use Rattle.nix_drv.specs.declared.derivation.EnvEntry.{EnvEntry as EnvEntryStruc
 use Rattle.drv_graph.specs.Kinds.{HasKind}
 use Rattle.drv_graph.specs.Nodes.{Node}
 use Rattle.drv_graph.specs.PlanNodes.{output_paths_of}
-use Rattle.drv_graph.specs.Plans.{Graph, Leads}
+use Rattle.drv_graph.specs.Plans.{Graph, LeadsBy}
 use Rattle.drv_graph.specs.declared.kinds.Kind.{Kind}
 use Rattle.drv_graph.specs.declared.kinds.Kind.TheVariants.{Addressed}
 use Rattle.drv_graph.proofs.KindAnswers.{one_kind}
@@ -23,7 +23,7 @@ use Rattle.ref_scan.specs.Trees.{Fits, depth_among, entry_count_among, file_byte
 use Rattle.ref_scan.specs.declared.tree.Tree.{Tree, File, Pieces, Dir', Row_of-Member, end_of-Member, more_of-Member}
 use Rattle.valid_table.specs.PathInfos.{PathInfo}
 use Rattle.sched_core.specs.Jobs.{IsJob, seeds_of}
-use Rattle.sched_core.specs.Verdicts.{IsCyclic, IsRecordAt, IsRecordOf, IsTreeFault, IsVerdict, RefersTo, algorithm_for, outputs_of, tree_at}
+use Rattle.sched_core.specs.Verdicts.{IsCyclic, IsRecordAt, IsRecordOf, IsTreeFault, IsVerdict, OutputRefersTo, algorithm_for, outputs_of, tree_at}
 use Rattle.sched_core.specs.declared.job.Answer.{Answer}
 use Rattle.sched_core.specs.declared.job.Job.{Job}
 use Rattle.sched_core.specs.declared.job.JobOutput.{JobOutput}
@@ -104,7 +104,7 @@ module _ (info : PathInfo) (none : info.references ≡ []) where
   pub no_cycle : (outputs : List (List ℕ)) → IsCyclic outputs (info ∷ []) → ⊥
   no_cycle outputs (a, b, there, back, apart, leads, leads') = by there leads
     where
-      by : (steps : List (List ℕ)) → Leads (RefersTo outputs (info ∷ [])) a b steps → ⊥
+      by : (steps : List (List ℕ)) → LeadsBy (OutputRefersTo outputs (info ∷ [])) a b steps → ⊥
       by [] same = apart same
       by (next ∷ steps) ((n, other, from, at, refers, to), rest) =
           Contains-nothing next

@@ -12,12 +12,12 @@ use Rattle.nix_drv.specs.Derivation.{Drv, derivation_form, drv_value}
 use Rattle.nix_drv.specs.Grammar.{text}
 use Rattle.nix_drv.specs.Order.{InOrder, KeysRise}
 use Rattle.nix_drv.specs.Outcome.{max_len}
-use Rattle.nix_drv.specs.OwnPath.{paths_of, text_path}
+use Rattle.nix_drv.specs.OwnPath.{referenced_paths, text_path}
 use Rattle.nix_drv.specs.Sources.{listing_gives}
 use Rattle.nix_drv.specs.Strings.{letter, spelled, spelling}
 use Rattle.nix_drv.proofs.Rising.{order_means_rising}
 use Rattle.drv_graph.specs.Nodes.{Node, inputs_of}
-use Rattle.drv_graph.specs.Plans.{AreLeft, IsPlan, IsReached, Leads, MayStand, Uses, left_behind_inputs, none_left}
+use Rattle.drv_graph.specs.Plans.{AreLeft, IsPlan, IsReachedBy, LeadsBy, MayBeAt, Uses, left_behind_inputs, none_left}
 use Rattle.drv_graph.proofs.PathLists.{other_path}
 use Rattle.store_run.proofs.AlonePlans.{all_two, drv_with, files_differ, lawful_both, left_file, left_filed, node_with, one_of, out_short, right_file, right_filed, store, text_named}
 use Rattle.store_run.specs.ScheduleExample.{Recipe, both, drv_alone, failing, left, making, out_alone, right, text_of, two_files}
@@ -69,7 +69,7 @@ module _ (recipe : Recipe) (out algo hash : List ℕ) where
   pub found_with : is_name (recipe.name ++ codes ".drv") ≡ true → IsDrvPath path
       → length (text_of drv) ≤ max_len → InOrder derivation_form (drv_value drv)
       → IsFoundAt store path (text_of drv) drv path
-  unfolding paths_of
+  unfolding referenced_paths
   found_with filed file few order = record {
     read = record {
       named = file;
@@ -86,7 +86,7 @@ module _ (recipe : Recipe) (out algo hash : List ℕ) where
     };
   }
 
-left_stands : MayStand store (listing_gives two_files) left.path left.drv
+left_stands : MayBeAt store (listing_gives two_files) left.path left.drv
 left_stands = record {
   bytes = text_of left.drv;
   given = rw (nat_list_eq_equiv.refl left.path) refl;
@@ -100,7 +100,7 @@ right_found = found_with making (out_alone making) [] [] right_filed right_file
     (right_few (out_alone making) (out_short making (omega arith)))
     (in_order_by right.drv (right_keys (out_alone making)))
 
-right_stands : MayStand store (listing_gives two_files) right.path right.drv
+right_stands : MayBeAt store (listing_gives two_files) right.path right.drv
 right_stands = record {
   bytes = text_of right.drv;
   given = rw (
@@ -118,12 +118,12 @@ module _ (nodes : List Node) (alone : (n : Node) → Contains nodes n → inputs
   uses_none from next uses = Contains-nothing next
       (subst (λ l. Contains l next) (alone uses.node uses.is_node) uses.is_input)
 
-  pub reached_root : (roots : List (List ℕ)) (path : List ℕ) → IsReached (Uses nodes) roots path
+  pub reached_root : (roots : List (List ℕ)) (path : List ℕ) → IsReachedBy (Uses nodes) roots path
       → Contains roots path
   reached_root roots path reached = by reached.root reached.is_root reached.steps reached.leads
     where
       by : (root : List ℕ) → Contains roots root → (steps : List (List ℕ))
-          → Leads (Uses nodes) root path steps → Contains roots path
+          → LeadsBy (Uses nodes) root path steps → Contains roots path
       by root is [] same = subst (Contains roots) same is
       by root is (next ∷ steps) leads = absurd (uses_none root next leads.0)
 
@@ -147,7 +147,7 @@ in_order =
 
 pub loads : IsPlan store (listing_gives two_files) (left.path ∷ right.path ∷ []) both.graph
 loads = record {
-  given = all_two (λ (n : Node). MayStand store (listing_gives two_files) n.path n.drv) left right
+  given = all_two (λ (n : Node). MayBeAt store (listing_gives two_files) n.path n.drv) left right
       left_stands right_stands;
   in_order = in_order;
   reached = λ path has. record { root = path; is_root = has; steps = []; leads = refl };

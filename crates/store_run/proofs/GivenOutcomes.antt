@@ -53,7 +53,8 @@ module _ (excused : Reason → Type 0) (may : Job → Result Answer Reason → T
   outcome_failed entries d reason (inr behind) = outcome_behind entries d (Err reason) behind
 
   -- what each derivation was given, where anything became of it
-  abbrev outcomes_in : (history : History) → IsTold excused may run history → ℕ → Result Answer Reason
+  abbrev outcomes_in : (history : History) → IsTold excused may run history → ℕ
+      → Result Answer Reason
   outcomes_in _ (told_opening entries journal) d = Err OutOfMemory
   outcomes_in _ (told_begin history e told legal can) d = outcomes_in history told d
   outcomes_in _ (told_done history e lease node infos entry told legal phase at came is_entry) d =

@@ -119,7 +119,8 @@ module _ (may : Job → Result Answer Reason → Type 0) (run : Run) (history : 
   turned = turned_is may run whole.end.plan history.opening d thread.other thread.had
 
   below : (i : ℕ) → i < d → IsAlikeAt run history thread.other i
-  below i less = alike_below may run whole.end.plan whole.outcome history thread.other told told_there
+  below i less = alike_below may run whole.end.plan whole.outcome history thread.other told
+      told_there
       turned.opening_is d (λ e low rest. thread.turns e low) d i less less
 
   above : (i : ℕ) → i < d → IsAlikeAt run thread.other history i

@@ -53,7 +53,8 @@ same_behind before after job path goes showable valid =
     (closed_references_valid before (showable_front before goes.0 whole).closed)
     (subst IsOnce (registered-append before goes.0) whole.once)
     (λ seed has. All-contains (IsValid (registered before)) job.seeds.items seed valid has) in
-    subst (λ (entries : List Entry). MayRefer (registered before) job.seeds.items (outputs_of job) path
+    subst (λ (entries : List Entry). MayRefer (registered before) job.seeds.items (outputs_of job)
+    path
     ↔ MayRefer (registered entries) job.seeds.items (outputs_of job) path) goes.1
     (subst (λ (registrations : List Registration).
     MayRefer (registered before) job.seeds.items (outputs_of job) path

@@ -24,7 +24,8 @@ module _ (may : Job → Result Answer Reason → Type 0) (plan : Graph) (system 
     (opening : List Entry) (count : ℕ) (workers : AreWorkers count) where
   -- a run that ends well
   pub went_to_its_end : (result : Result Ledger (RunFault × Option Ledger))
-      → IsRun may plan system opening result → IfOk result (IsRealised may plan system opening count)
+      → IsRun may plan system opening result → IfOk result
+      (IsRealised may plan system opening count)
   went_to_its_end (Ok kept) run = subst (IsRealised may plan system opening count) (sym run.end.0)
       (record {
         workers = workers;
@@ -40,7 +41,8 @@ module _ (may : Job → Result Answer Reason → Type 0) (plan : Graph) (system 
   cut_off ForeignPlan None book stop legal answered end = workers
   cut_off NoMemory (Some kept) book stop legal answered end = handed end.0
     where
-      handed : IsHandedOut plan system opening book kept → IsCutOff may plan system opening count kept
+      handed : IsHandedOut plan system opening book kept
+          → IsCutOff may plan system opening count kept
       handed out = subst (IsCutOff may plan system opening count) (sym out.same) (record {
         workers = workers;
         left = record { over = out.over; legal = legal; answered = answered };
@@ -48,7 +50,8 @@ module _ (may : Job → Result Answer Reason → Type 0) (plan : Graph) (system 
       })
   cut_off ThreadFault (Some kept) book stop legal answered end = handed end.0
     where
-      handed : IsHandedOut plan system opening book kept → IsCutOff may plan system opening count kept
+      handed : IsHandedOut plan system opening book kept
+          → IsCutOff may plan system opening count kept
       handed out = subst (IsCutOff may plan system opening count) (sym out.same) (record {
         workers = workers;
         left = record { over = out.over; legal = legal; answered = answered };

@@ -8,7 +8,7 @@ use Rattle.drv_graph.specs.declared.kinds.Kind.TheVariants.{Addressed, Fixed}
 use Rattle.ref_scan.specs.Scan.{IsFoundIn}
 use Rattle.ref_scan.specs.declared.tree.Tree.{Tree}
 use Rattle.valid_table.specs.PathInfos.{PathInfo}
-use Rattle.sched_core.specs.Verdicts.{AreRecords, IsFaulty, IsFirstFault, IsFirstNumber, IsRecordOf, IsTaken, IsThere, IsTreeFault, IsVerdict, algorithm_for, tree_at}
+use Rattle.sched_core.specs.Verdicts.{AreRecords, IsFaulty, IsFirstFault, IsFirstNumber, IsRecordOf, IsTaken, AreOutputsThere, IsTreeFault, IsVerdict, algorithm_for, tree_at}
 use Rattle.sched_core.specs.declared.job.Answer.{Answer}
 use Rattle.sched_core.specs.declared.job.Job.{Job}
 use Rattle.sched_core.specs.declared.reason.Reason.{Reason}
@@ -121,7 +121,8 @@ module _ (job : Job) (answer other : Answer) (same : AreSameAnswers answer other
     each = λ n info at.
         let is = are.each n info at in
         let found = some_same is.0 (tree_at answer n) (tree_at other n) is.1 (same.trees n) in
-        let record_is = record_there (algorithm_for job.kind) permitted is.0 found.0 found.2 info is.2
+        let record_is = record_there (algorithm_for job.kind) permitted is.0 found.0 found.2 info
+        is.2
         in
         (found.0, found.1, record_is);
   }
@@ -130,7 +131,7 @@ module _ (job : Job) (answer other : Answer) (same : AreSameAnswers answer other
   back : AreSameAnswers other answer
   back = answers_back answer other same
 
-  there_too : IsThere job answer → IsThere job other
+  there_too : AreOutputsThere job answer → AreOutputsThere job other
   there_too there = (
     sym same.status ∙ there.0,
     λ n low none. there.1 n low (missing_there job other answer back n none),

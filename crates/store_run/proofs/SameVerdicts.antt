@@ -11,7 +11,7 @@ use Rattle.drv_graph.proofs.KindAnswers.{one_kind}
 use Rattle.ref_scan.specs.declared.tree.Tree.{Tree}
 use Rattle.valid_table.specs.PathInfos.{PathInfo}
 use Rattle.sched_core.specs.Jobs.{IsJob}
-use Rattle.sched_core.specs.Verdicts.{AreRecords, IsCyclic, IsFirstFault, IsFirstNumber, IsRecordAt, IsTaken, IsThere, IsTreeFault, IsVerdict, algorithm_for, outputs_of, tree_at}
+use Rattle.sched_core.specs.Verdicts.{AreRecords, IsCyclic, IsFirstFault, IsFirstNumber, IsRecordAt, IsTaken, AreOutputsThere, IsTreeFault, IsVerdict, algorithm_for, outputs_of, tree_at}
 use Rattle.sched_core.specs.declared.job.Answer.{Answer}
 use Rattle.sched_core.specs.declared.job.Job.{Job}
 use Rattle.sched_core.specs.declared.job.JobOutput.{JobOutput}
@@ -34,7 +34,7 @@ module _ (job again : Job) (outputs : outputs_of job ≡ outputs_of again)
   counts = sym (length-map job.outputs.items (λ (o : JobOutput). o.path)) ∙ ap length outputs
       ∙ length-map again.outputs.items (λ (o : JobOutput). o.path)
 
-  there_too : IsThere job answer → IsThere again answer
+  there_too : AreOutputsThere job answer → AreOutputsThere again answer
   there_too there = subst (λ (count : ℕ). (answer.status ≡ Some (pos 0))
       × ((n : ℕ) → n < count → tree_at answer n ≡ None → ⊥)) counts there
 
@@ -57,7 +57,8 @@ module _ (job again : Job) (outputs : outputs_of job ≡ outputs_of again)
       → AreRecords job permitted answer infos → AreRecords again permitted answer infos
   records_too permitted infos are = record {
     count = are.count ∙ counts;
-    each = λ n info at. subst (λ (kind : Kind). IsRecordAt (algorithm_for kind) permitted answer n info)
+    each = λ n info at. subst (λ (kind : Kind). IsRecordAt (algorithm_for kind) permitted answer n
+        info)
         kinds (are.each n info at);
   }
 

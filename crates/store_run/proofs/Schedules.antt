@@ -75,7 +75,8 @@ module _ (may : Job → Result Answer Reason → Type 0) (run : Run) (history : 
 
 pub whole_runs_are_alike : (may : Job → Result Answer Reason → Type 0) → WholeRunsAreAlike may
 whole_runs_are_alike may run history other whole whole' opening =
-    are_alike may run whole.end.plan whole.outcome history other (run_accounted may run history whole)
+    are_alike may run whole.end.plan whole.outcome history other
+    (run_accounted may run history whole)
     (run_accounted may run other whole') whole.end.settled whole'.end.settled opening
 
 pub realised_is_ended : (may : Job → Result Answer Reason → Type 0) → RealisedIsEnded may
@@ -103,8 +104,10 @@ turns_accounted may run sound opening count other had =
 
 pub any_schedule : (may : Job → Result Answer Reason → Type 0) → AnySchedule may
 any_schedule may run history other whole one =
-    let turned = turned_is may run whole.end.plan history.opening (length run.graph.nodes) other one in
-    are_alike may run whole.end.plan whole.outcome history other (run_accounted may run history whole)
+    let turned = turned_is may run whole.end.plan history.opening (length run.graph.nodes) other
+    one in
+    are_alike may run whole.end.plan whole.outcome history other
+    (run_accounted may run history whole)
     (turns_accounted may run whole.end.plan history.opening (length run.graph.nodes) other one)
     whole.end.settled (turned_settled may run whole.end.plan history.opening other one)
     turned.opening_is
@@ -113,7 +116,8 @@ any_schedule may run history other whole one =
 pub one_report_of : (may : Job → Result Answer Reason → Type 0) → OneReport may
 one_report_of may run history other a b whole one of_a of_b =
     let alike = any_schedule may run history other whole one in
-    let turned = turned_is may run whole.end.plan history.opening (length run.graph.nodes) other one in
+    let turned = turned_is may run whole.end.plan history.opening (length run.graph.nodes) other
+    one in
     let states : state_in run other ≡ state_in run history = λ i d. sym (alike.states d) i in
     let there : IsReport run.graph (IsWanted run history.opening) (state_in run history) b =
     subst (λ (s : ℕ → State). IsReport run.graph (IsWanted run history.opening) s b) states
@@ -129,8 +133,10 @@ alike_report_the_same run history other alike opening text = (there, back)
     states = λ i d. alike.states d i
 
     there : IsReportIn run history text → IsReportIn run other text
-    there is = subst (λ (s : ℕ → State). IsReport run.graph (IsWanted run other.opening) s text) states
-        (subst (λ (opens : List Entry). IsReport run.graph (IsWanted run opens) (state_in run history)
+    there is = subst (λ (s : ℕ → State). IsReport run.graph (IsWanted run other.opening) s text)
+        states
+        (subst (λ (opens : List Entry). IsReport run.graph (IsWanted run opens)
+        (state_in run history)
         text) (sym opening) is)
 
     back : IsReportIn run other text → IsReportIn run history text

@@ -23,7 +23,8 @@ module _ (system : List ℕ) (opening : List Entry) (drv : Drv) where
       → Contains (output_paths_of drv) path → is_valid opening path ≡ true
   output_of_reused all path has =
       list_all_has (is_valid opening) (output_paths_of drv) path
-      (standing_all (list_all (is_valid opening) (output_paths_of drv)) (own_cause system opening drv)
+      (standing_all (list_all (is_valid opening) (output_paths_of drv))
+      (own_cause system opening drv)
       all) has
 
   -- the last two causes of one that is free
@@ -33,7 +34,8 @@ module _ (system : List ℕ) (opening : List Entry) (drv : Drv) where
   last_causes free =
       or_else_none (if is_unsupported drv then Some Unsupported else None) _
       (or_else_none (if same_bytes drv.system system then None else Some WrongSystem) _
-      (standing_free (list_all (is_valid opening) (output_paths_of drv)) (own_cause system opening drv)
+      (standing_free (list_all (is_valid opening) (output_paths_of drv))
+      (own_cause system opening drv)
       free))
 
   -- the sources of one that is free are valid

@@ -10,7 +10,7 @@ use Rattle.nix_names.proofs.Lists.{Contains-first, Contains-later, either_side}
 use Rattle.drv_graph.specs.Nodes.{Node}
 use Rattle.drv_graph.specs.PlanNodes.{output_paths_of}
 use Rattle.drv_graph.specs.SoundGraphs.{IsSound}
-use Rattle.valid_table.specs.Entries.{paths_of, registered}
+use Rattle.valid_table.specs.Entries.{paths_registered, registered}
 use Rattle.valid_table.specs.PathInfos.{PathInfo}
 use Rattle.valid_table.specs.Valid.{IsValid}
 use Rattle.valid_table.specs.declared.entry.Entry.{Entry}
@@ -110,8 +110,8 @@ never_blocked (Some i) all closed is = cc
 never_blocked None true closed is = cc
 never_blocked None false closed is = let clash : false ≡ true = closed refl in cc
 
--- a derivation without an event is open only where it is ready, or an earlier twin or an input of it
--- is open
+-- a derivation without an event is open only where it is ready, or an earlier twin or an input of
+-- it is open
 idle_open : (standing : Standing) (built still : Bool) (first : Option ℕ) (all : Bool)
     → still ≡ false → (standing ≡ Free → first ≡ None → all ≡ true)
     → IsOpen (by_phase Idle (by_validity standing (if built then Reused else if still then Blocked
@@ -215,7 +215,8 @@ module _ (may : Job → Result Answer Reason → Type 0) (run : Run) (sound : Is
               output_of_free run.system history.opening node.drv
               (sym (ap (standing_at run.system history.opening) at) ∙ un.free) path own in
               let some : is_valid history.opening path ≡ true =
-              list_any-from_Contains nat_list_eq_equiv path (paths_of (registered history.opening))
+              list_any-from_Contains nat_list_eq_equiv path
+              (paths_registered (registered history.opening))
               (valid_from_registers (registered history.opening) path info has) in
               let clash : false ≡ true = sym none ∙ some in
               cc

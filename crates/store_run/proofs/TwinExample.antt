@@ -268,7 +268,8 @@ settled (suc (suc zero)) low is = closed_done _ third_built
 settled (suc (suc (suc d))) low is = absurd (omega arith)
 
 memory : HasMemory three tried_again
-memory zero low is failed = let clash : Failed ends ≡ Failed OutOfMemory = sym first_failed ∙ failed in
+memory zero low is failed = let clash : Failed ends ≡ Failed OutOfMemory =
+    sym first_failed ∙ failed in
     cc
 memory (suc zero) low is failed =
     let clash : Done ≡ Failed OutOfMemory = sym second_built ∙ failed in cc

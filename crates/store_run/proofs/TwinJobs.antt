@@ -92,7 +92,8 @@ record_of_file tree is = record {
         each = λ path. (
           λ none. absurd (Contains-nothing path none),
           λ some. absurd (none_occurs (hash_part_of path)
-              (subst (λ (p : List ℕ). length (hash_part_of p) ≡ 32) (one_of _ path some.0) hash_long)
+              (subst (λ (p : List ℕ). length (hash_part_of p) ≡ 32) (one_of _ path some.0)
+              hash_long)
               some.1),
         );
       });
@@ -123,7 +124,8 @@ module _ (job : Job) (is_job : IsJob three.graph 1 job) where
       (λ why fault. no_fault file left_behind.1.1 why
       (subst (λ (k : Kind). IsTreeFault k file why) second_kind fault))
       (out_empty (codes "src") ∷ []) file_in refl
-      (subst (λ (k : Kind). IsRecordOf (algorithm_for k) (out_empty (codes "src") ∷ []) file file_in)
+      (subst (λ (k : Kind). IsRecordOf (algorithm_for k) (out_empty (codes "src") ∷ []) file
+      file_in)
       (sym second_kind) (record_of_file file left_behind.1.1))
 
 -- ---- what a job leaves behind is what its derivation says

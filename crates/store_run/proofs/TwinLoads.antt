@@ -13,7 +13,7 @@ use Rattle.nix_drv.specs.Order.{KeysRise}
 use Rattle.nix_drv.specs.Sources.{listing_gives}
 use Rattle.nix_drv.specs.Strings.{spelling}
 use Rattle.drv_graph.specs.Nodes.{Node, inputs_of}
-use Rattle.drv_graph.specs.Plans.{AreLeft, IsPlan, MayStand, left_behind_inputs, none_left}
+use Rattle.drv_graph.specs.Plans.{AreLeft, IsPlan, MayBeAt, left_behind_inputs, none_left}
 use Rattle.drv_graph.proofs.PathLists.{other_path}
 use Rattle.store_run.specs.ScheduleExample.{right, text_of}
 use Rattle.store_run.specs.TwinExample.{empty_digest, failing_twin, first_twin, making_twin, out_empty, second_twin, three, three_files}
@@ -54,7 +54,7 @@ second_keys out hash = search rules
 
 -- ---- each stands at its own path
 
-first_stands : MayStand store (listing_gives three_files) first_twin.path first_twin.drv
+first_stands : MayBeAt store (listing_gives three_files) first_twin.path first_twin.drv
 first_stands = record {
   bytes = text_of first_twin.drv;
   given = rw (nat_list_eq_equiv.refl first_twin.path) refl;
@@ -64,7 +64,7 @@ first_stands = record {
       (in_order_by first_twin.drv (first_keys (out_empty (codes "src")) hash));
 }
 
-second_stands : MayStand store (listing_gives three_files) second_twin.path second_twin.drv
+second_stands : MayBeAt store (listing_gives three_files) second_twin.path second_twin.drv
 second_stands = record {
   bytes = text_of second_twin.drv;
   given = rw (
@@ -77,7 +77,7 @@ second_stands = record {
       (in_order_by second_twin.drv (second_keys (out_empty (codes "src")) hash));
 }
 
-right_stands : MayStand store (listing_gives three_files) right.path right.drv
+right_stands : MayBeAt store (listing_gives three_files) right.path right.drv
 right_stands = record {
   bytes = text_of right.drv;
   given = rw (
@@ -133,7 +133,7 @@ in_order =
 
 pub loads : IsPlan store (listing_gives three_files) roots three.graph
 loads = record {
-  given = all_three (λ (n : Node). MayStand store (listing_gives three_files) n.path n.drv)
+  given = all_three (λ (n : Node). MayBeAt store (listing_gives three_files) n.path n.drv)
       first_twin second_twin right first_stands second_stands right_stands;
   in_order = in_order;
   reached = λ path has. record { root = path; is_root = has; steps = []; leads = refl };

@@ -109,8 +109,8 @@ pub unhindered_ready : (run : Run) (history : History) → IsSound run.graph →
 unhindered_ready run history sound d un idle =
     state_by run history sound d Idle idle ∙ aside_ready run history d un
 
--- one that has no event is blocked where an earlier twin still has something before it, and none was
--- built
+-- one that has no event is blocked where an earlier twin still has something before it, and none
+-- was built
 pub blocked_by_twin : (run : Run) (history : History) → IsSound run.graph → (d t : ℕ)
     → phase_of history.events d ≡ Idle → standing_in run history d ≡ Free
     → Contains (twins_in run history d) t → is_open (state_in run history t) ≡ true
@@ -213,7 +213,8 @@ is_good_by run history sound d (good_twin t at has ends) =
     let f = state_in run history in
     let twins = twins_in run history d in
     let built : list_any (λ u. is_done (f u)) twins ≡ true =
-    any_passes (λ u. is_done (f u)) twins t has (ap is_done (state_by run history sound t Ended ends))
+    any_passes (λ u. is_done (f u)) twins t has (ap is_done
+    (state_by run history sound t Ended ends))
     in
     ap is_good (state_by run history sound d Idle at)
     ∙ ap (λ b. is_good (by_validity (standing_in run history d)
@@ -228,7 +229,8 @@ is_good_by run history sound d (good_twin t at has ends) =
 -- state is the same
 pub aside_same : (run : Run) (history other : History) (d : ℕ) → history.opening ≡ other.opening
     → ((i : ℕ) → Contains (inputs_in run d) i → state_in run history i ≡ state_in run other i)
-    → ((t : ℕ) → Contains (twins_in run history d) t → state_in run history t ≡ state_in run other t)
+    → ((t : ℕ) → Contains (twins_in run history d) t
+    → state_in run history t ≡ state_in run other t)
     → state_aside run history d ≡ state_aside run other d
 aside_same run history other d opening same alike =
     let inputs = inputs_in run d in

@@ -4,7 +4,7 @@ use Rattle.valid_table.specs.PathInfos.{PathInfo}
 use Rattle.sched_core.specs.declared.fault.BookFault.TheVariants.{NoMemory, NoView, ForeignLease, NotLawful}
 use Rattle.sched_core.specs.declared.job.Job.{Job}
 use Rattle.sched_core.specs.declared.reason.Reason.TheVariants.{OutOfMemory}
-use Rattle.store_run.specs.Sharing.{IsNoting, IsRegistering, IsWanting, Share}
+use Rattle.store_run.specs.Sharing.{IsNoting, IsLeaseRegistering, IsWanting, Share}
 use Rattle.store_run.specs.declared.found.LeaseEnd.{LeaseEnd}
 use Rattle.store_run.specs.declared.found.LeaseEnd.TheVariants.{Registered, Failed, Stopped}
 
@@ -12,7 +12,7 @@ use Rattle.store_run.specs.declared.found.LeaseEnd.TheVariants.{Registered, Fail
 pub wanting_registers : (before after : Share) (job : Job) (number : ℕ) (infos : List PathInfo)
     (end : LeaseEnd) → IsWanting before job number infos
     → IsNoting before after job number OutOfMemory end
-    → IsRegistering before after job number infos end
+    → IsLeaseRegistering before after job number infos end
 wanting_registers before after job number infos Registered wanting noting = absurd noting
 wanting_registers before after job number infos (Failed why) wanting noting =
     (noting.0, wanting, noting.1)

@@ -15,8 +15,9 @@ use Rattle.store_run.specs.declared.found.Found.{Found}
 use Rattle.store_run.specs.declared.found.Found.TheVariants.{Examined, Unanswered, NoMemory, NoView}
 
 -- a lease was told of a list by which all that its job is built from is valid
-abbrev pub IsTold : {Told : Type 0} → (names : Told → List Entry → Type 0) → Leased Told → Type 0
-IsTold names lease = MatchOption lease.told ⊥
+abbrev pub IsToldOfSeeds : {Told : Type 0} → (names : Told → List Entry → Type 0) → Leased Told
+    → Type 0
+IsToldOfSeeds names lease = MatchOption lease.told ⊥
     (λ told. (entries : List Entry) × names told entries × AreSeedsValid entries lease.job)
 
 -- The verdict on an answer by a list that a view may show, in which all that the job is built from

@@ -8,7 +8,6 @@ pub mod SameOutcomes
 pub mod ScheduleExample
 pub mod Scheduling
 pub mod TwinExample
-
 -- What only private contracts and proofs cite.
 pub mod Finding
 pub mod Sharing

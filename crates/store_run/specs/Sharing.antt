@@ -23,8 +23,8 @@ pub record Share : Type 0 where
   pub stop : Option BookFault
 
 -- the book is settled
-abbrev pub IsSettled : Share → Type 0
-IsSettled share = IsRunSettled share.book.run share.book.history
+abbrev pub IsShareSettled : Share → Type 0
+IsShareSettled share = IsRunSettled share.book.run share.book.history
 
 -- the book has this lease open
 abbrev pub HasGiven : Share → Job → (number : ℕ) → Type 0
@@ -40,13 +40,13 @@ pub record IsGiving (before after : Share) (job : Job) (number : ℕ) : Type 0 w
 -- changes.
 pub record IsWaiting (before after : Share) : Type 0 where
   pub runs : before.stop ≡ None
-  pub unsettled : IsSettled before → ⊥
+  pub unsettled : IsShareSettled before → ⊥
   pub none : (d : ℕ) → CanBegin before.book.run before.book.history d → ⊥
   pub same : after ≡ before
 
 -- The run is over: it was stopped before, or the book is settled. Nothing changes.
 pub record IsOver (before after : Share) : Type 0 where
-  pub why : (before.stop ≡ None → ⊥) ⊎ IsSettled before
+  pub why : (before.stop ≡ None → ⊥) ⊎ IsShareSettled before
   pub same : after ≡ before
 
 -- The book gave no lease, though something can begin, and its fault stops the run. The outlet may
@@ -139,23 +139,24 @@ IsNoting before after job number reason (Stopped other) = ⊥
 -- How a lease ends with these records: its outputs were registered; or memory was refused for that,
 -- where the book may want it; or the lease isn't the book's, or its derivation may not be
 -- registered with these records.
-abbrev pub IsRegistering : (before after : Share) → Job → (number : ℕ) → List PathInfo → LeaseEnd
+abbrev pub IsLeaseRegistering : (before after : Share) → Job → (number : ℕ) → List PathInfo
+    → LeaseEnd
     → Type 0
-IsRegistering before after job number infos Registered = IsBuilt before after job number infos
-IsRegistering before after job number infos (Failed why) =
+IsLeaseRegistering before after job number infos Registered = IsBuilt before after job number infos
+IsLeaseRegistering before after job number infos (Failed why) =
     (why ≡ OutOfMemory) × IsWanting before job number infos
     × IsFailed before after job number OutOfMemory
-IsRegistering before after job number infos (Stopped ForeignLease) =
+IsLeaseRegistering before after job number infos (Stopped ForeignLease) =
     IsForeign before after job number
-IsRegistering before after job number infos (Stopped NotLawful) =
+IsLeaseRegistering before after job number infos (Stopped NotLawful) =
     IsUnlawful before after job number infos
-IsRegistering before after job number infos (Stopped other) = ⊥
+IsLeaseRegistering before after job number infos (Stopped other) = ⊥
 
 -- how a lease ends by a verdict
 abbrev pub IsNotingVerdict : (before after : Share) → Job → (number : ℕ)
     → Result (List PathInfo) Reason → LeaseEnd → Type 0
 IsNotingVerdict before after job number (Ok infos) end =
-    IsRegistering before after job number infos end
+    IsLeaseRegistering before after job number infos end
 IsNotingVerdict before after job number (Err reason) end =
     IsNoting before after job number reason end
 

@@ -1,7 +1,7 @@
 //! A book behind a lock, on which workers wait.
 ghost use Rattle.std.specs.Prelude.{IfSome};
 ghost use Rattle.store_run.specs.Builders.{IsAnswered};
-ghost use Rattle.store_run.specs.Finding.{IsTold, MayBeFound};
+ghost use Rattle.store_run.specs.Finding.{IsToldOfSeeds, MayBeFound};
 ghost use Rattle.store_run.specs.Sharing.{IfGiven};
 
 use crate::build::Build;
@@ -35,7 +35,7 @@ impl<O: Outlet, B: Build> Locked<O, B> {
     // Waits for a lease of a ready derivation. Gives the lease and how many wanted derivations are
     // unsettled then; none where the run ends. Wakes the workers that its turn names.
     pub(crate) fn take<R: Wait>(&self, rt: &R) -> Option<(Lease<O::Told>, usize)>
-        ensures { IfSome result (λ taken. IsTold O.names taken.0) }
+        ensures { IfSome result (λ taken. IsToldOfSeeds O.names taken.0) }
     {
         let mut shared = self.shared.lock(rt);
         for _ in rt.forever() {
@@ -72,7 +72,7 @@ impl<O: Outlet, B: Build> Locked<O, B> {
     where
         O: Tells<J>,
         requires { MayBeFound B.may reader.old.seen lease.job found }
-        ensures { IfGiven result.1.step (IsTold O.names) }
+        ensures { IfGiven result.1.step (IsToldOfSeeds O.names) }
     {
         let mut shared = self.shared.lock(rt);
         let end = shared.end(reader, lease, found);

@@ -7,8 +7,8 @@ ghost use Rattle.sched_core.specs.Books.{IsBooksLease, IsUnsettled};
 ghost use Rattle.sched_core.specs.Counts.{AreSoMany};
 ghost use Rattle.sched_core.specs.declared.reason.Reason.TheVariants.{OutOfMemory};
 ghost use Rattle.store_run.specs.Builders.{IsAnswered, MayComeTo};
-ghost use Rattle.store_run.specs.Finding.{HasCaughtUp, IsTold, MayBeFound};
-ghost use Rattle.store_run.specs.Sharing.{IfGiven, IsEnding, IsNoting, IsNotingVerdict, IsRegistering, IsStep, IsStopping, IsWake};
+ghost use Rattle.store_run.specs.Finding.{HasCaughtUp, IsToldOfSeeds, MayBeFound};
+ghost use Rattle.store_run.specs.Sharing.{IfGiven, IsEnding, IsNoting, IsNotingVerdict, IsLeaseRegistering, IsStep, IsStopping, IsWake};
 ghost use Rattle.store_run.specs.declared.found.LeaseEnd.TheVariants.{Stopped};
 
 use crate::build::Build;
@@ -57,7 +57,7 @@ impl<O: Outlet, B: Build> Shared<O, B> {
     /// and another derivation is ready.
     pub fn turn(&mut self) -> Turn<O::Told>
         ensures step { IsStep self.old self.new result.step }
-        ensures told { IfGiven result.step (IsTold O.names) }
+        ensures told { IfGiven result.step (IsToldOfSeeds O.names) }
         ensures wake { IsWake self.new result.step result.wake }
         ensures unsettled { AreSoMany (IsUnsettled self.new.book.run self.new.book.history)
             result.unsettled }
@@ -109,7 +109,7 @@ impl<O: Outlet, B: Build> Shared<O, B> {
     // a derivation is ready, and else `Wait`. A fault of the book stops the run.
     fn step(&mut self) -> Step<O::Told>
         ensures step { IsStep self.old self.new result }
-        ensures told { IfGiven result (IsTold O.names) }
+        ensures told { IfGiven result (IsToldOfSeeds O.names) }
     {
         if self.stop.is_some() || self.book.settled() {
             return Step::End;
@@ -167,7 +167,7 @@ impl<O: Outlet, B: Build> Shared<O, B> {
     fn register(&mut self, lease: Lease<O::Told>, checked: Checked) -> LeaseEnd
         requires { IsBooksLease self.old.book.run self.old.book.history lease.job lease.number
             → MayComeTo B.may self.old.book.history.entries lease.job (Ok checked) }
-        ensures { IsRegistering self.old self.new lease.job lease.number checked result }
+        ensures { IsLeaseRegistering self.old self.new lease.job lease.number checked result }
     {
         match self.book.finish(lease, checked) {
             Ok(()) => LeaseEnd::Registered,

@@ -2,7 +2,7 @@
 ghost use Rattle.std.specs.Prelude.{◌≡◌, IfErr, IfOk};
 ghost use Rattle.valid_view.specs.Shown.{IsShowable};
 ghost use Rattle.sched_core.specs.Books.{ArePermittedPaths, AreSeedsValid};
-ghost use Rattle.store_run.specs.Finding.{IsFoundBy, IsTold, IsUnseen};
+ghost use Rattle.store_run.specs.Finding.{IsFoundBy, IsToldOfSeeds, IsUnseen};
 
 use crate::found::Found;
 use nix_names::StorePath;
@@ -13,7 +13,7 @@ use valid_view::{Naming, Tells, ViewFault, ViewReader};
 /// Has a reader learn what a lease was told. Then all that the lease's job is built from is valid
 /// in each list that the reader sees from now on.
 pub fn learn<J: Naming, O: Tells<J>>(reader: &mut ViewReader<J>, lease: &mut Lease<O::Told>)
-    requires { IsTold O.names lease.old }
+    requires { IsToldOfSeeds O.names lease.old }
     ensures seeds { AreSeedsValid reader.new.told lease.new.job }
     ensures job { lease.new.job ≡ lease.old.job }
     ensures number { lease.new.number ≡ lease.old.number }

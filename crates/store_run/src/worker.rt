@@ -1,6 +1,6 @@
 //! What one worker does.
 ghost use Rattle.std.specs.Prelude.{IfSome};
-ghost use Rattle.store_run.specs.Finding.{IsTold};
+ghost use Rattle.store_run.specs.Finding.{IsToldOfSeeds};
 
 use crate::build::{Build, Watch};
 use crate::found::LeaseEnd;
@@ -48,8 +48,8 @@ fn build<R: Wait, J: Naming, O: Tells<J>, B: Build + Watch>(
     builder: &B,
     mut lease: Lease<O::Told>,
 ) -> Option<(Lease<O::Told>, usize)>
-    requires { IsTold O.names lease }
-    ensures { IfSome result (λ taken. IsTold O.names taken.0) }
+    requires { IsToldOfSeeds O.names lease }
+    ensures { IfSome result (λ taken. IsToldOfSeeds O.names taken.0) }
 {
     let outcome = builder.run(lease.number(), lease.job());
     learn::<J, O>(reader, &mut lease);

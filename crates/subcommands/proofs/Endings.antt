@@ -2,7 +2,7 @@
 use Rattle.std.proofs.Common.{refl, ℕ, List, Option, Result, Ok, Err}
 use Rattle.std.specs.Io.KnownBytes.{Appends}
 use Rattle.subcommands.specs.AddedText.{FileBytes, IsAddingText}
-use Rattle.subcommands.specs.Endings.{EndsBy, IsPut, IsWriteFault, path_line}
+use Rattle.subcommands.specs.Endings.{EndsBy, IsPrintedAndWritten, IsWriteFault, path_line}
 use Rattle.subcommands.specs.StoreDirs.{IsStoreDirOf}
 use Rattle.subcommands.specs.declared.added_text.AddedText.{AddedText}
 use Rattle.subcommands.specs.declared.options.AddTextRequest.{AddTextRequest}
@@ -34,7 +34,7 @@ folder_refused request gave journal before stop h = absurd h
 -- a file is not written behind the printed path
 pub file_not_written : (added : AddedText) (before after : Option (List ℕ)) (stop : Stop)
     → Appends before after (path_line added.path) → IsWriteFault added stop
-    → IsPut added before after (Err stop)
+    → IsPrintedAndWritten added before after (Err stop)
 file_not_written added before after (NotWritten path) printed h = (h, printed)
 file_not_written added before after JournalNotWritten printed h = (h, printed)
 file_not_written added before after NoMemory printed h = (h, printed)
@@ -43,7 +43,7 @@ file_not_written added before after stop printed h = absurd h
 -- how the printing and the writing end is how the run does
 pub put_ends : (request : AddTextRequest) (gave journal : FileBytes)
     (before after : Option (List ℕ)) (added : AddedText) (result : Result Status Stop)
-    → IsAddingText request gave journal (Ok added) → IsPut added before after result
+    → IsAddingText request gave journal (Ok added) → IsPrintedAndWritten added before after result
     → EndsBy request gave journal before after result
 put_ends request gave journal before after added (Ok status) is h = (h.0, (added, (is, h.1)))
 put_ends request gave journal before after added (Err (NotWritten path)) is h =

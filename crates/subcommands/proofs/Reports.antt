@@ -9,7 +9,7 @@ use Rattle.std.proofs.lemmas.List.Folds.{list_all-append}
 use Rattle.std.specs.List.{list_all}
 use Rattle.nix_drv.specs.Sources.{Answer, GivesSame}
 use Rattle.nix_drv.specs.declared.source.SourceFault.TheVariants.{Missing, Device}
-use Rattle.subcommands.specs.CheckLines.{IsReport, IsVerdict, is_good, line_of}
+use Rattle.subcommands.specs.CheckLines.{IsCheckReport, IsCheckVerdict, is_good, line_of}
 use Rattle.subcommands.specs.declared.status.Status.{Status}
 use Rattle.subcommands.specs.declared.status.Status.TheVariants as ended
 use Rattle.subcommands.specs.declared.verdict.Verdict.{Verdict}
@@ -18,7 +18,7 @@ use Rattle.subcommands.specs.declared.verdict.Verdict.TheVariants.{Refused}
 
 -- what one source lets be said of a word, one that gives the same answers does too
 pub verdict_same : (f g : List ℕ → Answer → Type 0) (dir word : List ℕ) (verdict : Verdict)
-    → GivesSame f g → IsVerdict g dir word verdict → IsVerdict f dir word verdict
+    → GivesSame f g → IsCheckVerdict g dir word verdict → IsCheckVerdict f dir word verdict
 verdict_same f g dir word (NoPath fault) same h = h
 verdict_same f g dir word Unreadable same h = (
   h.0,
@@ -34,11 +34,11 @@ verdict_same f g dir word Good same h =
 
 -- the empty report
 pub report_nil : (gives : List ℕ → Answer → Type 0) (dir : List ℕ)
-    → IsReport gives dir [] [] ended.Done
+    → IsCheckReport gives dir [] [] ended.Done
 report_nil gives dir = record {
   rows = [];
   words_are = refl;
-  each = All-nil (λ row. IsVerdict gives dir row.0 row.1);
+  each = All-nil (λ row. IsCheckVerdict gives dir row.0 row.1);
   lines = refl;
   is_status = refl;
 }
@@ -71,10 +71,10 @@ all_good_push rows word verdict =
 pub report_push : (gives : List ℕ → Answer → Type 0) (dir : List ℕ) (words : List (List ℕ))
     (text : List ℕ) (before : Status) (word : List ℕ) (verdict : Verdict) (all : List ℕ)
     (after : Status)
-    → IsReport gives dir words text before → IsVerdict gives dir word verdict
+    → IsCheckReport gives dir words text before → IsCheckVerdict gives dir word verdict
     → all ≡ text ++ line_of word verdict
     → after ≡ (if is_good verdict then before else ended.Refused)
-    → IsReport gives dir (words ++ word ∷ []) all after
+    → IsCheckReport gives dir (words ++ word ∷ []) all after
 unfolding status_for
 report_push gives dir words text before word verdict all after report said grown ends = record {
   rows = report.rows ++ (word, verdict) ∷ [];
@@ -82,7 +82,7 @@ report_push gives dir words text before word verdict all after report said grown
       map-append (λ row. row.0) report.rows ((word, verdict) ∷ [])
       ∙ ap (λ ws. ws ++ word ∷ []) report.words_are;
   each =
-      let P : List ℕ × Verdict → Type 0 = λ row. IsVerdict gives dir row.0 row.1 in
+      let P : List ℕ × Verdict → Type 0 = λ row. IsCheckVerdict gives dir row.0 row.1 in
       All-push P report.rows (word, verdict) report.each said;
   lines =
       grown ∙ ap (λ t. t ++ line_of word verdict) report.lines

@@ -6,7 +6,7 @@ use Rattle.std.specs.Prelude.{None}
 use Rattle.nix_names.specs.StorePaths.{path_fault}
 use Rattle.subcommands.proofs.Reports.{words_more}
 use Rattle.subcommands.specs.Tasks.{ArePaths, ArePathsOf}
-use Rattle.subcommands.specs.Tasks.{IsPathOf}
+use Rattle.subcommands.specs.Tasks.{IsWordsPath}
 use Rattle.subcommands.specs.declared.stop.Stop.{Stop}
 use Rattle.subcommands.specs.declared.stop.Stop.TheVariants.{NoMemory, NoPath}
 
@@ -33,7 +33,7 @@ paths_push dir words i d word within same good before =
 pub first_stray : (dir : List ℕ) (words : List (Bor (List ℕ))) (i : ℕ) (d : Bor (List ℕ))
     (stop : Stop)
     → i < length words → ArePaths dir (map (λ w. w.now) (take i words))
-    → IsPathOf dir (get_or words i d) (Err stop)
+    → IsWordsPath dir (get_or words i d) (Err stop)
     → ArePathsOf dir (map (λ w. w.now) words) (Err stop)
 first_stray dir words i d (NoPath blamed fault) within before h = record {
   before = map (λ w. w.now) (take i words);

@@ -9,7 +9,7 @@ use Rattle.nix_names.specs.Bytes.{Bytes, Dir, Path, Hash}
 use Rattle.nix_names.specs.Names.{IsStoreDir, is_name}
 use Rattle.nix_drv.specs.OwnPath.{text_path}
 use Rattle.valid_table.specs.Entries.{registered}
-use Rattle.valid_table.specs.Reading.{IsReading}
+use Rattle.valid_table.specs.Reading.{IsJournalReading}
 use Rattle.valid_table.specs.Tables.{JournalValue}
 use Rattle.valid_table.specs.Valid.{IsValid}
 use Rattle.valid_table.specs.Written.{written_text}
@@ -62,19 +62,19 @@ pub record IsRenewed (dir : Dir) (gave : FileBytes) (path : Path) (digest : Hash
   pub bytes : Bytes
   pub bytes_are : gave ≡ Ok bytes
   pub entries : List Entry
-  pub reading : IsReading dir bytes (Ok entries)
+  pub reading : IsJournalReading dir bytes (Ok entries)
   pub is_new : IsNewText entries path digest new
 
 -- The journal file gave bytes that have this fault as a journal of the folder.
 abbrev pub IsBadJournal : (dir : Dir) → FileBytes → TableFault → Type 0
 IsBadJournal dir gave fault =
     (fault ≢ table.NoMemory)
-    × ((bytes : Bytes) × (gave ≡ Ok bytes) × IsReading dir bytes (Err fault))
+    × ((bytes : Bytes) × (gave ≡ Ok bytes) × IsJournalReading dir bytes (Err fault))
 
 -- The journal whose text its file gave, or a fault.
 abbrev pub IsJournalOf : (dir : Dir) → FileBytes → Result JournalValue Stop → Type 0
 IsJournalOf dir gave (Ok journal) =
-    (bytes : Bytes) × (gave ≡ Ok bytes) × IsReading dir bytes (Ok journal.entries)
+    (bytes : Bytes) × (gave ≡ Ok bytes) × IsJournalReading dir bytes (Ok journal.entries)
 IsJournalOf dir gave (Err JournalUnreadable) = gave ≡ Err file.Unreadable
 IsJournalOf dir gave (Err (BadJournal fault)) = IsBadJournal dir gave fault
 IsJournalOf dir gave (Err NoMemory) = Unit {0}

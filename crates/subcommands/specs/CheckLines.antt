@@ -19,15 +19,16 @@ use Rattle.subcommands.specs.declared.verdict.Verdict.TheVariants.{Refused}
 
 -- A verdict on a word. It is no path of the folder; or its file can't be read; or bytes that its
 -- file may have are refused as a derivation's text at that path; or they are accepted.
-abbrev pub IsVerdict : (gives : Path → Answer → Type 0) → (dir : Dir) → (word : Bytes) → Verdict
+abbrev pub IsCheckVerdict : (gives : Path → Answer → Type 0) → (dir : Dir) → (word : Bytes)
+    → Verdict
     → Type 0
-IsVerdict gives dir word (NoPath fault) = path_fault dir word ≡ Some fault
-IsVerdict gives dir word Unreadable =
+IsCheckVerdict gives dir word (NoPath fault) = path_fault dir word ≡ Some fault
+IsCheckVerdict gives dir word Unreadable =
     (path_fault dir word ≡ None) × (gives word (Err Missing) ⊎ gives word (Err Device))
-IsVerdict gives dir word (Refused fault) =
+IsCheckVerdict gives dir word (Refused fault) =
     (path_fault dir word ≡ None) × (fault ≢ NoMemory)
     × ((bytes : Bytes) × gives word (Ok bytes) × IsCheck dir word bytes (Err fault))
-IsVerdict gives dir word Good =
+IsCheckVerdict gives dir word Good =
     (path_fault dir word ≡ None)
     × ((bytes : Bytes) × (drv : Drv) × gives word (Ok bytes) × IsCheck dir word bytes (Ok drv))
 
@@ -54,11 +55,11 @@ line_of word verdict = bad_line word (verdict_words verdict)
 
 -- The report of `check`: one line for each word, in their order, by a verdict on it. The status
 -- says whether a verdict is bad.
-pub record IsReport (gives : Path → Answer → Type 0) (dir : Dir) (words : List Bytes)
+pub record IsCheckReport (gives : Path → Answer → Type 0) (dir : Dir) (words : List Bytes)
     (text : Bytes) (status : Status) : Type 0 where
   pub rows : List (Bytes × Verdict)
   pub words_are : map (λ row. row.0) rows ≡ words
-  pub each : All (λ row. IsVerdict gives dir row.0 row.1) rows
+  pub each : All (λ row. IsCheckVerdict gives dir row.0 row.1) rows
   pub lines : text ≡ flat_map (λ row. line_of row.0 row.1) rows
   pub is_status : status
       ≡ (if list_all (λ row. is_good row.1) rows then ended.Done else ended.Refused)

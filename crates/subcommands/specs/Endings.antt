@@ -26,11 +26,12 @@ IsWriteFault added stop = ⊥
 
 -- How it ends to print an accepted text's path and to write its files. Nothing more is known where
 -- the line is refused.
-abbrev pub IsPut : AddedText → (before after : Option Bytes) → Result Status Stop → Type 0
-IsPut added before after (Ok status) =
+abbrev pub IsPrintedAndWritten : AddedText → (before after : Option Bytes) → Result Status Stop
+    → Type 0
+IsPrintedAndWritten added before after (Ok status) =
     (status ≡ Done) × Appends before after (path_line added.path)
-IsPut added before after (Err Unwritable) = Unit {0}
-IsPut added before after (Err stop) =
+IsPrintedAndWritten added before after (Err Unwritable) = Unit {0}
+IsPrintedAndWritten added before after (Err stop) =
     IsWriteFault added stop × Appends before after (path_line added.path)
 
 -- The text was accepted, and the line of its path was printed.

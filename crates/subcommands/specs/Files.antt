@@ -30,11 +30,11 @@ IsJournalGiven (Err fault) answer = answer ≡ Err (file_fault_of fault)
 
 -- What lies in the place of a file that will be written: a regular file, with its permissions, or a
 -- link, without any. Nothing else can be written over.
-abbrev pub IsPlaceOf : Metadata → Result (Option Permissions) Failure → Type 0
-IsPlaceOf found (Ok (Some mode)) =
+abbrev pub IsWritablePlace : Metadata → Result (Option Permissions) Failure → Type 0
+IsWritablePlace found (Ok (Some mode)) =
     IsFile (file_type found) × (permissions_mode mode ≡ metadata_mode found)
-IsPlaceOf found (Ok None) = IsSymlink (file_type found)
-IsPlaceOf found (Err fault) =
+IsWritablePlace found (Ok None) = IsSymlink (file_type found)
+IsWritablePlace found (Err fault) =
     (fault ≡ failure.Other) × ¬ (IsFile (file_type found)) × ¬ (IsSymlink (file_type found))
 
 -- What lies there by an error of the system: nothing, exactly where the error is that nothing is

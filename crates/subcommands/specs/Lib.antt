@@ -17,7 +17,6 @@ pub mod Statuses
 pub mod Stops
 pub mod StoreDirs
 pub mod Tasks
-
 -- What only private contracts and proofs cite.
 pub mod Files
 pub mod JournalFiles

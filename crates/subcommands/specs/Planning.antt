@@ -8,7 +8,7 @@ use Rattle.forecast.specs.Pictures.{IsPicture}
 use Rattle.forecast.specs.Texts.{IsForecast, is_whole}
 use Rattle.subcommands.specs.AddedText.{FileBytes}
 use Rattle.subcommands.specs.Folders.{may_give}
-use Rattle.subcommands.specs.Tasks.{IsTaking}
+use Rattle.subcommands.specs.Tasks.{IsTaskTaken}
 use Rattle.subcommands.specs.declared.options.PlanRequest.{PlanRequest}
 use Rattle.subcommands.specs.declared.options.RunRequest.{RunRequest}
 use Rattle.subcommands.specs.declared.status.Status.{Status}
@@ -27,15 +27,17 @@ whole_status run opening = if is_whole run opening then Done else Unrealised
 
 -- the text that is printed for a run that opens with these entries: its forecast, or its picture
 -- where a graph is asked for
-abbrev pub IsPrinted : (dot : Bool) → RunOver → (opening : List Entry) → (text : Bytes) → Type 0
-IsPrinted false run opening text = IsForecast run opening text
-IsPrinted true run opening text = IsPicture run opening text
+abbrev pub IsForecastPrinted : (dot : Bool) → RunOver → (opening : List Entry) → (text : Bytes)
+    → Type 0
+IsForecastPrinted false run opening text = IsForecast run opening text
+IsForecastPrinted true run opening text = IsPicture run opening text
 
 -- How a run ends over a plan and a journal: the forecast is printed, or nothing for want of memory.
 abbrev pub ForecastEnds : PlanRequest → Task → (before after : Option Bytes)
     → Result Status Stop → Type 0
 ForecastEnds request task before after (Ok status) =
-    ((text : Bytes) × IsPrinted request.dot (over request.run task) task.journal.entries text
+    ((text : Bytes) × IsForecastPrinted request.dot (over request.run task) task.journal.entries
+    text
     × Appends before after text)
     × (status ≡ whole_status (over request.run task) task.journal.entries)
 ForecastEnds request task before after (Err NoMemory) = after ≡ before
@@ -47,8 +49,8 @@ abbrev pub PlanEndsBy : PlanRequest → (gave : FileBytes) → (before after : O
     → Result Status Stop → Type 0
 PlanEndsBy request gave before after result =
     ((stop : Stop) × (result ≡ Err stop) × (after ≡ before)
-    × IsTaking (λ _ answer. may_give answer) request.run gave (Err stop))
-    ⊎ ((task : Task) × IsTaking (λ _ answer. may_give answer) request.run gave (Ok task)
+    × IsTaskTaken (λ _ answer. may_give answer) request.run gave (Err stop))
+    ⊎ ((task : Task) × IsTaskTaken (λ _ answer. may_give answer) request.run gave (Ok task)
     × ForecastEnds request task before after result)
 
 -- how it ends: nothing is known of what the journal file gave

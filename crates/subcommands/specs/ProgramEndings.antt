@@ -9,7 +9,7 @@ use Rattle.clap.specs.declared.error.kind.ErrorKind.TheVariants.{DisplayHelp, Di
 use Rattle.clap.specs.declared.error.kind.ErrorKind.TheVariants.{MissingSubcommand, OutOfMemory}
 use Rattle.clap.specs.declared.error.kind.ErrorKind.TheVariants.{ValueValidation}
 use Rattle.nix_names.specs.Bytes.{Bytes}
-use Rattle.subcommands.specs.CheckLines.{IsReport}
+use Rattle.subcommands.specs.CheckLines.{IsCheckReport}
 use Rattle.subcommands.specs.CommandLine.{command_line}
 use Rattle.subcommands.specs.DrvEndings.{DrvEnds}
 use Rattle.subcommands.specs.Endings.{Ends}
@@ -40,7 +40,7 @@ IsUntouched stream = stream.1 ≡ stream.0
 abbrev pub CheckEnds : CheckRequest → Stream → Result Status Stop → Type 0
 CheckEnds request out (Ok status) =
     (text : Bytes)
-    × IsReport (λ _ answer. may_give answer) request.store_dir.now
+    × IsCheckReport (λ _ answer. may_give answer) request.store_dir.now
     (map (λ w. w.now) request.drvs.items) text status
     × Appends out.0 out.1 text
 CheckEnds request out (Err stop) =

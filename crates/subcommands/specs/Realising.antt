@@ -14,7 +14,7 @@ use Rattle.store_run.specs.Realising.{IsRealised, IsRunFault}
 use Rattle.store_run.specs.declared.fault.RunFault.{RunFault}
 use Rattle.subcommands.specs.AddedText.{FileBytes}
 use Rattle.subcommands.specs.Folders.{may_give}
-use Rattle.subcommands.specs.Tasks.{IsTaking}
+use Rattle.subcommands.specs.Tasks.{IsTaskTaken}
 use Rattle.subcommands.specs.declared.options.RealiseRequest.{RealiseRequest}
 use Rattle.subcommands.specs.declared.status.Status.{Status}
 use Rattle.subcommands.specs.declared.status.Status.TheVariants.{Done, Unrealised}
@@ -69,8 +69,8 @@ abbrev pub RealiseEndsBy : May → RealiseRequest → (gave : FileBytes)
     → (before after : Option Bytes) → Result Status Stop → Type 0
 RealiseEndsBy may request gave before after result =
     ((stop : Stop) × (result ≡ Err stop) × (after ≡ before)
-    × IsTaking (λ _ answer. may_give answer) request.run gave (Err stop))
-    ⊎ ((task : Task) × IsTaking (λ _ answer. may_give answer) request.run gave (Ok task)
+    × IsTaskTaken (λ _ answer. may_give answer) request.run gave (Err stop))
+    ⊎ ((task : Task) × IsTaskTaken (λ _ answer. may_give answer) request.run gave (Ok task)
     × (RunEnds may request task before after result
     ⊎ (((result ≡ Err JournalNotWritten) ⊎ (result ≡ Err NoMemory)) × (after ≡ before))))
 

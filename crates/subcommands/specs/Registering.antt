@@ -23,7 +23,7 @@ IsRegistered old new path digest true =
     ¬ (IsValid (registered old) path) × (new ≡ old ++ text_entry path digest ∷ [])
 
 -- the answer of a registration; want of memory is the only fault, and changes nothing
-abbrev pub IsRegistering : (old new : List Entry) → (path : Path) → (digest : Hash)
+abbrev pub IsTextRegistering : (old new : List Entry) → (path : Path) → (digest : Hash)
     → Result Bool TableFault → Type 0
-IsRegistering old new path digest (Ok added) = IsRegistered old new path digest added
-IsRegistering old new path digest (Err fault) = (fault ≡ NoMemory) × (new ≡ old)
+IsTextRegistering old new path digest (Ok added) = IsRegistered old new path digest added
+IsTextRegistering old new path digest (Err fault) = (fault ≡ NoMemory) × (new ≡ old)

@@ -50,7 +50,7 @@ IsNumber (Some text) number =
     IsNumeral 10 digits × (number ≡ digits_value 10 digits)
 
 -- what is asked of `check`
-pub record IsCheck (rows : List Row) (request : CheckRequest) : Type 0 where
+pub record IsCheckRequest (rows : List Row) (request : CheckRequest) : Type 0 where
   pub store_dir : request.store_dir.now ≡ store_dir_in rows
   pub drvs : map (λ w. w.now) request.drvs.items ≡ drvs_in rows
 
@@ -69,7 +69,7 @@ pub record IsAddDrv (rows : List Row) (request : AddDrvRequest) : Type 0 where
 
 -- what is asked of `plan` beside the form of its text, and of `realise` beside the number of its
 -- builders
-pub record IsRun (rows : List Row) (request : RunRequest) : Type 0 where
+pub record IsRunRequest (rows : List Row) (request : RunRequest) : Type 0 where
   pub store_dir : request.store_dir.now ≡ store_dir_in rows
   pub journal : option_map (λ f. f.now) request.journal ≡ first_of (codes "journal") rows
   pub system : request.system.now ≡ system_in rows
@@ -77,17 +77,17 @@ pub record IsRun (rows : List Row) (request : RunRequest) : Type 0 where
 
 -- what is asked of `plan`
 pub record IsPlanned (rows : List Row) (request : PlanRequest) : Type 0 where
-  pub run : IsRun rows request.run
+  pub run : IsRunRequest rows request.run
   pub dot : request.dot ≡ dot_in rows
 
 -- what is asked of `realise`
 pub record IsRealise (rows : List Row) (request : RealiseRequest) : Type 0 where
-  pub run : IsRun rows request.run
+  pub run : IsRunRequest rows request.run
   pub jobs : IsNumber (one_of (codes "jobs") rows) request.jobs
 
 -- what is asked by a subcommand with this name and these words and options
 abbrev pub IsAskedBy : (name : Name) → List Row → Request → Type 0
-IsAskedBy name rows (Check request) = (name ≡ codes "check") × IsCheck rows request
+IsAskedBy name rows (Check request) = (name ≡ codes "check") × IsCheckRequest rows request
 IsAskedBy name rows (AddText request) = (name ≡ codes "add-text") × IsAddText rows request
 IsAskedBy name rows (AddDrv request) = (name ≡ codes "add-drv") × IsAddDrv rows request
 IsAskedBy name rows (Plan request) = (name ≡ codes "plan") × IsPlanned rows request

@@ -24,24 +24,24 @@ abbrev pub ArePaths : (dir : Dir) → (words : List Bytes) → Type 0
 ArePaths dir words = All (λ word. path_fault dir word ≡ None) words
 
 -- a word is the first that is no path of the folder, and has this fault
-abbrev pub IsFirstStray : (dir : Dir) → (words : List Bytes) → (word : Bytes) → NameFault
+abbrev pub IsFirstBadWord : (dir : Dir) → (words : List Bytes) → (word : Bytes) → NameFault
     → Type 0
-IsFirstStray dir words word fault =
+IsFirstBadWord dir words word fault =
     IsFirst (λ w. path_fault dir w ≡ None) (λ w. path_fault dir w ≡ Some fault) words word
 
 -- The path that a word spells, or a fault.
-abbrev pub IsPathOf : (dir : Dir) → Bor Bytes → Result Path Stop → Type 0
-IsPathOf dir word (Ok path) = (path ≡ word.now) × (path_fault dir word.now ≡ None)
-IsPathOf dir word (Err (NoPath blamed fault)) =
+abbrev pub IsWordsPath : (dir : Dir) → Bor Bytes → Result Path Stop → Type 0
+IsWordsPath dir word (Ok path) = (path ≡ word.now) × (path_fault dir word.now ≡ None)
+IsWordsPath dir word (Err (NoPath blamed fault)) =
     (blamed ≡ word) × (path_fault dir word.now ≡ Some fault)
-IsPathOf dir word (Err NoMemory) = Unit {0}
-IsPathOf dir word (Err stop) = ⊥
+IsWordsPath dir word (Err NoMemory) = Unit {0}
+IsWordsPath dir word (Err stop) = ⊥
 
 -- The paths that some words spell, or a fault.
 abbrev pub ArePathsOf : (dir : Dir) → (words : List Bytes) → Result (Vec Path) Stop
     → Type 0
 ArePathsOf dir words (Ok paths) = (paths.items ≡ words) × ArePaths dir words
-ArePathsOf dir words (Err (NoPath blamed fault)) = IsFirstStray dir words blamed.now fault
+ArePathsOf dir words (Err (NoPath blamed fault)) = IsFirstBadWord dir words blamed.now fault
 ArePathsOf dir words (Err NoMemory) = Unit {0}
 ArePathsOf dir words (Err stop) = ⊥
 
@@ -76,7 +76,7 @@ IsNotPlanned gives request (BadStoreDir blamed) =
     (blamed ≡ request.store_dir) × ¬ (IsStoreDir request.store_dir.now)
 IsNotPlanned gives request (NoPath blamed fault) =
     IsStoreDir request.store_dir.now
-    × IsFirstStray request.store_dir.now (words_of request) blamed.now fault
+    × IsFirstBadWord request.store_dir.now (words_of request) blamed.now fault
 IsNotPlanned gives request (BadDrv path fault) =
     HasRoots request
     × IsLoading request.store_dir.now gives (words_of request) (Err (graph.At path fault))
@@ -85,11 +85,11 @@ IsNotPlanned gives request stop = ⊥
 
 -- The plan and the journal of a request, or the first fault. A fault of the journal comes only
 -- where there is a plan.
-abbrev pub IsTaking : (gives : Path → Answer → Type 0) → RunRequest → (gave : FileBytes)
+abbrev pub IsTaskTaken : (gives : Path → Answer → Type 0) → RunRequest → (gave : FileBytes)
     → Result Task Stop → Type 0
-IsTaking gives request gave (Ok task) =
+IsTaskTaken gives request gave (Ok task) =
     HasPlan gives request task.plan × IsJournalOf request.store_dir.now gave (Ok task.journal)
-IsTaking gives request gave (Err stop) =
+IsTaskTaken gives request gave (Err stop) =
     IsNotPlanned gives request stop
     ⊎ (((plan : Graph) × HasPlan gives request plan)
     × IsJournalOf request.store_dir.now gave (Err stop))

@@ -1,7 +1,7 @@
 //! The subcommand `add-text`.
 ghost use Rattle.std.specs.Prelude.{◌≡◌, ◌⊎◌, IfErr, IfOk, OnOk};
 ghost use Rattle.std.specs.Io.KnownBytes.{Appends};
-ghost use Rattle.subcommands.specs.Endings.{Ends, IsPut, IsWriteFault, path_line};
+ghost use Rattle.subcommands.specs.Endings.{Ends, IsPrintedAndWritten, IsWriteFault, path_line};
 
 use crate::added_text::{AddedText, added_text};
 use crate::files::read_text;
@@ -45,7 +45,7 @@ fn put<'a, R: Files + AllocGlobal, O: Write>(
     added: AddedText,
     out: &mut O,
 ) -> Result<Status, Stop<'a>>
-    ensures { IsPut added (O.contents out.old) (O.contents out.new) result }
+    ensures { IsPrintedAndWritten added (O.contents out.old) (O.contents out.new) result }
 {
     let Ok(()) = print_path(&added.path, out) else {
         return Err(Stop::Unwritable);

@@ -5,7 +5,7 @@ ghost use Rattle.nix_names.specs.Names.{is_name};
 ghost use Rattle.nix_drv.specs.OwnPath.{text_path};
 ghost use Rattle.subcommands.specs.AddedText.{IsAddingText, IsJournalOf, IsRenewing};
 ghost use Rattle.subcommands.specs.AddedText.{IsTextOf, file_bytes};
-ghost use Rattle.subcommands.specs.Registering.{IsRegistering};
+ghost use Rattle.subcommands.specs.Registering.{IsTextRegistering};
 
 use crate::files::FileFault;
 use crate::options::AddTextRequest;
@@ -133,7 +133,7 @@ fn register_text(
     path: &StorePath,
     digest: [u8; 32],
 ) -> Result<bool, TableFault>
-    ensures { IsRegistering journal.old.entries journal.new.entries path.now digest result }
+    ensures { IsTextRegistering journal.old.entries journal.new.entries path.now digest result }
 {
     if journal.registers(path) {
         return Ok(false);

@@ -1,7 +1,7 @@
 //! The lines of `check`.
 ghost use Rattle.std.specs.Prelude.{◌≡◌, IfOk, IfErr, map};
 ghost use Rattle.nix_drv.specs.Sources.{GivesSame};
-ghost use Rattle.subcommands.specs.CheckLines.{IsReport};
+ghost use Rattle.subcommands.specs.CheckLines.{IsCheckReport};
 
 use crate::status::Status;
 use crate::verdict::{judge, write_line};
@@ -20,7 +20,7 @@ pub fn check_lines<S: DrvSource>(
 ) -> Result<(Vec<u8>, Status), DrvFault>
     ensures keeps { GivesSame (S.gives source.old) (S.gives source.new) }
     ensures report { IfOk result (λ r.
-        IsReport (S.gives source.old) dir.now (map (λ w. w.now) words.now) r.0.items r.1) }
+        IsCheckReport (S.gives source.old) dir.now (map (λ w. w.now) words.now) r.0.items r.1) }
     ensures only { IfErr result (λ e. e ≡ DrvFault.NoMemory) }
 {
     let mut lines = Vec::new(alloc);

@@ -1,6 +1,6 @@
 //! The subcommand `plan`.
 ghost use Rattle.std.specs.Prelude.{◌≡◌, IfErr, IfOk};
-ghost use Rattle.subcommands.specs.Planning.{ForecastEnds, IsPrinted, PlanEnds, over, whole_status};
+ghost use Rattle.subcommands.specs.Planning.{ForecastEnds, IsForecastPrinted, PlanEnds, over, whole_status};
 ghost use Rattle.subcommands.specs.declared.stop.Stop.TheVariants.{NoMemory};
 
 use crate::options::{PlanRequest, RunRequest};
@@ -67,7 +67,7 @@ fn forecast_of<'a>(
 // The text that is printed for a forecast.
 fn text_of<'a>(forecast: &Forecast, dot: bool) -> Result<Vec<u8>, Stop<'a>>
     ensures ok { IfOk result
-        (λ text. IsPrinted dot forecast.now.run forecast.now.entries text.items) }
+        (λ text. IsForecastPrinted dot forecast.now.run forecast.now.entries text.items) }
     ensures err { IfErr result (λ stop. stop ≡ NoMemory) }
 {
     match printed(forecast, dot) {
@@ -80,7 +80,7 @@ fn text_of<'a>(forecast: &Forecast, dot: bool) -> Result<Vec<u8>, Stop<'a>>
 // The text of a forecast, or its picture.
 fn printed(forecast: &Forecast, dot: bool) -> Result<Vec<u8>, BookFault>
     ensures ok { IfOk result
-        (λ text. IsPrinted dot forecast.now.run forecast.now.entries text.items) }
+        (λ text. IsForecastPrinted dot forecast.now.run forecast.now.entries text.items) }
     ensures err { IfErr result (λ fault. fault ≡ BookFault.NoMemory) }
 {
     if dot {

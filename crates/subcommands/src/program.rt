@@ -2,7 +2,7 @@
 ghost use Rattle.std.specs.Prelude.{◌≡◌, IfErr, IfOk, map};
 ghost use Rattle.clap.specs.Words.{kind_of};
 ghost use Rattle.nix_names.specs.Names.{IsStoreDir};
-ghost use Rattle.subcommands.specs.CheckLines.{IsReport};
+ghost use Rattle.subcommands.specs.CheckLines.{IsCheckReport};
 ghost use Rattle.subcommands.specs.Folders.{may_give};
 ghost use Rattle.subcommands.specs.ProgramEndings.{CheckEnds, IsToldEnd, ProgramEnds};
 ghost use Rattle.subcommands.specs.ProgramEndings.{RequestEnds, SubcommandEnds, UsageEnds};
@@ -190,7 +190,7 @@ fn report<'a, R: Files + AllocGlobal>(
     request: &CheckRequest<'a>,
 ) -> Result<(Vec<u8>, Status), Stop<'a>>
     ensures report { IfOk result (λ r.
-        IsReport (λ _ answer. may_give answer) request.now.store_dir.now
+        IsCheckReport (λ _ answer. may_give answer) request.now.store_dir.now
         (map (λ w. w.now) request.now.drvs.items) r.0.items r.1) }
     ensures is_dir { IfOk result (λ _. IsStoreDir request.now.store_dir.now) }
     ensures stop { IfErr result (IsStopOf request.now.store_dir.now) }

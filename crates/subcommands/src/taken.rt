@@ -2,7 +2,7 @@
 ghost use Rattle.std.specs.Prelude.{Err, IfErr, IfOk, Ok};
 ghost use Rattle.subcommands.specs.AddedText.{FileBytes};
 ghost use Rattle.subcommands.specs.Folders.{may_give};
-ghost use Rattle.subcommands.specs.Tasks.{IsTaking};
+ghost use Rattle.subcommands.specs.Tasks.{IsTaskTaken};
 
 use crate::added_text::journal_of;
 use crate::folder::FolderSource;
@@ -19,9 +19,9 @@ pub fn taken<'a, R: Files + AllocGlobal>(
     request: &RunRequest<'a>,
 ) -> Result<(JournalFile, Task), Stop<'a>>
     ensures ok { IfOk result (λ t. (gave : FileBytes)
-        × IsTaking (λ _ answer. may_give answer) request.now gave (Ok t.1)) }
+        × IsTaskTaken (λ _ answer. may_give answer) request.now gave (Ok t.1)) }
     ensures err { IfErr result (λ stop. (gave : FileBytes)
-        × IsTaking (λ _ answer. may_give answer) request.now gave (Err stop)) }
+        × IsTaskTaken (λ _ answer. may_give answer) request.now gave (Err stop)) }
 {
     let (dir, plan) = planned(rt.alloc(), &mut FolderSource::new(rt), request)?;
     let file = JournalFile::new(rt.alloc(), request.store_dir, request.journal)?;

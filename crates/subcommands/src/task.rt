@@ -1,7 +1,7 @@
 //! The task of `plan` and `realise`: the plan of their roots, and the journal. Files are read
 //! through the source alone.
 ghost use Rattle.std.specs.Prelude.{◌≡◌, IfErr, IfOk, map};
-ghost use Rattle.subcommands.specs.Tasks.{ArePathsOf, HasPlan, IsNotPlanned, IsPathOf, IsPlanOf};
+ghost use Rattle.subcommands.specs.Tasks.{ArePathsOf, HasPlan, IsNotPlanned, IsWordsPath, IsPlanOf};
 
 use crate::options::RunRequest;
 use crate::stop::Stop;
@@ -57,7 +57,7 @@ fn paths_of<'a>(
 
 // The path that a word spells.
 fn path_of<'a>(alloc: Global, dir: &StoreDir, word: &'a str) -> Result<StorePath, Stop<'a>>
-    ensures { IsPathOf dir.now word.entry result }
+    ensures { IsWordsPath dir.now word.entry result }
 {
     match parse_path(alloc, dir, word.as_bytes()) {
         Ok(path) => Ok(path),

@@ -1,7 +1,7 @@
 //! The verdict of `check` on one word.
 ghost use Rattle.std.specs.Prelude.{◌≡◌, ◌++◌, IfOk, IfErr, OnOk};
 ghost use Rattle.nix_drv.specs.Sources.{GivesSame};
-ghost use Rattle.subcommands.specs.CheckLines.{IsVerdict, bad_line, is_good, line_of};
+ghost use Rattle.subcommands.specs.CheckLines.{IsCheckVerdict, bad_line, is_good, line_of};
 ghost use Rattle.subcommands.specs.CheckLines.{verdict_words};
 
 use crate::fault_words::{write_drv_fault, write_name_fault};
@@ -40,7 +40,7 @@ pub fn judge<S: DrvSource>(
     word: &[u8],
 ) -> Result<Verdict, DrvFault>
     ensures keeps { GivesSame (S.gives source.old) (S.gives source.new) }
-    ensures verdict { IfOk result (IsVerdict (S.gives source.old) dir.now word.now) }
+    ensures verdict { IfOk result (IsCheckVerdict (S.gives source.old) dir.now word.now) }
     ensures only { IfErr result (λ e. e ≡ DrvFault.NoMemory) }
 {
     let path = match parse_path(alloc, dir, word) {

@@ -1,7 +1,7 @@
 //! A file that is written whole or not at all.
 ghost use Rattle.std.specs.Prelude.{◌≡◌, ◌++◌, IfErr, IfOk, OnOk, codes, decimal, string_bytes};
 ghost use Rattle.std.specs.Io.KnownBytes.{Appends};
-ghost use Rattle.subcommands.specs.Files.{IsNoPlace, IsPlaceOf};
+ghost use Rattle.subcommands.specs.Files.{IsNoPlace, IsWritablePlace};
 
 use process_build::Failure;
 use std::alloc::{AllocError, Global};
@@ -64,7 +64,7 @@ pub fn try_out<R: Files + AllocGlobal>(rt: &R, path: &str) -> Result<(), Failure
 // The permissions of the file that will be replaced, by what the system answered for its path; none
 // where nothing or a link is there, a fault where anything else is.
 fn place_of(asked: io::Result<Metadata>) -> Result<Option<Permissions>, Failure>
-    ensures found { IfOk asked (λ found. IsPlaceOf found result) }
+    ensures found { IfOk asked (λ found. IsWritablePlace found result) }
     ensures fault { IfErr asked (λ error. IsNoPlace error result) }
 {
     match asked {
@@ -78,7 +78,7 @@ fn place_of(asked: io::Result<Metadata>) -> Result<Option<Permissions>, Failure>
 
 // The same where something lies there.
 fn place_with(found: &Metadata) -> Result<Option<Permissions>, Failure>
-    ensures { IsPlaceOf found.now result }
+    ensures { IsWritablePlace found.now result }
 {
     match (found.is_file(), found.is_symlink()) {
         (true, _) => Ok(Some(found.permissions())),

@@ -2,8 +2,8 @@
 ghost use Rattle.std.specs.Prelude.{◌≡◌, IfErr, IfOk, IfSome, codes, map, option_map};
 ghost use Rattle.clap.specs.Words.{first_of, found_of, kind_of, one_of, rows_of};
 ghost use Rattle.subcommands.specs.ProgramEndings.{IsAsked, IsOwnFault, IsUsageFault};
-ghost use Rattle.subcommands.specs.Requests.{IsAddDrv, IsAddText, IsAskedBy, IsCheck, IsNumber};
-ghost use Rattle.subcommands.specs.Requests.{IsPlanned, IsRealise, IsRun, dot_in, drvs_in, store_dir_in};
+ghost use Rattle.subcommands.specs.Requests.{IsAddDrv, IsAddText, IsAskedBy, IsCheckRequest, IsNumber};
+ghost use Rattle.subcommands.specs.Requests.{IsPlanned, IsRealise, IsRunRequest, dot_in, drvs_in, store_dir_in};
 ghost use Rattle.subcommands.specs.Requests.{system_in, word_in};
 
 use crate::command::{
@@ -80,7 +80,7 @@ pub fn not_text(alloc: Global) -> Result<Error, AllocError>
 
 // The request of `check`, by its matches.
 fn check_request<'a>(alloc: Global, found: &ArgMatches<'a>) -> Result<CheckRequest<'a>, AllocError>
-    ensures { IfOk result (IsCheck (rows_of (found_of found.now))) }
+    ensures { IfOk result (IsCheckRequest (rows_of (found_of found.now))) }
 {
     Ok(CheckRequest {
         store_dir: store_dir_of(found),
@@ -135,7 +135,7 @@ fn realise_request<'a>(alloc: Global, found: &ArgMatches<'a>) -> Result<RealiseR
 
 // The words that `plan` and `realise` share, by their matches.
 fn run_request<'a>(alloc: Global, found: &ArgMatches<'a>) -> Result<RunRequest<'a>, AllocError>
-    ensures { IfOk result (IsRun (rows_of (found_of found.now))) }
+    ensures { IfOk result (IsRunRequest (rows_of (found_of found.now))) }
 {
     Ok(RunRequest {
         store_dir: store_dir_of(found),

@@ -49,9 +49,11 @@ lines_newlines (suc n) bytes (line, rest, clear, parts, more) =
     search (rules, line_newlines, (lines_newlines n rest more))
 
 -- the texts of lines that lead on are so many lines
-leads_are_lines : (version : Version) (dir : List ℕ) (Is : Place → Type 0) (lines : List Line) → IsStoreDir dir
+leads_are_lines : (version : Version) (dir : List ℕ) (Is : Place → Type 0) (lines : List Line)
+    → IsStoreDir dir
     → LeadsTo version dir Is Start lines → AreLines (length lines) (lines_text version lines)
-leads_are_lines version dir Is lines is_dir leads = texts_are_lines version dir (dir_lacks 10 newline dir is_dir)
+leads_are_lines version dir Is lines is_dir leads =
+    texts_are_lines version dir (dir_lacks 10 newline dir is_dir)
     lines (lines_of version dir Is Start lines leads)
 
 -- the number of newlines before the place where lines stop
@@ -84,28 +86,39 @@ EndsAs after rest = (after ≡ []) ⊎ (BeginsOutput after × BeginsOutput rest)
 
 -- lines end a journal from a place, and their text ends or goes on so
 abbrev EndsIn : Version → List ℕ → List ℕ → List Line → Place → Type 0
-EndsIn version dir rest come place = Ends version dir place come × EndsAs (lines_text version come) rest
+EndsIn version dir rest come place = Ends version dir place come
+    × EndsAs (lines_text version come) rest
 
 -- there are such lines: an output behind a deriver, else none
-ending : (version : Version) (dir : List ℕ) (place : Place) (rest : List ℕ) → Ahead place rest → (come : List Line)
+ending : (version : Version) (dir : List ℕ) (place : Place) (rest : List ℕ) → Ahead place rest
+    → (come : List Line)
     × EndsIn version dir rest come place
 ending version dir Opened rest ahead =
-    let come : List Line = Output (sample dir) None ∷ [] in
-    (come, (((sample_is_path dir, tt, tt), tt), inr ((drop 2 (lines_text version come), refl), ahead)))
+    let come : List Line = Output (sample dir) None ∷ [] in (
+      come,
+      (
+        ((sample_is_path dir, tt, tt), tt),
+        inr
+            ((drop 2 (lines_text version come), refl), ahead),
+      ),
+    )
 ending version dir Start rest ahead = ([], (tt, inl refl))
 ending version dir Begun rest ahead = ([], (tt, inl refl))
 ending version dir (Within output last) rest ahead = ([], (tt, inl refl))
 
-pub led_stands : (version : Version) (dir bytes rest : List ℕ) → IsStoreDir dir → (led : Led version dir bytes rest)
+pub led_stands : (version : Version) (dir bytes rest : List ℕ) → IsStoreDir dir
+    → (led : Led version dir bytes rest)
     → Stands dir (length led.lines) bytes rest
 led_stands version dir bytes rest is_dir led =
     let end = leads_some version dir (List Line) (EndsIn version dir rest) Start led.lines
-    (leads_weaker version dir (λ to. Ahead to rest) (λ to. (come : List Line) × EndsIn version dir rest come to)
+    (leads_weaker version dir (λ to. Ahead to rest)
+    (λ to. (come : List Line) × EndsIn version dir rest come to)
     (λ to ahead. ending version dir to rest ahead) Start led.lines led.leads) in
     let whole : List Line = led.lines ++ end.0 in
     let text = text_of_lines version dir whole
     (leads_joined version dir MayEnd Start led.lines end.0
-    (leads_weaker version dir (EndsIn version dir rest end.0) (λ to. Ends version dir to end.0) (λ to both. both.0)
+    (leads_weaker version dir (EndsIn version dir rest end.0) (λ to. Ends version dir to end.0)
+    (λ to both. both.0)
     Start led.lines end.1)) in
     record {
       front = lines_text version led.lines;
@@ -122,9 +135,11 @@ led_stands version dir bytes rest is_dir led =
 -- ---- lines that stand lead on
 
 -- the first lines of a text, so many, are the first of its lines
-cut_lines : (version : Version) (dir : List ℕ) → Lacks 10 dir → (n : ℕ) (come : List Line) (front after : List ℕ)
+cut_lines : (version : Version) (dir : List ℕ) → Lacks 10 dir
+    → (n : ℕ) (come : List Line) (front after : List ℕ)
     → All (IsLineOf version dir) come → AreLines n front → lines_text version come ≡ front ++ after
-    → (a : List Line) × (b : List Line) × (come ≡ a ++ b) × (length a ≡ n) × (front ≡ lines_text version a)
+    → (a : List Line) × (b : List Line) × (come ≡ a ++ b) × (length a ≡ n)
+    × (front ≡ lines_text version a)
     × (after ≡ lines_text version b)
 cut_lines version dir clear zero come front after each none parts = search rules
 cut_lines version dir clear (suc n) [] front after each (first, more, plain, is, lines) parts =
@@ -134,18 +149,22 @@ cut_lines version dir clear (suc n) [] front after each (first, more, plain, is,
       length-append (first ++ 10 ∷ more) after,
       length-append first (10 ∷ more),
     ))
-cut_lines version dir clear (suc n) (line ∷ come) front after each (first, more, plain, is, lines) parts =
+cut_lines version dir clear (suc n) (line ∷ come) front after each (first, more, plain, is, lines)
+    parts =
     let split = same_cut 10 (body version line) first (lines_text version come) (more ++ after)
     (body_lacks version dir line clear (All-head (IsLineOf version dir) line come each)) plain
-    (sym (line_and version line (lines_text version come)) ∙ parts ∙ ap (λ (bytes : List ℕ). bytes ++ after) is
+    (sym (line_and version line (lines_text version come)) ∙ parts ∙ ap
+    (λ (bytes : List ℕ). bytes ++ after) is
     ∙ append_assoc first (10 ∷ more) after) in
-    let later = cut_lines version dir clear n come more after (All-tail (IsLineOf version dir) line come each) lines
+    let later = cut_lines version dir clear n come more after
+    (All-tail (IsLineOf version dir) line come each) lines
     split.1 in (
       line ∷ later.0,
       later.1,
       ap (λ (ls : List Line). line ∷ ls) later.2,
       ap suc later.3,
-      is ∙ ap (λ (bytes : List ℕ). bytes ++ 10 ∷ more) (sym split.0) ∙ sym (line_and version line more)
+      is ∙ ap (λ (bytes : List ℕ). bytes ++ 10 ∷ more) (sym split.0) ∙ sym
+          (line_and version line more)
           ∙ ap (λ (bytes : List ℕ). line_text version line ++ bytes) later.4,
       later.5,
     )
@@ -186,7 +205,8 @@ stands_led dir bytes rest n is_dir stands =
     )
 
 -- where a line leads on, the bytes begin with the version's line
-led_begins : (version : Version) (dir bytes rest : List ℕ) (n : ℕ) (led : Led version dir bytes rest)
+led_begins : (version : Version) (dir bytes rest : List ℕ) (n : ℕ)
+    (led : Led version dir bytes rest)
     → length led.lines ≡ suc n → BeginsVersion version bytes
 led_begins version dir bytes rest n led long = begins led.lines led.leads led.parts long
   where
@@ -291,7 +311,8 @@ none_bad version dir bytes entries n is_dir is bad =
                 (leads_weaker version dir _
                 (λ to. LeadsTo version dir (λ at. Ahead at more) to (line ∷ []))
                 (λ to both. (both.1.may, both.1.ahead)) Start led.0.lines next.2);
-            parts = led.0.parts ∙ ap (λ (t : List ℕ). lines_text version led.0.lines ++ t) goes.parts
+            parts = led.0.parts ∙ ap (λ (t : List ℕ). lines_text version led.0.lines ++ t)
+                goes.parts
                 ∙ text_push version led.0.lines line more;
           } in
           let long : length (led.0.lines ++ line ∷ [])
@@ -313,7 +334,8 @@ texts_have_no_bad_line dir bytes entries n is_dir (inr none) bad =
     nothing_left (b ∷ front) rest some e = cc e
 
 -- the first of lines that stand do so
-first_stand : (version : Version) (dir bytes rest : List ℕ) (m : ℕ) → IsStoreDir dir → (led : Led version dir bytes rest) → m
+first_stand : (version : Version) (dir bytes rest : List ℕ) (m : ℕ) → IsStoreDir dir
+    → (led : Led version dir bytes rest) → m
     ≤ length led.lines → (more : List ℕ) × Stands dir m bytes more
 first_stand version dir bytes rest m is_dir led few =
     let a = take m led.lines in
@@ -322,8 +344,10 @@ first_stand version dir bytes rest m is_dir led few =
     let whole : led.lines ≡ a ++ b = sym (take-append-drop m led.lines) in
     let first : Led version dir bytes more = record {
       lines = a;
-      leads = leads_weaker version dir (λ to. LeadsTo version dir (λ at. Ahead at rest) to b) (λ to. Ahead to more)
-          (λ to leads. ahead_of version dir (λ at. Ahead at rest) to b rest (λ at ahead. ahead) leads) Start
+      leads = leads_weaker version dir (λ to. LeadsTo version dir (λ at. Ahead at rest) to b)
+          (λ to. Ahead to more)
+          (λ to leads. ahead_of version dir (λ at. Ahead at rest) to b rest (λ at ahead. ahead)
+          leads) Start
           a
           (leads_front version dir (λ at. Ahead at rest) Start a b
           (subst (LeadsTo version dir (λ at. Ahead at rest) Start) whole led.leads));

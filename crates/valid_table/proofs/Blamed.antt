@@ -2,10 +2,10 @@
 use Rattle.std.proofs.Common.{◌≡◌, ℕ, ◌<◌, List, ◌++◌, length, take, get_or, refl, sym, subst, ap, ◌∙◌, rules}
 use Rattle.std.specs.Prelude.{All, Contains, Err, MatchOption, Option, Result, Some, None, ⊤, slice_get}
 use Rattle.std.proofs.lemmas.Option.{slice_get-get_or}
-use Rattle.valid_table.specs.Adding.{AreClosed, AreNew, IsTaking}
+use Rattle.valid_table.specs.Adding.{AreClosed, AreNew, IsTakingIn}
 use Rattle.valid_table.specs.Blames.{IsBlamed, IsBlamedFor, IsFaultOf, IsUnclosedAt}
 use Rattle.valid_table.specs.Entering.{IsFirstUnknownAt}
-use Rattle.valid_table.specs.Entries.{paths_of}
+use Rattle.valid_table.specs.Entries.{paths_registered}
 use Rattle.valid_table.specs.Valid.{references_of}
 use Rattle.valid_table.specs.declared.entry.Registration.{Registration}
 use Rattle.valid_table.specs.declared.fault.TableFault.{TableFault}
@@ -18,14 +18,15 @@ use Rattle.nix_names.proofs.Lists.{same_element}
 pub unclosed_at :
     (known some : List Registration) (i : ℕ) (r : Registration) (references : List (List ℕ))
     (place : ℕ) →
-    All (Contains (paths_of (known ++ some))) (references_of (take i some)) →
+    All (Contains (paths_registered (known ++ some))) (references_of (take i some)) →
     i < length some →
     r ≡ get_or some i r →
     references ≡ r.info.references →
-    IsFirstUnknownAt (paths_of (known ++ some)) references place →
+    IsFirstUnknownAt (paths_registered (known ++ some)) references place →
     IsUnclosedAt known some (record { registration = i; reference = Some place })
 unclosed_at known some i r references place all lt is same first =
-    let here = unclosed_here (paths_of (known ++ some)) some i r references place all lt is same
+    let here = unclosed_here (paths_registered (known ++ some)) some i r references place all lt is
+    same
     first in
     (r, place, here.0, slice_get-get_or some i r lt ∙ ap Some (sym is), refl, here.1, here.2)
 
@@ -60,7 +61,7 @@ pub taking_refused :
     IsBlamedFor known some r reference →
     IsFaultOf r reference fault →
     same →
-    IsTaking known some taken same (Err fault)
+    IsTakingIn known some taken same (Err fault)
 taking_refused known some taken same r None (AlreadyValid path) blamed told kept =
     rw told (blamed, kept)
 taking_refused known some taken same r (Some place) (Unclosed path) (first, read, new, is) told
@@ -75,5 +76,5 @@ pub taking_no_memory :
     AreClosed known some →
     result ≡ Err NoMemory →
     same →
-    IsTaking known some taken same result
+    IsTakingIn known some taken same result
 taking_no_memory known some taken same result new closed is kept = search rules

@@ -7,8 +7,8 @@ use Rattle.std.proofs.lemmas.List.Elements.{All-append, All-cons, All-head, All-
 use Rattle.std.proofs.lemmas.Option.{MatchOption-at_some}
 use Rattle.nix_names.specs.declared.digest.Digest.{Digest}
 use Rattle.valid_table.specs.Checking.{IsEntryCheck, IsLineCheck, IsRight, RegistersKnown, header}
-use Rattle.valid_table.specs.Entering.{AreUnknown, IsNewFront, IsUnknown}
-use Rattle.valid_table.specs.Entries.{paths_of, registered_by}
+use Rattle.valid_table.specs.Entering.{AreUnknown, IsNewFront, IsNotKnown}
+use Rattle.valid_table.specs.Entries.{paths_registered, registered_by}
 use Rattle.valid_table.specs.Texts.{Line, Added, Deriver, Output, Reference, entry_lines}
 use Rattle.valid_table.specs.Valid.{references_of}
 use Rattle.valid_table.specs.declared.entry.Entry.{Entry}
@@ -65,9 +65,9 @@ start_known known (Done deriver outputs) path digest there = there
 -- of paths whose first ones are new, those before one of these are, and it is
 new_front : (known xs ys : List (List ℕ)) (x : List ℕ) (new : ℕ)
     → AreUnknown known (take new (xs ++ x ∷ ys)) → length xs < new
-    → AreUnknown known xs × IsUnknown known x
+    → AreUnknown known xs × IsNotKnown known x
 new_front known xs ys x new all lt =
-    let New = IsUnknown known in
+    let New = IsNotKnown known in
     let k = length xs + 1 in
     let front : take k (take new (xs ++ x ∷ ys)) ≡ xs ++ x ∷ [] =
     take-take k new (xs ++ x ∷ ys) (omega arith)
@@ -87,32 +87,33 @@ module _ (known all : List (List ℕ)) where
   header_right (Done deriver outputs) = All-cons Right (Deriver deriver) [] tt (All-nil Right)
 
   -- the line of a new path is right
-  start_right : (entry : Entry) (path : List ℕ) (digest : Option Digest) → IsUnknown known path
+  start_right : (entry : Entry) (path : List ℕ) (digest : Option Digest) → IsNotKnown known path
       → Right (starts entry path digest)
   start_right (Add r) path digest new = new
   start_right (Done deriver outputs) path digest new = new
 
   -- and so, with some lines of known references, are those of a registration
   own_right : (entry : Entry) (r : Registration) (references : List (List ℕ))
-      → IsUnknown known r.path → All (Contains all) references
+      → IsNotKnown known r.path → All (Contains all) references
       → All Right (starts entry r.path r.info.digest ∷ map Reference references)
   own_right entry r references new valid = search (rules, All-cons, start_right, All-map)
 
   -- the lines of registrations with new paths and known references are right
-  lines_right : (entry : Entry) (rs : List Registration) → AreUnknown known (paths_of rs)
+  lines_right : (entry : Entry) (rs : List Registration) → AreUnknown known (paths_registered rs)
       → All (Contains all) (references_of rs) → All Right (lines_of entry rs)
   lines_right entry [] new closed = All-nil Right
   lines_right entry (r ∷ rs) new closed =
-      let New = IsUnknown known in
+      let New = IsNotKnown known in
       let own = r.info.references in
       All-append Right (own_lines entry r) (lines_of entry rs)
-      (own_right entry r own (All-head New r.path (paths_of rs) new)
+      (own_right entry r own (All-head New r.path (paths_registered rs) new)
       (All-left (Contains all) own (references_of rs) closed))
-      (lines_right entry rs (All-tail New r.path (paths_of rs) new)
+      (lines_right entry rs (All-tail New r.path (paths_registered rs) new)
       (All-right (Contains all) own (references_of rs) closed))
 
   -- an entry's lines up to those of a registration are right
-  pub up_to : (entry : Entry) (before : List Registration) → AreUnknown known (paths_of before)
+  pub up_to : (entry : Entry) (before : List Registration)
+      → AreUnknown known (paths_registered before)
       → All (Contains all) (references_of before)
       → All Right (header entry ++ lines_of entry before)
   up_to entry before new closed = search (rules, All-append, header_right, lines_right)
@@ -120,7 +121,7 @@ module _ (known all : List (List ℕ)) where
   -- what the lines of what an entry registers answer, its own do
   entry_checked :
       (entry : Entry) (new first : ℕ) (result : Result ℕ TableFault) →
-      IsNewFront known (paths_of (registered_by entry)) new →
+      IsNewFront known (paths_registered (registered_by entry)) new →
       IsLineCheck all (registered_by entry) new (first + length (header entry)) result →
       IsEntryCheck known all (entry_lines entry) first result
   entry_checked entry new first (Ok behind) front (long, closed, number) =
@@ -131,14 +132,14 @@ module _ (known all : List (List ℕ)) where
       )
   entry_checked entry new first (Err (Twice n)) front (lt, closed, number) =
       let rs = registered_by entry in
-      let paths = paths_of rs in
+      let paths = paths_registered rs in
       let (r, is) = element_at rs new lt in
       let before = take new rs in
       let after = drop (suc new) rs in
       let at : slice_get paths new ≡ Some r.path =
       get_mapped (λ (x : Registration). x.path) rs new r is
       in
-      let new_before : AreUnknown known (paths_of before) =
+      let new_before : AreUnknown known (paths_registered before) =
       subst (AreUnknown known) (take-map (λ (x : Registration). x.path) new rs) front.new in (
         starts entry r.path r.info.digest,
         length (header entry) + line_count before,
@@ -159,8 +160,8 @@ module _ (known all : List (List ℕ)) where
       let earlier = starts entry r.path r.info.digest ∷ map Reference unknown.before in
       let later = map Reference unknown.after in
       let rest = lines_of entry after in
-      let paths = ap paths_of parts ∙ paths_of-append before (r ∷ after) in
-      let fresh = new_front known (paths_of before) (paths_of after) r.path new
+      let paths = ap paths_registered parts ∙ paths_of-append before (r ∷ after) in
+      let fresh = new_front known (paths_registered before) (paths_registered after) r.path new
       (subst (λ l. AreUnknown known (take new l)) paths front.new)
       (omega (arith, path_count before)) in
       let split : entry_lines entry ≡ (up ++ earlier) ++ Reference path ∷ (later ++ rest) =
@@ -194,9 +195,10 @@ pub own_checked :
     (result : Result ℕ TableFault) →
     rs ≡ registered_by entry →
     at ≡ first + length (header entry) →
-    IsNewFront (paths_of known) (paths_of rs) new →
-    IsLineCheck (paths_of (known ++ rs)) rs new at result →
-    IsEntryCheck (paths_of known) (paths_of (known ++ registered_by entry)) (entry_lines entry)
+    IsNewFront (paths_registered known) (paths_registered rs) new →
+    IsLineCheck (paths_registered (known ++ rs)) rs new at result →
+    IsEntryCheck (paths_registered known) (paths_registered (known ++ registered_by entry))
+    (entry_lines entry)
     first result
 own_checked known entry rs new first at result own number front check =
     search (rules, entry_checked)

@@ -5,9 +5,9 @@ use Rattle.std.proofs.lemmas.List.{append-nil, append_assoc, flat_map_more, take
 use Rattle.std.proofs.lemmas.List.Concat.{flat_map-append}
 use Rattle.std.proofs.lemmas.List.Elements.{All-append, All-contains, All-cons, All-head, All-nil, All-tail}
 use Rattle.valid_table.specs.Checking.{IsEntryCheck, IsRight, IsRightUpTo, RefersToOther, RegistersKnown, header}
-use Rattle.valid_table.specs.Entries.{paths_of, registered, registered_by}
+use Rattle.valid_table.specs.Entries.{paths_registered, registered, registered_by}
 use Rattle.valid_table.specs.LineFaults.{IsLeastFault, IsNotClosedAt, IsTwiceAt, StandsAt}
-use Rattle.valid_table.specs.Reading.{IsChecking}
+use Rattle.valid_table.specs.Reading.{IsEntriesChecking}
 use Rattle.valid_table.specs.Texts.{Line, First, Added, Output, Reference, entry_lines, lines}
 use Rattle.valid_table.specs.Valid.{IsClosed, IsClosedBehind, references_of}
 use Rattle.valid_table.specs.declared.entry.Entry.{Entry}
@@ -20,8 +20,8 @@ use Rattle.nix_names.proofs.Lists.{All-left, Contains-middle, parts_at, taken_mo
 
 -- a line of an entry behind earlier registrations is right
 abbrev pub IsRightBehind : List Registration → Entry → Line → Type 0
-IsRightBehind earlier entry line = IsRight (paths_of earlier)
-    (paths_of (earlier ++ registered_by entry)) line
+IsRightBehind earlier entry line = IsRight (paths_registered earlier)
+    (paths_registered (earlier ++ registered_by entry)) line
 
 -- all lines of entries are right, behind earlier registrations
 abbrev pub AreRight : List Registration → List Entry → Type 0
@@ -92,7 +92,8 @@ right_closed earlier [] right = tt
 right_closed earlier (entry ∷ entries) right =
     let Right = IsRightBehind earlier entry in
     let own = lines_of entry (registered_by entry) in (
-      references_valid_of (paths_of earlier) (paths_of (earlier ++ registered_by entry)) entry
+      references_valid_of (paths_registered earlier)
+          (paths_registered (earlier ++ registered_by entry)) entry
           (registered_by entry)
           (All-right Right (header entry) own
           (subst (All Right) (entry_lines_are entry) right.0)),
@@ -176,7 +177,8 @@ least_within entries pre e first line last m w same_before same_entry split righ
     ∙ ap entry_lines same_entry ∙ split in
     ⊎_elim
     (λ h.
-    let here = not_among (paths_of (registered pre)) (paths_of (registered pre ++ registered_by e))
+    let here = not_among (paths_registered (registered pre))
+    (paths_registered (registered pre ++ registered_by e))
     s.first w.line h.0 (subst (All (IsRightBehind (registered pre) e)) h.1 right) in
     let mine = subst (λ x. IsRightBehind (registered pre) x w.line) (sym same_entry) here in
     absurd (w.wrong
@@ -218,7 +220,8 @@ pub least_fault :
     (entries pre : List Entry) (e : Entry) (rest : List Entry) (line : Line) (place n : ℕ) →
     entries ≡ pre ++ e ∷ rest →
     AreRight [] pre →
-    IsRightUpTo (paths_of (registered pre)) (paths_of (registered pre ++ registered_by e))
+    IsRightUpTo (paths_registered (registered pre))
+    (paths_registered (registered pre ++ registered_by e))
     (entry_lines e) line place →
     n ≡ length (lines pre) + place + 1 →
     IsLeastFault entries n
@@ -232,7 +235,8 @@ least_fault entries pre e rest line place n parts right up number m fault =
 
 -- a line that registers a known path
 twice_at : (entries before : List Entry) (entry : Entry) (line : Line) (n : ℕ)
-    → StandsAt entries before entry line n → RegistersKnown (paths_of (registered before)) line
+    → StandsAt entries before entry line n → RegistersKnown (paths_registered (registered before))
+    line
     → IsTwiceAt entries n
 twice_at entries before entry (Added path digest) n stands known =
     (before, entry, path, digest, inl stands, known)
@@ -244,7 +248,7 @@ twice_at entries before entry line n stands known = absurd known
 open_at :
     (entries before : List Entry) (entry : Entry) (line : Line) (n : ℕ) →
     StandsAt entries before entry line n →
-    RefersToOther (paths_of (registered before ++ registered_by entry)) line →
+    RefersToOther (paths_registered (registered before ++ registered_by entry)) line →
     IsNotClosedAt entries n
 open_at entries before entry (Reference path) n stands other = (before, entry, path, stands, other)
 open_at entries before entry line n stands other = absurd other
@@ -252,7 +256,8 @@ open_at entries before entry line n stands other = absurd other
 -- what an entry behind others is checked against
 abbrev pub IsCheckBehind : List Entry → Entry → ℕ → Result ℕ TableFault → Type 0
 IsCheckBehind pre entry first result =
-    IsEntryCheck (paths_of (registered pre)) (paths_of (registered pre ++ registered_by entry))
+    IsEntryCheck (paths_registered (registered pre))
+    (paths_registered (registered pre ++ registered_by entry))
     (entry_lines entry) first result
 
 -- that is what it is checked against where the known registrations are theirs
@@ -260,7 +265,8 @@ pub check_behind :
     (pre : List Entry) (entry : Entry) (known : List Registration) (first : ℕ)
     (result : Result ℕ TableFault) →
     known ≡ registered pre →
-    IsEntryCheck (paths_of known) (paths_of (known ++ registered_by entry)) (entry_lines entry)
+    IsEntryCheck (paths_registered known) (paths_registered (known ++ registered_by entry))
+    (entry_lines entry)
     first result →
     IsCheckBehind pre entry first result
 check_behind pre entry known first result same check = search rules
@@ -270,8 +276,9 @@ module _ (entries : List Entry) (i : ℕ) (entry : Entry) (lt : i < length entri
     (is : entry ≡ get_or entries i entry) where
   -- a line up to which all are right stands there
   stands_there : (line : Line) (place n : ℕ)
-      → IsRightUpTo (paths_of (registered (take i entries)))
-      (paths_of (registered (take i entries) ++ registered_by entry)) (entry_lines entry) line place
+      → IsRightUpTo (paths_registered (registered (take i entries)))
+      (paths_registered (registered (take i entries) ++ registered_by entry)) (entry_lines entry)
+      line place
       → n ≡ length (lines (take i entries)) + place + 1
       → StandsAt entries (take i entries) entry line n
   stands_there line place n up number = record {
@@ -286,7 +293,8 @@ module _ (entries : List Entry) (i : ℕ) (entry : Entry) (lt : i < length entri
   -- the first fault of entries
   pub first_fault : (first : ℕ) (fault : TableFault) → AreRight [] (take i entries)
       → first ≡ length (lines (take i entries)) + 1
-      → IsCheckBehind (take i entries) entry first (Err fault) → IsChecking entries (Err fault)
+      → IsCheckBehind (take i entries) entry first (Err fault)
+      → IsEntriesChecking entries (Err fault)
   first_fault first (Twice n) right number (line, place, up, known, counted) =
       let at : n ≡ length (lines (take i entries)) + place + 1 = omega arith in (
         twice_at entries (take i entries) entry line n (stands_there line place n up at) known,

@@ -5,7 +5,7 @@ use Rattle.std.proofs.lemmas.Grind.{flat_map-append}
 use Rattle.std.proofs.lemmas.List.{get_or-map, get_or_default}
 use Rattle.std.proofs.lemmas.List.Elements.{All-contains, Contains-append_left, Contains-append_right}
 use Rattle.nix_names.proofs.RisingLists.{rising_same}
-use Rattle.valid_table.specs.Closure.{ClosureIsOne, ClosureStays, IsClosure, Leads}
+use Rattle.valid_table.specs.Closure.{ClosureIsOne, ClosureStays, IsClosure, LeadsByReferences}
 use Rattle.valid_table.specs.Entries.{registered, registered_by}
 use Rattle.valid_table.specs.PathInfos.{PathInfo}
 use Rattle.valid_table.specs.Valid.{AreReferencesValid, IsOnce, IsValid, RefersTo, Registers, references_of}
@@ -49,7 +49,7 @@ registers_from_valid registrations path valid =
 
 -- what leads by first registrations does so by more of them
 pub leads_behind : (first more : List Registration) (from to : List ℕ) (steps : List (List ℕ))
-    → Leads first from to steps → Leads (first ++ more) from to steps
+    → LeadsByReferences first from to steps → LeadsByReferences (first ++ more) from to steps
 leads_behind first more from to [] leads = (still_valid first more from leads.0, leads.1)
 leads_behind first more from to (next ∷ steps) leads = (
   (
@@ -64,7 +64,7 @@ leads_behind first more from to (next ∷ steps) leads = (
 -- from a valid path, more registrations lead nowhere else
 pub leads_before : (first more : List Registration) → AreReferencesValid first
     → IsOnce (first ++ more) → (from to : List ℕ) (steps : List (List ℕ)) → IsValid first from
-    → Leads (first ++ more) from to steps → Leads first from to steps
+    → LeadsByReferences (first ++ more) from to steps → LeadsByReferences first from to steps
 leads_before first more closed once from to [] valid leads = (valid, leads.1)
 leads_before first more closed once from to (next ∷ steps) valid leads =
     let had = registers_from_valid first from valid in

@@ -4,7 +4,7 @@ use Rattle.std.specs.Global.{Vec}
 use Rattle.std.proofs.Math.Seq.{take-length}
 use Rattle.std.proofs.lemmas.List.Elements.{All-contains}
 use Rattle.nix_names.specs.Rising.{IsRising}
-use Rattle.valid_table.specs.Closing.{AddsRows, HasReferences, HaveSame, IsFollowed, IsReached, paths_at}
+use Rattle.valid_table.specs.Closing.{AddsRows, HasReferences, HaveSame, IsFollowed, IsReachedFrom, paths_at}
 use Rattle.valid_table.specs.Closure.{IsClosing, IsClosure}
 use Rattle.valid_table.specs.Valid.{IsValid}
 use Rattle.valid_table.specs.declared.entry.Registration.{Registration}
@@ -21,8 +21,8 @@ closure_found registrations roots start found all valid begins followed rising s
   rising = rising;
   each = λ path. (
     λ (has : Contains all path).
-        let reached : IsReached registrations (paths_at registrations start) path =
-        All-contains (IsReached registrations (paths_at registrations start))
+        let reached : IsReachedFrom registrations (paths_at registrations start) path =
+        All-contains (IsReachedFrom registrations (paths_at registrations start))
         (paths_at registrations found) path followed.reached ((same path).0 has) in (
           reached.0,
           All-contains (Contains roots) (paths_at registrations start) reached.0 asked

@@ -5,8 +5,8 @@ use Rattle.std.proofs.lemmas.List.{get_or_at, length-append, length-take-le, tak
 use Rattle.std.proofs.lemmas.List.Elements.{All-append, All-more}
 use Rattle.std.proofs.lemmas.Option.{MatchOption-at_some, slice_get-get_or, slice_get_past}
 use Rattle.nix_names.proofs.FirstElements.{first_at, first_within}
-use Rattle.valid_table.specs.Entering.{AreUnknown, IsFirstUnknownAt, IsNewFront, IsUnknown}
-use Rattle.valid_table.specs.Entries.{paths_of}
+use Rattle.valid_table.specs.Entering.{AreUnknown, IsFirstUnknownAt, IsNewFront, IsNotKnown}
+use Rattle.valid_table.specs.Entries.{paths_registered}
 use Rattle.valid_table.specs.Valid.{references_of}
 use Rattle.valid_table.specs.declared.entry.Registration.{Registration}
 use Rattle.valid_table.proofs.JournalLists.{references_of_at, references_of_more}
@@ -16,14 +16,15 @@ use Rattle.nix_names.proofs.Lists.{element_at, get_mapped, parts_at}
 
 -- the path of the registration at a place
 pub path_at : (rs : List Registration) (i : ℕ) (r : Registration) (d : List ℕ) → i < length rs → r
-    ≡ get_or rs i r → get_or (paths_of rs) i d ≡ r.path
+    ≡ get_or rs i r → get_or (paths_registered rs) i d ≡ r.path
 path_at rs i r d lt is = path_read rs i r d lt ∙ ap (λ (x : Registration). x.path) (sym is)
 
 -- all paths were new
 pub front_all : (known : List (List ℕ)) (rs : List Registration) (n : ℕ) → length rs ≤ n
-    → AreUnknown known (take n (paths_of rs)) → IsNewFront known (paths_of rs) (length rs)
+    → AreUnknown known (take n (paths_registered rs))
+    → IsNewFront known (paths_registered rs) (length rs)
 front_all known rs n all new =
-    let paths = paths_of rs in
+    let paths = paths_registered rs in
     let long = path_count rs in
     let same : take n paths ≡ take (length rs) paths = take_all n paths (omega arith)
     ∙ sym (take_all (length rs) paths (omega arith)) in
@@ -37,14 +38,14 @@ front_all known rs n all new =
 -- the next path is new too
 pub new_more :
     (known : List (List ℕ)) (rs : List Registration) (i : ℕ) (r : Registration) →
-    AreUnknown known (take i (paths_of rs)) →
+    AreUnknown known (take i (paths_registered rs)) →
     i < length rs →
     r ≡ get_or rs i r →
-    IsUnknown known r.path →
-    AreUnknown known (take (i + 1) (paths_of rs))
+    IsNotKnown known r.path →
+    AreUnknown known (take (i + 1) (paths_registered rs))
 new_more known rs i r new lt is unknown =
-    All-more (IsUnknown known) (paths_of rs) i r.path (omega (arith, path_count rs)) new
-    (subst (IsUnknown known) (sym (path_at rs i r r.path lt is)) unknown)
+    All-more (IsNotKnown known) (paths_registered rs) i r.path (omega (arith, path_count rs)) new
+    (subst (IsNotKnown known) (sym (path_at rs i r r.path lt is)) unknown)
 
 -- the first of some paths that isn't known
 pub unknown_here :
@@ -52,7 +53,7 @@ pub unknown_here :
     All (Contains known) (take i some) →
     i < length some →
     path ≡ get_or some i path →
-    IsUnknown known path →
+    IsNotKnown known path →
     IsFirstUnknownAt known some i
 unknown_here known some i path all lt is unknown = (
   path,
@@ -96,16 +97,16 @@ pub unclosed_here :
     references ≡ r.info.references →
     IsFirstUnknownAt known references place →
     (path : List ℕ) × (slice_get r.info.references place ≡ Some path)
-    × IsFirst (Contains known) (IsUnknown known) (references_of rs) path
+    × IsFirst (Contains known) (IsNotKnown known) (references_of rs) path
 unclosed_here known rs i r references place all lt is same (path, first, at) =
     let earlier = references_of (take i rs) in
     let rest = references_of (drop (i + 1) rs) in
     let own : r.info.references ≡ first.before ++ path ∷ first.after = sym same ∙ first.parts in
-    let within = first_within (Contains known) (IsUnknown known) earlier references rest path all
+    let within = first_within (Contains known) (IsNotKnown known) earlier references rest path all
     first in (
       path,
       middle r.info.references first.before path first.after place own at,
-      subst (λ paths. IsFirst (Contains known) (IsUnknown known) paths path)
+      subst (λ paths. IsFirst (Contains known) (IsNotKnown known) paths path)
           (ap (λ l. earlier ++ (l ++ rest)) same ∙ sym (references_of_at rs i r lt is)) within,
     )
 
@@ -133,21 +134,22 @@ closed_all known rs n long all = subst (λ l. All (Contains known) (references_o
 -- the path of the registration behind the new ones is the first that is known
 pub known_behind :
     (known : List (List ℕ)) (rs : List Registration) (count : ℕ) →
-    IsNewFront known (paths_of rs) count →
+    IsNewFront known (paths_registered rs) count →
     count < length rs →
     (r : Registration) × (slice_get rs count ≡ Some r)
-    × IsFirst (IsUnknown known) (Contains known) (paths_of rs) r.path
+    × IsFirst (IsNotKnown known) (Contains known) (paths_registered rs) r.path
 known_behind known rs count front lt =
     let (r, read) = element_at rs count lt in
     let some = get_mapped (λ (x : Registration). x.path) rs count r read in (
       r,
       read,
-      first_at (IsUnknown known) (Contains known) (paths_of rs) count r.path some front.new
+      first_at (IsNotKnown known) (Contains known) (paths_registered rs) count r.path some front.new
           (MatchOption-at_some (Unit {0}) (Contains known) r.path some front.next),
     )
 
 -- where none is behind the new ones, all are new
 pub all_new : (known : List (List ℕ)) (rs : List Registration) (count : ℕ)
-    → IsNewFront known (paths_of rs) count → length rs ≤ count → AreUnknown known (paths_of rs)
+    → IsNewFront known (paths_registered rs) count → length rs ≤ count
+    → AreUnknown known (paths_registered rs)
 all_new known rs count front long = subst (AreUnknown known)
-    (take_all count (paths_of rs) (omega (arith, path_count rs))) front.new
+    (take_all count (paths_registered rs) (omega (arith, path_count rs))) front.new

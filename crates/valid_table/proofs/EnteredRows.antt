@@ -15,8 +15,8 @@ use Rattle.nix_names.proofs.Lists.{parts_at, taken_more}
 use Rattle.nix_names.proofs.RisingLists.{distinct_from_rising}
 use Rattle.valid_table.specs.Checking.{IsLineCheck}
 use Rattle.valid_table.specs.Closing.{HaveSame}
-use Rattle.valid_table.specs.Entering.{AreUnknown, IsNewFront, IsPut, IsUnknown}
-use Rattle.valid_table.specs.Entries.{paths_of}
+use Rattle.valid_table.specs.Entering.{AreUnknown, IsNewFront, IsPut, IsNotKnown}
+use Rattle.valid_table.specs.Entries.{paths_registered}
 use Rattle.valid_table.specs.PathInfos.{PathInfo}
 use Rattle.valid_table.specs.Tables.{registrations_of}
 use Rattle.valid_table.specs.Valid.{IsNotValid, IsValid}
@@ -53,16 +53,16 @@ row_put rows r new false is added =
 abbrev front : List Registration → List Registration → ℕ → List Registration
 front known rs i = known ++ take i rs
 
-front_paths : (known rs : List Registration) (i : ℕ) → paths_of (front known rs i)
-    ≡ paths_of known ++ take i (paths_of rs)
+front_paths : (known rs : List Registration) (i : ℕ) → paths_registered (front known rs i)
+    ≡ paths_registered known ++ take i (paths_registered rs)
 front_paths known rs i = paths_of-append known (take i rs)
-    ∙ ap (λ l. paths_of known ++ l) (sym (take-map (λ (r : Registration). r.path) i rs))
+    ∙ ap (λ l. paths_registered known ++ l) (sym (take-map (λ (r : Registration). r.path) i rs))
 
 -- the next path is not among the first
-next_apart : (rs : List Registration) (i : ℕ) (r : Registration) → IsRising (paths_of rs)
-    → i < length rs → r ≡ get_or rs i r → Contains (take i (paths_of rs)) r.path → ⊥
+next_apart : (rs : List Registration) (i : ℕ) (r : Registration) → IsRising (paths_registered rs)
+    → i < length rs → r ≡ get_or rs i r → Contains (take i (paths_registered rs)) r.path → ⊥
 next_apart rs i r rising lt is has =
-    let paths = paths_of rs in
+    let paths = paths_registered rs in
     let at : r.path ≡ get_or paths i r.path = sym (path_at rs i r r.path lt is) in
     once_apart (take i paths) (drop (i + 1) paths) r.path
     (subst (IsDistinct (pointwise nat_eq))
@@ -71,52 +71,56 @@ next_apart rs i r rising lt is has =
 
 -- so it is valid by both where it is by known ones
 pub known_next : (known rs : List Registration) (i : ℕ) (r : Registration)
-    → IsRising (paths_of rs) → i < length rs → r ≡ get_or rs i r → IsValid (front known rs i) r.path
+    → IsRising (paths_registered rs) → i < length rs → r ≡ get_or rs i r
+    → IsValid (front known rs i) r.path
     → IsValid known r.path
 known_next known rs i r rising lt is valid =
-    elim (Contains-append_cases (paths_of known) (take i (paths_of rs)) r.path
+    elim (Contains-append_cases (paths_registered known) (take i (paths_registered rs)) r.path
     (subst (λ ps. Contains ps r.path) (front_paths known rs i) valid)) [
       | inl there ↦ there
       | inr among ↦ absurd (next_apart rs i r rising lt is among)
     ]
 
 unknown_next : (known rs : List Registration) (i : ℕ) (r : Registration)
-    → IsNotValid (front known rs i) r.path → IsUnknown (paths_of known) r.path
+    → IsNotValid (front known rs i) r.path → IsNotKnown (paths_registered known) r.path
 unknown_next known rs i r not valid =
     not (subst (λ ps. Contains ps r.path) (sym (front_paths known rs i))
-    (Contains-append_left (paths_of known) (take i (paths_of rs)) r.path valid))
+    (Contains-append_left (paths_registered known) (take i (paths_registered rs)) r.path valid))
 
 -- one more was put behind them
 pub put_more : (known rs now new : List Registration) (i : ℕ) (r : Registration)
-    → now ≡ front known rs i → AreUnknown (paths_of known) (take i (paths_of rs)) → i < length rs
+    → now ≡ front known rs i → AreUnknown (paths_registered known) (take i (paths_registered rs))
+    → i < length rs
     → r ≡ get_or rs i r → IsPut now new r false
-    → (new ≡ front known rs (i + 1)) × AreUnknown (paths_of known) (take (i + 1) (paths_of rs))
+    → (new ≡ front known rs (i + 1)) × AreUnknown (paths_registered known)
+    (take (i + 1) (paths_registered rs))
 put_more known rs now new i r is_front unknown lt is put = (
   put.1
       ∙ ap (λ l. l ++ r ∷ []) is_front
       ∙ append_assoc known (take i rs) (r ∷ [])
       ∙ ap (λ l. known ++ l) (sym (taken_more rs i r lt is)),
-  new_more (paths_of known) rs i r unknown lt is
+  new_more (paths_registered known) rs i r unknown lt is
       (unknown_next known rs i r (subst (λ l. IsNotValid l r.path) is_front put.0)),
 )
 
 -- the next one had its path there
 pub put_twice : (known rs now new : List Registration) (i : ℕ) (r : Registration)
-    → IsRising (paths_of rs) → now ≡ front known rs i
-    → AreUnknown (paths_of known) (take i (paths_of rs)) → i < length rs → r ≡ get_or rs i r
+    → IsRising (paths_registered rs) → now ≡ front known rs i
+    → AreUnknown (paths_registered known) (take i (paths_registered rs)) → i < length rs
+    → r ≡ get_or rs i r
     → IsPut now new r true
-    → IsNewFront (paths_of known) (paths_of rs) i × (paths_of new
-    ≡ paths_of known ++ take i (paths_of rs))
+    → IsNewFront (paths_registered known) (paths_registered rs) i × (paths_registered new
+    ≡ paths_registered known ++ take i (paths_registered rs))
 put_twice known rs now new i r rising is_front unknown lt is put = (
   record {
     within = omega (arith, lt, path_count rs);
     new = unknown;
-    next = subst (λ o. IfSome o (Contains (paths_of known)))
-        (sym (slice_get-get_or (paths_of rs) i r.path (omega (arith, lt, path_count rs))
+    next = subst (λ o. IfSome o (Contains (paths_registered known)))
+        (sym (slice_get-get_or (paths_registered rs) i r.path (omega (arith, lt, path_count rs))
         ∙ ap Some (path_at rs i r r.path lt is)))
         (known_next known rs i r rising lt is (subst (λ l. IsValid l r.path) is_front put.0));
   },
-  put.1 ∙ ap paths_of is_front ∙ front_paths known rs i,
+  put.1 ∙ ap paths_registered is_front ∙ front_paths known rs i,
 )
 
 -- all were put behind them
@@ -125,12 +129,12 @@ pub put_all : (known rs new : List Registration) (n : ℕ) → length rs ≤ n �
 put_all known rs new n long is = is ∙ ap (λ l. known ++ l) (take_all n rs long)
 
 pub put_paths : (known rs new : List Registration) (n : ℕ) → length rs ≤ n → new ≡ front known rs n
-    → paths_of new ≡ paths_of known ++ take (length rs) (paths_of rs)
+    → paths_registered new ≡ paths_registered known ++ take (length rs) (paths_registered rs)
 put_paths known rs new n long is =
-    ap paths_of (put_all known rs new n long is)
+    ap paths_registered (put_all known rs new n long is)
     ∙ paths_of-append known rs
-    ∙ ap (λ l. paths_of known ++ l)
-    (sym (take_all (length rs) (paths_of rs) (omega (arith, path_count rs))))
+    ∙ ap (λ l. paths_registered known ++ l)
+    (sym (take_all (length rs) (paths_registered rs) (omega (arith, path_count rs))))
 
 -- ---- lines that were checked behind more rows with the same paths
 
@@ -193,15 +197,15 @@ same_check all known rs new first (Err (NotClosed n)) same
 same_check all known rs new first (Err other) same check = check
 
 pub check_before : (known now rs : List Registration) (new first : ℕ) (result : Result ℕ TableFault)
-    → paths_of now ≡ paths_of known ++ take new (paths_of rs)
-    → IsLineCheck (paths_of (now ++ rs)) rs new first result
-    → IsLineCheck (paths_of (known ++ rs)) rs new first result
+    → paths_registered now ≡ paths_registered known ++ take new (paths_registered rs)
+    → IsLineCheck (paths_registered (now ++ rs)) rs new first result
+    → IsLineCheck (paths_registered (known ++ rs)) rs new first result
 check_before known now rs new first result is check =
-    same_check (paths_of (now ++ rs)) (paths_of (known ++ rs)) rs new first result
-    (subst (HaveSame (paths_of (now ++ rs))) (sym (paths_of-append known rs))
-    (subst (λ ps. HaveSame ps (paths_of known ++ paths_of rs))
-    (sym (paths_of-append now rs ∙ ap (λ ps. ps ++ paths_of rs) is))
-    (same_known (paths_of known) (paths_of rs) new))) check
+    same_check (paths_registered (now ++ rs)) (paths_registered (known ++ rs)) rs new first result
+    (subst (HaveSame (paths_registered (now ++ rs))) (sym (paths_of-append known rs))
+    (subst (λ ps. HaveSame ps (paths_registered known ++ paths_registered rs))
+    (sym (paths_of-append now rs ∙ ap (λ ps. ps ++ paths_registered rs) is))
+    (same_known (paths_registered known) (paths_registered rs) new))) check
 
 -- what holds where all paths were new holds where no line was wrong
 pub where_right : {P : Type 0} (all : List (List ℕ)) (rs : List Registration) (new first : ℕ)

@@ -9,7 +9,7 @@ use Rattle.valid_table.specs.LineTexts.{lines_text}
 use Rattle.valid_table.specs.Readers.{HasEntry, HasToBegin, SoFarEntries, StopsInText}
 use Rattle.valid_table.specs.Reading.{BeginsVersion}
 use Rattle.valid_table.specs.Steps.{Place, Start, Begun, Stops}
-use Rattle.valid_table.specs.Texts.{IsEntryOf, IsText, First, entry_lines, lines, text, version_line}
+use Rattle.valid_table.specs.Texts.{IsEntryIn, IsJournalText, First, entry_lines, lines, text, version_line}
 use Rattle.valid_table.specs.declared.entry.Entry.{Entry}
 use Rattle.valid_table.specs.declared.version.Version.{Version}
 use Rattle.valid_table.proofs.EntryLines.{lead}
@@ -17,11 +17,12 @@ use Rattle.valid_table.proofs.Leading.{text_and}
 use Rattle.valid_table.proofs.LineSteps.{stop_behind}
 
 -- before the first entry the first line was read
-pub version_read : (version : Version) (dir bytes : List ℕ) (entries : List Entry) (rest : List ℕ) → bytes
+pub version_read : (version : Version) (dir bytes : List ℕ) (entries : List Entry) (rest : List ℕ)
+    → bytes
     ≡ version_line version ++ rest → entries ≡ [] → SoFarEntries version dir bytes entries rest
 version_read version dir bytes entries rest begins none = rw none (record {
   parts = begins ∙ ap (λ (t : List ℕ). t ++ rest) (sym (append-nil (version_line version)));
-  of_dir = All-nil (IsEntryOf version dir);
+  of_dir = All-nil (IsEntryIn version dir);
   leads = λ left goes_on. stop_behind version dir Start bytes First rest left begins tt
       (goes_on Begun tt);
 })
@@ -40,14 +41,16 @@ text_more version entries entry rest =
     ∙ ap (λ some. lines_text version some ++ rest) (lines_more entries entry)
 
 -- one more entry
-pub entries_more : (version : Version) (dir bytes : List ℕ) (entries more : List Entry) (rest behind : List ℕ)
-    (entry : Entry) → SoFarEntries version dir bytes entries rest → HasEntry version dir rest entry behind → more
+pub entries_more : (version : Version) (dir bytes : List ℕ) (entries more : List Entry)
+    (rest behind : List ℕ)
+    (entry : Entry) → SoFarEntries version dir bytes entries rest
+    → HasEntry version dir rest entry behind → more
     ≡ entries ++ entry ∷ [] → SoFarEntries version dir bytes more behind
 entries_more version dir bytes entries more rest behind entry so_far h pushed =
     rw pushed (record {
       parts = so_far.parts ∙ ap (λ t. lines_text version (lines entries) ++ t) h.parts
           ∙ text_more version entries entry behind;
-      of_dir = All-push (IsEntryOf version dir) entries entry so_far.of_dir h.of_dir;
+      of_dir = All-push (IsEntryIn version dir) entries entry so_far.of_dir h.of_dir;
       leads = λ left goes_on.
           so_far.leads left
           (λ from begins. lead version dir rest entry behind from left h begins goes_on);
@@ -55,7 +58,8 @@ entries_more version dir bytes entries more rest behind entry so_far h pushed =
 
 -- where nothing is left, the bytes are the entries' text
 pub text_read : (version : Version) (dir bytes : List ℕ) (entries : List Entry) (rest : List ℕ)
-    → SoFarEntries version dir bytes entries rest → (length rest == 0) ≡ true → IsText dir entries bytes
+    → SoFarEntries version dir bytes entries rest → (length rest == 0) ≡ true
+    → IsJournalText dir entries bytes
 unfolding text
 text_read version dir bytes entries rest so_far empty =
     let none = nil_from_length rest (eqb-true (length rest) 0 empty) in
@@ -74,7 +78,8 @@ pub version_begins : (version : Version) (dir bytes : List ℕ) (entries : List 
 version_begins version dir bytes entries rest so_far = (
   lines_text version (flat_map entry_lines entries) ++ rest,
   so_far.parts
-      ∙ append_assoc (version_line version) (lines_text version (flat_map entry_lines entries)) rest,
+      ∙ append_assoc (version_line version) (lines_text version (flat_map entry_lines entries))
+      rest,
 )
 
 -- where the lines of an entry stop, so do those of the text

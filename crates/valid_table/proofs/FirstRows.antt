@@ -1,4 +1,5 @@
--- Rows that were found, in another order: those of the first rows of a table, and those behind them.
+-- Rows that were found, in another order: those of the first rows of a table, and those behind
+-- them.
 use Rattle.std.proofs.Common.{◌≡◌, ◌⊎◌, Contains, ◌∙◌, ◌≤◌, ◌<◌, ◌+◌, ℕ, List, [], ◌∷◌, ◌++◌, All, Bool, true, false, cond, not, ◌&&◌, ◌||◌, length, nat_eq, nat_lt, inl, inr, refl, sym, ap, subst, arith}
 use Rattle.std.specs.List.{AllByRecursion, IsDistinct, filter, list_any}
 use Rattle.std.specs.List.Sorted.{IsPermutation}
@@ -278,7 +279,8 @@ kept p rows more start old new row more_is before is pushed =
     ∙ ap (λ l. start ++ l) (sym one)
 
 pub left_out : {A : Type 0} (p : A → Bool) (rows more start old : List A) (row : A)
-    → more ≡ rows ++ row ∷ [] → old ≡ start ++ filter p rows → p row ≡ false → old ≡ start ++ filter p more
+    → more ≡ rows ++ row ∷ [] → old ≡ start ++ filter p rows → p row ≡ false
+    → old ≡ start ++ filter p more
 left_out p rows more start old row more_is before is =
     let one : filter p more ≡ filter p rows =
     ap (filter p) more_is

@@ -9,8 +9,8 @@ use Rattle.std.proofs.lemmas.List.Elements.{All-append, All-contains, All-contai
 use Rattle.std.proofs.lemmas.Map.Steps.{length-le_from_distinct_below}
 use Rattle.std.proofs.lemmas.Map.Views.{Contains-from_any}
 use Rattle.std.proofs.lemmas.Option.{get_or_from_slice_get}
-use Rattle.valid_table.specs.Closing.{AddsRows, AreRows, HasReferences, IsFollowed, IsReached, path_at, paths_at}
-use Rattle.valid_table.specs.Entries.{paths_of}
+use Rattle.valid_table.specs.Closing.{AddsRows, AreRows, HasReferences, IsFollowed, IsReachedFrom, path_at, paths_at}
+use Rattle.valid_table.specs.Entries.{paths_registered}
 use Rattle.valid_table.specs.PathInfos.{PathInfo}
 use Rattle.valid_table.specs.Tables.{registrations_of}
 use Rattle.valid_table.specs.Valid.{IsOnce, IsValid, Registers}
@@ -41,13 +41,13 @@ pub one_info : (registrations : List Registration) → IsOnce registrations
 one_info registrations once path a b has has' =
     let first : Registration = record { path = path; info = a } in
     let second : Registration = record { path = path; info = b } in
-    let at : get_or (paths_of registrations) has.0 []
+    let at : get_or (paths_registered registrations) has.0 []
     ≡ path = get_or-map (λ (r : Registration). r.path) registrations has.0 first [] has.1
     ∙ ap (λ (r : Registration). r.path) has.2 in
-    let at' : get_or (paths_of registrations) has'.0 []
+    let at' : get_or (paths_registered registrations) has'.0 []
     ≡ path = get_or-map (λ (r : Registration). r.path) registrations has'.0 second [] has'.1
     ∙ ap (λ (r : Registration). r.path) has'.2 in
-    let place : has.0 ≡ has'.0 = same_place (paths_of registrations) once has.0 has'.0
+    let place : has.0 ≡ has'.0 = same_place (paths_registered registrations) once has.0 has'.0
     (omega (arith, has.1, path_count registrations))
     (omega (arith, has'.1, path_count registrations)) (at ∙ sym at') in
     let same : first ≡ second = sym has.2 ∙ get_or_default registrations has.0 first second has.1
@@ -111,17 +111,17 @@ followed_more registrations once start found new count row info before below at 
     let path = path_at registrations row in
     let keeps = paths_kept registrations found adds.added new adds.parts in
     let has_row : Contains found row = (count, below, sym at) in
-    let row_reached : IsReached registrations roots path =
-    All-contains (IsReached registrations roots) (paths_at registrations found) path
+    let row_reached : IsReachedFrom registrations roots path =
+    All-contains (IsReachedFrom registrations roots) (paths_at registrations found) path
     before.reached (Contains-map (path_at registrations) found row has_row) in
     record {
       rows = adds.rows;
       kept = All-weaker (Contains (paths_at registrations found))
           (Contains (paths_at registrations new)) keeps roots before.kept;
-      reached = subst (All (IsReached registrations roots))
+      reached = subst (All (IsReachedFrom registrations roots))
           (sym (ap (map (path_at registrations)) adds.parts
           ∙ map-append (path_at registrations) found adds.added))
-          (All-append (IsReached registrations roots) (paths_at registrations found)
+          (All-append (IsReachedFrom registrations roots) (paths_at registrations found)
           (paths_at registrations adds.added) before.reached
           (λ k d within. reached_more registrations roots path
           (get_or (paths_at registrations adds.added) k d) row_reached

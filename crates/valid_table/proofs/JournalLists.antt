@@ -4,7 +4,7 @@ use Rattle.std.specs.Prelude.{All, Contains}
 use Rattle.std.proofs.lemmas.List.{append-nil, append_assoc, map-append, take_more}
 use Rattle.std.proofs.lemmas.List.Concat.{flat_map-append}
 use Rattle.std.proofs.lemmas.List.Elements.{All-nil, All-append, All-weaker, Contains-append_left}
-use Rattle.valid_table.specs.Entries.{paths_of, registered, registered_by}
+use Rattle.valid_table.specs.Entries.{paths_registered, registered, registered_by}
 use Rattle.valid_table.specs.Valid.{AreReferencesValid, IsClosed, IsClosedBehind, IsOnce, IsValid, references_of}
 use Rattle.valid_table.specs.declared.entry.Entry.{Entry}
 use Rattle.valid_table.specs.declared.entry.Registration.{Registration}
@@ -12,7 +12,8 @@ use Rattle.valid_table.proofs.PathLists.{once_front}
 use Rattle.nix_names.proofs.Lists.{parts_at}
 
 -- the paths of two lists of registrations, one behind the other
-pub paths_of-append : (a b : List Registration) → paths_of (a ++ b) ≡ paths_of a ++ paths_of b
+pub paths_of-append : (a b : List Registration) → paths_registered (a ++ b) ≡ paths_registered a ++
+    paths_registered b
 paths_of-append a b = map-append (λ (r : Registration). r.path) a b
 
 -- and their references
@@ -29,7 +30,7 @@ pub still_valid : (some more : List Registration) (path : List ℕ) → IsValid 
     → IsValid (some ++ more) path
 still_valid some more path valid =
     subst (λ paths. Contains paths path) (sym (paths_of-append some more))
-    (Contains-append_left (paths_of some) (paths_of more) path valid)
+    (Contains-append_left (paths_registered some) (paths_registered more) path valid)
 
 -- each reference of registrations is valid, and so behind more of them
 pub valid_more : (some more : List Registration) (paths : List (List ℕ)) → All (IsValid some) paths
@@ -76,9 +77,10 @@ pub once_so_far :
     IsOnce (registered (take i entries) ++ registered_by entry)
 once_so_far entries i entry once lt is =
     let front = registered (take i entries) ++ registered_by entry in
-    let parts = ap paths_of (registered_at entries i entry lt is)
+    let parts = ap paths_registered (registered_at entries i entry lt is)
     ∙ paths_of-append front (registered (drop (i + 1) entries)) in
-    once_front (paths_of front) (paths_of (registered (drop (i + 1) entries))) (rw parts at once)
+    once_front (paths_registered front) (paths_registered (registered (drop (i + 1) entries)))
+    (rw parts at once)
 
 -- the references of registrations are those of the first ones, of the next one and of the rest
 pub references_of_at :

@@ -17,9 +17,9 @@ use Rattle.nix_names.specs.Rising.{IsRising}
 use Rattle.nix_names.proofs.Keys.{bytes_less, eight_spelt, same_front}
 use Rattle.nix_names.proofs.RisingLists.{equal_from_eq}
 use Rattle.valid_table.specs.Closing.{path_at, paths_at}
-use Rattle.valid_table.specs.Entries.{paths_of}
+use Rattle.valid_table.specs.Entries.{paths_registered}
 use Rattle.valid_table.specs.FirstRows.{AreFirst, rows_behind}
-use Rattle.valid_table.specs.Keys.{AreKeyed, IsKey, KeysRise, folder_of, folder_part}
+use Rattle.valid_table.specs.Keys.{AreKeyed, IsKey, KeysRiseAbove, folder_of, folder_part}
 use Rattle.valid_table.specs.PathInfos.{PathInfo}
 use Rattle.valid_table.specs.Tables.{registrations_of}
 use Rattle.valid_table.specs.declared.entry.Registration.{Registration}
@@ -55,7 +55,7 @@ is_key folder text key bound (inr is) above = is
 rising_by : (registrations : List Registration) (folder : List ℕ) (bound : ℕ)
     (keyed : List (ℕ × ℕ)) → AllByRecursion
     (λ (k : ℕ × ℕ). (k.0 ≡ 0) ⊎ (IsKey folder (path_at registrations k.1) k.0)) keyed
-    → KeysRise bound keyed → IsRising (paths_at registrations (rows_behind keyed))
+    → KeysRiseAbove bound keyed → IsRising (paths_at registrations (rows_behind keyed))
 rising_by registrations folder bound [] keys rise = tt
 rising_by registrations folder bound (k ∷ []) keys rise = tt
 rising_by registrations folder bound (k ∷ l ∷ keyed) keys rise = (
@@ -66,7 +66,7 @@ rising_by registrations folder bound (k ∷ l ∷ keyed) keys rise = (
 )
 
 pub paths_rise : (registrations : List Registration) (keyed : List (ℕ × ℕ))
-    → AreKeyed registrations keyed → KeysRise 0 keyed
+    → AreKeyed registrations keyed → KeysRiseAbove 0 keyed
     → IsRising (paths_at registrations (rows_behind keyed))
 paths_rise registrations keyed keys rise =
     rising_by registrations (folder_of registrations) 0 keyed
@@ -147,7 +147,7 @@ pub path_looked_up : (rows : List (List ℕ × PathInfo)) (keys : List (List ℕ
     (path : List ℕ) → keys ≡ keys_of rows → slice_get keys row ≡ Some path
     → path ≡ path_at (registrations_of rows) row
 path_looked_up rows keys row path are at =
-    sym (get_or_from_slice_get (paths_of (registrations_of rows)) row path []
+    sym (get_or_from_slice_get (paths_registered (registrations_of rows)) row path []
     (ap (λ ks. slice_get ks row) (paths_are_keys rows ∙ sym are) ∙ at))
 
 -- ---- how a key is read
@@ -174,17 +174,18 @@ key_read folder text (a ∷ b ∷ c ∷ d ∷ e ∷ f ∷ []) key front is long 
     absurd (omega (arith, long))
 key_read folder text (a ∷ b ∷ c ∷ d ∷ e ∷ f ∷ g ∷ []) key front is long small number =
     absurd (omega (arith, long))
-key_read folder text (a ∷ b ∷ c ∷ d ∷ e ∷ f ∷ g ∷ h ∷ rest) key front is long small number = record {
-  bytes = a ∷ b ∷ c ∷ d ∷ e ∷ f ∷ g ∷ h ∷ [];
-  rest = rest;
-  parts = sym (take-append-drop (length folder) text)
-      ∙ ap (λ l. l ++ drop (length folder) text) (equal_from_eq _ _ front)
-      ∙ ap (λ l. folder ++ l) (sym is)
-      ∙ sym (append_assoc folder (a ∷ b ∷ c ∷ d ∷ e ∷ f ∷ g ∷ h ∷ []) rest);
-  eight = refl;
-  small = small;
-  number = number;
-}
+key_read folder text (a ∷ b ∷ c ∷ d ∷ e ∷ f ∷ g ∷ h ∷ rest) key front is long small number =
+    record {
+      bytes = a ∷ b ∷ c ∷ d ∷ e ∷ f ∷ g ∷ h ∷ [];
+      rest = rest;
+      parts = sym (take-append-drop (length folder) text)
+          ∙ ap (λ l. l ++ drop (length folder) text) (equal_from_eq _ _ front)
+          ∙ ap (λ l. folder ++ l) (sym is)
+          ∙ sym (append_assoc folder (a ∷ b ∷ c ∷ d ∷ e ∷ f ∷ g ∷ h ∷ []) rest);
+      eight = refl;
+      small = small;
+      number = number;
+    }
 
 -- the first row has the first path
 pub first_row_folder : (rows : List (List ℕ × PathInfo)) (path : List ℕ) (info : PathInfo)
@@ -197,11 +198,11 @@ first_row_folder (row ∷ rows) path info is =
 -- ---- one more key is looked at
 
 pub keys_go_on : (keyed : List (ℕ × ℕ)) (i last : ℕ) (all : Type 0) → i < length keyed
-    → (KeysRise last (drop i keyed) → all) → last < (get_or keyed i (0, 0)).0
-    → KeysRise (get_or keyed i (0, 0)).0 (drop (i + 1) keyed) → all
+    → (KeysRiseAbove last (drop i keyed) → all) → last < (get_or keyed i (0, 0)).0
+    → KeysRiseAbove (get_or keyed i (0, 0)).0 (drop (i + 1) keyed) → all
 keys_go_on keyed i last all below before above rest =
-    before (subst (KeysRise last) (sym (drop_more keyed i (0, 0) below)) (above, rest))
+    before (subst (KeysRiseAbove last) (sym (drop_more keyed i (0, 0) below)) (above, rest))
 
 pub keys_at_end : (keyed : List (ℕ × ℕ)) (i last : ℕ) → length keyed ≤ i
-    → KeysRise last (drop i keyed)
-keys_at_end keyed i last past = subst (KeysRise last) (sym (drop_all i keyed past)) tt
+    → KeysRiseAbove last (drop i keyed)
+keys_at_end keyed i last past = subst (KeysRiseAbove last) (sym (drop_all i keyed past)) tt

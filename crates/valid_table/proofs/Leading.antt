@@ -4,7 +4,7 @@ use Rattle.std.proofs.lemmas.List.{append-nil, append_assoc, length-append}
 use Rattle.std.proofs.lemmas.List.Concat.{flat_map-append}
 use Rattle.std.proofs.lemmas.List.Elements.{All-cons, All-nil, All-head, All-tail}
 use Rattle.valid_table.specs.LineTexts.{lines_text}
-use Rattle.valid_table.specs.Steps.{Place, Start, Begun, Opened, Within, Ahead, Goes, LeadsTo, MayStand, behind}
+use Rattle.valid_table.specs.Steps.{Place, Start, Begun, Opened, Within, Ahead, GoesOnWith, LeadsTo, MayBeLine, behind}
 use Rattle.valid_table.specs.Texts.{Line, First, Added, Deriver, Output, Reference, line_text}
 use Rattle.valid_table.specs.declared.version.Version.{Version}
 use Rattle.valid_table.proofs.LineTexts.{IsLineOf, same_lines}
@@ -12,33 +12,42 @@ use Rattle.valid_table.proofs.LineTexts.{IsLineOf, same_lines}
 -- ---- to where lines lead
 
 -- the first of some lines lead to where the others lead on
-pub leads_front : (version : Version) (dir : List ℕ) (Is : Place → Type 0) (from : Place) (a b : List Line)
-    → LeadsTo version dir Is from (a ++ b) → LeadsTo version dir (λ to. LeadsTo version dir Is to b) from a
+pub leads_front : (version : Version) (dir : List ℕ) (Is : Place → Type 0) (from : Place)
+    (a b : List Line)
+    → LeadsTo version dir Is from (a ++ b) → LeadsTo version dir
+    (λ to. LeadsTo version dir Is to b) from a
 leads_front version dir Is from [] b leads = leads
 leads_front version dir Is from (line ∷ a) b leads =
     (leads.0, leads_front version dir Is (behind from line) a b leads.1)
 
 -- and back
-pub leads_joined : (version : Version) (dir : List ℕ) (Is : Place → Type 0) (from : Place) (a b : List Line)
-    → LeadsTo version dir (λ to. LeadsTo version dir Is to b) from a → LeadsTo version dir Is from (a ++ b)
+pub leads_joined : (version : Version) (dir : List ℕ) (Is : Place → Type 0) (from : Place)
+    (a b : List Line)
+    → LeadsTo version dir (λ to. LeadsTo version dir Is to b) from a
+    → LeadsTo version dir Is from (a ++ b)
 leads_joined version dir Is from [] b leads = leads
 leads_joined version dir Is from (line ∷ a) b leads =
     (leads.0, leads_joined version dir Is (behind from line) a b leads.1)
 
 -- what holds of the place to which lines lead
-pub leads_weaker : (version : Version) (dir : List ℕ) (Is Also : Place → Type 0) → ((to : Place) → Is to → Also to)
-    → (from : Place) (a : List Line) → LeadsTo version dir Is from a → LeadsTo version dir Also from a
+pub leads_weaker : (version : Version) (dir : List ℕ) (Is Also : Place → Type 0)
+    → ((to : Place) → Is to → Also to)
+    → (from : Place) (a : List Line) → LeadsTo version dir Is from a
+    → LeadsTo version dir Also from a
 leads_weaker version dir Is Also weaker from [] leads = weaker from leads
 leads_weaker version dir Is Also weaker from (line ∷ a) leads =
     (leads.0, leads_weaker version dir Is Also weaker (behind from line) a leads.1)
 
-pub leads_both : (version : Version) (dir : List ℕ) (Is Also : Place → Type 0) (from : Place) (a : List Line)
-    → LeadsTo version dir Is from a → LeadsTo version dir Also from a → LeadsTo version dir (λ to. Is to × Also to) from a
+pub leads_both : (version : Version) (dir : List ℕ) (Is Also : Place → Type 0) (from : Place)
+    (a : List Line)
+    → LeadsTo version dir Is from a → LeadsTo version dir Also from a
+    → LeadsTo version dir (λ to. Is to × Also to) from a
 leads_both version dir Is Also from [] one two = (one, two)
 leads_both version dir Is Also from (line ∷ a) one two =
     (one.0, leads_both version dir Is Also (behind from line) a one.1 two.1)
 
-pub leads_some : (version : Version) (dir : List ℕ) (X : Type 0) (Is : X → Place → Type 0) (from : Place)
+pub leads_some : (version : Version) (dir : List ℕ) (X : Type 0) (Is : X → Place → Type 0)
+    (from : Place)
     (a : List Line) → LeadsTo version dir (λ to. (x : X) × Is x to) from a → (x : X)
     × LeadsTo version dir (Is x) from a
 leads_some version dir X Is from [] leads = leads
@@ -46,13 +55,16 @@ leads_some version dir X Is from (line ∷ a) leads =
     let later = leads_some version dir X Is (behind from line) a leads.1 in
     (later.0, (leads.0, later.1))
 
-pub leads_end : (version : Version) (dir : List ℕ) (Is : Place → Type 0) (from : Place) (a : List Line)
+pub leads_end : (version : Version) (dir : List ℕ) (Is : Place → Type 0) (from : Place)
+    (a : List Line)
     → LeadsTo version dir Is from a → (to : Place) × Is to
 leads_end version dir Is from [] leads = (from, leads)
-leads_end version dir Is from (line ∷ a) leads = leads_end version dir Is (behind from line) a leads.1
+leads_end version dir Is from (line ∷ a) leads =
+    leads_end version dir Is (behind from line) a leads.1
 
 -- behind a deriver the lines go on with an output
-pub ahead_of : (version : Version) (dir : List ℕ) (Is : Place → Type 0) (place : Place) (lines : List Line)
+pub ahead_of : (version : Version) (dir : List ℕ) (Is : Place → Type 0) (place : Place)
+    (lines : List Line)
     (rest : List ℕ) → ((to : Place) → Is to → Ahead to rest) → LeadsTo version dir Is place lines
     → Ahead place (lines_text version lines ++ rest)
 ahead_of version dir Is place [] rest weaker leads = weaker place leads
@@ -63,7 +75,8 @@ ahead_of version dir Is place (line ∷ lines) rest weaker leads = tt
 -- ---- lines have their forms
 
 -- a line that may stand somewhere has its form
-pub line_of : (version : Version) (dir : List ℕ) (place : Place) (line : Line) → MayStand version dir place line
+pub line_of : (version : Version) (dir : List ℕ) (place : Place) (line : Line)
+    → MayBeLine version dir place line
     → IsLineOf version dir line
 line_of version dir Start First may = tt
 line_of version dir Begun (Added path digest) may = may
@@ -76,7 +89,8 @@ line_of version dir (Within output last) (Reference path) may = may.0
 line_of version dir place line may = absurd may
 
 -- and so has each of some lines that lead on
-pub lines_of : (version : Version) (dir : List ℕ) (Is : Place → Type 0) (from : Place) (lines : List Line)
+pub lines_of : (version : Version) (dir : List ℕ) (Is : Place → Type 0) (from : Place)
+    (lines : List Line)
     → LeadsTo version dir Is from lines → All (IsLineOf version dir) lines
 lines_of version dir Is from [] leads = All-nil (IsLineOf version dir)
 lines_of version dir Is from (line ∷ more) leads =
@@ -86,12 +100,14 @@ lines_of version dir Is from (line ∷ more) leads =
 -- ---- bytes tell lines
 
 -- lines, their bytes and others are the lines with one more, and theirs
-pub text_push : (version : Version) (a : List Line) (line : Line) (rest : List ℕ) → lines_text version a
+pub text_push : (version : Version) (a : List Line) (line : Line) (rest : List ℕ)
+    → lines_text version a
     ++ (line_text version line ++ rest) ≡ lines_text version (a ++ line ∷ []) ++ rest
 text_push version a line rest = search (rules, append_assoc, flat_map-append, append-nil)
 
 -- lines with what stands behind them, and those before others
-pub text_and : (version : Version) (a b : List Line) (rest : List ℕ) → lines_text version a ++ (lines_text version b ++ rest)
+pub text_and : (version : Version) (a b : List Line) (rest : List ℕ)
+    → lines_text version a ++ (lines_text version b ++ rest)
     ≡ lines_text version (a ++ b) ++ rest
 text_and version a b rest = search (rules, append_assoc, flat_map-append)
 
@@ -100,8 +116,10 @@ abbrev pub GoOn : Version → List Line → List Line → List ℕ → List ℕ 
 GoOn version a b x y = (c : List Line) × (b ≡ a ++ c) × (x ≡ lines_text version c ++ y)
 
 -- of two lists of lines in the same bytes one begins the other
-pub aligned : (version : Version) (dir : List ℕ) (a b : List Line) (x y : List ℕ) → All (IsLineOf version dir) a
-    → All (IsLineOf version dir) b → lines_text version a ++ x ≡ lines_text version b ++ y → GoOn version a b x y ⊎ GoOn version b a y x
+pub aligned : (version : Version) (dir : List ℕ) (a b : List Line) (x y : List ℕ)
+    → All (IsLineOf version dir) a
+    → All (IsLineOf version dir) b → lines_text version a ++ x ≡ lines_text version b ++ y
+    → GoOn version a b x y ⊎ GoOn version b a y x
 aligned version dir [] b x y one two e = inl (b, refl, e)
 aligned version dir (l ∷ a) [] x y one two e = inr (l ∷ a, refl, sym e)
 aligned version dir (l ∷ a) (m ∷ b) x y one two e =
@@ -109,7 +127,8 @@ aligned version dir (l ∷ a) (m ∷ b) x y one two e =
     (All-head (IsLineOf version dir) l a one) (All-head (IsLineOf version dir) m b two)
     (sym (append_assoc (line_text version l) (lines_text version a) x) ∙ e
     ∙ append_assoc (line_text version m) (lines_text version b) y) in
-    elim (aligned version dir a b x y (All-tail (IsLineOf version dir) l a one) (All-tail (IsLineOf version dir) m b two)
+    elim (aligned version dir a b x y (All-tail (IsLineOf version dir) l a one)
+    (All-tail (IsLineOf version dir) m b two)
     same.1) [
       | inl d ↦ inl (
         d.0,
@@ -120,43 +139,51 @@ aligned version dir (l ∷ a) (m ∷ b) x y one two e =
     ]
 
 -- where a line stands behind the first ones, it goes on from where these lead
-goes_behind : (version : Version) (dir : List ℕ) (Is Also : Place → Type 0) (from : Place) (a b : List Line)
+goes_behind : (version : Version) (dir : List ℕ) (Is Also : Place → Type 0) (from : Place)
+    (a b : List Line)
     (line : Line) (c : List Line) (x y : List ℕ) → ((to : Place) → Also to → Ahead to y)
     → LeadsTo version dir Is from a → LeadsTo version dir Also from b
     → b ≡ a ++ line ∷ c → x ≡ lines_text version (line ∷ c) ++ y
-    → LeadsTo version dir (λ to. Is to × Goes version dir to x line (lines_text version c ++ y)) from a
+    → LeadsTo version dir (λ to. Is to × GoesOnWith version dir to x line
+    (lines_text version c ++ y)) from a
 goes_behind version dir Is Also from a b line c x y weaker one two is rest =
-    leads_both version dir Is (λ to. Goes version dir to x line (lines_text version c ++ y)) from a one
+    leads_both version dir Is (λ to. GoesOnWith version dir to x line (lines_text version c ++ y))
+    from a one
     (leads_weaker version dir (λ to. LeadsTo version dir Also to (line ∷ c))
-    (λ to. Goes version dir to x line (lines_text version c ++ y))
+    (λ to. GoesOnWith version dir to x line (lines_text version c ++ y))
     (λ to leads. record {
       parts = rest ∙ append_assoc (line_text version line) (lines_text version c) y;
       may = leads.0;
       ahead = ahead_of version dir Also (behind to line) c y weaker leads.1;
-    }) from a (leads_front version dir Also from a (line ∷ c) (subst (LeadsTo version dir Also from) is two)))
+    }) from a (leads_front version dir Also from a (line ∷ c)
+    (subst (LeadsTo version dir Also from) is two)))
 
 -- Some lines lead into bytes, in which a line goes on from there.
 abbrev pub GoesOn : Version → List ℕ → (Place → Type 0) → Place → List Line → List ℕ → Type 0
 GoesOn version dir Is from a x = (line : Line) × (more : List ℕ)
-    × LeadsTo version dir (λ to. Is to × Goes version dir to x line more) from a
+    × LeadsTo version dir (λ to. Is to × GoesOnWith version dir to x line more) from a
 
 nothing_behind : (a x : List ℕ) → [] ≡ a ++ x → x ≡ []
 nothing_behind [] x e = sym e
 nothing_behind (b ∷ a) x e = cc e
 
 -- lines in the bytes of others lead to their end, or one goes on
-pub go_on : (version : Version) (dir : List ℕ) (Is Also : Place → Type 0) (from : Place) (a b : List Line) (x : List ℕ)
-    → ((to : Place) → Also to → Ahead to []) → LeadsTo version dir Is from a → LeadsTo version dir Also from b
+pub go_on : (version : Version) (dir : List ℕ) (Is Also : Place → Type 0) (from : Place)
+    (a b : List Line) (x : List ℕ)
+    → ((to : Place) → Also to → Ahead to []) → LeadsTo version dir Is from a
+    → LeadsTo version dir Also from b
     → lines_text version a ++ x ≡ lines_text version b
     → (x ≡ []) ⊎ GoesOn version dir Is from a x
 go_on version dir Is Also from a b x weaker one two e =
-    elim (aligned version dir a b x [] (lines_of version dir Is from a one) (lines_of version dir Also from b two)
+    elim (aligned version dir a b x [] (lines_of version dir Is from a one)
+    (lines_of version dir Also from b two)
     (e ∙ sym (append-nil (lines_text version b)))) [
       | inl d ↦ on d.0 d.1 d.2
       | inr d ↦ inl (nothing_behind (lines_text version d.0) x d.2)
     ]
   where
-    on : (c : List Line) → b ≡ a ++ c → x ≡ lines_text version c ++ [] → (x ≡ []) ⊎ GoesOn version dir Is from a x
+    on : (c : List Line) → b ≡ a ++ c → x ≡ lines_text version c ++ [] → (x ≡ [])
+        ⊎ GoesOn version dir Is from a x
     on [] is rest = inl rest
     on (line ∷ c) is rest = inr (
       line,
@@ -165,17 +192,20 @@ go_on version dir Is Also from a b x weaker one two e =
     )
 
 -- where one line more leads on in the same bytes, it goes on
-pub one_more : (version : Version) (dir : List ℕ) (Is Also : Place → Type 0) (from : Place) (a b : List Line)
+pub one_more : (version : Version) (dir : List ℕ) (Is Also : Place → Type 0) (from : Place)
+    (a b : List Line)
     (x y : List ℕ) → ((to : Place) → Also to → Ahead to y) → LeadsTo version dir Is from a
     → LeadsTo version dir Also from b → length b ≡ suc (length a)
     → lines_text version a ++ x ≡ lines_text version b ++ y → GoesOn version dir Is from a x
 one_more version dir Is Also from a b x y weaker one two long e =
-    elim (aligned version dir a b x y (lines_of version dir Is from a one) (lines_of version dir Also from b two) e) [
+    elim (aligned version dir a b x y (lines_of version dir Is from a one)
+    (lines_of version dir Also from b two) e) [
       | inl d ↦ on d.0 d.1 d.2
       | inr d ↦ absurd (omega (arith, ap length d.1, length-append b d.0))
     ]
   where
-    on : (c : List Line) → b ≡ a ++ c → x ≡ lines_text version c ++ y → GoesOn version dir Is from a x
+    on : (c : List Line) → b ≡ a ++ c → x ≡ lines_text version c ++ y
+        → GoesOn version dir Is from a x
     on [] is rest = absurd (omega (arith, ap length (is ∙ append-nil a)))
     on (line ∷ c) is rest = (
       line,

@@ -5,10 +5,10 @@ use Rattle.std.proofs.lemmas.List.{append_assoc}
 use Rattle.std.proofs.lemmas.List.Elements.{All-cons, All-nil, All-head, All-tail}
 use Rattle.nix_names.specs.StorePaths.{IsPathOf}
 use Rattle.nix_names.specs.declared.digest.Digest.{Digest}
-use Rattle.valid_table.specs.Entries.{paths_of}
+use Rattle.valid_table.specs.Entries.{paths_registered}
 use Rattle.valid_table.specs.LineTexts.{lines_text}
-use Rattle.valid_table.specs.Steps.{Place, Start, Begun, Opened, Within, Ahead, LeadsTo, MayBegin, MayFollow, MayStand, behind}
-use Rattle.valid_table.specs.Texts.{IsDigestOf, IsEntryOf, IsOf, IsText, Line, First, Added, Deriver, Output, Reference, entry_lines, lines, output_lines, text}
+use Rattle.valid_table.specs.Steps.{Place, Start, Begun, Opened, Within, Ahead, LeadsTo, MayBegin, MayBeOutputAfter, MayBeLine, behind}
+use Rattle.valid_table.specs.Texts.{IsDigestOf, IsEntryIn, IsOf, IsJournalText, Line, First, Added, Deriver, Output, Reference, entry_lines, lines, output_lines, text}
 use Rattle.valid_table.specs.declared.entry.Entry.{Entry}
 use Rattle.valid_table.specs.declared.entry.Entry.TheVariants.{Add, Done}
 use Rattle.valid_table.specs.declared.entry.Registration.{Registration}
@@ -20,11 +20,13 @@ use Rattle.valid_table.proofs.RisingPaths.{AreAbove, above_of_rising, rising_of_
 
 -- what holds of lines from a place on, where it holds of those behind the first
 abbrev pub IsBackward : Version → List ℕ → (Place → List Line → Type 0) → Type 0
-IsBackward version dir Of = (from : Place) (line : Line) (more : List Line) → MayStand version dir from line
+IsBackward version dir Of = (from : Place) (line : Line) (more : List Line)
+    → MayBeLine version dir from line
     → Of (behind from line) more → Of from (line ∷ more)
 
 -- references that rise behind the one before them
-pub references_back : (version : Version) (dir : List ℕ) (Of : Place → List Line → Type 0) → IsBackward version dir Of
+pub references_back : (version : Version) (dir : List ℕ) (Of : Place → List Line → Type 0)
+    → IsBackward version dir Of
     → (output before : Option (List ℕ)) (references : List (List ℕ)) (more : List Line)
     → All (IsPathOf dir) references → AreAbove before references
     → Of (Within output (last_or before references)) more
@@ -45,16 +47,18 @@ place_at None last = Opened
 place_at (Some output) last = Within (Some output) last
 
 pub may_stand : (version : Version) (dir : List ℕ) (before last : Option (List ℕ)) (path : List ℕ)
-    (digest : Option Digest) → MayFollow version dir before path digest
-    → MayStand version dir (place_at before last) (Output path digest)
+    (digest : Option Digest) → MayBeOutputAfter version dir before path digest
+    → MayBeLine version dir (place_at before last) (Output path digest)
 may_stand version dir None last path digest may = may
 may_stand version dir (Some output) last path digest may = may
 
 -- outputs that rise behind the one before them
-pub outputs_back : (version : Version) (dir : List ℕ) (Of : Place → List Line → Type 0) → IsBackward version dir Of
+pub outputs_back : (version : Version) (dir : List ℕ) (Of : Place → List Line → Type 0)
+    → IsBackward version dir Of
     → (outputs : List Registration) (before last : Option (List ℕ)) (more : List Line)
-    → All (IsOf version dir) outputs → AreAbove before (paths_of outputs)
-    → ((reference : Option (List ℕ)) → Of (place_at (last_or before (paths_of outputs)) reference)
+    → All (IsOf version dir) outputs → AreAbove before (paths_registered outputs)
+    → ((reference : Option (List ℕ)) → Of (place_at (last_or before (paths_registered outputs))
+    reference)
     more) → Of (place_at before last) (flat_map output_lines outputs ++ more)
 outputs_back version dir Of back [] before last more of_dir above of = of last
 outputs_back version dir Of back (o ∷ outputs) before last more of_dir above of =
@@ -72,7 +76,8 @@ outputs_back version dir Of back (o ∷ outputs) before last more of_dir above o
 
 -- an entry may begin at a place
 abbrev pub MayEnter : Version → List ℕ → Place → Type 0
-MayEnter version dir place = (line : Line) → MayBegin version dir line → MayStand version dir place line
+MayEnter version dir place = (line : Line) → MayBegin version dir line
+    → MayBeLine version dir place line
 
 -- a place is behind the lines of an entry
 abbrev pub IsBehind : Entry → Place → Type 0
@@ -89,8 +94,10 @@ behind_outputs deriver path (next ∷ paths) outputs reference =
     behind_outputs deriver next paths outputs reference
 
 -- an entry
-pub entry_back : (version : Version) (dir : List ℕ) (Of : Place → List Line → Type 0) → IsBackward version dir Of
-    → (from : Place) (entry : Entry) (more : List Line) → MayEnter version dir from → IsEntryOf version dir entry
+pub entry_back : (version : Version) (dir : List ℕ) (Of : Place → List Line → Type 0)
+    → IsBackward version dir Of
+    → (from : Place) (entry : Entry) (more : List Line) → MayEnter version dir from
+    → IsEntryIn version dir entry
     → ((to : Place) → IsBehind entry to → Of to more)
     → Of from (entry_lines entry ++ more)
 entry_back version dir Of back from (Add r) more may is of =
@@ -104,9 +111,9 @@ entry_back version dir Of back from (Done deriver (o ∷ outputs)) more may is o
     back from (Deriver deriver) (flat_map output_lines (o ∷ outputs) ++ more)
     (may (Deriver deriver) (is.0, is.1))
     (outputs_back version dir Of back (o ∷ outputs) None None more is.4
-    (above_of_rising (paths_of (o ∷ outputs)) is.3)
-    (λ reference. of (place_at (last_or None (paths_of (o ∷ outputs))) reference)
-    (behind_outputs deriver o.path (paths_of outputs) (o ∷ outputs) reference)))
+    (above_of_rising (paths_registered (o ∷ outputs)) is.3)
+    (λ reference. of (place_at (last_or None (paths_registered (o ∷ outputs))) reference)
+    (behind_outputs deriver o.path (paths_registered outputs) (o ∷ outputs) reference)))
 
 -- ---- lines that end a journal
 
@@ -125,42 +132,47 @@ abbrev pub Ends : Version → List ℕ → Place → List Line → Type 0
 Ends version dir place come = LeadsTo version dir MayEnd place come
 
 -- within the lines of an added path, or of an output, an entry may begin
-pub within_enters : (version : Version) (dir : List ℕ) (output last : Option (List ℕ)) (line : Line) → MayBegin version dir line
-    → MayStand version dir (Within output last) line
+pub within_enters : (version : Version) (dir : List ℕ) (output last : Option (List ℕ))
+    (line : Line) → MayBegin version dir line
+    → MayBeLine version dir (Within output last) line
 within_enters version dir output last (Added path digest) may = may
 within_enters version dir output last (Deriver path) may = may
 within_enters version dir output last line may = absurd may
 
 -- behind the lines of an entry another may begin, and a journal may end
-behind_enters : (version : Version) (dir : List ℕ) (entry : Entry) (to : Place) → IsBehind entry to → MayEnter version dir to
+behind_enters : (version : Version) (dir : List ℕ) (entry : Entry) (to : Place) → IsBehind entry to
+    → MayEnter version dir to
     × MayEnd to
-behind_enters version dir entry (Within output last) is = (within_enters version dir output last, tt)
+behind_enters version dir entry (Within output last) is =
+    (within_enters version dir output last, tt)
 behind_enters version dir (Add r) to is = absurd is
 behind_enters version dir (Done deriver outputs) to is = absurd is
 
 -- the lines of entries end a journal from where an entry may begin
-pub entries_end : (version : Version) (dir : List ℕ) (place : Place) (entries : List Entry) → MayEnter version dir place
-    × MayEnd place → All (IsEntryOf version dir) entries → Ends version dir place (flat_map entry_lines entries)
+pub entries_end : (version : Version) (dir : List ℕ) (place : Place) (entries : List Entry)
+    → MayEnter version dir place
+    × MayEnd place → All (IsEntryIn version dir) entries
+    → Ends version dir place (flat_map entry_lines entries)
 entries_end version dir place [] begins each = begins.1
 entries_end version dir place (entry ∷ entries) begins each =
     entry_back version dir (Ends version dir) (λ from line more may ends. (may, ends)) place entry
-    (flat_map entry_lines entries) begins.0 (All-head (IsEntryOf version dir) entry entries each)
+    (flat_map entry_lines entries) begins.0 (All-head (IsEntryIn version dir) entry entries each)
     (λ to is. entries_end version dir to entries (behind_enters version dir entry to is)
-    (All-tail (IsEntryOf version dir) entry entries each))
+    (All-tail (IsEntryIn version dir) entry entries each))
 
 -- ---- what is still to come
 
 -- outputs rise behind one; without one there are none
 abbrev RiseBehind : Option (List ℕ) → List Registration → Type 0
 RiseBehind None outputs = outputs ≡ []
-RiseBehind (Some before) outputs = AreAbove (Some before) (paths_of outputs)
+RiseBehind (Some before) outputs = AreAbove (Some before) (paths_registered outputs)
 
 -- references and outputs may come at a place
 abbrev MayCome : Place → List (List ℕ) → List Registration → Type 0
 MayCome Start references outputs = ⊥
 MayCome Begun references outputs = (references ≡ []) × (outputs ≡ [])
 MayCome Opened references outputs = (references ≡ []) × (outputs ≢ [])
-    × AreAbove None (paths_of outputs)
+    × AreAbove None (paths_registered outputs)
 MayCome (Within output last) references outputs = AreAbove last references
     × RiseBehind output outputs
 
@@ -173,7 +185,7 @@ record Comes (version : Version) (dir : List ℕ) (place : Place) (come : List L
       ++ (flat_map output_lines outputs ++ flat_map entry_lines entries)
   pub paths_of_dir : All (IsPathOf dir) references
   pub outputs_of_dir : All (IsOf version dir) outputs
-  pub entries_of_dir : All (IsEntryOf version dir) entries
+  pub entries_of_dir : All (IsEntryIn version dir) entries
   pub may : MayCome place references outputs
 
 none_behind : (output : Option (List ℕ)) → RiseBehind output []
@@ -181,31 +193,37 @@ none_behind None = refl
 none_behind (Some before) = tt
 
 -- entries alone
-entries_come : (version : Version) (dir : List ℕ) (place : Place) (come : List Line) (entries : List Entry)
-    → MayCome place [] [] → All (IsEntryOf version dir) entries → come ≡ flat_map entry_lines entries
+entries_come : (version : Version) (dir : List ℕ) (place : Place) (come : List Line)
+    (entries : List Entry)
+    → MayCome place [] [] → All (IsEntryIn version dir) entries
+    → come ≡ flat_map entry_lines entries
     → Comes version dir place come
 entries_come version dir place come entries may each are = search (rules, All-nil)
 
 -- what a path registers with a digest and the references that come
-abbrev registration : {version : Version} {dir : List ℕ} {place : Place} {come : List Line} (path : List ℕ)
+abbrev registration : {version : Version} {dir : List ℕ} {place : Place} {come : List Line}
+    (path : List ℕ)
     (digest : Option Digest) → Comes version dir place come → Registration
 registration path digest c =
     record { path = path; info = record { references = c.references; digest = digest } }
 
 -- it is of the store folder
-registration_of : {version : Version} {dir : List ℕ} {output : Option (List ℕ)} {come : List Line} (path : List ℕ)
+registration_of : {version : Version} {dir : List ℕ} {output : Option (List ℕ)} {come : List Line}
+    (path : List ℕ)
     (digest : Option Digest) (c : Comes version dir (Within output None) come) → IsPathOf dir path
     → IsDigestOf version digest → IsOf version dir (registration path digest c)
 registration_of path digest c is_path is_digest = search (rules, rising_of_above)
 
 -- one more added path
-one_added : (version : Version) (dir : List ℕ) (place : Place) (path : List ℕ) (digest : Option Digest)
+one_added : (version : Version) (dir : List ℕ) (place : Place) (path : List ℕ)
+    (digest : Option Digest)
     (come : List Line) → MayCome place [] [] → IsPathOf dir path × IsDigestOf version digest
     → Comes version dir (Within None None) come → Comes version dir place (Added path digest ∷ come)
 one_added version dir place path digest come may is c =
-    entries_come version dir place (Added path digest ∷ come) (Add (registration path digest c) ∷ c.entries)
+    entries_come version dir place (Added path digest ∷ come)
+    (Add (registration path digest c) ∷ c.entries)
     may
-    (All-cons (IsEntryOf version dir) (Add (registration path digest c)) c.entries
+    (All-cons (IsEntryIn version dir) (Add (registration path digest c)) c.entries
     (registration_of path digest c is.0 is.1) c.entries_of_dir)
     (ap (λ (tail : List Line). Added path digest ∷ tail)
     (c.are ∙ ap (λ (os : List Registration). map Reference c.references
@@ -217,15 +235,16 @@ one_done : (version : Version) (dir : List ℕ) (place : Place) (deriver : List 
     → Comes version dir place (Deriver deriver ∷ come)
 one_done version dir place deriver come may is c =
     entries_come version dir place (Deriver deriver ∷ come) (Done deriver c.outputs ∷ c.entries) may
-    (All-cons (IsEntryOf version dir) (Done deriver c.outputs) c.entries
-    (is.0, is.1, c.may.1, rising_of_above (paths_of c.outputs) c.may.2, c.outputs_of_dir)
+    (All-cons (IsEntryIn version dir) (Done deriver c.outputs) c.entries
+    (is.0, is.1, c.may.1, rising_of_above (paths_registered c.outputs) c.may.2, c.outputs_of_dir)
     c.entries_of_dir)
     (ap (λ (tail : List Line). Deriver deriver ∷ tail)
     (c.are ∙ ap (λ (rs : List (List ℕ)). map Reference rs
     ++ (flat_map output_lines c.outputs ++ flat_map entry_lines c.entries)) c.may.0))
 
 -- one more output
-one_output : (version : Version) (dir : List ℕ) (place : Place) (path : List ℕ) (digest : Option Digest)
+one_output : (version : Version) (dir : List ℕ) (place : Place) (path : List ℕ)
+    (digest : Option Digest)
     (come : List Line) → IsPathOf dir path → IsDigestOf version digest
     → (c : Comes version dir (Within (Some path) None) come)
     → MayCome place [] (registration path digest c ∷ c.outputs)
@@ -234,8 +253,9 @@ one_output version dir place path digest come is_path is_digest c may =
     search (rules, append_assoc, All-nil, All-cons, registration_of)
 
 -- one more reference
-one_reference : (version : Version) (dir : List ℕ) (output last : Option (List ℕ)) (path : List ℕ) (come : List Line)
-    → MayStand version dir (Within output last) (Reference path)
+one_reference : (version : Version) (dir : List ℕ) (output last : Option (List ℕ)) (path : List ℕ)
+    (come : List Line)
+    → MayBeLine version dir (Within output last) (Reference path)
     → Comes version dir (Within output (Some path)) come
     → Comes version dir (Within output last) (Reference path ∷ come)
 one_reference version dir output last path come may c = record {
@@ -256,40 +276,48 @@ ToCome version dir place come = Comes version dir place come
 
 -- one more line
 comes_back : (version : Version) (dir : List ℕ) (place : Place) (line : Line) (come : List Line)
-    → MayStand version dir place line → ToCome version dir (behind place line) come → ToCome version dir place (line ∷ come)
+    → MayBeLine version dir place line → ToCome version dir (behind place line) come
+    → ToCome version dir place (line ∷ come)
 comes_back version dir Start line come may c = tt
 comes_back version dir Begun (Added path digest) come may c =
     one_added version dir Begun path digest come (refl, refl) may c
-comes_back version dir Begun (Deriver path) come may c = one_done version dir Begun path come (refl, refl) may c
+comes_back version dir Begun (Deriver path) come may c =
+    one_done version dir Begun path come (refl, refl) may c
 comes_back version dir Opened (Output path digest) come may c =
-    one_output version dir Opened path digest come may.0 may.1 c (refl, λ none. cc none, (tt, c.may.1))
+    one_output version dir Opened path digest come may.0 may.1 c
+    (refl, λ none. cc none, (tt, c.may.1))
 comes_back version dir (Within output last) (Added path digest) come may c =
     search (rules, one_added, none_behind)
 comes_back version dir (Within output last) (Deriver path) come may c =
     one_done version dir (Within output last) path come (tt, none_behind output) may c
 comes_back version dir (Within (Some before) last) (Output path digest) come may c =
-    one_output version dir (Within (Some before) last) path digest come may.0 may.1 c (tt, (may.2, c.may.1))
+    one_output version dir (Within (Some before) last) path digest come may.0 may.1 c
+    (tt, (may.2, c.may.1))
 comes_back version dir (Within output last) (Reference path) come may c =
     one_reference version dir output last path come may c
 comes_back version dir place line come may c = absurd may
 
 -- lines that end a journal are to come
-ends_come : (version : Version) (dir : List ℕ) (place : Place) (come : List Line) → Ends version dir place come
+ends_come : (version : Version) (dir : List ℕ) (place : Place) (come : List Line)
+    → Ends version dir place come
     → ToCome version dir place come
 ends_come version dir Start [] ends = tt
-ends_come version dir Begun [] ends = entries_come version dir Begun [] [] (refl, refl) (All-nil (IsEntryOf version dir))
+ends_come version dir Begun [] ends = entries_come version dir Begun [] [] (refl, refl)
+    (All-nil (IsEntryIn version dir))
     refl
 ends_come version dir Opened [] ends = absurd ends
-ends_come version dir (Within output last) [] ends = entries_come version dir (Within output last) [] []
-    (tt, none_behind output) (All-nil (IsEntryOf version dir)) refl
+ends_come version dir (Within output last) [] ends =
+    entries_come version dir (Within output last) [] []
+    (tt, none_behind output) (All-nil (IsEntryIn version dir)) refl
 ends_come version dir place (line ∷ come) ends = comes_back version dir place line come ends.0
     (ends_come version dir (behind place line) come ends.1)
 
 -- ---- the texts of journals
 
 -- lines that end a journal from its start are its text
-pub text_of_lines : (version : Version) (dir : List ℕ) (come : List Line) → Ends version dir Start come → (entries : List Entry)
-    × IsText dir entries (lines_text version come)
+pub text_of_lines : (version : Version) (dir : List ℕ) (come : List Line)
+    → Ends version dir Start come → (entries : List Entry)
+    × IsJournalText dir entries (lines_text version come)
 unfolding text
 text_of_lines version dir [] ends = ([], inr (refl, refl))
 text_of_lines version dir (First ∷ come) ends =
@@ -312,12 +340,12 @@ text_of_lines version dir (line ∷ come) ends = absurd ends.0
 
 -- the lines of entries of the store folder end a journal from its start
 pub lines_end : (version : Version) (dir : List ℕ) (entries : List Entry)
-    → All (IsEntryOf version dir) entries → Ends version dir Start (lines entries)
+    → All (IsEntryIn version dir) entries → Ends version dir Start (lines entries)
 lines_end version dir entries each =
     (tt, entries_end version dir Begun entries (λ line may. may, tt) each)
 
 -- a text is that of such lines
-pub lines_of_text : (dir bytes : List ℕ) (entries : List Entry) → IsText dir entries bytes
+pub lines_of_text : (dir bytes : List ℕ) (entries : List Entry) → IsJournalText dir entries bytes
     → (version : Version) × (come : List Line) × Ends version dir Start come
     × (bytes ≡ lines_text version come)
 unfolding text

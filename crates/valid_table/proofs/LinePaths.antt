@@ -36,12 +36,14 @@ other_path_line dir bytes line behind path rest of_dir none parts other is =
     other (subst (IsPathOf dir) same.0 is.of_dir)
 
 -- without a space there are no fields
-pub no_space : (version : Version) (dir bytes path : List ℕ) (digest : Option Digest) (rest : List ℕ) → Lacks 32 bytes
+pub no_space : (version : Version) (dir bytes path : List ℕ) (digest : Option Digest)
+    (rest : List ℕ) → Lacks 32 bytes
     → IsFieldsLine version dir bytes path digest rest → ⊥
 no_space version dir bytes path digest rest none is = search (rules, lacks_not, fields_apart)
 
 -- fields, and what stands before the first space and behind it
-module _ (version : Version) (dir bytes text fields : List ℕ) (of_dir : IsStoreDir dir) (none : Lacks 32 text)
+module _ (version : Version) (dir bytes text fields : List ℕ) (of_dir : IsStoreDir dir)
+    (none : Lacks 32 text)
     (parts : bytes ≡ text ++ 32 ∷ fields) (path : List ℕ) (digest : Option Digest)
     (rest : List ℕ) (is : IsFieldsLine version dir bytes path digest rest) where
   -- the path of the fields is what stands before the space
@@ -61,7 +63,8 @@ module _ (version : Version) (dir bytes text fields : List ℕ) (of_dir : IsStor
       → ((d : Option Digest) → IsDigestOf version d → line ≢ digest_text version d) → ⊥
   other_digest line behind lacks ends other =
       other digest is.is_digest
-      (sym (same_cut 10 (digest_text version digest) line rest behind (digest_lacks version digest is.is_digest)
+      (sym (same_cut 10 (digest_text version digest) line rest behind
+      (digest_lacks version digest is.is_digest)
       lacks (behind_space.1 ∙ ends)).0)
 
   -- and a path before the space
@@ -83,10 +86,12 @@ not_ahead dir bytes path behind other rest line none is =
     none is.ahead.0 (sym same.1 ∙ is.ahead.1)
 
 -- a path that isn't above the one before it is not the one of a line that is wanted
-pub low_fields : (version : Version) (dir : List ℕ) (before : Option (List ℕ)) (fields path : List ℕ)
+pub low_fields : (version : Version) (dir : List ℕ) (before : Option (List ℕ))
+    (fields path : List ℕ)
     (digest : Option Digest) (rest : List ℕ)
     → IsFieldsLine version dir fields path digest rest → (IsAbove before path → ⊥)
     → HasNoFields version dir before fields
 low_fields version dir before fields path digest rest line low = λ other sum more above is.
-    low (subst (IsAbove before) (two_fields version dir fields other sum more path digest rest is line).0
+    low (subst (IsAbove before) (two_fields version dir fields other sum more path digest rest is
+    line).0
     above)

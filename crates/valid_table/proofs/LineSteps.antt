@@ -5,7 +5,7 @@ use Rattle.valid_table.specs.LineTexts.{lines_text}
 use Rattle.valid_table.specs.Readers.{StopsWhere}
 use Rattle.valid_table.specs.declared.reading.Stop.{Stop}
 use Rattle.valid_table.specs.declared.reading.Stop.TheVariants.{NoMemory, Left}
-use Rattle.valid_table.specs.Steps.{Place, Ahead, Goes, MayStand, Stops, behind}
+use Rattle.valid_table.specs.Steps.{Place, Ahead, GoesOnWith, MayBeLine, Stops, behind}
 use Rattle.valid_table.specs.Texts.{Line, line_text}
 use Rattle.valid_table.specs.declared.version.Version.{Version}
 use Rattle.valid_table.proofs.LineLists.{IsBackward}
@@ -15,14 +15,17 @@ abbrev pub first : List ℕ → ℕ
 first bytes = get_or bytes 0 0
 
 -- where no line goes on with bytes that begin with something, the lines stop
-pub stop_here : (version : Version) (dir : List ℕ) (place : Place) (bad : List ℕ) (c : ℕ) (more : List ℕ) → bad ≡ c
-    ∷ more → Ahead place bad → ((line : Line) (rest : List ℕ) → Goes version dir place bad line rest → ⊥)
+pub stop_here : (version : Version) (dir : List ℕ) (place : Place) (bad : List ℕ) (c : ℕ)
+    (more : List ℕ) → bad ≡ c
+    ∷ more → Ahead place bad → ((line : Line) (rest : List ℕ)
+    → GoesOnWith version dir place bad line rest → ⊥)
     → Stops version dir place bad (length bad)
 stop_here version dir place bad c more begins ahead stuck = search rules
 
 -- one line, and where the lines behind it stop
-pub stop_behind : (version : Version) (dir : List ℕ) (from : Place) (bytes : List ℕ) (line : Line) (more : List ℕ)
-    (left : ℕ) → bytes ≡ line_text version line ++ more → MayStand version dir from line
+pub stop_behind : (version : Version) (dir : List ℕ) (from : Place) (bytes : List ℕ) (line : Line)
+    (more : List ℕ)
+    (left : ℕ) → bytes ≡ line_text version line ++ more → MayBeLine version dir from line
     → Stops version dir (behind from line) more left → Stops version dir from bytes left
 stop_behind version dir from bytes line more left parts may h = record {
   lines = line ∷ h.lines;
@@ -36,14 +39,17 @@ stop_behind version dir from bytes line more left parts may h = record {
 
 -- in lines and the rest, the lines stop with so many bytes left
 abbrev pub StopsIn : Version → List ℕ → List ℕ → ℕ → Place → List Line → Type 0
-StopsIn version dir rest left from lines = Stops version dir from (lines_text version lines ++ rest) left
+StopsIn version dir rest left from lines =
+    Stops version dir from (lines_text version lines ++ rest) left
 
 -- they stop where those behind the first one do
-pub stops_back : (version : Version) (dir rest : List ℕ) (left : ℕ) → IsBackward version dir (StopsIn version dir rest left)
+pub stops_back : (version : Version) (dir rest : List ℕ) (left : ℕ)
+    → IsBackward version dir (StopsIn version dir rest left)
 stops_back version dir rest left from line more may h = search (rules, stop_behind, append_assoc)
 
 -- the same bytes stop with the same left
-pub stops_in : (version : Version) (dir : List ℕ) (from : Place) (lines : List Line) (bytes rest : List ℕ) (left : ℕ)
+pub stops_in : (version : Version) (dir : List ℕ) (from : Place) (lines : List Line)
+    (bytes rest : List ℕ) (left : ℕ)
     → bytes ≡ lines_text version lines ++ rest → StopsIn version dir rest left from (lines ++ [])
     → Stops version dir from bytes left
 stops_in version dir from lines bytes rest left parts h = search (rules, append-nil)

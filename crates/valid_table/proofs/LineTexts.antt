@@ -24,7 +24,8 @@ use Rattle.nix_names.proofs.DigestTexts.{one_digest, one_text}
 
 -- a path, a space, a digest and a newline, and what is behind them
 pub fields_apart : (version : Version) (path : List ℕ) (digest : Option Digest) (rest : List ℕ)
-    → fields_text version path digest ++ rest ≡ path ++ (32 ∷ (digest_text version digest ++ (10 ∷ rest)))
+    → fields_text version path digest ++ rest ≡ path ++
+    (32 ∷ (digest_text version digest ++ (10 ∷ rest)))
 fields_apart version path digest rest = search (rules, append_assoc)
 
 -- an algorithm's digests have two bytes at least
@@ -70,13 +71,15 @@ two_path_lines dir bytes path rest other more one two =
     same_path 10 newline dir path other rest more one.of_dir two.of_dir (sym one.parts ∙ two.parts)
 
 -- bytes have one path with a digest behind it
-pub two_fields : (version : Version) (dir bytes path : List ℕ) (digest : Option Digest) (rest other : List ℕ)
+pub two_fields : (version : Version) (dir bytes path : List ℕ) (digest : Option Digest)
+    (rest other : List ℕ)
     (sum : Option Digest) (more : List ℕ) → IsFieldsLine version dir bytes path digest rest
     → IsFieldsLine version dir bytes other sum more
     → (path ≡ other) × (digest ≡ sum) × (rest ≡ more)
 two_fields version dir bytes path digest rest other sum more one two =
     let paths = same_path 32 space dir path other _ _ one.of_dir two.of_dir
-    (sym (one.parts ∙ fields_apart version path digest rest) ∙ two.parts ∙ fields_apart version other sum more)
+    (sym (one.parts ∙ fields_apart version path digest rest) ∙ two.parts ∙ fields_apart version
+    other sum more)
     in
     let digests = same_cut 10 (digest_text version digest) (digest_text version sum) rest more
     (digest_lacks version digest one.is_digest) (digest_lacks version sum two.is_digest) paths.1 in
@@ -93,8 +96,10 @@ IsLineOf version dir (Output path digest) = IsPathOf dir path × IsDigestOf vers
 IsLineOf version dir (Reference path) = IsPathOf dir path
 
 -- the fields of two lines, told apart by their bytes
-same_fields : (version : Version) (dir p q : List ℕ) (a b : Option Digest) (x y : List ℕ) → IsPathOf dir p
-    × IsDigestOf version a → IsPathOf dir q × IsDigestOf version b → fields_text version p a ++ x ≡ fields_text version q b ++ y
+same_fields : (version : Version) (dir p q : List ℕ) (a b : Option Digest) (x y : List ℕ)
+    → IsPathOf dir p
+    × IsDigestOf version a → IsPathOf dir q × IsDigestOf version b
+    → fields_text version p a ++ x ≡ fields_text version q b ++ y
     → (p ≡ q) × (a ≡ b) × (x ≡ y)
 same_fields version dir p q a b x y one two e =
     two_fields version dir (fields_text version p a ++ x) p a x q b y
@@ -117,9 +122,11 @@ version_letter One rest = refl
 version_letter Two rest = refl
 
 -- two texts that begin with lines are split alike
-pub same_lines : (version : Version) (dir : List ℕ) (a b : Line) (x y : List ℕ) → IsLineOf version dir a → IsLineOf version dir b
+pub same_lines : (version : Version) (dir : List ℕ) (a b : Line) (x y : List ℕ)
+    → IsLineOf version dir a → IsLineOf version dir b
     → line_text version a ++ x ≡ line_text version b ++ y → (a ≡ b) × (x ≡ y)
-same_lines version dir First First x y one two e = (refl, append_cancel_left (line_text version First) x y e)
+same_lines version dir First First x y one two e =
+    (refl, append_cancel_left (line_text version First) x y e)
 same_lines version dir (Added p a) (Added q b) x y one two e =
     let same = same_fields version dir p q a b x y one two (ap (drop 2) e) in
     (ap (λ path. Added path a) same.0 ∙ ap (Added q) same.1, same.2)
@@ -158,7 +165,8 @@ body version (Output path digest) = codes "O " ++ (path ++ (32 ∷ digest_text v
 body version (Reference path) = codes "R " ++ path
 
 -- a line and what follows it
-pub line_and : (version : Version) (line : Line) (rest : List ℕ) → line_text version line ++ rest ≡ body version line ++ 10 ∷ rest
+pub line_and : (version : Version) (line : Line) (rest : List ℕ)
+    → line_text version line ++ rest ≡ body version line ++ 10 ∷ rest
 line_and One First rest = refl
 line_and Two First rest = refl
 line_and version (Added path digest) rest = search (rules, fields_apart, append_assoc)
@@ -172,7 +180,8 @@ lettered : (letter : ℕ) (bytes : List ℕ) → letter ≢ 10 → Lacks 10 byte
 lettered letter bytes other clear = search (rules, All-cons)
 
 -- a path and its digest have no newline
-record_lacks : (version : Version) (dir path : List ℕ) (digest : Option Digest) → Lacks 10 dir → IsPathOf dir path
+record_lacks : (version : Version) (dir path : List ℕ) (digest : Option Digest) → Lacks 10 dir
+    → IsPathOf dir path
     × IsDigestOf version digest → Lacks 10 (path ++ (32 ∷ digest_text version digest))
 record_lacks version dir path digest clear is =
     All-append (λ b. b ≢ 10) path (32 ∷ digest_text version digest)
@@ -181,7 +190,8 @@ record_lacks version dir path digest clear is =
     (digest_lacks version digest is.1))
 
 -- a line has no newline before its last byte
-pub body_lacks : (version : Version) (dir : List ℕ) (line : Line) → Lacks 10 dir → IsLineOf version dir line
+pub body_lacks : (version : Version) (dir : List ℕ) (line : Line) → Lacks 10 dir
+    → IsLineOf version dir line
     → Lacks 10 (body version line)
 body_lacks One dir First clear is = passing (λ b. not (b == 10)) 10 (version_body One) refl refl
 body_lacks Two dir First clear is = passing (λ b. not (b == 10)) 10 (version_body Two) refl refl
@@ -195,7 +205,8 @@ body_lacks version dir (Reference path) clear is = lettered 82 path (λ e. absur
     (path_lacks 10 newline dir path clear is)
 
 -- the texts of so many lines are so many lines
-pub texts_are_lines : (version : Version) (dir : List ℕ) → Lacks 10 dir → (lines : List Line) → All (IsLineOf version dir) lines
+pub texts_are_lines : (version : Version) (dir : List ℕ) → Lacks 10 dir → (lines : List Line)
+    → All (IsLineOf version dir) lines
     → AreLines (length lines) (lines_text version lines)
 texts_are_lines version dir clear [] each = refl
 texts_are_lines version dir clear (line ∷ lines) each = (

@@ -8,7 +8,7 @@ use Rattle.std.proofs.lemmas.List.{drop-append-le, get_or_append_left, length-ap
 use Rattle.std.proofs.lemmas.Option.{none-some, same_Some}
 use Rattle.std.proofs.lemmas.List.Elements.{All-head, All-tail, All-weaker, Contains-append_left}
 use Rattle.valid_table.specs.Closing.{path_at, paths_at}
-use Rattle.valid_table.specs.Entries.{paths_of}
+use Rattle.valid_table.specs.Entries.{paths_registered}
 use Rattle.valid_table.specs.Linking.{AreLinked, AreRowsOf, IsLinkedRow, numbers_of, start_of}
 use Rattle.valid_table.specs.PathInfos.{PathInfo}
 use Rattle.valid_table.specs.Valid.{Registers}
@@ -49,7 +49,7 @@ pub path_stays : (registrations added : List Registration) (row : ℕ) → row <
     → path_at (registrations ++ added) row ≡ path_at registrations row
 path_stays registrations added row below =
     ap (λ (paths : List (List ℕ)). get_or paths row []) (paths_of-append registrations added)
-    ∙ get_or_append_left (paths_of registrations) (paths_of added) [] row
+    ∙ get_or_append_left (paths_registered registrations) (paths_registered added) [] row
     (omega (arith, below, path_count registrations))
 
 paths_stay : (registrations added : List Registration) (rows : List ℕ)

@@ -9,7 +9,7 @@ use Rattle.std.proofs.lemmas.List.{take_all}
 use Rattle.std.proofs.lemmas.List.Elements.{Contains-append_cases, Contains-append_left, Contains-append_right}
 use Rattle.nix_names.specs.Rising.{IsRising}
 use Rattle.nix_names.proofs.RisingLists.{equal_from_eq, rising_back}
-use Rattle.valid_table.specs.Merging.{IsLeast}
+use Rattle.valid_table.specs.Merging.{IsLeastHead}
 use Rattle.valid_table.specs.Unions.{IsInEither, IsUnion}
 use Rattle.nix_names.proofs.Lists.{Contains-later}
 
@@ -25,31 +25,32 @@ head_cases x xs p there = Contains-append_cases (x ∷ []) xs p there
 
 -- the left list's head is the least
 least_left : (path : List ℕ) (more right : List (List ℕ)) → (IsRising right
-    → IsRising (path ∷ right)) → IsLeast (path ∷ more) right path more right
+    → IsRising (path ∷ right)) → IsLeastHead (path ∷ more) right path more right
 least_left path more right rises = search (rules, Contains-later, at_head, head_cases)
 
 -- the right list's head is the least
 least_right : (path : List ℕ) (left others : List (List ℕ)) → (IsRising left
-    → IsRising (path ∷ left)) → IsLeast left (path ∷ others) path left others
+    → IsRising (path ∷ left)) → IsLeastHead left (path ∷ others) path left others
 least_right path left others rises = search (rules, Contains-later, at_head, head_cases)
 
 -- two lists that aren't empty
 module _ (left right : List (List ℕ)) (path other : List ℕ) (more others : List (List ℕ))
     (first : left ≡ path ∷ more) (second : right ≡ other ∷ others) where
   -- the left head is less
-  pub least_less : slice_cmp nat_cmp path other ≡ Less → IsLeast left right path more right
+  pub least_less : slice_cmp nat_cmp path other ≡ Less → IsLeastHead left right path more right
   least_less less = rw (first, second)
       (least_left path more (other ∷ others) (λ rises. (less, rises)))
 
   -- the right head is less
-  pub least_greater : slice_cmp nat_cmp path other ≡ Greater → IsLeast left right other left others
+  pub least_greater : slice_cmp nat_cmp path other ≡ Greater
+      → IsLeastHead left right other left others
   least_greater greater =
       let less : slice_cmp nat_cmp other path ≡ Less = nat_list_cmp_total.antisymm other path
       ∙ ap ordering_reverse greater in
       rw (first, second) (least_right other (path ∷ more) others (λ rises. (less, rises)))
 
   -- the heads are the same
-  pub least_equal : slice_cmp nat_cmp path other ≡ Equal → IsLeast left right path more others
+  pub least_equal : slice_cmp nat_cmp path other ≡ Equal → IsLeastHead left right path more others
   least_equal equal =
       let same : path ≡ other = equal_from_eq path other (texts_ties path other ∙ ap is_eq equal)
       in
@@ -100,7 +101,7 @@ pub merged_more :
     (left right done more others : List (List ℕ)) (path : List ℕ)
     (behind beside pushed : List (List ℕ)) →
     IsMerged left right done more others →
-    IsLeast more others path behind beside →
+    IsLeastHead more others path behind beside →
     pushed ≡ done ++ path ∷ [] →
     IsMerged left right pushed behind beside
 merged_more left right done more others path behind beside pushed merged least is =

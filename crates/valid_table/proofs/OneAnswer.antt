@@ -6,7 +6,7 @@ use Rattle.std.proofs.lemmas.List.Concat.{flat_map-append}
 use Rattle.nix_names.specs.Names.{IsStoreDir}
 use Rattle.valid_table.specs.BadLines.{IsBadLine, IsOtherVersion}
 use Rattle.valid_table.specs.LineFaults.{IsLeastFault, IsNotClosedAt, IsTwiceAt, StandsAt}
-use Rattle.valid_table.specs.Reading.{IsChecking, IsReadAs, IsReading, IsTooLong}
+use Rattle.valid_table.specs.Reading.{IsEntriesChecking, IsReadAs, IsJournalReading, IsTooLong}
 use Rattle.valid_table.specs.ReadingLaws.{AnswerIsOne, JournalTextsAreRead}
 use Rattle.valid_table.specs.Texts.{Line, First, Added, Output, Reference, entry_lines, lines}
 use Rattle.valid_table.specs.declared.entry.Entry.{Entry}
@@ -71,8 +71,9 @@ abbrev AreOne : Result (List Entry) TableFault → Result (List Entry) TableFaul
 AreOne a b = (a ≡ b) ⊎ (a ≡ Err NoMemory) ⊎ (b ≡ Err NoMemory)
 
 -- want of memory apart, entries have one answer
-one_check : (entries : List Entry) (a b : Result (List Entry) TableFault) → IsChecking entries a
-    → IsChecking entries b → AreOne a b
+one_check : (entries : List Entry) (a b : Result (List Entry) TableFault)
+    → IsEntriesChecking entries a
+    → IsEntriesChecking entries b → AreOne a b
 one_check entries (Err NoMemory) b one two = inr (inl refl)
 one_check entries a (Err NoMemory) one two = inr (inr refl)
 one_check entries (Ok a) (Ok b) one two = inl (ap Ok (one.0 ∙ sym two.0))
@@ -98,7 +99,7 @@ one_check entries a b one two = absurd one
 
 -- bytes past the limit
 too_long : (dir bytes : List ℕ) (b : Result (List Entry) TableFault) → IsTooLong bytes
-    → IsReading dir bytes b → Err TooLong ≡ b
+    → IsJournalReading dir bytes b → Err TooLong ≡ b
 too_long dir bytes (Err TooLong) long h = refl
 too_long dir bytes (Err WrongVersion) long h = absurd (h.0 long)
 too_long dir bytes (Err (BadLine n)) long h = absurd (h.0 long)
@@ -107,7 +108,7 @@ too_long dir bytes b long h = absurd (h.within long)
 
 -- bytes of another version
 wrong_version : (dir bytes : List ℕ) (b : Result (List Entry) TableFault) → (IsTooLong bytes → ⊥)
-    → IsOtherVersion bytes → IsReading dir bytes b → Err WrongVersion ≡ b
+    → IsOtherVersion bytes → IsJournalReading dir bytes b → Err WrongVersion ≡ b
 wrong_version dir bytes (Err TooLong) within other h = absurd (within h)
 wrong_version dir bytes (Err WrongVersion) within other h = refl
 wrong_version dir bytes (Err (BadLine n)) within other h = absurd (h.1 other)
@@ -118,7 +119,7 @@ wrong_version dir bytes b within other h = absurd
 -- bytes with a bad line
 wrong_line : (dir bytes : List ℕ) (n : ℕ) (b : Result (List Entry) TableFault) → IsStoreDir dir
     → (IsTooLong bytes → ⊥) → (IsOtherVersion bytes → ⊥) → IsBadLine dir bytes n
-    → IsReading dir bytes b → AreOne (Err (BadLine n)) b
+    → IsJournalReading dir bytes b → AreOne (Err (BadLine n)) b
 wrong_line dir bytes n (Err TooLong) is_dir within one bad h = absurd (within h)
 wrong_line dir bytes n (Err WrongVersion) is_dir within one bad h = absurd (one h.1)
 wrong_line dir bytes n (Err (BadLine m)) is_dir within one bad h =
@@ -128,7 +129,7 @@ wrong_line dir bytes n b is_dir within one bad h = search (rules, texts_have_no_
 
 -- the text of entries
 read_as : (dir bytes : List ℕ) (a b : Result (List Entry) TableFault) → IsStoreDir dir
-    → IsReadAs dir bytes a → IsReading dir bytes b → AreOne a b
+    → IsReadAs dir bytes a → IsJournalReading dir bytes b → AreOne a b
 read_as dir bytes a (Err TooLong) is_dir is h = absurd (is.within h)
 read_as dir bytes a (Err WrongVersion) is_dir is h =
     absurd (not_other_version dir bytes is.entries is.is_text h.1)
@@ -136,7 +137,8 @@ read_as dir bytes a (Err (BadLine n)) is_dir is h = search (rules, texts_have_no
 read_as dir bytes a (Err NoMemory) is_dir is h = inr (inr refl)
 read_as dir bytes a b is_dir is h =
     let same = text_has_one_list dir bytes is.entries h.entries is.is_text h.is_text in
-    one_check h.entries a b (subst (λ (es : List Entry). IsChecking es a) same is.checked) h.checked
+    one_check h.entries a b (subst (λ (es : List Entry). IsEntriesChecking es a) same is.checked)
+    h.checked
 
 -- two answers for the same bytes are the same, or one is want of memory
 pub answer_is_one : AnswerIsOne

@@ -21,15 +21,19 @@ use Rattle.valid_table.proofs.Versions.{one_version, text_begins}
 -- ---- bytes tell lines
 
 -- lines that end a journal from one place are the same where their bytes are
-lines_told : (version : Version) (dir : List ℕ) (from : Place) (a b : List Line) → Ends version dir from a → Ends version dir from b
+lines_told : (version : Version) (dir : List ℕ) (from : Place) (a b : List Line)
+    → Ends version dir from a → Ends version dir from b
     → lines_text version a ≡ lines_text version b → a ≡ b
 lines_told version dir from a b one two e =
-    elim (aligned version dir a b [] [] (lines_of version dir MayEnd from a one) (lines_of version dir MayEnd from b two)
+    elim (aligned version dir a b [] [] (lines_of version dir MayEnd from a one)
+    (lines_of version dir MayEnd from b two)
     (ap (λ (t : List ℕ). t ++ []) e)) [
       | inl d ↦ sym
-          (d.1 ∙ ap (λ (c : List Line). a ++ c) (none d.0 (d.2 ∙ append-nil (lines_text version d.0)))
+          (d.1 ∙ ap (λ (c : List Line). a ++ c) (none d.0
+          (d.2 ∙ append-nil (lines_text version d.0)))
           ∙ append-nil a)
-      | inr d ↦ d.1 ∙ ap (λ (c : List Line). b ++ c) (none d.0 (d.2 ∙ append-nil (lines_text version d.0)))
+      | inr d ↦ d.1 ∙ ap (λ (c : List Line). b ++ c)
+          (none d.0 (d.2 ∙ append-nil (lines_text version d.0)))
           ∙ append-nil b
     ]
   where

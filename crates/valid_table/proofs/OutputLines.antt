@@ -6,10 +6,10 @@ use Rattle.std.proofs.lemmas.List.Concat.{flat_map-append}
 use Rattle.std.proofs.lemmas.List.Elements.{All-push}
 use Rattle.nix_names.specs.Rising.{IsRising}
 use Rattle.nix_names.specs.declared.digest.Digest.{Digest}
-use Rattle.valid_table.specs.Entries.{paths_of}
+use Rattle.valid_table.specs.Entries.{paths_registered}
 use Rattle.valid_table.specs.LineTexts.{lines_text, registration_text}
 use Rattle.valid_table.specs.Readers.{HasRegistration, IsBadFields, SoFarOutputs, StopsInRegistration}
-use Rattle.valid_table.specs.Steps.{Ahead, IsAbove, Opened, Goes, MayFollow, MayStand, Stops}
+use Rattle.valid_table.specs.Steps.{Ahead, IsAbove, Opened, GoesOnWith, MayBeOutputAfter, MayBeLine, Stops}
 use Rattle.valid_table.specs.Texts.{IsOf, Line, Output, output_lines}
 use Rattle.valid_table.specs.declared.entry.Registration.{Registration}
 use Rattle.valid_table.specs.declared.version.Version.{Version}
@@ -26,7 +26,8 @@ lines_more outputs o = search (rules, flat_map-append, append-nil)
 
 -- the text of outputs, and of one more
 text_more : (version : Version) (outputs : List Registration) (o : Registration) (behind : List ℕ)
-    → lines_text version (flat_map output_lines outputs) ++ (registration_text version 79 o ++ behind)
+    → lines_text version (flat_map output_lines outputs) ++
+    (registration_text version 79 o ++ behind)
     ≡ lines_text version (flat_map output_lines (outputs ++ o ∷ [])) ++ behind
 text_more version outputs o behind =
     text_and version (flat_map output_lines outputs) (output_lines o) behind
@@ -35,8 +36,8 @@ text_more version outputs o behind =
 -- ---- where an output stops
 
 may_follow : (version : Version) (dir : List ℕ) (before last : Option (List ℕ)) (path : List ℕ)
-    (digest : Option Digest) → MayStand version dir (place_at before last) (Output path digest)
-    → MayFollow version dir before path digest
+    (digest : Option Digest) → MayBeLine version dir (place_at before last) (Output path digest)
+    → MayBeOutputAfter version dir before path digest
 may_follow version dir None last path digest may = may
 may_follow version dir (Some output) last path digest may = may
 
@@ -47,15 +48,18 @@ letter_ahead None last bytes fields begins = (fields, begins)
 letter_ahead (Some output) last bytes fields begins = tt
 
 -- with an output's letter only an output's line goes on
-stuck : (version : Version) (dir : List ℕ) (before last : Option (List ℕ)) (bytes : List ℕ) (left : ℕ)
+stuck : (version : Version) (dir : List ℕ) (before last : Option (List ℕ)) (bytes : List ℕ)
+    (left : ℕ)
     → (h : IsBadFields version dir 79 before bytes left) → (line : Line) (rest : List ℕ)
-    → Goes version dir (place_at before last) bytes line rest → ⊥
+    → GoesOnWith version dir (place_at before last) bytes line rest → ⊥
 stuck version dir before last bytes left h (Output path digest) rest go = search (rules, may_follow)
 stuck version dir before last bytes left h line rest go = search (rules, first)
 
 -- reading an output stops where its line, or one of its references, is bad
-output_stops : (version : Version) (dir : List ℕ) (before last : Option (List ℕ)) (bytes : List ℕ) (left : ℕ)
-    → StopsInRegistration version dir 79 before bytes left → Stops version dir (place_at before last) bytes left
+output_stops : (version : Version) (dir : List ℕ) (before last : Option (List ℕ)) (bytes : List ℕ)
+    (left : ℕ)
+    → StopsInRegistration version dir 79 before bytes left
+    → Stops version dir (place_at before last) bytes left
 output_stops version dir before last bytes left (inl h) =
     search (rules, place_at, stop_here, letter_ahead, stuck)
 output_stops version dir before last bytes left (inr h) =
@@ -64,32 +68,37 @@ output_stops version dir before last bytes left (inr h) =
     (may_stand version dir before last h.path h.digest (h.line.of_dir, h.line.is_digest, h.above))
     (h.stops version (Some h.path))
 
-pub outputs_stop : (version : Version) (dir bytes : List ℕ) (outputs : List Registration) (rest : List ℕ)
+pub outputs_stop : (version : Version) (dir bytes : List ℕ) (outputs : List Registration)
+    (rest : List ℕ)
     (before : Option (List ℕ)) (left : ℕ) → SoFarOutputs version dir bytes outputs rest → before
-    ≡ last_or None (paths_of outputs)
+    ≡ last_or None (paths_registered outputs)
     → StopsInRegistration version dir 79 before rest left → Stops version dir Opened bytes left
 outputs_stop version dir bytes outputs rest before left so_far is h =
     stops_in version dir Opened (flat_map output_lines outputs) bytes rest left so_far.parts
-    (outputs_back version dir (StopsIn version dir rest left) (stops_back version dir rest left) outputs None None []
-    so_far.of_dir (above_of_rising (paths_of outputs) so_far.rising)
+    (outputs_back version dir (StopsIn version dir rest left) (stops_back version dir rest left)
+    outputs None None []
+    so_far.of_dir (above_of_rising (paths_registered outputs) so_far.rising)
     (λ reference. output_stops version dir _ reference rest left
     (subst (λ o. StopsInRegistration version dir 79 o rest left) is h)))
 
 -- ---- outputs that were read
 
 -- one more output
-pub outputs_more : (version : Version) (dir bytes : List ℕ) (outputs more : List Registration) (rest behind : List ℕ)
-    (before : Option (List ℕ)) (o : Registration) → SoFarOutputs version dir bytes outputs rest → before
-    ≡ last_or None (paths_of outputs)
+pub outputs_more : (version : Version) (dir bytes : List ℕ) (outputs more : List Registration)
+    (rest behind : List ℕ)
+    (before : Option (List ℕ)) (o : Registration) → SoFarOutputs version dir bytes outputs rest
+    → before
+    ≡ last_or None (paths_registered outputs)
     → HasRegistration version dir 79 before rest o behind → more ≡ outputs ++ o ∷ []
     → SoFarOutputs version dir bytes more behind
 outputs_more version dir bytes outputs more rest behind before o so_far is h pushed =
     rw pushed (record {
-      parts = so_far.parts ∙ ap (λ t. lines_text version (flat_map output_lines outputs) ++ t) h.parts
+      parts = so_far.parts ∙ ap (λ t. lines_text version (flat_map output_lines outputs) ++ t)
+          h.parts
           ∙ text_more version outputs o behind;
       of_dir = All-push (IsOf version dir) outputs o so_far.of_dir h.of_dir;
       rising = subst IsRising (sym (map-append (λ (r : Registration). r.path) outputs (o ∷ [])))
-          (rising_more (paths_of outputs) o.path so_far.rising
+          (rising_more (paths_registered outputs) o.path so_far.rising
           (subst (λ b. IsAbove b o.path) is h.above));
       ended = inr h.ends;
     })

@@ -8,7 +8,7 @@ use Rattle.std.proofs.lemmas.List.{drop_at, get_or_append_left, get_or_at}
 use Rattle.std.proofs.lemmas.List.Elements.{All-drop, All-head, All-tail, All-weaker, Contains-append_right}
 use Rattle.std.proofs.lemmas.Map.Keys.{apart_from_distinct, IsDistinct-cons, IsDistinct-from_apart, IsDistinct-head, IsDistinct-tail}
 use Rattle.nix_names.proofs.RisingLists.{equal_from_eq}
-use Rattle.valid_table.specs.Entering.{AreUnknown, IsUnknown}
+use Rattle.valid_table.specs.Entering.{AreUnknown, IsNotKnown}
 
 -- the end of a list whose elements have a property
 pub All-right : {X : Type 0} (P : X → Type 0) (xs ys : List X) → All P (xs ++ ys) → All P ys
@@ -49,8 +49,8 @@ apart_from_unknown : (x : List ℕ) (xs ys : List (List ℕ)) → AreUnknown (x 
 apart_from_unknown x xs [] new = tt
 apart_from_unknown x xs (y ∷ ys) new = (
   false_from_ne_true _
-      (λ same. All-head (IsUnknown (x ∷ xs)) y ys new (0, omega arith, equal_from_eq x y same)),
-  apart_from_unknown x xs ys (All-tail (IsUnknown (x ∷ xs)) y ys new),
+      (λ same. All-head (IsNotKnown (x ∷ xs)) y ys new (0, omega arith, equal_from_eq x y same)),
+  apart_from_unknown x xs ys (All-tail (IsNotKnown (x ∷ xs)) y ys new),
 )
 
 -- a path that differs from each of two lists does from both, one behind the other
@@ -75,5 +75,5 @@ distinct_append (x ∷ xs) paths first second new =
     (apart_from_both x xs paths (IsDistinct-head Eq x xs first)
     (apart_from_unknown x xs paths new))
     (distinct_append xs paths (IsDistinct-tail Eq x xs first) second
-    (All-weaker (IsUnknown (x ∷ xs)) (IsUnknown xs)
+    (All-weaker (IsNotKnown (x ∷ xs)) (IsNotKnown xs)
     (λ y unknown there. unknown (Contains-append_right (x ∷ []) xs y there)) paths new))

@@ -5,8 +5,8 @@ use Rattle.std.specs.List.{IsDistinct}
 use Rattle.std.proofs.lemmas.Bool.{cases_lt, false≢true}
 use Rattle.std.proofs.lemmas.List.Elements.{All-contains}
 use Rattle.std.proofs.lemmas.Map.Keys.{apart_from_distinct}
-use Rattle.valid_table.specs.Closing.{HasReferences, IsReached}
-use Rattle.valid_table.specs.Closure.{Leads}
+use Rattle.valid_table.specs.Closing.{HasReferences, IsReachedFrom}
+use Rattle.valid_table.specs.Closure.{LeadsByReferences}
 use Rattle.valid_table.specs.PathInfos.{PathInfo}
 use Rattle.valid_table.specs.Valid.{IsValid, RefersTo, Registers}
 use Rattle.valid_table.specs.declared.entry.Registration.{Registration}
@@ -21,22 +21,23 @@ valid_from_registers registrations path info has =
 
 -- what leads on from a path begins at a valid path
 pub valid_from_leads : (registrations : List Registration) (from to : List ℕ)
-    (steps : List (List ℕ)) → Leads registrations from to steps → IsValid registrations from
+    (steps : List (List ℕ)) → LeadsByReferences registrations from to steps
+    → IsValid registrations from
 valid_from_leads registrations from to [] leads = leads.0
 valid_from_leads registrations from to (next ∷ steps) leads =
     valid_from_registers registrations from leads.0.0 leads.0.1
 
 leads_more : (registrations : List Registration) (from to next : List ℕ) (steps : List (List ℕ))
-    → Leads registrations from to steps → RefersTo registrations to next
-    → IsValid registrations next → Leads registrations from next (steps ++ next ∷ [])
+    → LeadsByReferences registrations from to steps → RefersTo registrations to next
+    → IsValid registrations next → LeadsByReferences registrations from next (steps ++ next ∷ [])
 leads_more registrations from to next [] leads refers valid = search rules
 leads_more registrations from to next (step ∷ steps) leads refers valid =
     (leads.0, leads_more registrations step to next steps leads.1 refers valid)
 
 -- a valid reference of what is reached is reached
 pub reached_more : (registrations : List Registration) (roots : List (List ℕ)) (path next : List ℕ)
-    → IsReached registrations roots path → RefersTo registrations path next
-    → IsValid registrations next → IsReached registrations roots next
+    → IsReachedFrom registrations roots path → RefersTo registrations path next
+    → IsValid registrations next → IsReachedFrom registrations roots next
 reached_more registrations roots path next reached refers valid = (
   reached.0,
   reached.1,
@@ -49,13 +50,13 @@ reached_more registrations roots path next reached refers valid = (
 
 -- a valid path reaches itself
 pub reached_itself : (registrations : List Registration) (roots : List (List ℕ)) (path : List ℕ)
-    → Contains roots path → IsValid registrations path → IsReached registrations roots path
+    → Contains roots path → IsValid registrations path → IsReachedFrom registrations roots path
 reached_itself registrations roots path has valid = (path, has, ([], (valid, refl)))
 
 -- paths that have all their valid references have all that one of them reaches
 pub has_reached : (registrations : List Registration) (paths : List (List ℕ))
     → All (HasReferences registrations paths) paths → (from to : List ℕ) (steps : List (List ℕ))
-    → Contains paths from → Leads registrations from to steps → Contains paths to
+    → Contains paths from → LeadsByReferences registrations from to steps → Contains paths to
 has_reached registrations paths closed from to [] has leads = subst (Contains paths) leads.1 has
 has_reached registrations paths closed from to (next ∷ steps) has leads =
     has_reached registrations paths closed next to steps

@@ -8,8 +8,8 @@ use Rattle.nix_names.specs.Names.{IsStoreDir}
 use Rattle.valid_table.specs.BadLines.{IsBadLine, IsOtherVersion}
 use Rattle.valid_table.specs.LineTexts.{lines_text}
 use Rattle.valid_table.specs.Readers.{StopsInText}
-use Rattle.valid_table.specs.Reading.{BeginsVersion, IsChecking, IsReading, IsTooLong, max_len}
-use Rattle.valid_table.specs.Texts.{IsText, Line, line_text, lines, text}
+use Rattle.valid_table.specs.Reading.{BeginsVersion, IsEntriesChecking, IsJournalReading, IsTooLong, max_len}
+use Rattle.valid_table.specs.Texts.{IsJournalText, Line, line_text, lines, text}
 use Rattle.valid_table.specs.declared.entry.Entry.{Entry}
 use Rattle.valid_table.specs.declared.fault.TableFault.{TableFault}
 use Rattle.valid_table.specs.declared.fault.TableFault.TheVariants.{NoMemory, NotClosed, Twice}
@@ -35,7 +35,7 @@ lines_fit version (line ∷ some) = omega (
 
 -- a text that isn't too long has few lines
 pub few_lines : (dir bytes : List ℕ) (entries : List Entry) → (IsTooLong bytes → ⊥)
-    → IsText dir entries bytes → length (lines entries) ≤ 134217729
+    → IsJournalText dir entries bytes → length (lines entries) ≤ 134217729
 unfolding text
 few_lines dir bytes entries within (inl (version, is)) =
     elim (cases_lt (max_len Two) (length bytes)) [
@@ -67,7 +67,7 @@ bad_line_number dir bytes left n of_dir (inr (none, some, all)) number =
     subst (IsBadLine dir bytes) one (bad_first dir bytes of_dir none some)
 
 -- the text of some entries begins with the line of its version
-some_begin : (dir bytes : List ℕ) (entries : List Entry) → IsText dir entries bytes
+some_begin : (dir bytes : List ℕ) (entries : List Entry) → IsJournalText dir entries bytes
     → entries ≢ [] → (version : Version) × BeginsVersion version bytes
 some_begin dir bytes entries (inl (version, is)) some =
     (version, text_begins version dir bytes entries is)
@@ -75,8 +75,8 @@ some_begin dir bytes entries (inr none) some = absurd (some none.0)
 
 -- what is answered for the entries whose text the bytes are
 pub read_as : (dir bytes : List ℕ) (entries : List Entry) (answer : Result (List Entry) TableFault)
-    → (IsTooLong bytes → ⊥) → (IsOtherVersion bytes → ⊥) → IsText dir entries bytes
-    → IsChecking entries answer → IsReading dir bytes answer
+    → (IsTooLong bytes → ⊥) → (IsOtherVersion bytes → ⊥) → IsJournalText dir entries bytes
+    → IsEntriesChecking entries answer → IsJournalReading dir bytes answer
 read_as dir bytes entries (Ok journal) within other is checked =
     record { within = within; entries = entries; is_text = is; checked = checked }
 read_as dir bytes entries (Err (NotClosed n)) within other is checked =

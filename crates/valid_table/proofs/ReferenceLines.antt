@@ -8,8 +8,8 @@ use Rattle.nix_names.specs.StorePaths.{IsPathOf}
 use Rattle.nix_names.specs.declared.digest.Digest.{Digest}
 use Rattle.valid_table.specs.LineTexts.{fields_text, lines_text, references_text}
 use Rattle.valid_table.specs.PathInfos.{PathInfo}
-use Rattle.valid_table.specs.Readers.{HasReferences, HasRegistration, IsFieldsLine, IsPathLine, SoFarReferences}
-use Rattle.valid_table.specs.Steps.{IsAbove, Goes, Stops, Within}
+use Rattle.valid_table.specs.Readers.{ReadsReferences, HasRegistration, IsFieldsLine, IsPathLine, SoFarReferences}
+use Rattle.valid_table.specs.Steps.{IsAbove, GoesOnWith, Stops, Within}
 use Rattle.valid_table.specs.Texts.{IsDigestOf, Line, Reference}
 use Rattle.valid_table.specs.declared.version.Version.{Version}
 use Rattle.valid_table.proofs.LineTexts.{references_are, two_path_lines}
@@ -26,20 +26,24 @@ pub references_lead : (version : Version) (dir : List ℕ) (output : Option (Lis
 references_lead version dir output bytes references rest left so_far h =
     stops_in version dir (Within output None) (map Reference references) bytes rest left
     (so_far.parts ∙ ap (λ (t : List ℕ). t ++ rest) (sym (references_are version references)))
-    (references_back version dir (StopsIn version dir rest left) (stops_back version dir rest left) output None references
+    (references_back version dir (StopsIn version dir rest left) (stops_back version dir rest left)
+    output None references
     [] so_far.of_dir (above_of_rising references so_far.rising) h)
 
 -- from within an entry no line but a reference's goes on with a reference's letter
-stuck : (version : Version) (dir : List ℕ) (output before : Option (List ℕ)) (bytes fields : List ℕ) → bytes ≡ 82 ∷ 32
+stuck : (version : Version) (dir : List ℕ) (output before : Option (List ℕ))
+    (bytes fields : List ℕ) → bytes ≡ 82 ∷ 32
     ∷ fields
     → ((path rest : List ℕ) → IsAbove before path → IsPathLine dir fields path rest → ⊥)
-    → (line : Line) (rest : List ℕ) → Goes version dir (Within output before) bytes line rest → ⊥
+    → (line : Line) (rest : List ℕ) → GoesOnWith version dir (Within output before) bytes line rest
+    → ⊥
 stuck version dir output before bytes fields begins none (Reference path) rest goes =
     search (rules, append_assoc)
 stuck version dir output before bytes fields begins none line rest goes = search (rules, first)
 
 -- a reference's line without a path stops
-pub bad_reference : (version : Version) (dir : List ℕ) (output before : Option (List ℕ)) (bytes fields : List ℕ) → bytes
+pub bad_reference : (version : Version) (dir : List ℕ) (output before : Option (List ℕ))
+    (bytes fields : List ℕ) → bytes
     ≡ 82 ∷ 32 ∷ fields
     → ((path rest : List ℕ) → IsPathLine dir fields path rest → ⊥)
     → Stops version dir (Within output before) bytes (length bytes)
@@ -91,7 +95,7 @@ pub registration_found : (version : Version) (dir : List ℕ) (letter : ℕ) (be
     (bytes fields path : List ℕ) (digest : Option Digest) (behind : List ℕ) (info : PathInfo)
     (rest : List ℕ) → bytes ≡ letter ∷ 32 ∷ fields
     → IsFieldsLine version dir fields path digest behind → IsAbove before path
-    → HasReferences dir behind info.references rest → info.digest ≡ digest
+    → ReadsReferences dir behind info.references rest → info.digest ≡ digest
     → HasRegistration version dir letter before bytes (record { path = path; info = info }) rest
 registration_found version dir letter before bytes fields path digest behind info rest begins line
     above has same =

@@ -3,7 +3,7 @@ use Rattle.std.proofs.Common.{◌≡◌, ℕ, suc, ◌-◌, List, [], ◌∷◌,
 use Rattle.std.specs.List.{last_or, slice_get}
 use Rattle.std.specs.Option.{option_map}
 use Rattle.nix_names.specs.Rising.{IsRising}
-use Rattle.valid_table.specs.Entries.{paths_of}
+use Rattle.valid_table.specs.Entries.{paths_registered}
 use Rattle.valid_table.specs.Steps.{IsAbove}
 use Rattle.valid_table.specs.declared.entry.Registration.{Registration}
 
@@ -54,7 +54,7 @@ last_map f o (x ∷ xs) = last_map f (Some x) xs
 -- the path of the last registration, as it was looked up
 pub last_path_is : (registrations : List Registration) (last : Registration) → Some last
     ≡ slice_get registrations (length registrations - 1) → Some last.path
-    ≡ last_or None (paths_of registrations)
+    ≡ last_or None (paths_registered registrations)
 last_path_is registrations last at =
     ap (option_map (λ (r : Registration). r.path)) (at ∙ last_is registrations)
     ∙ sym (last_map (λ (r : Registration). r.path) None registrations)

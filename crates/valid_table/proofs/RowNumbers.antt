@@ -10,25 +10,25 @@ use Rattle.std.proofs.lemmas.Simd.{map-map}
 use Rattle.indexmap.specs.IndexMap.{IndexMap, get_by, index_of_by, keys}
 use Rattle.nix_names.proofs.RisingLists.{equal_from_eq}
 use Rattle.valid_table.specs.Closing.{IsRowOf}
-use Rattle.valid_table.specs.Entries.{paths_of}
+use Rattle.valid_table.specs.Entries.{paths_registered}
 use Rattle.valid_table.specs.PathInfos.{PathInfo}
 use Rattle.valid_table.specs.Tables.{registrations_of}
 use Rattle.valid_table.specs.Valid.{IsValid}
 use Rattle.valid_table.specs.declared.entry.Registration.{Registration}
 
 -- the paths that rows register are their keys
-pub paths_are_keys : (rows : List (List ℕ × PathInfo)) → paths_of (registrations_of rows)
+pub paths_are_keys : (rows : List (List ℕ × PathInfo)) → paths_registered (registrations_of rows)
     ≡ keys_of rows
 paths_are_keys rows = search (rules, map-map)
 
 -- there are as many paths as rows
-pub path_count : (registrations : List Registration) → length (paths_of registrations)
+pub path_count : (registrations : List Registration) → length (paths_registered registrations)
     ≡ length registrations
 path_count registrations = length-map registrations (λ (r : Registration). r.path)
 
 -- the path of the registration at a place
 pub path_read : (rs : List Registration) (i : ℕ) (r : Registration) (d : List ℕ) → i < length rs
-    → get_or (paths_of rs) i d ≡ (get_or rs i r).path
+    → get_or (paths_registered rs) i d ≡ (get_or rs i r).path
 path_read rs i r d lt = get_or-map (λ (x : Registration). x.path) rs i r d lt
 
 -- a row is a registration

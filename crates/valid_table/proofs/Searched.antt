@@ -10,7 +10,7 @@ use Rattle.std.proofs.lemmas.Cmp.{nat_list_cmp_total, tied_itself}
 use Rattle.std.proofs.lemmas.List.Sorted.{searchable_from_sorted}
 use Rattle.nix_names.specs.Rising.{IsRising}
 use Rattle.nix_names.proofs.RisingLists.{equal_from_eq}
-use Rattle.valid_table.specs.Entries.{paths_of}
+use Rattle.valid_table.specs.Entries.{paths_registered}
 use Rattle.valid_table.specs.Valid.{IsValid}
 use Rattle.valid_table.specs.declared.entry.Registration.{Registration}
 use Rattle.valid_table.proofs.RowNumbers.{path_count, path_read}
@@ -21,7 +21,8 @@ abbrev pub compared : List ℕ → Registration → Ordering
 compared path r = slice_cmp nat_cmp r.path path
 
 -- of neighbours in a rising list the second is not less
-pub rising_sorted_at : (rs : List Registration) (k : ℕ) (d : Registration) → IsRising (paths_of rs)
+pub rising_sorted_at : (rs : List Registration) (k : ℕ) (d : Registration)
+    → IsRising (paths_registered rs)
     → k + 1 < length rs → is_lt (slice_cmp nat_cmp (get_or rs (k + 1) d).path (get_or rs k d).path)
     ≡ false
 rising_sorted_at rs k d rises lt =
@@ -33,7 +34,7 @@ rising_sorted_at rs k d rises lt =
 -- a search tells whether a path is registered
 pub search_tells :
     (rs : List Registration) (path : List ℕ) (found : Result ℕ ℕ) →
-    IsRising (paths_of rs) →
+    IsRising (paths_registered rs) →
     IsSearchInRange found (length rs) →
     IsBinarySearchResult (compared path) rs found →
     IsTrue (is_ok found) ↔ IsValid rs path

@@ -11,7 +11,7 @@ use Rattle.std.proofs.lemmas.List.Sorted.{IsPermutation-map}
 use Rattle.std.proofs.lemmas.Map.Keys.{IsDistinct-IsPermutation, Less-from_sorted, sorted_from_all_adjacent}
 use Rattle.nix_names.specs.Rising.{IsRising}
 use Rattle.nix_names.proofs.RisingLists.{rising_from_sorted, rising_sorted, sorted_from_rising}
-use Rattle.valid_table.specs.Entries.{paths_of}
+use Rattle.valid_table.specs.Entries.{paths_registered}
 use Rattle.valid_table.specs.Valid.{IsOnce}
 use Rattle.valid_table.specs.declared.entry.Registration.{Registration}
 use Rattle.valid_table.proofs.RowNumbers.{path_count, path_read}
@@ -24,26 +24,27 @@ RiseBelow rs n = (k : ℕ) (d : Registration) → k + 1 < n
 
 -- neighbours that rise make a rising list
 pub rising_from_neighbours : (rs : List Registration) → RiseBelow rs (length rs)
-    → IsRising (paths_of rs)
+    → IsRising (paths_registered rs)
 rising_from_neighbours rs rise =
-    rising_from_sorted (paths_of rs)
-    (sorted_from_all_adjacent nat_list_cmp_total (paths_of rs) []
+    rising_from_sorted (paths_registered rs)
+    (sorted_from_all_adjacent nat_list_cmp_total (paths_registered rs) []
     (λ k below.
     let lt : k + 1 < length rs = omega (arith, path_count rs) in
     let (r, is) = element_at rs k (omega arith) in
     rw (path_read rs k r [] (omega arith), path_read rs (k + 1) r [] lt) (rise k r lt)))
 
 -- neighbours of a rising list rise
-pub neighbours_rise : (rs : List Registration) → IsRising (paths_of rs) → RiseBelow rs (length rs)
+pub neighbours_rise : (rs : List Registration) → IsRising (paths_registered rs)
+    → RiseBelow rs (length rs)
 neighbours_rise rs rises k d lt =
     rw (← path_read rs k d [] (omega arith), ← path_read rs (k + 1) d [] lt)
-    (Less-from_sorted (slice_cmp nat_cmp) (paths_of rs) k (k + 1) []
-    (sorted_from_rising (paths_of rs) rises) (omega arith) (omega (arith, path_count rs)))
+    (Less-from_sorted (slice_cmp nat_cmp) (paths_registered rs) k (k + 1) []
+    (sorted_from_rising (paths_registered rs) rises) (omega arith) (omega (arith, path_count rs)))
 
 -- neighbours of a rising list compare as less
 pub rising_at :
     (rs : List Registration) (i : ℕ) (d e : Registration) →
-    IsRising (paths_of rs) →
+    IsRising (paths_registered rs) →
     0 < i →
     i < length rs →
     is_lt (slice_cmp nat_cmp (get_or rs (i - 1) d).path (get_or rs i e).path) ≡ true
@@ -55,7 +56,7 @@ rising_at rs i d e rises some lt =
 -- the paths of sorted registrations are sorted
 paths_sorted : (rs : List Registration) → IsSortedBy
     (λ (a b : Registration). is_lt (slice_cmp nat_cmp a.path b.path)) rs
-    → IsSorted (slice_cmp nat_cmp) (paths_of rs)
+    → IsSorted (slice_cmp nat_cmp) (paths_registered rs)
 paths_sorted rs sorted k d from below =
     let lt : k + 1 < length rs = omega (arith, path_count rs) in
     let (r, is) = element_at rs k (omega arith) in
@@ -67,8 +68,9 @@ pub sorted_rises :
     IsPermutation some sorted →
     IsSortedBy (λ (a b : Registration). is_lt (slice_cmp nat_cmp a.path b.path)) sorted →
     IsOnce some →
-    IsRising (paths_of sorted)
+    IsRising (paths_registered sorted)
 sorted_rises some sorted moved ordered once =
-    rising_sorted (paths_of sorted) (paths_sorted sorted ordered)
-    (IsDistinct-IsPermutation (pointwise nat_eq) nat_list_eq_equiv.symm (paths_of some)
-    (paths_of sorted) (IsPermutation-map (λ (r : Registration). r.path) some sorted moved) once)
+    rising_sorted (paths_registered sorted) (paths_sorted sorted ordered)
+    (IsDistinct-IsPermutation (pointwise nat_eq) nat_list_eq_equiv.symm (paths_registered some)
+    (paths_registered sorted) (IsPermutation-map (λ (r : Registration). r.path) some sorted moved)
+    once)

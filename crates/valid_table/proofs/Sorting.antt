@@ -18,7 +18,7 @@ use Rattle.std.proofs.lemmas.Option.{get_or_from_slice_get}
 use Rattle.nix_names.specs.Rising.{IsRising}
 use Rattle.nix_names.proofs.RisingLists.{equal_from_eq, rising_sorted}
 use Rattle.valid_table.specs.Closing.{AreRows, HaveSame, path_at, paths_at}
-use Rattle.valid_table.specs.Entries.{paths_of}
+use Rattle.valid_table.specs.Entries.{paths_registered}
 use Rattle.valid_table.specs.Valid.{IsOnce}
 use Rattle.valid_table.specs.declared.entry.Registration.{Registration}
 use Rattle.valid_table.proofs.Reaching.{same_place}
@@ -34,10 +34,10 @@ paths_distinct registrations once rows are = IsDistinct-from_apart (pointwise na
     paths = paths_at registrations rows
 
     row_at : (k : ℕ) (d : List ℕ) → k < length rows → get_or paths k d
-        ≡ get_or (paths_of registrations) (get_or rows k 0) []
+        ≡ get_or (paths_registered registrations) (get_or rows k 0) []
     row_at k d below = get_or-map (path_at registrations) rows k 0 d below
 
-    within : (k : ℕ) → k < length rows → get_or rows k 0 < length (paths_of registrations)
+    within : (k : ℕ) → k < length rows → get_or rows k 0 < length (paths_registered registrations)
     within k below = let h = All-get_or (λ r. r < length registrations) rows k 0 below are.below
         in omega (arith, h, path_count registrations)
 
@@ -49,7 +49,7 @@ paths_distinct registrations once rows are = IsDistinct-from_apart (pointwise na
         let in_i : i < length rows = omega arith in
         false_from_ne_true _ (λ same.
         let one : get_or rows i 0 ≡ get_or rows j 0 =
-        same_place (paths_of registrations) once _ _ (within i in_i) (within j in_j)
+        same_place (paths_registered registrations) once _ _ (within i in_i) (within j in_j)
         (sym (row_at i d in_i) ∙ equal_from_eq _ _ same ∙ row_at j d in_j) in
         false≢true (sym (apart_from_distinct nat_eq rows i j 0 are.distinct before in_j)
         ∙ ap (λ r. nat_eq r (get_or rows j 0)) one ∙ nat_eq_equiv.refl (get_or rows j 0)))
@@ -78,7 +78,8 @@ sorted_same paths sorted wanted is moved =
 -- one more row's path
 pub paths_more : (registrations : List Registration) (rows : List ℕ) (i : ℕ) (path : List ℕ)
     (so_far pushed : List (List ℕ)) → i < length rows → so_far
-    ≡ paths_at registrations (take i rows) → slice_get (paths_of registrations) (get_or rows i 0)
+    ≡ paths_at registrations (take i rows) → slice_get (paths_registered registrations)
+    (get_or rows i 0)
     ≡ Some path → pushed ≡ so_far ++ path ∷ [] → pushed ≡ paths_at registrations (take (i + 1) rows)
 paths_more registrations rows i path so_far pushed below before at is =
     grind (arith, common_steps, get_or_from_slice_get, take_more, map-append)

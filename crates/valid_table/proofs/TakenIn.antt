@@ -5,14 +5,14 @@ use Rattle.std.proofs.lemmas.List.Elements.{All-append, Contains-append_cases, C
 use Rattle.nix_names.specs.Rising.{IsRising}
 use Rattle.nix_names.proofs.RisingLists.{distinct_from_rising}
 use Rattle.valid_table.specs.Adding.{AreClosed, AreNew}
-use Rattle.valid_table.specs.Entries.{paths_of}
+use Rattle.valid_table.specs.Entries.{paths_registered}
 use Rattle.valid_table.specs.Valid.{AreReferencesValid, IsOnce, IsValid, references_of}
 use Rattle.valid_table.specs.declared.entry.Registration.{Registration}
 use Rattle.valid_table.proofs.JournalLists.{paths_of-append, references_of-append, valid_more}
 use Rattle.valid_table.proofs.PathLists.{distinct_append}
 
 -- new registrations that rise repeat no path behind known ones
-pub once_more : (known some : List Registration) → IsOnce known → IsRising (paths_of some)
+pub once_more : (known some : List Registration) → IsOnce known → IsRising (paths_registered some)
     → AreNew known some → IsOnce (known ++ some)
 once_more known some once rising new =
     search (rules, paths_of-append, distinct_append, distinct_from_rising)
@@ -30,7 +30,7 @@ valid_with_more known some valid closed =
 pub valid_cases : (known some : List Registration) (path : List ℕ) → IsValid (known ++ some) path
     → IsValid known path ⊎ IsValid some path
 valid_cases known some path valid =
-    Contains-append_cases (paths_of known) (paths_of some) path
+    Contains-append_cases (paths_registered known) (paths_registered some) path
     (subst (λ paths. Contains paths path) (paths_of-append known some) valid)
 
 -- and one that is by the second
@@ -38,7 +38,7 @@ pub valid_by_some : (known some : List Registration) (path : List ℕ) → IsVal
     → IsValid (known ++ some) path
 valid_by_some known some path valid =
     subst (λ paths. Contains paths path) (sym (paths_of-append known some))
-    (Contains-append_right (paths_of known) (paths_of some) path valid)
+    (Contains-append_right (paths_registered known) (paths_registered some) path valid)
 
 -- a list that isn't empty has an element
 pub some_elements : {X : Type 0} (xs : List X) → (xs ≡ [] → ⊥) → 1 ≤ length xs

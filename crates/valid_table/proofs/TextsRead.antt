@@ -7,9 +7,9 @@ use Rattle.std.proofs.lemmas.List.{append_assoc, get_or_default}
 use Rattle.std.proofs.lemmas.List.Elements.{Contains-append_left}
 use Rattle.valid_table.specs.BadLines.{IsOtherVersion}
 use Rattle.valid_table.specs.Entering.{AreUnknown}
-use Rattle.valid_table.specs.Entries.{paths_of, registered, registered_by}
+use Rattle.valid_table.specs.Entries.{paths_registered, registered, registered_by}
 use Rattle.valid_table.specs.LineFaults.{IsNotClosedAt, IsTwiceAt}
-use Rattle.valid_table.specs.Texts.{IsText}
+use Rattle.valid_table.specs.Texts.{IsJournalText}
 use Rattle.valid_table.specs.Valid.{IsClosedBehind, IsJournal, IsOnce}
 use Rattle.valid_table.specs.declared.entry.Entry.{Entry}
 use Rattle.valid_table.specs.declared.entry.Registration.{Registration}
@@ -23,7 +23,8 @@ use Rattle.nix_names.proofs.Lists.{parts_at}
 -- ---- the version
 
 -- a journal's text isn't that of another version
-pub not_other_version : (dir bytes : List ℕ) (entries : List Entry) → IsText dir entries bytes
+pub not_other_version : (dir bytes : List ℕ) (entries : List Entry)
+    → IsJournalText dir entries bytes
     → IsOtherVersion bytes → ⊥
 not_other_version dir bytes entries (inl (version, is)) other =
     not_other version bytes (text_begins version dir bytes entries is) other
@@ -54,12 +55,12 @@ journal_right earlier (entry ∷ entries) closed once =
     let now = earlier ++ rs in
     let later = registered entries in
     let all : IsOnce (now ++ later) = subst IsOnce (sym (append_assoc earlier rs later)) once in
-    let front = once_front (paths_of now) (paths_of later)
+    let front = once_front (paths_registered now) (paths_registered later)
     (subst (IsDistinct (pointwise nat_eq)) (paths_of-append now later) all) in
-    let new = later_new (paths_of earlier) (paths_of rs)
+    let new = later_new (paths_registered earlier) (paths_registered rs)
     (subst (IsDistinct (pointwise nat_eq)) (paths_of-append earlier rs) front) in (
       subst (All (IsRightBehind earlier entry)) (sym (entry_lines_are entry))
-          (up_to (paths_of earlier) (paths_of now) entry rs new closed.0),
+          (up_to (paths_registered earlier) (paths_registered now) entry rs new closed.0),
       journal_right now entries closed.1 all,
     )
 

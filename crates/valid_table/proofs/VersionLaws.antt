@@ -11,7 +11,7 @@ use Rattle.valid_table.specs.LineTexts.{lines_text}
 use Rattle.valid_table.specs.Reading.{IsTooLong, max_len}
 use Rattle.valid_table.specs.ReadingLaws.{VersionsHaveTheSameEntries, WrittenJournalsAreReadAgain}
 use Rattle.valid_table.specs.Steps.{Start}
-use Rattle.valid_table.specs.Texts.{IsDigestOf, IsEntryOf, IsOf, IsTextIn, Line, First, Added, Deriver, Output, Reference, digest_text, line_text, lines, text}
+use Rattle.valid_table.specs.Texts.{IsDigestOf, IsEntryIn, IsOf, IsTextIn, Line, First, Added, Deriver, Output, Reference, digest_text, line_text, lines, text}
 use Rattle.valid_table.specs.Valid.{IsJournal}
 use Rattle.valid_table.specs.declared.entry.Entry.{Entry}
 use Rattle.valid_table.specs.declared.entry.Entry.TheVariants.{Add, Done}
@@ -37,7 +37,7 @@ registration_in_two dir r is = record {
   rising = is.rising;
 }
 
-entry_in_two : (dir : List ℕ) (entry : Entry) → IsEntryOf One dir entry → IsEntryOf Two dir entry
+entry_in_two : (dir : List ℕ) (entry : Entry) → IsEntryIn One dir entry → IsEntryIn Two dir entry
 entry_in_two dir (Add r) is = registration_in_two dir r is
 entry_in_two dir (Done deriver outputs) is = (
   is.0,
@@ -103,7 +103,8 @@ pub versions_have_the_same_entries : VersionsHaveTheSameEntries
 unfolding text
 versions_have_the_same_entries dir bytes entries is = (
   record {
-    of_dir = All-weaker (IsEntryOf One dir) (IsEntryOf Two dir) (entry_in_two dir) entries is.of_dir;
+    of_dir = All-weaker (IsEntryIn One dir) (IsEntryIn Two dir) (entry_in_two dir) entries
+        is.of_dir;
     bytes_are = refl;
   },
   subst (λ (t : List ℕ). length (lines_text Two (lines entries)) ≤ 2 * length t) (sym is.bytes_are)

@@ -94,7 +94,8 @@ stripped bytes line prefix found same is =
     subst (λ (l : List ℕ). MatchOption found ((rest : List ℕ) → bytes ≢ l ++ rest)
     (λ x. bytes ≡ l ++ x.now)) same is
 
--- bytes that begin neither with the line of version 1 nor with that of version 2 begin with no version's
+-- bytes that begin neither with the line of version 1 nor with that of version 2 begin with no
+-- version's
 pub no_version : (bytes : List ℕ) → ((rest : List ℕ) → bytes ≢ version_line One ++ rest)
     → ((rest : List ℕ) → bytes ≢ version_line Two ++ rest)
     → (version : Version) → BeginsVersion version bytes → ⊥

@@ -3,7 +3,7 @@ use Rattle.std.specs.Prelude.{◌≡◌, ◌≢◌, ◌⊎◌, ℕ, zero, suc, L
 use Rattle.std.specs.Char.{is_ascii_digit}
 use Rattle.nix_names.specs.Bytes.{Bytes, Dir}
 use Rattle.nix_names.specs.Names.{IsStoreDir}
-use Rattle.valid_table.specs.Texts.{IsText}
+use Rattle.valid_table.specs.Texts.{IsJournalText}
 use Rattle.valid_table.specs.declared.entry.Entry.{Entry}
 
 -- the bytes are `count` lines, each with its newline
@@ -26,7 +26,7 @@ pub record Stands (dir : Dir) (count : ℕ) (bytes rest : Bytes) : Type 0 where
   pub counted : AreLines count front
   pub entries : List Entry
   pub whole : Bytes
-  pub is_text : IsText dir entries whole
+  pub is_text : IsJournalText dir entries whole
   pub after : Bytes
   pub begins : whole ≡ front ++ after
   pub next : (after ≡ []) ⊎ (BeginsOutput after × BeginsOutput rest)
@@ -55,7 +55,7 @@ pub record IsOtherVersion (bytes : Bytes) : Type 0 where
 abbrev pub TextsHaveNoBadLine : Type 0
 TextsHaveNoBadLine =
     (dir : Dir) (bytes : Bytes) (entries : List Entry) (n : ℕ) → IsStoreDir dir
-    → IsText dir entries bytes → IsBadLine dir bytes n → ⊥
+    → IsJournalText dir entries bytes → IsBadLine dir bytes n → ⊥
 
 -- bytes have at most one first bad line
 abbrev pub BadLineIsOne : Type 0

@@ -4,14 +4,14 @@ use Rattle.std.specs.Prelude.{◌≡◌, ◌↔◌, ◌<◌, ◌++◌, ℕ, List
 use Rattle.std.specs.List.{IsDistinct}
 use Rattle.nix_names.specs.Bytes.{Path}
 use Rattle.valid_table.specs.Closure.{Reaches}
-use Rattle.valid_table.specs.Entries.{paths_of}
+use Rattle.valid_table.specs.Entries.{paths_registered}
 use Rattle.valid_table.specs.PathInfos.{PathInfo}
 use Rattle.valid_table.specs.Valid.{IsValid, RefersTo, Registers}
 use Rattle.valid_table.specs.declared.entry.Registration.{Registration}
 
 -- the path of a row
 abbrev pub path_at : List Registration → (row : ℕ) → Path
-path_at registrations row = slice_index_or (paths_of registrations) row []
+path_at registrations row = slice_index_or (paths_registered registrations) row []
 
 -- the paths of some rows
 abbrev pub paths_at : List Registration → (rows : List ℕ) → List Path
@@ -49,8 +49,8 @@ pub record AddsReferences (registrations : List Registration) (old : List ℕ) (
   pub adds : AddsRows registrations old info.references new
 
 -- a path is reached from one of the roots
-abbrev pub IsReached : List Registration → (roots : List Path) → Path → Type 0
-IsReached registrations roots path = (root : Path) × Contains roots root
+abbrev pub IsReachedFrom : List Registration → (roots : List Path) → Path → Type 0
+IsReachedFrom registrations roots path = (root : Path) × Contains roots root
     × Reaches registrations root path
 
 -- each valid reference of a path is in a list
@@ -65,7 +65,7 @@ pub record IsFollowed (registrations : List Registration) (start found : List �
     : Type 0 where
   pub rows : AreRows registrations found
   pub kept : All (Contains (paths_at registrations found)) (paths_at registrations start)
-  pub reached : All (IsReached registrations (paths_at registrations start))
+  pub reached : All (IsReachedFrom registrations (paths_at registrations start))
       (paths_at registrations found)
   pub followed : All (HasReferences registrations (paths_at registrations found))
       (paths_at registrations (take count found))

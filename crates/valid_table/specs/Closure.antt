@@ -13,14 +13,14 @@ use Rattle.valid_table.specs.declared.fault.TableFault.TheVariants.{NoMemory, No
 use Rattle.nix_names.specs.Firsts.{IsFirst}
 
 -- steps lead from one valid path to another: each step is a reference of the path before it
-abbrev pub Leads : List Registration → (from to : Path) → (steps : List Path) → Type 0
-Leads registrations from to [] = IsValid registrations from × (from ≡ to)
-Leads registrations from to (next ∷ steps) = RefersTo registrations from next
-    × Leads registrations next to steps
+abbrev pub LeadsByReferences : List Registration → (from to : Path) → (steps : List Path) → Type 0
+LeadsByReferences registrations from to [] = IsValid registrations from × (from ≡ to)
+LeadsByReferences registrations from to (next ∷ steps) = RefersTo registrations from next
+    × LeadsByReferences registrations next to steps
 
 -- a path reaches another: some steps lead to it
 abbrev pub Reaches : List Registration → (from to : Path) → Type 0
-Reaches registrations from to = (steps : List Path) × Leads registrations from to steps
+Reaches registrations from to = (steps : List Path) × LeadsByReferences registrations from to steps
 
 -- The closure of some paths, in rising order: just what one of them reaches.
 pub record IsClosure (registrations : List Registration) (roots all : List Path) : Type 0 where

@@ -2,17 +2,17 @@
 use Rattle.std.specs.Prelude.{◌≡◌, ◌≤◌, ℕ, Bool, true, false, List, [], ◌∷◌, ◌++◌, All, Contains, IfSome, length, slice_get, take}
 use Rattle.nix_names.specs.Bytes.{Path}
 use Rattle.nix_names.specs.Firsts.{IsFirst}
-use Rattle.valid_table.specs.Entries.{paths_of}
+use Rattle.valid_table.specs.Entries.{paths_registered}
 use Rattle.valid_table.specs.Valid.{IsNotValid, IsValid}
 use Rattle.valid_table.specs.declared.entry.Registration.{Registration}
 
 -- a path isn't known
-abbrev pub IsUnknown : (known : List Path) → Path → Type 0
-IsUnknown known path = Contains known path → ⊥
+abbrev pub IsNotKnown : (known : List Path) → Path → Type 0
+IsNotKnown known path = Contains known path → ⊥
 
 -- none of some paths is known
 abbrev pub AreUnknown : (known paths : List Path) → Type 0
-AreUnknown known paths = All (IsUnknown known) paths
+AreUnknown known paths = All (IsNotKnown known) paths
 
 -- The first `count` paths are new, and the next one, if any, is known.
 pub record IsNewFront (known paths : List Path) (count : ℕ) : Type 0 where
@@ -23,11 +23,11 @@ pub record IsNewFront (known paths : List Path) (count : ℕ) : Type 0 where
 -- the first of some paths that isn't known stands at this place, counted from 0
 abbrev pub IsFirstUnknownAt : (known paths : List Path) → ℕ → Type 0
 IsFirstUnknownAt known paths at =
-    (path : Path) × (first : IsFirst (Contains known) (IsUnknown known) paths path)
+    (path : Path) × (first : IsFirst (Contains known) (IsNotKnown known) paths path)
     × (at ≡ length first.before)
 
 -- A registration is put among others: in the place of the one with its path, if there is one, and
 -- else behind them. `had` says whether there was one.
 abbrev pub IsPut : (old new : List Registration) → Registration → (had : Bool) → Type 0
-IsPut old new r true = IsValid old r.path × (paths_of new ≡ paths_of old)
+IsPut old new r true = IsValid old r.path × (paths_registered new ≡ paths_registered old)
 IsPut old new r false = IsNotValid old r.path × (new ≡ old ++ r ∷ [])

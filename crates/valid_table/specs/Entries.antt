@@ -16,10 +16,10 @@ abbrev pub registered : List Entry → List Registration
 registered entries = flat_map registered_by entries
 
 -- the paths of some registrations
-abbrev pub paths_of : List Registration → List Path
-paths_of registrations = map (λ (r : Registration). r.path) registrations
+abbrev pub paths_registered : List Registration → List Path
+paths_registered registrations = map (λ (r : Registration). r.path) registrations
 
 -- A list has the same registrations as another, in rising order by path.
 pub record IsSortedOf (some sorted : List Registration) : Type 0 where
   pub same : IsPermutation some sorted
-  pub rising : IsRising (paths_of sorted)
+  pub rising : IsRising (paths_registered sorted)

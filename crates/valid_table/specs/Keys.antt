@@ -4,7 +4,7 @@ use Rattle.std.specs.Int.{from_be_bytes, w64}
 use Rattle.nix_names.specs.Bytes.{Bytes, Path}
 use Rattle.nix_names.specs.StorePaths.{hash_part_of, name_of}
 use Rattle.valid_table.specs.Closing.{path_at}
-use Rattle.valid_table.specs.Entries.{paths_of}
+use Rattle.valid_table.specs.Entries.{paths_registered}
 use Rattle.valid_table.specs.declared.entry.Registration.{Registration}
 
 -- A number is the key of a text behind a folder: the text begins with the folder, and the number is
@@ -29,7 +29,7 @@ first_folder (path ∷ paths) = folder_part path
 
 -- the folder of the first path of a table, with its slash
 abbrev pub folder_of : List Registration → Bytes
-folder_of registrations = first_folder (paths_of registrations)
+folder_of registrations = first_folder (paths_registered registrations)
 
 -- each row is paired with 0, or with the key of its path in the folder of the first path
 abbrev pub AreKeyed : List Registration → List (ℕ × ℕ) → Type 0
@@ -37,6 +37,6 @@ AreKeyed registrations keyed = All
     (λ k. (k.0 ≡ 0) ⊎ (IsKey (folder_of registrations) (path_at registrations k.1) k.0)) keyed
 
 -- keys rise strictly, and the first is greater than a bound
-abbrev pub KeysRise : ℕ → List (ℕ × ℕ) → Type 0
-KeysRise bound [] = Unit {0}
-KeysRise bound (k ∷ keyed) = (bound < k.0) × KeysRise k.0 keyed
+abbrev pub KeysRiseAbove : ℕ → List (ℕ × ℕ) → Type 0
+KeysRiseAbove bound [] = Unit {0}
+KeysRiseAbove bound (k ∷ keyed) = (bound < k.0) × KeysRiseAbove k.0 keyed

@@ -15,7 +15,6 @@ pub mod Texts
 pub mod Unions
 pub mod Valid
 pub mod Written
-
 -- What only private contracts and proofs cite.
 pub mod Blames
 pub mod Checking

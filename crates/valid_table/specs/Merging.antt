@@ -6,7 +6,7 @@ use Rattle.valid_table.specs.Unions.{IsInEither}
 
 -- A path is the least of two lists, and `more` and `others` are what is left of these: the path is
 -- the first of one of the lists, and is less than each path that is left.
-pub record IsLeast (left right : List Path) (path : Path) (more others : List Path)
+pub record IsLeastHead (left right : List Path) (path : Path) (more others : List Path)
     : Type 0 where
   pub head : (left ≡ path ∷ more) ⊎ (right ≡ path ∷ others)
   pub left_rises : IsRising left → IsRising (path ∷ more)

@@ -5,11 +5,11 @@ use Rattle.nix_names.specs.Rising.{IsRising}
 use Rattle.nix_names.specs.StorePaths.{IsDrvPath, IsPathOf}
 use Rattle.nix_names.specs.declared.digest.Digest.{Digest}
 use Rattle.valid_table.specs.BadLines.{BeginsOutput}
-use Rattle.valid_table.specs.Entries.{paths_of}
+use Rattle.valid_table.specs.Entries.{paths_registered}
 use Rattle.valid_table.specs.LineTexts.{fields_text, lines_text, references_text, registration_text}
 use Rattle.valid_table.specs.Reading.{BeginsVersion}
 use Rattle.valid_table.specs.Steps.{IsAbove, Place, Start, Begun, Within, Stops}
-use Rattle.valid_table.specs.Texts.{IsDigestOf, IsEntryOf, IsOf, entry_lines, lines, output_lines}
+use Rattle.valid_table.specs.Texts.{IsDigestOf, IsEntryIn, IsOf, entry_lines, lines, output_lines}
 use Rattle.valid_table.specs.declared.entry.Entry.{Entry}
 use Rattle.valid_table.specs.declared.entry.Entry.TheVariants.{Add, Done}
 use Rattle.valid_table.specs.declared.entry.Registration.{Registration}
@@ -53,7 +53,7 @@ pub record SoFarReferences (dir : Dir) (bytes : Bytes) (references : List Path) 
   pub rising : IsRising references
 
 -- The same, where the rest begins with no reference.
-pub record HasReferences (dir : Dir) (bytes : Bytes) (references : List Path) (rest : Bytes)
+pub record ReadsReferences (dir : Dir) (bytes : Bytes) (references : List Path) (rest : Bytes)
     : Type 0 where
   pub so_far : SoFarReferences dir bytes references rest
   pub ends : IsNoLine 82 rest
@@ -112,7 +112,7 @@ pub record SoFarOutputs (version : Version) (dir : Dir) (bytes : Bytes)
     (outputs : List Registration) (rest : Bytes) : Type 0 where
   pub parts : bytes ≡ lines_text version (flat_map output_lines outputs) ++ rest
   pub of_dir : All (IsOf version dir) outputs
-  pub rising : IsRising (paths_of outputs)
+  pub rising : IsRising (paths_registered outputs)
   pub ended : (outputs ≡ []) ⊎ IsNoLine 82 rest
 
 -- The same of at least one output, where the rest begins with neither an output nor a reference.
@@ -132,7 +132,7 @@ IsEnd (Done deriver outputs) rest = IsNoLine 79 rest × IsNoLine 82 rest
 pub record HasEntry (version : Version) (dir : Dir) (bytes : Bytes) (entry : Entry) (rest : Bytes)
     : Type 0 where
   pub parts : bytes ≡ lines_text version (entry_lines entry) ++ rest
-  pub of_dir : IsEntryOf version dir entry
+  pub of_dir : IsEntryIn version dir entry
   pub ends : IsEnd entry rest
 
 -- at a place, where the text goes on with these bytes, only an entry can come next
@@ -147,7 +147,7 @@ HasToBegin place bytes = ⊥
 pub record SoFarEntries (version : Version) (dir : Dir) (bytes : Bytes) (entries : List Entry)
     (rest : Bytes) : Type 0 where
   pub parts : bytes ≡ lines_text version (lines entries) ++ rest
-  pub of_dir : All (IsEntryOf version dir) entries
+  pub of_dir : All (IsEntryIn version dir) entries
   pub leads : (left : ℕ)
       → ((from : Place) → HasToBegin from rest → Stops version dir from rest left)
       → Stops version dir Start bytes left

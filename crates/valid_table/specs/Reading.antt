@@ -5,7 +5,7 @@ use Rattle.nix_names.specs.Bytes.{Bytes, Dir}
 use Rattle.valid_table.specs.BadLines.{IsBadLine, IsOtherVersion}
 use Rattle.valid_table.specs.LineFaults.{IsLeastFault, IsNotClosedAt, IsTwiceAt}
 use Rattle.valid_table.specs.Tables.{JournalValue}
-use Rattle.valid_table.specs.Texts.{IsText, version_line}
+use Rattle.valid_table.specs.Texts.{IsJournalText, version_line}
 use Rattle.valid_table.specs.Valid.{IsJournal}
 use Rattle.valid_table.specs.declared.entry.Entry.{Entry}
 use Rattle.valid_table.specs.declared.fault.TableFault.{TableFault}
@@ -29,12 +29,12 @@ IsTooLong bytes = (max_len Two < length bytes)
     ⊎ ((version : Version) × BeginsVersion version bytes × (max_len version < length bytes))
 
 -- what is answered for entries whose text was read
-abbrev pub IsChecking : List Entry → Result (List Entry) TableFault → Type 0
-IsChecking entries (Ok journal) = (journal ≡ entries) × IsJournal entries
-IsChecking entries (Err (NotClosed n)) = IsNotClosedAt entries n × IsLeastFault entries n
-IsChecking entries (Err (Twice n)) = IsTwiceAt entries n × IsLeastFault entries n
-IsChecking entries (Err NoMemory) = entries ≢ []
-IsChecking entries (Err fault) = ⊥
+abbrev pub IsEntriesChecking : List Entry → Result (List Entry) TableFault → Type 0
+IsEntriesChecking entries (Ok journal) = (journal ≡ entries) × IsJournal entries
+IsEntriesChecking entries (Err (NotClosed n)) = IsNotClosedAt entries n × IsLeastFault entries n
+IsEntriesChecking entries (Err (Twice n)) = IsTwiceAt entries n × IsLeastFault entries n
+IsEntriesChecking entries (Err NoMemory) = entries ≢ []
+IsEntriesChecking entries (Err fault) = ⊥
 
 -- The bytes are not too long, and are the text of some entries. The answer is that for these
 -- entries.
@@ -42,8 +42,8 @@ pub record IsReadAs (dir : Dir) (bytes : Bytes) (answer : Result (List Entry) Ta
     : Type 0 where
   pub within : IsTooLong bytes → ⊥
   pub entries : List Entry
-  pub is_text : IsText dir entries bytes
-  pub checked : IsChecking entries answer
+  pub is_text : IsJournalText dir entries bytes
+  pub checked : IsEntriesChecking entries answer
 
 -- an answer without the journal's room: the journal's entries, or the fault
 abbrev pub answered : Result JournalValue TableFault → Result (List Entry) TableFault
@@ -52,11 +52,11 @@ answered (Err fault) = Err fault
 
 -- What is answered for bytes. Memory is refused only where they are within the limit and begin with
 -- the line of a version.
-abbrev pub IsReading : (dir : Dir) (bytes : Bytes) → Result (List Entry) TableFault → Type 0
-IsReading dir bytes (Err TooLong) = IsTooLong bytes
-IsReading dir bytes (Err WrongVersion) = (IsTooLong bytes → ⊥) × IsOtherVersion bytes
-IsReading dir bytes (Err (BadLine n)) = (IsTooLong bytes → ⊥) × (IsOtherVersion bytes → ⊥)
+abbrev pub IsJournalReading : (dir : Dir) (bytes : Bytes) → Result (List Entry) TableFault → Type 0
+IsJournalReading dir bytes (Err TooLong) = IsTooLong bytes
+IsJournalReading dir bytes (Err WrongVersion) = (IsTooLong bytes → ⊥) × IsOtherVersion bytes
+IsJournalReading dir bytes (Err (BadLine n)) = (IsTooLong bytes → ⊥) × (IsOtherVersion bytes → ⊥)
     × IsBadLine dir bytes n
-IsReading dir bytes (Err NoMemory) = (IsTooLong bytes → ⊥) × (IsOtherVersion bytes → ⊥)
+IsJournalReading dir bytes (Err NoMemory) = (IsTooLong bytes → ⊥) × (IsOtherVersion bytes → ⊥)
     × ((version : Version) × BeginsVersion version bytes)
-IsReading dir bytes answer = IsReadAs dir bytes answer
+IsJournalReading dir bytes answer = IsReadAs dir bytes answer

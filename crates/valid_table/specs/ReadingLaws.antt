@@ -2,8 +2,8 @@
 use Rattle.std.specs.Prelude.{◌≡◌, ◌⊎◌, ◌≤◌, ◌*◌, List, length, Result, Ok, Err}
 use Rattle.nix_names.specs.Bytes.{Bytes, Dir}
 use Rattle.nix_names.specs.Names.{IsStoreDir}
-use Rattle.valid_table.specs.Reading.{IsReading, IsTooLong}
-use Rattle.valid_table.specs.Texts.{IsText, IsTextIn, text}
+use Rattle.valid_table.specs.Reading.{IsJournalReading, IsTooLong}
+use Rattle.valid_table.specs.Texts.{IsJournalText, IsTextIn, text}
 use Rattle.valid_table.specs.Valid.{IsJournal}
 use Rattle.valid_table.specs.declared.entry.Entry.{Entry}
 use Rattle.valid_table.specs.declared.fault.TableFault.{TableFault}
@@ -12,22 +12,22 @@ use Rattle.valid_table.specs.declared.version.Version.TheVariants.{One, Two}
 
 -- a text is the text of at most one list of entries
 abbrev pub TextHasOneList : Type 0
-TextHasOneList = (dir : Dir) (bytes : Bytes) (a b : List Entry) → IsText dir a bytes
-    → IsText dir b bytes → a ≡ b
+TextHasOneList = (dir : Dir) (bytes : Bytes) (a b : List Entry) → IsJournalText dir a bytes
+    → IsJournalText dir b bytes → a ≡ b
 
 -- the text of a journal, within the limit, is read as just that journal, want of memory apart
 abbrev pub JournalTextsAreRead : Type 0
 JournalTextsAreRead =
     (dir : Dir) (bytes : Bytes) (entries : List Entry) (answer : Result (List Entry) TableFault)
     → IsStoreDir dir → (IsTooLong bytes → ⊥)
-    → IsText dir entries bytes → IsJournal entries → IsReading dir bytes answer
+    → IsJournalText dir entries bytes → IsJournal entries → IsJournalReading dir bytes answer
     → (answer ≡ Ok entries) ⊎ (answer ≡ Err NoMemory)
 
 -- two answers for the same bytes are the same, or one is want of memory
 abbrev pub AnswerIsOne : Type 0
 AnswerIsOne =
     (dir : Dir) (bytes : Bytes) (a b : Result (List Entry) TableFault) → IsStoreDir dir
-    → IsReading dir bytes a → IsReading dir bytes b
+    → IsJournalReading dir bytes a → IsJournalReading dir bytes b
     → (a ≡ b) ⊎ (a ≡ Err NoMemory) ⊎ (b ≡ Err NoMemory)
 
 -- a version 1 text and the version 2 text of its entries have the same entries; the second has at
@@ -43,6 +43,6 @@ VersionsHaveTheSameEntries =
 abbrev pub WrittenJournalsAreReadAgain : Type 0
 WrittenJournalsAreReadAgain =
     (dir : Dir) (bytes : Bytes) (entries : List Entry) (answer : Result (List Entry) TableFault)
-    → IsStoreDir dir → IsTextIn One dir entries bytes → IsReading dir bytes (Ok entries)
-    → IsReading dir (text Two entries) answer
+    → IsStoreDir dir → IsTextIn One dir entries bytes → IsJournalReading dir bytes (Ok entries)
+    → IsJournalReading dir (text Two entries) answer
     → (answer ≡ Ok entries) ⊎ (answer ≡ Err NoMemory)

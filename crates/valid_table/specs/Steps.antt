@@ -33,20 +33,20 @@ MayBegin version dir (Deriver path) = IsPathOf dir path × IsDrvPath path
 MayBegin version dir line = ⊥
 
 -- an output may stand behind a deriver, or behind an output with a lesser path
-abbrev pub MayFollow : Version → Dir → (before : Option Path) → Path → Option Digest → Type 0
-MayFollow version dir before path digest = IsPathOf dir path × IsDigestOf version digest
+abbrev pub MayBeOutputAfter : Version → Dir → (before : Option Path) → Path → Option Digest → Type 0
+MayBeOutputAfter version dir before path digest = IsPathOf dir path × IsDigestOf version digest
     × IsAbove before path
 
 -- a line may stand at a place
-abbrev pub MayStand : Version → Dir → Place → Line → Type 0
-MayStand version dir Start First = Unit {0}
-MayStand version dir Begun line = MayBegin version dir line
-MayStand version dir (Within output last) (Reference path) = IsPathOf dir path × IsAbove last path
-MayStand version dir (Within (Some before) last) (Output path digest) =
-    MayFollow version dir (Some before) path digest
-MayStand version dir (Within output last) line = MayBegin version dir line
-MayStand version dir Opened (Output path digest) = MayFollow version dir None path digest
-MayStand version dir place line = ⊥
+abbrev pub MayBeLine : Version → Dir → Place → Line → Type 0
+MayBeLine version dir Start First = Unit {0}
+MayBeLine version dir Begun line = MayBegin version dir line
+MayBeLine version dir (Within output last) (Reference path) = IsPathOf dir path × IsAbove last path
+MayBeLine version dir (Within (Some before) last) (Output path digest) =
+    MayBeOutputAfter version dir (Some before) path digest
+MayBeLine version dir (Within output last) line = MayBegin version dir line
+MayBeLine version dir Opened (Output path digest) = MayBeOutputAfter version dir None path digest
+MayBeLine version dir place line = ⊥
 
 -- the place behind a line
 abbrev pub behind : Place → Line → Place
@@ -65,20 +65,20 @@ Ahead place rest = Unit {0}
 -- each line may stand at its place and leads to the place behind it; `Is` holds of the last place
 abbrev pub LeadsTo : Version → Dir → (Place → Type 0) → Place → List Line → Type 0
 LeadsTo version dir Is from [] = Is from
-LeadsTo version dir Is from (line ∷ more) = MayStand version dir from line
+LeadsTo version dir Is from (line ∷ more) = MayBeLine version dir from line
     × LeadsTo version dir Is (behind from line) more
 
 -- From a place the bytes go on with a line that may stand there, and then with the rest.
-pub record Goes (version : Version) (dir : Dir) (from : Place) (bytes : Bytes) (line : Line)
+pub record GoesOnWith (version : Version) (dir : Dir) (from : Place) (bytes : Bytes) (line : Line)
     (rest : Bytes) : Type 0 where
   pub parts : bytes ≡ line_text version line ++ rest
-  pub may : MayStand version dir from line
+  pub may : MayBeLine version dir from line
   pub ahead : Ahead (behind from line) rest
 
 -- From a place the bytes go on with no line that may stand there.
 pub record IsStuck (version : Version) (dir : Dir) (bytes : Bytes) (place : Place) : Type 0 where
   pub ahead : Ahead place bytes
-  pub stuck : (line : Line) (rest : Bytes) → Goes version dir place bytes line rest → ⊥
+  pub stuck : (line : Line) (rest : Bytes) → GoesOnWith version dir place bytes line rest → ⊥
 
 -- From a place the bytes go on with some lines, each of which may stand at its place. Then `left`
 -- bytes are left, at least one, which go on with no line that may stand there.

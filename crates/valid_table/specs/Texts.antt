@@ -7,7 +7,7 @@ use Rattle.nix_names.specs.declared.digest.Algorithm.TheVariants.{Sha256}
 use Rattle.nix_names.specs.declared.digest.Digest.{Digest}
 use Rattle.nix_names.specs.Rising.{IsRising}
 use Rattle.nix_names.specs.StorePaths.{IsDrvPath, IsPathOf}
-use Rattle.valid_table.specs.Entries.{paths_of}
+use Rattle.valid_table.specs.Entries.{paths_registered}
 use Rattle.valid_table.specs.declared.entry.Entry.{Entry}
 use Rattle.valid_table.specs.declared.entry.Entry.TheVariants.{Add, Done}
 use Rattle.valid_table.specs.declared.entry.Registration.{Registration}
@@ -78,19 +78,19 @@ pub record IsOf (version : Version) (dir : Dir) (r : Registration) : Type 0 wher
 
 -- an entry is of the store folder: a `.drv` path with its outputs, at least one and strictly
 -- rising, or an added path
-abbrev pub IsEntryOf : Version → Dir → Entry → Type 0
-IsEntryOf version dir (Add r) = IsOf version dir r
-IsEntryOf version dir (Done deriver outputs) =
-    IsPathOf dir deriver × IsDrvPath deriver × (outputs ≢ []) × IsRising (paths_of outputs)
+abbrev pub IsEntryIn : Version → Dir → Entry → Type 0
+IsEntryIn version dir (Add r) = IsOf version dir r
+IsEntryIn version dir (Done deriver outputs) =
+    IsPathOf dir deriver × IsDrvPath deriver × (outputs ≢ []) × IsRising (paths_registered outputs)
     × All (IsOf version dir) outputs
 
 -- The bytes are the text of these entries, which are of the store folder, in a version.
 pub record IsTextIn (version : Version) (dir : Dir) (entries : List Entry) (bytes : Bytes)
     : Type 0 where
-  pub of_dir : All (IsEntryOf version dir) entries
+  pub of_dir : All (IsEntryIn version dir) entries
   pub bytes_are : bytes ≡ text version entries
 
 -- the bytes are the text of these entries in some version; no bytes at all are the text of none
-abbrev pub IsText : (dir : Dir) → List Entry → (bytes : Bytes) → Type 0
-IsText dir entries bytes = ((version : Version) × IsTextIn version dir entries bytes)
+abbrev pub IsJournalText : (dir : Dir) → List Entry → (bytes : Bytes) → Type 0
+IsJournalText dir entries bytes = ((version : Version) × IsTextIn version dir entries bytes)
     ⊎ ((entries ≡ []) × (bytes ≡ []))

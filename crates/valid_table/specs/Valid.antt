@@ -6,7 +6,7 @@ use Rattle.std.specs.Cmp.Lexicographic.{pointwise}
 use Rattle.nix_names.specs.Bytes.{Path}
 use Rattle.nix_names.specs.StorePaths.{IsDrvPath}
 use Rattle.valid_table.specs.PathInfos.{PathInfo}
-use Rattle.valid_table.specs.Entries.{registered, registered_by, paths_of}
+use Rattle.valid_table.specs.Entries.{registered, registered_by, paths_registered}
 use Rattle.valid_table.specs.declared.entry.Entry.{Entry}
 use Rattle.valid_table.specs.declared.entry.Entry.TheVariants.{Add, Done}
 use Rattle.valid_table.specs.declared.entry.Registration.{Registration}
@@ -17,7 +17,7 @@ Registers registrations path info = Contains registrations (record { path = path
 
 -- a path is valid: it is registered
 abbrev pub IsValid : List Registration → Path → Type 0
-IsValid registrations path = Contains (paths_of registrations) path
+IsValid registrations path = Contains (paths_registered registrations) path
 
 -- a path is not valid
 abbrev pub IsNotValid : List Registration → Path → Type 0
@@ -55,7 +55,7 @@ HasDrvPath (Done deriver outputs) = IsDrvPath deriver
 
 -- no path is registered twice
 abbrev pub IsOnce : List Registration → Type 0
-IsOnce registrations = IsDistinct (pointwise nat_eq) (paths_of registrations)
+IsOnce registrations = IsDistinct (pointwise nat_eq) (paths_registered registrations)
 
 -- What holds of each journal: it is closed, registers no path twice, and each deriver is the path
 -- of a derivation's file.

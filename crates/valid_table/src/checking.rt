@@ -2,8 +2,8 @@
 ghost use Rattle.std.specs.Prelude.{◌≡◌, ◌++◌, ◌+◌, ◌<◌, ◌≤◌, ◌^◌, IfOk, IfErr, OnOk, flat_map, length};
 ghost use Rattle.nix_names.specs.Rising.{IsRising};
 ghost use Rattle.valid_table.specs.Checking.{IsEntryCheck, IsLineCheck, header};
-ghost use Rattle.valid_table.specs.Entries.{paths_of, registered, registered_by};
-ghost use Rattle.valid_table.specs.Reading.{IsChecking};
+ghost use Rattle.valid_table.specs.Entries.{paths_registered, registered, registered_by};
+ghost use Rattle.valid_table.specs.Reading.{IsEntriesChecking};
 ghost use Rattle.valid_table.specs.Tables.{registrations_of};
 ghost use Rattle.valid_table.specs.Texts.{entry_lines, lines, output_lines};
 ghost use Rattle.valid_table.specs.Valid.{IsClosed, IsOnce};
@@ -24,7 +24,7 @@ pub(crate) fn check_entries(alloc: Global, entries: &[Entry]) -> Result<Table, T
     ensures closed { OnOk result (IsClosed entries.now) }
     ensures once { OnOk result (IsOnce (registered entries.now)) }
     ensures table { IfOk result (λ table. table.registrations ≡ registered entries.now) }
-    ensures err { IfErr result (λ fault. IsChecking entries.now (Err fault)) }
+    ensures err { IfErr result (λ fault. IsEntriesChecking entries.now (Err fault)) }
 {
     let mut rows = IndexMap::with_capacity(alloc, entries.len())?;
     let mut line = 2;
@@ -45,8 +45,8 @@ fn check_entry(
 ) -> Result<usize, TableFault>
     requires few { line + length (entry_lines entry.now) < 2 ^ 64 }
     requires once { IsOnce (registrations_of rows.old.entries) }
-    ensures checked { IsEntryCheck (paths_of (registrations_of rows.old.entries))
-        (paths_of (registrations_of rows.old.entries ++ registered_by entry.now))
+    ensures checked { IsEntryCheck (paths_registered (registrations_of rows.old.entries))
+        (paths_registered (registrations_of rows.old.entries ++ registered_by entry.now))
         (entry_lines entry.now) line result }
     ensures added { OnOk result
         (registrations_of rows.new.entries
@@ -77,8 +77,9 @@ fn check_lines(
     mut line: usize,
 ) -> Result<usize, TableFault>
     requires few { line + length (flat_map output_lines registrations.now) < 2 ^ 64 }
-    requires rising { IsRising (paths_of registrations.now) }
-    ensures { IsLineCheck (paths_of (registrations_of rows.now.entries ++ registrations.now))
+    requires rising { IsRising (paths_registered registrations.now) }
+    ensures { IsLineCheck
+        (paths_registered (registrations_of rows.now.entries ++ registrations.now))
         registrations.now new line result }
 {
     for (place, registration) in registrations.iter().enumerate() {

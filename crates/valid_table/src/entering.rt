@@ -4,7 +4,7 @@ ghost use Rattle.nix_names.specs.Rising.{IsRising};
 ghost use Rattle.valid_table.specs.Adding.{AreClosed, AreNew};
 ghost use Rattle.valid_table.specs.Blames.{IsBlamed, IsUnclosedAt};
 ghost use Rattle.valid_table.specs.Entering.{IsFirstUnknownAt, IsNewFront};
-ghost use Rattle.valid_table.specs.Entries.{paths_of};
+ghost use Rattle.valid_table.specs.Entries.{paths_registered};
 ghost use Rattle.valid_table.specs.Tables.{registrations_of};
 ghost use Rattle.valid_table.specs.Valid.{IsValid};
 
@@ -20,7 +20,7 @@ pub(crate) fn blame(
     rows: &IndexMap<StorePath, Record>,
     registrations: &[Registration],
 ) -> Option<Blame>
-    requires { IsRising (paths_of registrations.now) }
+    requires { IsRising (paths_registered registrations.now) }
     ensures { MatchOption result
         (AreNew (registrations_of rows.now.entries) registrations.now
         × AreClosed (registrations_of rows.now.entries) registrations.now)
@@ -38,7 +38,8 @@ pub(crate) fn blame(
 
 // The number of registrations before the first whose path has a row.
 fn new_front(rows: &IndexMap<StorePath, Record>, registrations: &[Registration]) -> usize
-    ensures { IsNewFront (paths_of (registrations_of rows.now.entries)) (paths_of registrations.now)
+    ensures { IsNewFront (paths_registered (registrations_of rows.now.entries))
+        (paths_registered registrations.now)
         result }
 {
     for (count, registration) in registrations.iter().enumerate() {
@@ -54,7 +55,7 @@ fn first_unclosed(
     rows: &IndexMap<StorePath, Record>,
     registrations: &[Registration],
 ) -> Option<Blame>
-    requires { IsRising (paths_of registrations.now) }
+    requires { IsRising (paths_registered registrations.now) }
     ensures { MatchOption result (AreClosed (registrations_of rows.now.entries) registrations.now)
         (IsUnclosedAt (registrations_of rows.now.entries) registrations.now) }
 {
@@ -76,10 +77,11 @@ pub(crate) fn first_unknown(
     registrations: &[Registration],
     paths: &[StorePath],
 ) -> Option<usize>
-    requires { IsRising (paths_of registrations.now) }
+    requires { IsRising (paths_registered registrations.now) }
     ensures { MatchOption result
         (All (IsValid (registrations_of rows.now.entries ++ registrations.now)) paths.now)
-        (IsFirstUnknownAt (paths_of (registrations_of rows.now.entries ++ registrations.now))
+        (IsFirstUnknownAt
+        (paths_registered (registrations_of rows.now.entries ++ registrations.now))
         paths.now) }
 {
     for (place, path) in paths.iter().enumerate() {
@@ -96,7 +98,7 @@ fn is_known(
     registrations: &[Registration],
     path: &StorePath,
 ) -> bool
-    requires { IsRising (paths_of registrations.now) }
+    requires { IsRising (paths_registered registrations.now) }
     ensures { IsTrue result
         ↔ IsValid (registrations_of rows.now.entries ++ registrations.now) path.now }
 {
@@ -105,7 +107,7 @@ fn is_known(
 
 // Whether a path is registered here. Costs a binary search.
 fn is_registered(registrations: &[Registration], path: &StorePath) -> bool
-    requires { IsRising (paths_of registrations.now) }
+    requires { IsRising (paths_registered registrations.now) }
     ensures { IsTrue result ↔ IsValid registrations.now path.now }
 {
     let found = registrations.binary_search_by(|registration| registration.path.cmp(path));

@@ -1,7 +1,7 @@
 //! Entries of a journal: paths that were added, and outputs that were built.
 ghost use Rattle.std.specs.Prelude.{◌≡◌, ◌≢◌, ◌<◌, ◌↔◌, [], List, IfOk, IfErr, IsOk, IsTrue, MatchOption, None, Some, length, slice_get};
 ghost use Rattle.nix_names.specs.Rising.{IsRising};
-ghost use Rattle.valid_table.specs.Entries.{IsSortedOf, paths_of, registered_by};
+ghost use Rattle.valid_table.specs.Entries.{IsSortedOf, paths_registered, registered_by};
 ghost use Rattle.valid_table.specs.Kept.{digest_known, references_known};
 ghost use Rattle.valid_table.specs.Valid.{IsOnce};
 
@@ -180,7 +180,7 @@ impl Outputs {
     /// The outputs with these paths and records.
     pub fn new(registrations: Vec<Registration>) -> Outputs
         requires some { registrations.items ≢ [] }
-        requires rising { IsRising (paths_of registrations.items) }
+        requires rising { IsRising (paths_registered registrations.items) }
         ensures { result ≡ registrations.items }
     {
         Outputs { registrations }
@@ -206,7 +206,7 @@ impl Outputs {
     pub fn as_slice(&self) -> &[Registration]
         ensures value { result.now ≡ self.now }
         ensures some { result.now ≢ [] }
-        ensures rising { IsRising (paths_of result.now) }
+        ensures rising { IsRising (paths_registered result.now) }
     {
         &self.registrations
     }
@@ -244,7 +244,7 @@ impl Entry {
     pub fn registrations(&self) -> &[Registration]
         ensures value { result.now ≡ registered_by self.now }
         ensures some { result.now ≢ [] }
-        ensures rising { IsRising (paths_of result.now) }
+        ensures rising { IsRising (paths_registered result.now) }
     {
         match self {
             Entry::Add(registration) => slice::from_ref(registration),
@@ -279,7 +279,7 @@ impl Entry {
 
 // Whether registrations rise strictly by path.
 fn is_rising(registrations: &[Registration]) -> bool
-    ensures { IsTrue result ↔ IsRising (paths_of registrations.now) }
+    ensures { IsTrue result ↔ IsRising (paths_registered registrations.now) }
 {
     for i in 1..registrations.len() {
         let order = registrations[i - 1].path.cmp(&registrations[i].path);

@@ -3,7 +3,7 @@ ghost use Rattle.std.specs.Prelude.{◌≡◌, ◌≤◌, ◌+◌, ◌↔◌, �
 ghost use Rattle.nix_names.specs.StorePaths.{IsDrvPath};
 ghost use Rattle.valid_table.specs.Adding.{AreClosed, AreNew, IsAdding};
 ghost use Rattle.valid_table.specs.Entries.{registered, registered_by};
-ghost use Rattle.valid_table.specs.Reading.{IsChecking, answered};
+ghost use Rattle.valid_table.specs.Reading.{IsEntriesChecking, answered};
 ghost use Rattle.valid_table.specs.Texts.{lines};
 ghost use Rattle.valid_table.specs.Valid.{HasDrvPath, IsJournal, IsValid};
 ghost use Rattle.valid_table.specs.declared.entry.Entry.TheVariants.{Add, Done};
@@ -155,7 +155,7 @@ impl Journal {
     pub(crate) fn checked(alloc: Global, entries: Vec<Entry>) -> Result<Journal, TableFault>
         requires derived { All HasDrvPath entries.items }
         requires few { length (lines entries.items) ≤ 134217729 }
-        ensures { IsChecking entries.items (answered result) }
+        ensures { IsEntriesChecking entries.items (answered result) }
     {
         let table = check_entries(alloc, &entries)?;
         Ok(Journal { entries, table })

@@ -1,7 +1,7 @@
 //! Rising lists of paths, put together.
 ghost use Rattle.std.specs.Prelude.{◌≡◌, [], IfOk, MatchOption};
 ghost use Rattle.nix_names.specs.Rising.{IsRising};
-ghost use Rattle.valid_table.specs.Merging.{IsLeast};
+ghost use Rattle.valid_table.specs.Merging.{IsLeastHead};
 ghost use Rattle.valid_table.specs.Unions.{IsUnion};
 
 use nix_names::StorePath;
@@ -36,7 +36,7 @@ fn least<'a>(
     right: &'a [StorePath],
 ) -> Option<(&'a StorePath, &'a [StorePath], &'a [StorePath])>
     ensures { MatchOption result ((left.now ≡ []) × (right.now ≡ []))
-        (λ x. IsLeast left.now right.now x.0.now x.1.now x.2.now) }
+        (λ x. IsLeastHead left.now right.now x.0.now x.1.now x.2.now) }
 {
     match (left, right) {
         ([], []) => None,

@@ -4,11 +4,11 @@ ghost use Rattle.std.specs.List.{last_or};
 ghost use Rattle.std.specs.Option.{option_copied};
 ghost use Rattle.nix_names.specs.Names.{IsStoreDir};
 ghost use Rattle.valid_table.specs.BadLines.{BeginsOutput};
-ghost use Rattle.valid_table.specs.Entries.{paths_of};
-ghost use Rattle.valid_table.specs.Readers.{HasEntry, HasNoFields, HasOutputs, HasReferences, HasRegistration, HasToBegin, IsFieldsLine, IsNoLine, StopsInReferences, StopsInRegistration, StopsInText, StopsWhere};
-ghost use Rattle.valid_table.specs.Reading.{BeginsVersion, IsReading, answered};
+ghost use Rattle.valid_table.specs.Entries.{paths_registered};
+ghost use Rattle.valid_table.specs.Readers.{HasEntry, HasNoFields, HasOutputs, ReadsReferences, HasRegistration, HasToBegin, IsFieldsLine, IsNoLine, StopsInReferences, StopsInRegistration, StopsInText, StopsWhere};
+ghost use Rattle.valid_table.specs.Reading.{BeginsVersion, IsJournalReading, answered};
 ghost use Rattle.valid_table.specs.Steps.{IsAbove, Place, Opened, Stops};
-ghost use Rattle.valid_table.specs.Texts.{IsText};
+ghost use Rattle.valid_table.specs.Texts.{IsJournalText};
 ghost use Rattle.valid_table.specs.declared.version.Version.{Version as AVersion};
 
 use crate::entry::{Entry, Outputs, Record, Registration};
@@ -38,7 +38,7 @@ impl Journal {
     /// copy of each path, one more of each that is registered, one look-up by hash for each path
     /// that is registered, and two for each reference.
     pub fn read(alloc: Global, dir: &StoreDir, bytes: &[u8]) -> Result<Journal, TableFault>
-        ensures { IsReading dir.now bytes.now (answered result) }
+        ensures { IsJournalReading dir.now bytes.now (answered result) }
     {
         if is_too_long(bytes) {
             return Err(TableFault::TooLong);
@@ -99,7 +99,7 @@ fn references_of<'a>(
     dir: &StoreDir,
     bytes: &'a [u8],
 ) -> Result<(Vec<StorePath>, &'a [u8]), Stop>
-    ensures ok { IfOk result (λ x. HasReferences dir.now bytes.now x.0.items x.1.now) }
+    ensures ok { IfOk result (λ x. ReadsReferences dir.now bytes.now x.0.items x.1.now) }
     ensures left { IfErr result (StopsWhere (StopsInReferences dir.now bytes.now)) }
 {
     let mut references = Vec::new(alloc);
@@ -126,7 +126,7 @@ fn record_of<'a>(
     bytes: &'a [u8],
 ) -> Result<(Record, &'a [u8]), Stop>
     ensures references { IfOk result
-        (λ x. HasReferences dir.now bytes.now x.0.references x.1.now) }
+        (λ x. ReadsReferences dir.now bytes.now x.0.references x.1.now) }
     ensures digest { IfOk result (λ x. x.0.digest ≡ digest) }
     ensures left { IfErr result (StopsWhere (StopsInReferences dir.now bytes.now)) }
 {
@@ -191,7 +191,7 @@ fn registration_of<'a>(
 
 /// The path of the last registration.
 fn last_path(registrations: &[Registration]) -> Option<&StorePath>
-    ensures { option_copied result ≡ last_or None (paths_of registrations.now) }
+    ensures { option_copied result ≡ last_or None (paths_registered registrations.now) }
 {
     match registrations.last() {
         Some(last) => Some(&last.path),
@@ -275,7 +275,7 @@ fn entry_of<'a>(
 /// The entries whose text the bytes are.
 pub(crate) fn entries_of(alloc: Global, dir: &StoreDir, bytes: &[u8]) -> Result<Vec<Entry>, Stop>
     ensures is_dir { IsStoreDir dir.now }
-    ensures ok { IfOk result (λ entries. IsText dir.now entries.items bytes.now) }
+    ensures ok { IfOk result (λ entries. IsJournalText dir.now entries.items bytes.now) }
     ensures left { IfErr result (StopsWhere (StopsInText dir.now bytes.now)) }
     ensures memory { IsErrOf result Stop.NoMemory
         → (version : AVersion) × BeginsVersion version bytes.now }

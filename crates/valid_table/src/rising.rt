@@ -7,7 +7,7 @@ ghost use Rattle.std.specs.Ordering.{nat_cmp};
 ghost use Rattle.nix_names.specs.Rising.{IsRising};
 ghost use Rattle.valid_table.specs.Closing.{AreRows, HaveSame, paths_at};
 ghost use Rattle.valid_table.specs.FirstRows.{AreFirst, rows_behind};
-ghost use Rattle.valid_table.specs.Keys.{AreKeyed, KeysRise, folder_of};
+ghost use Rattle.valid_table.specs.Keys.{AreKeyed, KeysRiseAbove, folder_of};
 ghost use Rattle.valid_table.specs.Tables.{registrations_of};
 ghost use Rattle.valid_table.specs.Valid.{IsOnce};
 
@@ -149,7 +149,7 @@ fn copied_paths(
 
 // Whether keys rise strictly, and none is 0: then their paths rise too.
 fn keys_rise(keyed: &[(u64, usize)]) -> bool
-    ensures { IsTrue result → KeysRise 0 keyed.now }
+    ensures { IsTrue result → KeysRiseAbove 0 keyed.now }
 {
     let mut last = 0;
     for item in keyed {

@@ -4,7 +4,7 @@ ghost use Rattle.indexmap.specs.IndexMap.{spare};
 ghost use Rattle.valid_table.specs.Closing.{IsRowOf};
 ghost use Rattle.nix_names.specs.Rising.{IsRising};
 ghost use Rattle.valid_table.specs.Entering.{IsNewFront, IsPut};
-ghost use Rattle.valid_table.specs.Entries.{paths_of, registered_by};
+ghost use Rattle.valid_table.specs.Entries.{paths_registered, registered_by};
 ghost use Rattle.valid_table.specs.Tables.{registrations_of};
 ghost use Rattle.valid_table.specs.Valid.{IsNotValid, IsOnce, IsValid};
 
@@ -57,13 +57,14 @@ pub(crate) fn add_new(
     registrations: &[Registration],
 ) -> Result<usize, TableFault>
     requires once { IsOnce (registrations_of rows.old.entries) }
-    requires rising { IsRising (paths_of registrations.now) }
+    requires rising { IsRising (paths_registered registrations.now) }
     ensures front { IfOk result
-        (λ count. IsNewFront (paths_of (registrations_of rows.old.entries))
-        (paths_of registrations.now) count) }
+        (λ count. IsNewFront (paths_registered (registrations_of rows.old.entries))
+        (paths_registered registrations.now) count) }
     ensures paths { IfOk result
-        (λ count. paths_of (registrations_of rows.new.entries)
-        ≡ paths_of (registrations_of rows.old.entries) ++ take count (paths_of registrations.now)) }
+        (λ count. paths_registered (registrations_of rows.new.entries)
+        ≡ paths_registered (registrations_of rows.old.entries)
+        ++ take count (paths_registered registrations.now)) }
     ensures whole { IfOk result
         (λ count. length registrations.now ≤ count → registrations_of rows.new.entries
         ≡ registrations_of rows.old.entries ++ registrations.now) }

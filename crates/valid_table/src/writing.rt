@@ -38,7 +38,8 @@ pub(crate) fn write_text(alloc: Global, entries: &[Entry]) -> Result<Vec<u8>, Ta
 
 /// Adds an entry's lines.
 fn write_entry(entry: &Entry, out: &mut Vec<u8>) -> Result<(), AllocError>
-    ensures { OnOk result (out.new.items ≡ out.old.items ++ lines_text Version.Two (entry_lines entry.now)) }
+    ensures { OnOk result
+        (out.new.items ≡ out.old.items ++ lines_text Version.Two (entry_lines entry.now)) }
 {
     match entry {
         Entry::Add(registration) => write_registration(b'A', registration, out),

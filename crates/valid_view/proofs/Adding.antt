@@ -6,7 +6,7 @@ use mathlib.Core.List.{IsPrefix}
 use prog.Atomic.{either}
 use Rattle.logbook.specs.Pages.{Cell, cell, keeps, no_nib, step, Moves, Goes}
 use Rattle.valid_table.specs.declared.entry.Entry.{Entry}
-use Rattle.valid_view.specs.Beginnings.{Adds, IsKept}
+use Rattle.valid_view.specs.Beginnings.{Adds, IsBeginningKept}
 use Rattle.valid_view.specs.Shown.{IsShowable, MayFollow}
 use Rattle.valid_view.proofs.Prefixes.{prefix_whole}
 
@@ -19,7 +19,7 @@ moved xs ys n = Unit {0}
 -- how the step goes on where the list and its length are found
 abbrev pub AddGoes : List Entry → Entry → ℕ → List Cell → List Entry → Type 0
 AddGoes v e old cells log =
-    Goes IsKept shown moved 0 (v, (no_nib, None)) (λ n. either (n == old) (old + 1) n)
+    Goes IsBeginningKept shown moved 0 (v, (no_nib, None)) (λ n. either (n == old) (old + 1) n)
     (Adds (step 0 old (old + 1) e) (v, (no_nib, None))) cells log
 
 adds_goes :
@@ -63,7 +63,7 @@ adds_goes log v e old len may showable pre false is =
 
 -- whatever the list is, the exchange adds the entry to all that was seen, or finds a longer one
 pub adds_moves : (v : List Entry) (e : Entry) (old : ℕ) → length v ≡ old → MayFollow v e
-    → Moves IsKept shown moved 0 (v, (no_nib, None)) (λ n. either (n == old) (old + 1) n)
+    → Moves IsBeginningKept shown moved 0 (v, (no_nib, None)) (λ n. either (n == old) (old + 1) n)
     (Adds (step 0 old (old + 1) e) (v, (no_nib, None)))
 adds_moves v e old len may cs log kept pre away =
     let P : List Cell → Type 0 =

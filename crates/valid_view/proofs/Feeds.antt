@@ -4,7 +4,7 @@ use Rattle.std.specs.Prelude.{All}
 use Rattle.logbook.specs.Pages.{Book}
 use Rattle.nix_names.specs.Rising.{IsRising}
 use Rattle.valid_table.specs.Adding.{IsNew, IsValidWith}
-use Rattle.valid_table.specs.Entries.{paths_of, registered_by}
+use Rattle.valid_table.specs.Entries.{paths_registered, registered_by}
 use Rattle.valid_table.specs.Valid.{references_of}
 use Rattle.valid_table.specs.declared.entry.Entry.{Entry}
 use Rattle.valid_view.specs.Feeding.{IsFeed, Takes, entries_of}
@@ -25,7 +25,7 @@ pub feed_push :
     (book : Book) (shown handed : List Entry) (held : List Op) (queue front : List Entry)
     (entry : Entry) →
     IsFeed book shown handed held queue front →
-    IsRising (paths_of (registered_by entry)) →
+    IsRising (paths_registered (registered_by entry)) →
     IsNew (shown ++ (handed ++ (entries_of held ++ queue))) entry →
     All (IsValidWith (shown ++ (handed ++ (entries_of held ++ queue))) entry)
     (references_of (registered_by entry)) →

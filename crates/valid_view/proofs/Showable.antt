@@ -4,7 +4,7 @@ use Rattle.std.specs.Prelude.{All}
 use Rattle.std.specs.List.{IsDistinct}
 use Rattle.nix_names.specs.Rising.{IsRising}
 use Rattle.valid_table.specs.Adding.{IsNew, IsValidWith}
-use Rattle.valid_table.specs.Entries.{paths_of, registered, registered_by}
+use Rattle.valid_table.specs.Entries.{paths_registered, registered, registered_by}
 use Rattle.valid_table.specs.Valid.{IsClosedBehind, IsOnce, references_of}
 use Rattle.valid_table.specs.declared.entry.Entry.{Entry}
 use Rattle.valid_table.specs.declared.entry.Registration.{Registration}
@@ -31,7 +31,7 @@ pub showable_front : (entries more : List Entry) → IsShowable (entries ++ more
     → IsShowable entries
 showable_front entries more showable = record {
   closed = closed_front [] entries more showable.closed;
-  once = once_front (paths_of (registered entries)) (paths_of (registered more))
+  once = once_front (paths_registered (registered entries)) (paths_registered (registered more))
       (rw (
         ← paths_of-append (registered entries) (registered more),
         ← registered-append entries more,
@@ -42,7 +42,7 @@ showable_front entries more showable = record {
 pub showable_push :
     (entries : List Entry) (entry : Entry) →
     IsShowable entries →
-    IsRising (paths_of (registered_by entry)) →
+    IsRising (paths_registered (registered_by entry)) →
     IsNew entries entry →
     All (IsValidWith entries entry) (references_of (registered_by entry)) →
     IsShowable (entries ++ entry ∷ [])

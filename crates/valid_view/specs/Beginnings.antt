@@ -12,7 +12,7 @@ pub record Begun : Type 0 where
 
 -- The first word is the list's length, and the list may be shown. A book has two words, of which
 -- this one leaves the second at 0.
-pub record IsKept (cells : List Cell) (entries : List Entry) : Type 0 where
+pub record IsBeginningKept (cells : List Cell) (entries : List Entry) : Type 0 where
   pub words : cells ≡ (length entries, true) ∷ (0, true) ∷ []
   pub showable : IsShowable entries
 

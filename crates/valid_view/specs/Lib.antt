@@ -3,7 +3,6 @@ pub mod Answers
 pub mod Faults
 pub mod SharedClosures
 pub mod Shown
-
 -- What only private contracts and proofs cite.
 pub mod Beginnings
 pub mod Feeding

@@ -16,7 +16,7 @@ told_as (NoPlace error) = fault.NoView
 
 -- what a refusal means where entries were to be shown, and these are known of the list with this
 -- name: memory was refused, or that list went on or is full
-abbrev pub IsRefused : Book → List Entry → Refusal → Type 0
-IsRefused book known NoMemory = Unit {0}
-IsRefused book known (Hindered found) = Hinders book known found
-IsRefused book known (NoPlace error) = ⊥
+abbrev pub IsShowRefused : Book → List Entry → Refusal → Type 0
+IsShowRefused book known NoMemory = Unit {0}
+IsShowRefused book known (Hindered found) = Hinders book known found
+IsShowRefused book known (NoPlace error) = ⊥

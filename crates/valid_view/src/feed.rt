@@ -4,7 +4,7 @@ ghost use Rattle.valid_table.specs.Adding.{IsNew, IsValidWith};
 ghost use Rattle.valid_table.specs.Entries.{registered_by};
 ghost use Rattle.valid_table.specs.Valid.{references_of};
 ghost use Rattle.valid_view.specs.Feeding.{Takes, known_of, pending_of};
-ghost use Rattle.valid_view.specs.Refusals.{IsRefused};
+ghost use Rattle.valid_view.specs.Refusals.{IsShowRefused};
 
 use crate::front::{Front, Head};
 use crate::line::{Line, Returned};
@@ -103,7 +103,7 @@ impl<J: Naming> Feed<J> {
             ((self.new.shown ≡ self.old.shown)
             × (pending_of self.new ≡ pending_of self.old)) }
         ensures nothing { pending_of self.old ≡ [] → IsOk result }
-        ensures why { IfErr result (IsRefused J.book (known_of self.new)) }
+        ensures why { IfErr result (IsShowRefused J.book (known_of self.new)) }
     {
         self.hand_over()?;
         if !self.line.all_shown() {
@@ -146,7 +146,7 @@ impl<J: Naming> Feed<J> {
         ensures pending { pending_of self.new ≡ pending_of self.old }
         ensures ok { OnOk result ((self.new.held ≡ []) × (self.new.queue ≡ [])) }
         ensures nothing { pending_of self.old ≡ [] → IsOk result }
-        ensures why { IfErr result (IsRefused J.book (known_of self.new)) }
+        ensures why { IfErr result (IsShowRefused J.book (known_of self.new)) }
     {
         self.hand_held()?;
         while self.take_next()? {
@@ -180,7 +180,7 @@ impl<J: Naming> Feed<J> {
         ensures handed { self.new.handed ≡ self.old.handed }
         ensures taken { Takes self.old.queue self.new.held self.new.queue result }
         ensures nothing { self.old.queue ≡ [] → IsOk result }
-        ensures why { IfErr result (IsRefused J.book (known_of self.new)) }
+        ensures why { IfErr result (IsShowRefused J.book (known_of self.new)) }
     {
         let Some(entry) = self.queue.pop_front() else {
             return Ok(false);

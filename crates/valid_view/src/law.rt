@@ -9,9 +9,9 @@ pub struct Law;
 impl Rule<Entry, u64> for Law {
     ghost use Rattle.std.specs.Prelude.{[]};
     ghost use base.Fml.{ftrue};
-    ghost use Rattle.valid_view.specs.Beginnings.{IsKept};
+    ghost use Rattle.valid_view.specs.Beginnings.{IsBeginningKept};
 
-    ghost holds = { λ cells entries. IsKept cells entries };
+    ghost holds = { λ cells entries. IsBeginningKept cells entries };
 
     ghost first = { [] };
 

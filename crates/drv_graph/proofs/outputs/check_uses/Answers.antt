@@ -9,7 +9,7 @@ use Rattle.nix_drv.specs.Derivation.{Drv, Input}
 use Rattle.nix_drv.specs.Parts.{bytes_of, input_of, path_of}
 use Rattle.drv_graph.specs.Checking.{IsUseFault}
 use Rattle.drv_graph.specs.Outputs.{IsKnownUse, Use, uses}
-use Rattle.drv_graph.specs.UsedInputs.{drvs_of, uses_of}
+use Rattle.drv_graph.specs.UsedInputs.{drvs_of_uses, uses_of}
 use Rattle.drv_graph.specs.declared.outputs.UsedInput.{UsedInput}
 use Rattle.drv_graph.proofs.Checks.{known_more, use_fault_at}
 use Rattle.drv_graph.proofs.Loops.{seen_at}
@@ -37,7 +37,7 @@ loop-place-preserved c =
     ∙ ap (λ (ps : List (List ℕ)). slice_get ps c.loop-place.place) c.requires
     ∙ seen_at path_of c.args.inputs.now c.loop-place.place item c.loop-place-test.true
     c.index-inputs-place.is) in
-    known_more (map input_of c.args.inputs.now) (drvs_of c.args.used.now) c.loop-place.place
+    known_more (map input_of c.args.inputs.now) (drvs_of_uses c.args.used.now) c.loop-place.place
     (input_of item) by.drv.now at_input at_drv c.loop-place.invariant
     (subst (λ (p : List ℕ). All IsKnownUse (uses_of p by.drv.now (map bytes_of item.names.items)))
     path
@@ -69,7 +69,7 @@ returns-in_err-check_used-clause-err c =
     c.index-inputs-place.is) in
     let p = err_from_is_err_and c.from_residual.result c.from_residual.ensures.1 in
     rw (p.1, p.2)
-    (use_fault_at (map input_of c.args.inputs.now) (drvs_of c.args.used.now) c.loop-place.place
+    (use_fault_at (map input_of c.args.inputs.now) (drvs_of_uses c.args.used.now) c.loop-place.place
     (input_of item) by.drv.now c.in_err-check_used.field-0.0 at_input at_drv
     c.loop-place.invariant
     (subst (λ (q : List ℕ). IsUseFault (uses_of q by.drv.now (map bytes_of item.names.items))
@@ -80,7 +80,7 @@ returns-in_err-check_used-clause-err c =
 pub returns-clause-ok : goal.returns-clause-ok
 returns-clause-ok c =
     let inputs = map input_of c.args.inputs.now in
-    let drvs = drvs_of c.args.used.now in
+    let drvs = drvs_of_uses c.args.used.now in
     let past : length inputs ≤ c.loop-place.place =
     omega (arith, length-map c.args.inputs.now input_of) in
     let past_drvs : length drvs ≤ c.loop-place.place =

@@ -3,7 +3,7 @@ use Rattle.std.proofs.lemmas.Result.{err_from_is_err_and}
 use Rattle.std.proofs.lemmas.Slice.Zip.{AllZip-long}
 use Rattle.drv_graph.specs.Checking.{AreExpected}
 use Rattle.drv_graph.specs.Expected.{IsExpected}
-use Rattle.drv_graph.specs.UsedInputs.{drvs_of, hashes_of}
+use Rattle.drv_graph.specs.UsedInputs.{drvs_of_uses, hashes_of}
 use Rattle.drv_graph.proofs.Checks.{all_right, value_is_checked}
 use Rattle.drv_graph.proofs.KindAnswers.{kind_not_mixed}
 use Rattle.drv_graph.proofs.outputs.expected_outputs.Goals as goal
@@ -41,7 +41,7 @@ returns-in_err-check_values c =
     rw (p.1, p.2)
     (value_is_checked c.args.in_draft c.args.dir.now c.args.name.now c.in_ok-kind.kind
     c.args.drv.now (hashes_of c.args.used.now) c.as_slice.result.now expected
-    (drvs_of c.args.used.now) _
+    (drvs_of_uses c.args.used.now) _
     c.in_ok-kind.ensures c.in_err-check_values.ensures.err)
 
 pub returns : goal.returns
@@ -56,7 +56,7 @@ returns c =
     subst (λ (ps : List (List ℕ)). AreExpected c.args.dir.now c.args.name.now c.in_ok-kind.kind
     c.args.drv.now (hashes_of c.args.used.now) ps) (sym c.as_slice.ensures.value) expected in (
       all_right c.args.in_draft c.args.dir.now c.args.name.now c.in_ok-kind.kind c.args.drv.now
-          (hashes_of c.args.used.now) c.as_slice.result.now slice (drvs_of c.args.used.now)
+          (hashes_of c.args.used.now) c.as_slice.result.now slice (drvs_of_uses c.args.used.now)
           c.in_ok-kind.ensures c.in_ok-check_values.ensures.paths c.in_ok-check_values.ensures.env,
       expected,
     )

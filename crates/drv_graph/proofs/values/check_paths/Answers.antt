@@ -1,7 +1,7 @@
 use Rattle.std.proofs.Common.{◌<◌, ℕ, List, length, map, refl, subst, arith}
 use Rattle.std.proofs.lemmas.Option.{slice_get_read}
 use Rattle.nix_drv.specs.Parts.{output_of}
-use Rattle.drv_graph.specs.Checking.{FitsIn, PathFits}
+use Rattle.drv_graph.specs.Checking.{FitsExpected, PathFits}
 use Rattle.drv_graph.proofs.Checks.{fit_more, mismatch}
 use Rattle.drv_graph.proofs.Loops.{seen_at}
 use Rattle.drv_graph.proofs.values.check_paths.Goals as goal
@@ -16,7 +16,7 @@ loop-place-preserved c =
     (slice_get_read c.args.paths.now (length c.args.paths.now) c.loop-place.place
     c.index-paths-place.result refl below c.index-paths-place.is)
     c.loop-place.invariant
-    (subst (λ (v : List ℕ). FitsIn c.args.in_draft v c.index-paths-place.result)
+    (subst (λ (v : List ℕ). FitsExpected c.args.in_draft v c.index-paths-place.result)
     c.deref.ensures.value c.if-not-fits.ensures)
 
 pub returns-then-not-fits-clause-err : goal.returns-then-not-fits-clause-err
@@ -29,6 +29,6 @@ returns-then-not-fits-clause-err c =
     (slice_get_read c.args.paths.now (length c.args.paths.now) c.loop-place.place
     c.index-paths-place.result refl below c.index-paths-place.is)
     c.loop-place.invariant
-    (subst (λ (v : List ℕ). FitsIn c.args.in_draft v c.index-paths-place.result → ⊥)
+    (subst (λ (v : List ℕ). FitsExpected c.args.in_draft v c.index-paths-place.result → ⊥)
     c.deref.ensures.value c.if-not-fits.ensures)
     c.in_ok-output_mismatch.ensures

@@ -6,7 +6,7 @@ use Rattle.std.proofs.lemmas.Option.{slice_get_within}
 use Rattle.nix_drv.specs.Derivation.{EnvEntry}
 use Rattle.nix_drv.specs.Parts.{entry_of}
 use Rattle.nix_drv.specs.Places.{env_keys}
-use Rattle.drv_graph.specs.Checking.{FitsIn}
+use Rattle.drv_graph.specs.Checking.{FitsExpected}
 use Rattle.drv_graph.proofs.Checks.{entry_answer, no_misfit}
 use Rattle.drv_graph.proofs.Loops.{seen_at}
 use Rattle.drv_graph.proofs.values.entry_fits.Goals as goal
@@ -29,8 +29,8 @@ returns-in-Some c =
     (ap (λ (es : List EnvEntry). slice_get es c.in-Some.place) (sym c.env-env.ensures)
     ∙ seen_at entry_of c.env-env.result.now c.in-Some.place c.index-env-place.result below
     c.index-env-place.is)
-    (subst (λ (v : List ℕ). MatchBool c.fits.result (FitsIn c.args.in_draft v c.args.path.now)
-    (FitsIn c.args.in_draft v c.args.path.now → ⊥)) c.deref.ensures.value c.fits.ensures)
+    (subst (λ (v : List ℕ). MatchBool c.fits.result (FitsExpected c.args.in_draft v c.args.path.now)
+    (FitsExpected c.args.in_draft v c.args.path.now → ⊥)) c.deref.ensures.value c.fits.ensures)
 
 pub returns-in-None : goal.returns-in-None
 returns-in-None c =

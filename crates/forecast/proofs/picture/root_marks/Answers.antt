@@ -17,5 +17,6 @@ returns c =
     subst (Marks before c.mark.new.wanted) c.roots.ensures
     (subst (λ l. Marks l c.mark.new.wanted c.roots.result.now) lent
     (record { count = c.mark.ensures.count; each = c.mark.ensures.each })) in
-    subst (AreRoots c.args.plan.now) (sym (written c.mark.new.wanted _ c.in_ok-marks.marks.len size))
+    subst (AreRoots c.args.plan.now) (sym (written c.mark.new.wanted _ c.in_ok-marks.marks.len
+    size))
     (roots_are c.args.plan.now before c.mark.new.wanted none marks)

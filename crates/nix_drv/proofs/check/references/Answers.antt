@@ -1,7 +1,7 @@
 use Rattle.std.proofs.Common.{◌≡◌, sym}
 use Rattle.std.proofs.lemmas.List.Filters.{dedup_is}
 use Rattle.std.proofs.lemmas.Result.{err_from_is_err_and}
-use Rattle.nix_drv.specs.OwnPath.{paths_of}
+use Rattle.nix_drv.specs.OwnPath.{referenced_paths}
 use Rattle.nix_drv.proofs.CheckedOrder.{references_from}
 use Rattle.nix_drv.proofs.CheckedPaths.{all_good, inputs_fault, paths_are, sources_fault}
 use Rattle.nix_drv.proofs.check.references.Goals as goal
@@ -21,7 +21,7 @@ returns-in_err-add_paths-2-clause-err c =
 
 pub returns-clause-ok : goal.returns-clause-ok
 returns-clause-ok c =
-    let pushed : c.add_paths-2.new.refs.items ≡ paths_of c.args.drv.now =
+    let pushed : c.add_paths-2.new.refs.items ≡ referenced_paths c.args.drv.now =
     rw (
       c.in_ok-add_paths-2.ensures.added,
       c.in_ok-add_paths.ensures.added,
@@ -29,6 +29,7 @@ returns-clause-ok c =
     ) (sym (paths_are _ _ _ c.inputs.ensures c.sources.ensures)) in (
       all_good _ _ _ _ c.inputs.ensures c.sources.ensures c.in_ok-add_paths.ensures.good
           c.in_ok-add_paths-2.ensures.good,
-      references_from (paths_of c.args.drv.now) _ _ _ pushed c.sort_unstable.ensures.permutation
+      references_from (referenced_paths c.args.drv.now) _ _ _ pushed
+          c.sort_unstable.ensures.permutation
           c.sort_unstable.ensures.sorted (dedup_is _ _ _ c.dedup.ensures.filtered),
     )

@@ -12,7 +12,8 @@ loop-entry-preserved c =
       good =
           All-more (λ e. IsProcessEntry (entry_of e)) c.args.entries.now c.loop-entry.entry-index
           c.entry-item.result c.loop-entry-test.true c.loop-entry.invariant.good
-          (subst (λ e. IsProcessEntry (entry_of e)) c.entry-item.is c.in_ok-setting_of.ensures.good);
+          (subst (λ e. IsProcessEntry (entry_of e)) c.entry-item.is
+          c.in_ok-setting_of.ensures.good);
       settings =
           mapped_more entry_of_setting entry_of c.loop-entry.settings.items _ _ c.args.entries.now
           c.loop-entry.entry-index c.entry-item.result c.loop-entry-test.true c.entry-item.is

@@ -21,7 +21,8 @@ loop-key-preserved c =
     record {
       slots = length-set sieve slot new ∙ held.slots;
       each =
-          subst (All (Sieves slots (set sieve slot new))) (sym (take_more keys i 0 c.loop-key-test.true))
+          subst (All (Sieves slots (set sieve slot new)))
+          (sym (take_more keys i 0 c.loop-key-test.true))
           (sieve_more (take i keys) sieve key slots slot new c.slot_of-slot.ensures.value fits
           (subst (LetsThrough new) c.tag_of.ensures c.both.ensures.new)
           (λ other some old. c.both.ensures.old other some

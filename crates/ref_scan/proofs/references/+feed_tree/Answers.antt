@@ -25,7 +25,8 @@ loop-name-preserved t c =
     let name = c.deref-in-loop-name.result.now in
     let rest = pieces_below (drop (c.loop-name.name-index + 1) items) in
     let ahead = left_from items c.loop-name.name-index member (omega arith) c.loop-name-item.is in
-    let fed = c.feed_tree.ensures ∙ ap (λ f. sought_of f.permitted f.parts f.in_order (f.ended ++ pieces member.tree) [])
+    let fed = c.feed_tree.ensures ∙ ap (λ f. sought_of f.permitted f.parts f.in_order
+    (f.ended ++ pieces member.tree) [])
     c.feed_list-in-loop-name.ensures in
     let whole = ap (λ n. old.ended ++ (n ∷ (pieces member.tree ++ rest)))
     c.deref-in-loop-name.ensures.value ∙ ap (λ l. old.ended ++ pieces_below l) (sym ahead)

@@ -8,7 +8,8 @@ use Rattle.ref_scan.proofs.references.scan.Goals as goal
 
 pub found-requires : goal.found-requires
 found-requires c =
-    rw (ap (λ m. m.permitted) c.feed_tree.ensures ∙ c.in_ok-marks.ensures.permitted) c.requires.rising
+    rw (ap (λ m. m.permitted) c.feed_tree.ensures ∙ c.in_ok-marks.ensures.permitted)
+    c.requires.rising
 
 pub returns : goal.returns
 returns c =
@@ -19,7 +20,8 @@ returns c =
     ≡ sought_of permitted marks.parts marks.in_order (pieces tree) [] = c.feed_tree.ensures
     ∙ ap (λ l. sought_of marks.permitted marks.parts marks.in_order (l ++ pieces tree) [])
     c.in_ok-marks.ensures.fed.0
-    ∙ ap (λ ps. sought_of ps marks.parts marks.in_order (pieces tree) []) c.in_ok-marks.ensures.permitted
+    ∙ ap (λ ps. sought_of ps marks.parts marks.in_order (pieces tree) [])
+    c.in_ok-marks.ensures.permitted
     in
     if_ok c.found.result _ _
     (λ found h.

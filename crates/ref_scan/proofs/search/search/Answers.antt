@@ -45,4 +45,5 @@ returns c =
     let start = c.loop-window.start in
     let left = ap length (take_rest bytes start) in
     searching_end c.args.index.now.parts c.args.met.now c.loop-window.met bytes start
-    c.requires.are_parts.each c.loop-window.invariant.so_far (omega (arith, c.in_default.ensures.cases))
+    c.requires.are_parts.each c.loop-window.invariant.so_far
+    (omega (arith, c.in_default.ensures.cases))

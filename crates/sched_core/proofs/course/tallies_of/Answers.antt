@@ -19,12 +19,17 @@ loop-d-preserved c =
     omega (arith, c.loop-d-test.true, c.len-d-end.ensures.value) in
     opened_more c.args.plan.now c.args.standings.now c.args.wanted.now c.args.twins.now
     c.len-d-end.ensures.sound c.requires.smaller c.loop-d.d
-    c.loop-d.tallies.items c.push.new.self.items c.tally_of-tally.result c.inputs_of-inputs.result.now
+    c.loop-d.tallies.items c.push.new.self.items c.tally_of-tally.result
+    c.inputs_of-inputs.result.now
     _ _ None (omega (arith, low, c.requires.standings))
     (omega (arith, low, c.requires.wanted)) (omega (arith, low, c.requires.twins))
     c.tally_of-tally.ensures.standing
     c.tally_of-tally.ensures.wanted c.tally_of-tally.ensures.twin c.inputs_of-inputs.ensures.numbers
-    (subst (λ l. Hears (record { inputs = c.inputs_of-inputs.result.now; twins = listed (slice_index_or c.args.twins.now c.loop-d.d None) })
+    (subst (λ l. Hears (record {
+      inputs = c.inputs_of-inputs.result.now;
+      twins = listed
+          (slice_index_or c.args.twins.now c.loop-d.d None);
+    })
     (kept (states_in l)) (λ place. 0)
     c.tally_of-tally.result) c.deref.ensures.value c.tally_of-tally.ensures.hears)
     c.tally_of-tally.ensures.idle c.in_ok-push.ensures.items c.loop-d.invariant

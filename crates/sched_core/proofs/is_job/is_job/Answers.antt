@@ -42,7 +42,8 @@ returns c =
     job_by_parts c.args.plan.now c.args.d c.args.job.now _ _ _ _ c.has_seeds.result c.requires
     c.drv-drv.ensures c.if-job-d.false c.kind.ensures
     (c.same_kind.ensures.0 c.if-not-same_kind.false)
-    (c.has_recipe.ensures.0 c.if-not-has_recipe.false) c.outputs.ensures c.output_paths.ensures.value
+    (c.has_recipe.ensures.0 c.if-not-has_recipe.false) c.outputs.ensures
+    c.output_paths.ensures.value
     (subst (MakesAt c.outputs.result.now c.output_paths.result.now) c.deref.ensures.value
     (c.makes.ensures.0 c.if-not-makes.false))
     (rw (← c.deref-2.ensures.value) c.has_seeds.ensures)

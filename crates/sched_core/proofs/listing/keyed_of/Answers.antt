@@ -7,7 +7,8 @@ use Rattle.sched_core.proofs.listing.keyed_of.Goals.{then-marks-number+in_ok-pus
 use Rattle.sched_core.proofs.listing.keyed_of.Goals as goal
 
 pub loop-number-init : goal.loop-number-init
-loop-number-init c = rw c.new-keyed.ensures.items (listed_none c.args.plan.now.nodes c.args.marks.now)
+loop-number-init c = rw c.new-keyed.ensures.items (listed_none c.args.plan.now.nodes
+    c.args.marks.now)
 
 pub loop-number-preserved : goal.loop-number-preserved
 loop-number-preserved c =

@@ -38,7 +38,12 @@ add_edge-requires-clause-room c =
     let places = length c.args.edges.now in
     let own = room_less spans places (λ n. often n (inputs ++ twins))
     (λ n. often n inputs + often n (twin ∷ [])) c.requires.room
-    (λ n within. omega (arith, often_both n inputs twins, ap (λ l. often n (listed l)) c.in-Some.is))
+    (λ n within. omega (
+      arith,
+      often_both n inputs twins,
+      ap (λ l. often n (listed l))
+          c.in-Some.is,
+    ))
     in
     c.add_edges.ensures.room (λ n. often n (twin ∷ [])) own
 

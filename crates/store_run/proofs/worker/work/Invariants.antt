@@ -1,8 +1,8 @@
 use Rattle.std.proofs.Common.{IfSome}
-use Rattle.store_run.specs.Finding.{IsTold}
+use Rattle.store_run.specs.Finding.{IsToldOfSeeds}
 use Rattle.store_run.proofs.worker.work.Given as goal
 
 abbrev pub invariant-loop : goal.invariant-loop
 invariant-loop g l =
     (goal.iterator-loop g).can_next l.iterator' × (goal.iterator-loop g).is_finite l.iterator'
-    × IfSome l.taken (λ taken. IsTold g.O.Outlet.names taken.0)
+    × IfSome l.taken (λ taken. IsToldOfSeeds g.O.Outlet.names taken.0)

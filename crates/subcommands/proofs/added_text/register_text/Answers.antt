@@ -15,5 +15,6 @@ returns-in_err-add c =
     let none : c.in_ok-info.info.references ≡ [] = c.in_ok-info.ensures.references
     ∙ c.new.ensures.items in
     rw (p.1, p.2)
-    (refused_for_memory _ _ c.args.path.now _ c.in_ok-info.info _ fresh c.in_ok-path.ensures.same none
+    (refused_for_memory _ _ c.args.path.now _ c.in_ok-info.info _ fresh c.in_ok-path.ensures.same
+    none
     c.in_err-add.ensures.adding)

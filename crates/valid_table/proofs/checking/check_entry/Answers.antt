@@ -1,5 +1,5 @@
 use Rattle.std.proofs.Common.{◌+◌, ◌++◌, ◌∙◌, ap, subst, sym}
-use Rattle.valid_table.specs.Entries.{paths_of}
+use Rattle.valid_table.specs.Entries.{paths_registered}
 use Rattle.valid_table.specs.Tables.{registrations_of}
 use Rattle.valid_table.specs.Valid.{IsOnce}
 use Rattle.valid_table.proofs.CheckedEntries.{own_checked}
@@ -33,4 +33,4 @@ returns-clause-unique c =
     where_right _ rs c.in_ok-new.new _ c.check_lines.result c.check_lines.ensures
     (λ long. subst IsOnce (sym (c.in_ok-new.ensures.whole long))
     (once_more known rs c.requires.once c.registrations-registrations.ensures.rising
-    (all_new (paths_of known) rs c.in_ok-new.new c.in_ok-new.ensures.front long)))
+    (all_new (paths_registered known) rs c.in_ok-new.new c.in_ok-new.ensures.front long)))

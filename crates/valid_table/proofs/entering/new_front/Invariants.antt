@@ -1,10 +1,10 @@
 -- The first paths have no row.
 use Rattle.std.proofs.Common.{take}
 use Rattle.valid_table.specs.Entering.{AreUnknown}
-use Rattle.valid_table.specs.Entries.{paths_of}
+use Rattle.valid_table.specs.Entries.{paths_registered}
 use Rattle.valid_table.specs.Tables.{registrations_of}
 use Rattle.valid_table.proofs.entering.new_front.Given as goal
 
 abbrev pub invariant-loop-count : goal.invariant-loop-count
-invariant-loop-count l = AreUnknown (paths_of (registrations_of l.rows.entries))
-    (take l.count (paths_of l.registrations))
+invariant-loop-count l = AreUnknown (paths_registered (registrations_of l.rows.entries))
+    (take l.count (paths_registered l.registrations))

@@ -8,7 +8,8 @@ use Rattle.valid_table.proofs.reading.references_of.Goals as goal
 pub returns-in_default-2-clause-left : goal.returns-in_default-2-clause-left
 returns-in_default-2-clause-left c = λ version output.
     references_lead version _ output _ _ _ _ c.references.invariant
-    (bad_reference version _ output (last_or None c.references.references.items) _ c.in-Some.fields.now
+    (bad_reference version _ output (last_or None c.references.references.items) _
+    c.in-Some.fields.now
     c.in-Some.ensures
     (MatchOption-at_none _ _ c.in_default-2.is c.in_ok-path.ensures))
 
@@ -16,7 +17,8 @@ pub returns-then-not-is_above-clause-left : goal.returns-then-not-is_above-claus
 returns-then-not-is_above-clause-left c = λ version output.
     let unlike = c.if-not-is_above.true in
     references_lead version _ output _ _ _ _ c.references.invariant
-    (low_reference version _ output (last_or None c.references.references.items) _ c.in-Some.fields.now
+    (low_reference version _ output (last_or None c.references.references.items) _
+    c.in-Some.fields.now
     c.in-Some-2.path c.in-Some-2.behind.now
     c.in-Some.ensures (MatchOption-at_some _ _ _ c.in-Some-2.is c.in_ok-path.ensures)
     (λ above. false≢true

@@ -1,7 +1,7 @@
 use Rattle.std.proofs.Common.{◌≡◌, Some, arith, get_or, map, ℕ}
 use Rattle.std.specs.List.{slice_get}
 use Rattle.std.proofs.lemmas.List.{get_or-map, length-map}
-use Rattle.valid_table.specs.Entries.{paths_of}
+use Rattle.valid_table.specs.Entries.{paths_registered}
 use Rattle.valid_table.specs.Tables.{registrations_of}
 use Rattle.valid_table.proofs.RowNumbers.{paths_are_keys}
 use Rattle.valid_table.proofs.Sorting.{paths_more}
@@ -14,7 +14,8 @@ loop-row-preserved c =
     let i = c.loop-row.row-index in
     let keyed = c.args.keyed.now in
     let numbers = map (λ (k : ℕ × ℕ). k.1) keyed in
-    let at : slice_get (paths_of registrations) (get_or numbers i 0) ≡ Some c.index.result.now =
+    let at : slice_get (paths_registered registrations) (get_or numbers i 0) ≡ Some
+    c.index.result.now =
     rw (
       get_or-map (λ (k : ℕ × ℕ). k.1) keyed i (0, 0) 0 c.loop-row-test.true,
       paths_are_keys rows,

@@ -12,7 +12,8 @@ use Rattle.valid_table.proofs.rising.sorted_paths.Goals as goal
 pub copied_paths-requires : goal.copied_paths-requires
 copied_paths-requires c =
     rw c.deref.ensures.value
-    (keyed_below _ (rows_behind c.in_ok-keyed.keyed.items) c.in_ok-keyed.keyed.items c.sort.new.self.items
+    (keyed_below _ (rows_behind c.in_ok-keyed.keyed.items) c.in_ok-keyed.keyed.items
+    c.sort.new.self.items
     refl c.sort.ensures.permutation
     c.in_ok-keyed.ensures.rows.below)
 
@@ -30,7 +31,8 @@ returns c =
           rw w.paths-is (record {
             rising = sorted_rising registrations c.requires.once chosen c.in_ok-keyed.ensures.rows
                 (paths_at registrations chosen) _ refl sorted w.put_in_order.ensures.sorted;
-            same = same_paths registrations chosen c.args.found.now.rows _ c.in_ok-keyed.ensures.same
+            same = same_paths registrations chosen c.args.found.now.rows _
+                c.in_ok-keyed.ensures.same
                 (sorted_same (paths_at registrations chosen) _ _ refl sorted);
             err = tt;
           })
@@ -41,7 +43,8 @@ returns c =
                 (keyed_moved registrations c.in_ok-keyed.keyed.items c.sort.new.self.items
                 c.sort.ensures.permutation c.in_ok-keyed.ensures.keys)
                 (rw c.deref-2.ensures.value at c.keys_rise.ensures w.if-not-keys_rise.false));
-            same = same_paths registrations chosen c.args.found.now.rows _ c.in_ok-keyed.ensures.same
+            same = same_paths registrations chosen c.args.found.now.rows _
+                c.in_ok-keyed.ensures.same
                 (sorted_same (paths_at registrations chosen) _ _ refl moved);
             err = tt;
           })

@@ -1,7 +1,7 @@
 -- Behind the rows that were there stand the first registrations, whose paths had none.
 use Rattle.std.proofs.Common.{◌≡◌, ◌++◌, take}
 use Rattle.valid_table.specs.Entering.{AreUnknown}
-use Rattle.valid_table.specs.Entries.{paths_of}
+use Rattle.valid_table.specs.Entries.{paths_registered}
 use Rattle.valid_table.specs.Tables.{registrations_of}
 use Rattle.valid_table.proofs.rows.add_new.Given as goal
 
@@ -9,6 +9,6 @@ abbrev pub invariant-loop-count : goal.invariant-loop-count
 invariant-loop-count l = record {
   rows : registrations_of l.rows.entries ≡ registrations_of l.fn.rows.entries
       ++ take l.count l.registrations;
-  new : AreUnknown (paths_of (registrations_of l.fn.rows.entries))
-      (take l.count (paths_of l.registrations));
+  new : AreUnknown (paths_registered (registrations_of l.fn.rows.entries))
+      (take l.count (paths_registered l.registrations));
 }

@@ -7,5 +7,6 @@ use Rattle.valid_table.proofs.writing.write_registration.Given as goal
 -- what is written, and the lines of the references that are left
 abbrev pub invariant-references : goal.invariant-references
 invariant-references l =
-    l.out.items ++ lines_text Two (map Reference (drop l.reference-index l.reference-items)) ≡ l.initial.out.items
+    l.out.items ++ lines_text Two (map Reference (drop l.reference-index l.reference-items)) ≡
+    l.initial.out.items
     ++ lines_text Two (map Reference l.reference-items)

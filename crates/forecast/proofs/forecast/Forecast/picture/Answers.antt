@@ -25,7 +25,8 @@ returns-clause-ok c =
     (λ text is.
     subst (λ (o : Opening). IsPicture o.run o.entries text.items) c.self.view_is
     (held_picture run f.journal.entries f.wanted.items f.prospects.items text.items c.self.invariant
-    (subst (λ marks. IsDrawing f.plan (IsMarked marks count) (state_at f.prospects.items) text.items)
+    (subst (λ marks. IsDrawing f.plan (IsMarked marks count) (state_at f.prospects.items)
+    text.items)
     c.deref.ensures.value
     (subst (λ ps. IsDrawing f.plan (IsMarked c.deref.result.now count) (state_at ps) text.items)
     c.deref-2.ensures.value is))))

@@ -4,7 +4,7 @@ use Rattle.sched_core.specs.Runs.{Run}
 use Rattle.forecast.specs.Forecasts.{Opening}
 use Rattle.forecast.specs.Holding.{state_at}
 use Rattle.sched_core.specs.Listing.{IsMarked}
-use Rattle.forecast.specs.Texts.{IsForecast, IsText}
+use Rattle.forecast.specs.Texts.{IsForecast, IsForecastText}
 use Rattle.forecast.proofs.Held.{held_count, held_text}
 use Rattle.forecast.proofs.forecast.Forecast.text.Goals as goal
 
@@ -24,8 +24,10 @@ returns-clause-ok c =
     (λ text is.
     subst (λ (o : Opening). IsForecast o.run o.entries text.items) c.self.view_is
     (held_text run f.journal.entries f.wanted.items f.prospects.items text.items c.self.invariant
-    (subst (λ marks. IsText f.plan (IsMarked marks count) (state_at f.prospects.items) text.items)
+    (subst (λ marks. IsForecastText f.plan (IsMarked marks count) (state_at f.prospects.items)
+    text.items)
     c.deref.ensures.value
-    (subst (λ ps. IsText f.plan (IsMarked c.deref.result.now count) (state_at ps) text.items)
+    (subst (λ ps. IsForecastText f.plan (IsMarked c.deref.result.now count) (state_at ps)
+    text.items)
     c.deref-2.ensures.value is))))
     c.text_of.ensures.ok

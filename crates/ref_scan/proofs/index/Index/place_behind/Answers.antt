@@ -1,5 +1,5 @@
 use Rattle.std.proofs.Common.{◌∙◌, ap, subst, sym}
-use Rattle.ref_scan.specs.Places.{IsPlaceOf, parts_told}
+use Rattle.ref_scan.specs.Places.{IsPlaceOfPart, parts_told}
 use Rattle.ref_scan.proofs.Indexing.{place_told}
 use Rattle.ref_scan.proofs.index.Index.place_behind.Goals as goal
 
@@ -8,8 +8,9 @@ returns-else-self c =
     let s = c.self.inside in
     let apart = ap (λ b. parts_told b s.paths.items s.apart.items) (sym c.if-self.false)
     ∙ ap (λ v. v.parts) c.self.view_is in
-    subst (λ parts. IsPlaceOf parts c.args.window.now c.ok.result) apart
+    subst (λ parts. IsPlaceOfPart parts c.args.window.now c.ok.result) apart
     (rw (c.ok.ensures.value, ← c.deref.ensures.value)
     (place_told c.deref.result.now c.args.window.now c.binary_search.result
-    (rw c.deref.ensures.value (c.self.invariant.sorted c.if-self.false)) c.binary_search.ensures.bound
+    (rw c.deref.ensures.value (c.self.invariant.sorted c.if-self.false))
+    c.binary_search.ensures.bound
     c.binary_search.ensures.position))

@@ -15,10 +15,12 @@ returns-in_err-place c =
     let ordered = ap (λ v. v.in_order) c.self.view_is ∙ c.requires.in_order in
     let told = ap (λ v. v.parts) c.self.view_is in
     let keys = c.self.invariant.of_parts ∙ ap (map key_of_part) told in
-    let here = subst (λ ks. IsBinarySearchResult (λ y. nat_cmp y c.args.key) ks c.binary_search.result)
+    let here = subst (λ ks. IsBinarySearchResult (λ y. nat_cmp y c.args.key) ks
+    c.binary_search.result)
     c.deref.ensures.value c.binary_search.ensures.position in
     rw c.from_residual.ensures
-    (none_found c.args.self.now.parts s.keys.items c.args.window.now c.args.key c.binary_search.result
+    (none_found c.args.self.now.parts s.keys.items c.args.window.now c.args.key
+    c.binary_search.result
     keys c.requires.key (c.self.invariant.rising ordered) here c.in_err-place.ensures.value)
 
 pub returns-then-eq : goal.returns-then-eq
@@ -28,13 +30,15 @@ returns-then-eq c =
     let ordered = ap (λ v. v.in_order) c.self.view_is ∙ c.requires.in_order in
     let told = ap (λ v. v.parts) c.self.view_is in
     let keys = c.self.invariant.of_parts ∙ ap (map key_of_part) told in
-    let here = subst (λ ks. IsBinarySearchResult (λ y. nat_cmp y c.args.key) ks c.binary_search.result)
+    let here = subst (λ ks. IsBinarySearchResult (λ y. nat_cmp y c.args.key) ks
+    c.binary_search.result)
     c.deref.ensures.value c.binary_search.ensures.position in
     let found = one_found s.keys.items c.args.key place c.binary_search.result
     (c.self.invariant.rising ordered) here c.in_ok-place.ensures.value in
     let are : map hash_part_of s.paths.items ≡ c.args.self.now.parts = ap
     (λ b. parts_told b s.paths.items s.apart.items) (sym ordered) ∙ told in
-    let at = part_at_key s.paths.items c.args.self.now.parts s.keys.items c.index.result.now place are
+    let at = part_at_key s.paths.items c.args.self.now.parts s.keys.items c.index.result.now place
+    are
     keys found.0 c.index.ensures in
     let same = equal_from_eq _ _ (sym c.eq.ensures ∙ c.if-eq.true) in
     (at.0, at.1 ∙ sym c.hash_part.ensures.value ∙ same ∙ c.as_slice.ensures)
@@ -46,18 +50,21 @@ returns-else-eq c =
     let ordered = ap (λ v. v.in_order) c.self.view_is ∙ c.requires.in_order in
     let told = ap (λ v. v.parts) c.self.view_is in
     let keys = c.self.invariant.of_parts ∙ ap (map key_of_part) told in
-    let here = subst (λ ks. IsBinarySearchResult (λ y. nat_cmp y c.args.key) ks c.binary_search.result)
+    let here = subst (λ ks. IsBinarySearchResult (λ y. nat_cmp y c.args.key) ks
+    c.binary_search.result)
     c.deref.ensures.value c.binary_search.ensures.position in
     let rises = c.self.invariant.rising ordered in
     let found = one_found s.keys.items c.args.key place c.binary_search.result rises here
     c.in_ok-place.ensures.value in
     let are : map hash_part_of s.paths.items ≡ c.args.self.now.parts = ap
     (λ b. parts_told b s.paths.items s.apart.items) (sym ordered) ∙ told in
-    let at = part_at_key s.paths.items c.args.self.now.parts s.keys.items c.index.result.now place are
+    let at = part_at_key s.paths.items c.args.self.now.parts s.keys.items c.index.result.now place
+    are
     keys found.0 c.index.ensures in
     let unlike : pointwise nat_eq c.hash_part.result.now c.as_slice.result.now ≡ false =
     sym c.eq.ensures ∙ c.if-eq.false in
-    other_part c.args.self.now.parts s.keys.items c.args.window.now c.args.key place keys c.requires.key
+    other_part c.args.self.now.parts s.keys.items c.args.window.now c.args.key place keys
+    c.requires.key
     rises found.0 found.1
     (λ same.
     let alike : c.hash_part.result.now ≡ c.as_slice.result.now = c.hash_part.ensures.value

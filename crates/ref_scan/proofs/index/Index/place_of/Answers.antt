@@ -14,9 +14,11 @@ returns-then-held c =
     let slot_is : slot ≡ slot_of (length s.sieve.items) key = c.slot_of.ensures.value
     ∙ ap (λ n. slot_of n key) many in
     let fits : slot < length s.sieve.items = omega (arith, c.slot_of.ensures.within, many) in
-    let held : get_or s.sieve.items (slot_of (length s.sieve.items) key) 0 ≡ c.index-held.result.now =
+    let held : get_or s.sieve.items (slot_of (length s.sieve.items) key) 0 ≡
+    c.index-held.result.now =
     ap (λ n. get_or s.sieve.items n 0) (sym slot_is)
-    ∙ sym (c.index-held.ensures ∙ get_or_default s.sieve.items slot c.index-held.result.now 0 fits) in
+    ∙ sym (c.index-held.ensures ∙ get_or_default s.sieve.items slot c.index-held.result.now 0 fits)
+    in
     stopped c.args.self.now.parts s.keys.items s.sieve.items c.args.window.now key
     (c.self.invariant.of_parts ∙ ap (map key_of_part) told) c.key_of-key.ensures
     c.self.invariant.sieved

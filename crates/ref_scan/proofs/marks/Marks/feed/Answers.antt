@@ -29,6 +29,7 @@ invariant_of-self c =
     (c.as_slice-3.ensures.value ∙ seam_is ∙ ap (λ l. l ++ take 31 piece) c.self.invariant.kept)
     in
     rw (same', c.and-self-inside.ensures.0, c.and-self-inside.ensures.1)
-    (scanned_fed s.index.permitted s.index.parts s.fed.ended s.index.in_order s.fed.present piece seam
+    (scanned_fed s.index.permitted s.index.parts s.fed.ended s.index.in_order s.fed.present piece
+    seam
     s.met.items one two s.tail.items c.tail_behind-self-inside.result.items
     c.self.invariant seam_is first second kept)

@@ -3,7 +3,7 @@ use Rattle.std.specs.Prelude.{Contains, IsTrue, Some}
 use Rattle.std.proofs.lemmas.List.{get_or_default}
 use Rattle.std.proofs.lemmas.List.Elements.{Contains-get_or}
 use Rattle.nix_names.specs.StorePaths.{hash_part_of}
-use Rattle.ref_scan.specs.Places.{ArePartsOf, IsPlaceOf}
+use Rattle.ref_scan.specs.Places.{ArePartsOf, IsPlaceOfPart}
 use Rattle.ref_scan.specs.Scan.{OccursIn}
 use Rattle.ref_scan.specs.Scanned.{Scanned}
 use Rattle.ref_scan.proofs.Scanning.{met_at, place_in_order}
@@ -16,13 +16,15 @@ returns-then-is_in_order c =
     let number = c.args.number in
     let sought = c.args.self.now in
     let scanned = subst (λ v. Scanned v s.met.items s.tail.items) c.self.view_is c.self.invariant in
-    let of_paths = subst (λ ps. ArePartsOf ps sought.parts sought.in_order) (sym c.requires.permitted)
+    let of_paths = subst (λ ps. ArePartsOf ps sought.parts sought.in_order)
+    (sym c.requires.permitted)
     scanned.of_paths in
     let at = place_in_order paths sought.parts sought.in_order number of_paths
     (ap (λ v. v.in_order) (sym c.self.view_is) ∙ sym c.is_in_order.ensures ∙ c.if-is_in_order.true)
     c.requires.number in
     let same : c.index.result.now ≡ get_or s.met.items number false = c.index.ensures
-    ∙ get_or_default s.met.items number c.index.result.now false (omega (arith, at.0, scanned.count)) in
+    ∙ get_or_default s.met.items number c.index.result.now false
+    (omega (arith, at.0, scanned.count)) in
     subst (λ b. IsTrue b ↔ OccursIn (hash_part_of (get_or paths number []))
     (sought.ended ++ sought.present ∷ [])) (sym same)
     (met_at sought s.met.items s.tail.items
@@ -39,7 +41,8 @@ returns-in-Some c =
     ∙ get_or_default paths number c.index-paths-number.result [] c.requires.number in
     let part = c.part_of.ensures.value ∙ ap hash_part_of path in
     let parts = ap (λ v. v.parts) c.self.view_is in
-    let at = subst (λ ps. IsPlaceOf ps (hash_part_of (get_or paths number [])) (Some c.in-Some.place))
+    let at = subst (λ ps. IsPlaceOfPart ps (hash_part_of (get_or paths number []))
+    (Some c.in-Some.place))
     parts (c.in-Some.ensures.0, c.in-Some.ensures.1 ∙ part) in
     let same : c.index-in-Some.result.now
     ≡ get_or s.met.items c.in-Some.place false = c.index-in-Some.ensures
@@ -55,9 +58,11 @@ returns-in-None c =
     let paths = c.args.paths.now in
     let number = c.args.number in
     let sought = c.args.self.now in
-    let scanned = subst (λ v. Scanned v c.self.inside.met.items c.self.inside.tail.items) c.self.view_is
+    let scanned = subst (λ v. Scanned v c.self.inside.met.items c.self.inside.tail.items)
+    c.self.view_is
     c.self.invariant in
-    let of_paths = subst (λ ps. ArePartsOf ps sought.parts sought.in_order) (sym c.requires.permitted)
+    let of_paths = subst (λ ps. ArePartsOf ps sought.parts sought.in_order)
+    (sym c.requires.permitted)
     scanned.of_paths in
     let path : c.index-paths-number.result ≡ get_or paths number [] = c.index-paths-number.is
     ∙ get_or_default paths number c.index-paths-number.result [] c.requires.number in

@@ -34,7 +34,8 @@ returns-in_err-copy-clause-err c =
     c.args.checked.now c.in_ok-entry.entry) c.plan.ensures c.in_ok-entry.ensures.ok in
     let here = subst (λ (p : Progress). IsDoneEntry p.run.graph c.args.d p.history.entries
     c.args.checked.now c.in_ok-entry.entry) c.self.view_is told in
-    let p = err_from_is_err_and c.from_residual-in_err-copy.result c.from_residual-in_err-copy.ensures.1 in
+    let p = err_from_is_err_and c.from_residual-in_err-copy.result
+    c.from_residual-in_err-copy.ensures.1 in
     rw p.1
     (entry_new c.args.self.now.run.graph c.args.d c.args.self.now.history.entries
     c.args.checked.now c.in_ok-entry.entry p.0 here (p.2 ∙ c.in_err-copy.ensures.err))
@@ -47,7 +48,8 @@ returns-in_err-shown-clause-err c =
     c.args.checked.now c.in_ok-entry.entry) c.plan.ensures c.in_ok-entry.ensures.ok in
     let here = subst (λ (p : Progress). IsDoneEntry p.run.graph c.args.d p.history.entries
     c.args.checked.now c.in_ok-entry.entry) c.self.view_is told in
-    let p = err_from_is_err_and c.from_residual-in_err-shown.result c.from_residual-in_err-shown.ensures.1 in
+    let p = err_from_is_err_and c.from_residual-in_err-shown.result
+    c.from_residual-in_err-shown.ensures.1 in
     rw p.1
     (entry_new c.args.self.now.run.graph c.args.d c.args.self.now.history.entries
     c.args.checked.now c.in_ok-entry.entry p.0 here (p.2 ∙ c.in_err-shown.ensures.err))
@@ -60,7 +62,8 @@ returns-in_err-make_room-clause-err c =
     c.args.checked.now c.in_ok-entry.entry) c.plan.ensures c.in_ok-entry.ensures.ok in
     let here = subst (λ (p : Progress). IsDoneEntry p.run.graph c.args.d p.history.entries
     c.args.checked.now c.in_ok-entry.entry) c.self.view_is told in
-    let p = err_from_is_err_and c.from_residual-in_err-make_room.result c.from_residual-in_err-make_room.ensures.1 in
+    let p = err_from_is_err_and c.from_residual-in_err-make_room.result
+    c.from_residual-in_err-make_room.ensures.1 in
     rw p.1
     (entry_new c.args.self.now.run.graph c.args.d c.args.self.now.history.entries
     c.args.checked.now c.in_ok-entry.entry p.0 here (p.2 ∙ c.in_err-make_room.ensures.err))

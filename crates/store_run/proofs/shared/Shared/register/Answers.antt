@@ -2,7 +2,7 @@ use Rattle.std.proofs.Common.{Ok, subst, sym}
 use Rattle.sched_core.specs.Books.{IsBooksLease, Leased, Ledger}
 use Rattle.sched_core.specs.declared.reason.Reason.TheVariants.{OutOfMemory}
 use Rattle.store_run.specs.Builders.{MayComeTo}
-use Rattle.store_run.specs.Sharing.{IsNoting, IsRegistering, IsWanting, Share}
+use Rattle.store_run.specs.Sharing.{IsNoting, IsLeaseRegistering, IsWanting, Share}
 use Rattle.store_run.proofs.Answered.{after_finishing, came_may_refer}
 use Rattle.store_run.proofs.Wanting.{wanting_registers}
 use Rattle.store_run.proofs.shared.Shared.register.Goals as goal
@@ -39,6 +39,7 @@ returns-in-Err-NoMemory-default-default g c =
     (subst (λ (l : Leased _). IsNoting
     (record { book = c.finish.new.self; stop = c.self.inside.stop }) c.fail.new.self l.job l.number
     OutOfMemory c.fail.result) e.ensures.back.0 c.fail.ensures) in
-    subst (λ (s : Share). IsRegistering s c.fail.new.self job number c.args.checked c.fail.result)
+    subst (λ (s : Share). IsLeaseRegistering s c.fail.new.self job number c.args.checked
+    c.fail.result)
     c.self.view_is
     (wanting_registers before c.fail.new.self job number c.args.checked c.fail.result wanting noted)

@@ -2,7 +2,7 @@ use Rattle.std.proofs.Common.{◌≡◌, ◌∙◌, ◌++◌, ◌∷◌, [], ap,
 use Rattle.std.specs.Prelude.{if◌then◌else◌}
 use Rattle.nix_names.specs.Rising.{IsRising}
 use Rattle.valid_table.specs.Adding.{AreClosed, AreNew}
-use Rattle.valid_table.specs.Entries.{paths_of, registered, registered_by}
+use Rattle.valid_table.specs.Entries.{paths_registered, registered, registered_by}
 use Rattle.valid_table.specs.Tables.{JournalValue}
 use Rattle.valid_table.proofs.AddedEntries.{journal_push, registered_push}
 use Rattle.valid_table.proofs.TakenIn.{once_more, some_elements}
@@ -33,7 +33,7 @@ invariant_of-self c =
     (c.push.ensures.succeeds (omega (arith, c.requires.room, some, room))) in
     let new : AreNew (registered entries) (registered_by entry) = rw same c.requires.new in
     let closed : AreClosed (registered entries) (registered_by entry) = rw same c.requires.closed in
-    let rising = subst (λ rs. IsRising (paths_of rs)) own c.registrations.ensures.rising in
+    let rising = subst (λ rs. IsRising (paths_registered rs)) own c.registrations.ensures.rising in
     let once = once_more (registered entries) (registered_by entry) c.self.invariant.0.once rising
     new in
     rw pushed (

@@ -16,7 +16,8 @@ loop-row-preserved c =
       first = keyed_more _ key row before _ c.loop-row.invariant.first c.loop-row.invariant.next
           (omega (arith, c.loop-row-test.true, c.len-row-end.ensures.len)) pushed;
       keys = one_more_keyed (registrations_of c.args.rows.now.entries) key row c.index.result.now
-          c.folder_of-folder.result.now before _ c.loop-row.invariant.keys c.folder_of-folder.ensures
+          c.folder_of-folder.result.now before _ c.loop-row.invariant.keys
+          c.folder_of-folder.ensures
           (path_looked_up c.args.rows.now.entries _ row c.index.result.now
           c.keys-paths.ensures.rest c.index.ensures)
           c.key_of-key.ensures pushed;

@@ -1,7 +1,7 @@
 use Rattle.std.proofs.Common.{◌≡◌, ap, subst}
 use Rattle.nix_names.specs.Rising.{IsRising}
 use Rattle.valid_table.specs.Adding.{AreClosed, AreNew}
-use Rattle.valid_table.specs.Entries.{paths_of, registered_by}
+use Rattle.valid_table.specs.Entries.{paths_registered, registered_by}
 use Rattle.valid_table.specs.Tables.{TableValue, registrations_of}
 use Rattle.valid_table.specs.FirstRows.{rows_behind}
 use Rattle.valid_table.proofs.FirstRows.{first_of_more}
@@ -17,7 +17,7 @@ push_entry-requires-clause-once c =
     ap (λ (t : TableValue). t.registrations) c.self.view_is in
     let new : AreNew known (registered_by c.args.entry) = rw same c.requires.new in
     once_more known (registered_by c.args.entry) c.self.invariant.0
-    (subst (λ rs. IsRising (paths_of rs)) c.registrations.ensures.value
+    (subst (λ rs. IsRising (paths_registered rs)) c.registrations.ensures.value
     c.registrations.ensures.rising) new
 
 pub invariant_of-self : goal.invariant_of-self
@@ -27,7 +27,7 @@ invariant_of-self c =
     ap (λ (t : TableValue). t.registrations) c.self.view_is in
     let new : AreNew known (registered_by c.args.entry) = rw same c.requires.new in
     let closed : AreClosed known (registered_by c.args.entry) = rw same c.requires.closed in
-    let rising = subst (λ rs. IsRising (paths_of rs)) c.registrations.ensures.value
+    let rising = subst (λ rs. IsRising (paths_registered rs)) c.registrations.ensures.value
     c.registrations.ensures.rising in
     rw c.push_entry.ensures.rows (
       once_more known (registered_by c.args.entry) c.self.invariant.0 rising new,

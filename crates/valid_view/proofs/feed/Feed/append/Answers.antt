@@ -1,6 +1,6 @@
 use Rattle.std.proofs.Common.{◌≡◌, ◌++◌, ap, subst}
 use Rattle.nix_names.specs.Rising.{IsRising}
-use Rattle.valid_table.specs.Entries.{paths_of}
+use Rattle.valid_table.specs.Entries.{paths_registered}
 use Rattle.valid_view.specs.Feeding.{Fed, entries_of, ops_of, pending_of}
 use Rattle.valid_view.proofs.Feeds.{feed_push}
 use Rattle.valid_view.proofs.feed.Feed.append.Goals as goal
@@ -14,6 +14,6 @@ invariant_of-self-2 g c =
     rw c.in_ok-push_back.ensures.items
     (feed_push g.J.Naming.book f.line.shown f.line.handed (ops_of f.held) f.queue.items f.front
     c.args.entry c.self.invariant
-    (subst (λ rs. IsRising (paths_of rs)) c.registrations.ensures.value
+    (subst (λ rs. IsRising (paths_registered rs)) c.registrations.ensures.value
     c.registrations.ensures.rising)
     (rw all c.requires.new) (rw all c.requires.closed))
