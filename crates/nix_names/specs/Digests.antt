@@ -57,7 +57,7 @@ digits_of digest = encode_lower (bytes_of digest)
 
 -- the same with its algorithm's name and a colon before it
 abbrev pub text_of : Digest → Bytes
-text_of digest = name_of (algorithm_of digest) ++ codes ":" ++ digits_of digest
+text_of digest = name_of (algorithm_of digest) ++ 58 ∷ digits_of digest
 
 -- a text with a name before it is that of one digest
 abbrev pub TextIsOfOneDigest : Type 0
