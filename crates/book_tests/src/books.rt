@@ -1,4 +1,4 @@
-//! Plans, journals and books that the tests are made of.
+//! Plans, journals and books for the tests.
 ghost use Rattle.std.specs.Prelude.{◌≡◌, ◌++◌, IfOk};
 ghost use Rattle.sched_core.specs.Books.{opened};
 
@@ -14,7 +14,7 @@ use std::alloc::{AllocError, Global};
 use std::test::Fail;
 use valid_table::{Journal, ListOutlet, Outlet};
 
-/// A text, by its pieces.
+/// A text, in pieces.
 pub(crate) type Pieces = &'static [&'static [u8]];
 
 pub(crate) fn joined(alloc: Global, pieces: &[&[u8]]) -> Result<Vec<u8>, AllocError> {
@@ -68,7 +68,7 @@ pub(crate) fn plan(alloc: Global, roots: &[&[u8]]) -> Result<Plan, Fail> {
     Ok(Plan::load(alloc, &mut source, &dir, &roots)?)
 }
 
-/// The journal that this text is.
+/// The journal with this text.
 pub(crate) fn journal(alloc: Global, text: &[&[u8]]) -> Result<Journal, Fail> {
     let dir = store_dir(alloc)?;
     let text = joined(alloc, text)?;
@@ -78,7 +78,7 @@ pub(crate) fn journal(alloc: Global, text: &[&[u8]]) -> Result<Journal, Fail> {
 /// The system for which each run builds.
 pub(crate) const SYSTEM: &[u8] = b"x86_64-linux";
 
-/// The same, as a list of its own.
+/// The same system, as a vector.
 pub(crate) fn system(alloc: Global) -> Result<Vec<u8>, AllocError> {
     Vec::from_slice(alloc, SYSTEM)
 }
@@ -110,7 +110,7 @@ pub(crate) fn state_of<O: Outlet>(book: &Book<O>, d: usize) -> Option<State> {
     }
 }
 
-/// Whether a book has just this journal.
+/// Whether a book has this journal and nothing else in it.
 pub(crate) fn has_journal<O: Outlet>(
     alloc: Global,
     book: &Book<O>,
@@ -119,7 +119,7 @@ pub(crate) fn has_journal<O: Outlet>(
     Ok(book.journal().write(alloc)? == joined(alloc, text)?)
 }
 
-/// Whether a book is settled, and has just this report.
+/// Whether a book is settled and has this report.
 pub(crate) fn has_report<O: Outlet>(
     alloc: Global,
     book: &Book<O>,

@@ -1,4 +1,4 @@
-//! What builders answer, and how leases end with it.
+//! The answers of builders, and how leases end by them.
 ghost use Rattle.std.specs.Prelude.{IfOk};
 ghost use Rattle.sched_core.specs.Books.{MayAllRefer};
 
@@ -8,16 +8,16 @@ use std::alloc::{AllocError, Global};
 use std::test::Fail;
 use valid_table::{ListOutlet, Outlet};
 
-/// What the builder of the derivation with this first output does: with which status it ends, and
-/// which files it leaves at the outputs. Any other ends with 1 where its last argument begins with
-/// `exit 1`, else well, and leaves empty files.
+/// What the builder of the derivation with this first output does: the status with which it ends,
+/// and the files that it leaves at the outputs. Every other builder ends with 1 where its last
+/// argument begins with `exit 1`; else it ends well and leaves empty files.
 pub(crate) struct Script {
     pub output: &'static [u8],
     pub status: Option<i32>,
     pub files: &'static [Option<&'static [u8]>],
 }
 
-// What is left at each of so many outputs.
+// The trees that are left at `count` outputs.
 fn trees(
     alloc: Global,
     count: usize,
@@ -68,7 +68,7 @@ fn is_for(script: &Script, job: &Job) -> bool {
     }
 }
 
-// Whether the last argument of a job tells its builder to fail.
+// Whether the last argument of a job makes its builder fail.
 fn is_to_fail(job: &Job) -> bool {
     match job.args.last() {
         Some(arg) => arg.starts_with(b"exit 1"),
@@ -85,7 +85,7 @@ fn answer_of_args(alloc: Global, job: &Job) -> Result<Answer, AllocError> {
     }
 }
 
-/// The answer of a builder that does as these scripts say.
+/// The answer of a builder that follows these scripts.
 pub(crate) fn answer(alloc: Global, job: &Job, scripts: &[Script]) -> Result<Answer, AllocError> {
     let Some(script) = scripts.iter().find(|script| is_for(script, job)) else {
         return answer_of_args(alloc, job);
@@ -96,7 +96,7 @@ pub(crate) fn answer(alloc: Global, job: &Job, scripts: &[Script]) -> Result<Ans
     })
 }
 
-/// What is found of what a lease's builder left.
+/// What is found of the files that a lease's builder left.
 pub(crate) fn verdict<O: Outlet>(
     alloc: Global,
     book: &Book<O>,
@@ -165,7 +165,7 @@ pub(crate) fn build(
     }
 }
 
-/// Builds all that can be built, one after the other.
+/// Builds every derivation that can be built, one after the other.
 pub(crate) fn build_all(
     alloc: Global,
     book: &mut Book<ListOutlet>,

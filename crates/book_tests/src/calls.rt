@@ -1,4 +1,4 @@
-//! Leases, and what a book tells of itself.
+//! Leases, and what a book answers about itself.
 use crate::books::{has_report, open, state_of};
 use crate::builders::{build, fail, fails, lease};
 use crate::files::*;
@@ -13,7 +13,7 @@ fn told_twice(lease: &mut Lease<usize>) -> [Option<usize>; 2] {
     [lease.told(), lease.told()]
 }
 
-// The number of the next lease, and what was told at it; it is built then.
+// The number of the next lease, and what the outlet told at it. Then the derivation is built.
 fn told(alloc: Global, book: &mut Book<ListOutlet>) -> Result<(u64, [Option<usize>; 2]), Fail> {
     let mut lease = lease(book)?;
     let told = told_twice(&mut lease);
@@ -22,7 +22,7 @@ fn told(alloc: Global, book: &mut Book<ListOutlet>) -> Result<(u64, [Option<usiz
     Ok((number, told))
 }
 
-// The same of two leases.
+// The numbers of the next two leases, and what the outlet told at each.
 fn told_at_two(
     alloc: Global,
     book: &mut Book<ListOutlet>,
@@ -30,7 +30,7 @@ fn told_at_two(
     Ok([told(alloc, book)?, told(alloc, book)?])
 }
 
-// An outlet tells how many entries it shows, which are all when a lease is given.
+// An outlet tells how many entries it shows. When a lease is given, it shows all.
 #[test]
 fn told_once(rt: HostRuntime) -> Result<(), Fail> {
     let before: [&[u8]; 4] = [b"realiser-journal 2\n", b"A ", SRC, b" -\n"];
@@ -48,7 +48,7 @@ fn shown_of_all(book: &Book<ListOutlet>) -> (usize, usize) {
     (book.tell(), book.journal().entries().len())
 }
 
-// The same when the book is open, behind a Done, and behind the next lease.
+// The same after the opening, after a `Done`, and after the next lease.
 fn shown_along(alloc: Global, book: &mut Book<ListOutlet>) -> Result<[(usize, usize); 3], Fail> {
     let at_opening = shown_of_all(book);
     let first = lease(book)?;
@@ -58,7 +58,7 @@ fn shown_along(alloc: Global, book: &mut Book<ListOutlet>) -> Result<[(usize, us
     Ok([at_opening, behind_done, shown_of_all(book)])
 }
 
-// What is registered is told of once the next lease is given.
+// An entry is shown once the next lease is given after it.
 #[test]
 fn tells_what_is_shown(rt: HostRuntime) -> Result<(), Fail> {
     let before: [&[u8]; 4] = [b"realiser-journal 2\n", b"A ", SRC, b" -\n"];
@@ -80,7 +80,7 @@ fn is_idle(book: &mut Book<ListOutlet>) -> Result<bool, Fail> {
     }
 }
 
-// Whether a book keeps as building what was leased and given up.
+// Whether a derivation whose lease was given up is still building in a book.
 fn keeps_given_up(book: &mut Book<ListOutlet>) -> Result<bool, Fail> {
     lease(book)?.give_up();
     let is_idle = is_idle(book)?;
@@ -124,7 +124,7 @@ fn abandoned(rt: HostRuntime) -> Result<(), Fail> {
     Ok(())
 }
 
-// What a book tells of itself behind a run in which a link fails.
+// What a book answers about itself after a run in which a link fails.
 fn tells(book: &Book<ListOutlet>) -> bool {
     let events = [
         Event::Begin(0, 0),
@@ -167,7 +167,7 @@ fn tells_of_itself(rt: HostRuntime) -> Result<(), Fail> {
     Ok(())
 }
 
-// Builds the first derivation of a diamond, and leases the two behind it.
+// Builds the first derivation of a diamond, and leases its two users.
 fn two_leases(
     alloc: Global,
     book: &mut Book<ListOutlet>,
@@ -184,8 +184,8 @@ fn two_leases(
     }
 }
 
-// The state of the last derivation of a diamond behind the failure of its second input, and behind
-// that of its first one too.
+// The state of the last derivation of a diamond after its second input failed, and after its first
+// input failed too.
 fn blamed(alloc: Global, book: &mut Book<ListOutlet>) -> Result<[Option<State>; 2], Fail> {
     let (one, other) = two_leases(alloc, book)?;
     let (first, second) = if one.job().derivation == 1 {
@@ -201,7 +201,7 @@ fn blamed(alloc: Global, book: &mut Book<ListOutlet>) -> Result<[Option<State>; 
     Ok([by_second, state_of(book, 3)])
 }
 
-// The first input that failed is named: the second one of the two as long as it failed alone.
+// A refusal names the first input that failed: the second input, as long as only that one failed.
 #[test]
 fn first_failed_input(rt: HostRuntime) -> Result<(), Fail> {
     let mut book = open(rt.alloc(), &[TOP], &[])?;
@@ -216,8 +216,8 @@ fn first_failed_input(rt: HostRuntime) -> Result<(), Fail> {
     Ok(())
 }
 
-// The states of the second derivation before the first one begins, while it is built, and once it has
-// ended.
+// The states of the second derivation before the first one begins, while it is built, and once it
+// has ended.
 fn states_of_second(
     alloc: Global,
     book: &mut Book<ListOutlet>,
@@ -229,7 +229,7 @@ fn states_of_second(
     Ok([before, meanwhile, state_of(book, 1)])
 }
 
-// A derivation for another system waits for its twin before it is refused for that.
+// A derivation for another system waits for its twin before it is refused for its system.
 #[test]
 fn twin_with_a_cause_waits(rt: HostRuntime) -> Result<(), Fail> {
     const WAITS: Option<State> = Some(State::Blocked);

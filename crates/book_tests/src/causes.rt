@@ -1,4 +1,5 @@
-//! Derivations that ask for what is left out are refused, or reused where their output is valid.
+//! Derivations that ask for a feature that is left out are refused, or reused where their output is
+//! valid.
 use crate::books::{has_report, open};
 use crate::builders::build_all;
 use crate::hindered::{HINDERED, Hindered};
@@ -8,7 +9,7 @@ use std::test::*;
 use store_run::RunFault;
 use valid_table::ListOutlet;
 
-// Whether a book that began with nothing left to do has this report, and no events.
+// Whether a book that was settled at its opening has this report, and no events.
 fn ends_at_once(
     alloc: Global,
     book: &mut Book<ListOutlet>,
@@ -19,7 +20,7 @@ fn ends_at_once(
     Ok(is_settled && book.events().is_empty() && has_report(alloc, book, report)?)
 }
 
-// Whether the run of one root is settled at once behind this journal, with this report.
+// Whether the run of one root over this journal is settled at its opening, with this report.
 fn is_settled_at_once(
     alloc: Global,
     root: &[u8],

@@ -1,5 +1,5 @@
-//! What events cost: how many states they work out and how many reverse edges they follow, that a
-//! failure takes no memory, however many users it refuses, and that large plans and reports do.
+//! The costs of events: how many states they compute and how many reverse edges they follow. A
+//! failure takes no memory, however many users it refuses; large plans and reports take memory.
 
 use crate::books::{book_of, open, state_of};
 use crate::builders::{build, build_all, fails, lease};
@@ -17,7 +17,7 @@ const USERS: usize = 65_535;
 // How many twins share one output.
 const TWINS: usize = 65_536;
 
-// The plan of a derivation, which has the number 0, and so many users of it alone; all are roots.
+// The plan of derivation 0 and of `users` derivations that use it alone; all are roots.
 fn star(alloc: Global, users: usize) -> Result<Plan, Fail> {
     let mut made = nothing(alloc);
     for _ in 0..=users {
@@ -26,7 +26,7 @@ fn star(alloc: Global, users: usize) -> Result<Plan, Fail> {
     plan_of(alloc, &made, &made.paths)
 }
 
-// The plan of a chain of so many derivations; all are roots.
+// The plan of a chain of `count` derivations; all are roots.
 fn chain(alloc: Global, count: usize) -> Result<Plan, Fail> {
     let mut made = nothing(alloc);
     for number in 0..count {
@@ -35,7 +35,7 @@ fn chain(alloc: Global, count: usize) -> Result<Plan, Fail> {
     plan_of(alloc, &made, &made.paths)
 }
 
-// The plan of so many twins; all are roots.
+// The plan of `count` twins; all are roots.
 fn twins(alloc: Global, count: usize) -> Result<Plan, Fail> {
     let mut made = nothing(alloc);
     for _ in 0..count {
@@ -44,8 +44,8 @@ fn twins(alloc: Global, count: usize) -> Result<Plan, Fail> {
     plan_of(alloc, &made, &made.paths)
 }
 
-// The plan of a chain of so many links, each of three twins that use the first one of the link before;
-// all are roots.
+// The plan of a chain of `count` links; all are roots. Each link has three twins, which use the
+// first twin of the link before.
 fn chain_of_twins(alloc: Global, count: usize) -> Result<Plan, Fail> {
     let mut made = nothing(alloc);
     for link in 0..count {
@@ -73,7 +73,7 @@ fn ends_badly(
     Ok(fails(book, lease?, Reason::ExitStatus(1)))
 }
 
-// Builds so many derivations, of which each can be built behind the one before it.
+// Builds `count` derivations, each of which can be built after the one before it.
 fn build_chain(alloc: Global, book: &mut Book<ListOutlet>, count: usize) -> Result<(), Fail> {
     for _ in 0..count {
         let lease = lease(book)?;
@@ -115,8 +115,9 @@ fn steps_of_a_chain(rt: HostRuntime) -> Result<(), Fail> {
     Ok(())
 }
 
-// Of each link one twin is built, and the other two are reused: a step for each event, and two for
-// each of 897 pairs of a derivation and an input, and of 600 of one and its nearest earlier twin.
+// Of each link one twin is built, and the other two are reused. The steps are one for each event,
+// two for each of 897 pairs of a derivation and an input, and two for each of 600 pairs of a
+// derivation and its nearest earlier twin.
 #[test]
 fn steps_of_a_chain_of_twins(rt: HostRuntime) -> Result<(), Fail> {
     let plan = chain_of_twins(rt.alloc(), 300)?;
@@ -130,7 +131,7 @@ fn steps_of_a_chain_of_twins(rt: HostRuntime) -> Result<(), Fail> {
     Ok(())
 }
 
-// The first one is built, and all others are reused.
+// The first twin is built, and all others are reused.
 #[test]
 fn steps_of_many_twins(rt: HostRuntime) -> Result<(), Fail> {
     let plan = twins(rt.alloc(), TWINS)?;
@@ -144,7 +145,7 @@ fn steps_of_many_twins(rt: HostRuntime) -> Result<(), Fail> {
     Ok(())
 }
 
-// Each fails in turn.
+// Each twin fails in turn.
 #[test]
 fn steps_of_failing_twins(rt: HostRuntime) -> Result<(), Fail> {
     let plan = twins(rt.alloc(), 500)?;
@@ -168,7 +169,7 @@ fn steps_of(alloc: Global, row: &Row) -> Result<u64, Fail> {
     Ok(steps)
 }
 
-// A step for each event, and two for each of the four pairs of a user and an input.
+// One step for each event, and two for each of the four pairs of a user and an input.
 #[test]
 fn steps_of_diamonds(rt: HostRuntime) -> Result<(), Fail> {
     for (row, steps) in diamonds().iter().zip([16, 16, 10, 14, 14, 16]) {
@@ -177,7 +178,7 @@ fn steps_of_diamonds(rt: HostRuntime) -> Result<(), Fail> {
     Ok(())
 }
 
-// How long the report of a run is in which the first derivation fails.
+// The length of the report of a run in which the first derivation fails.
 fn report_len(book: &mut Book<ListOutlet>) -> Result<usize, Fail> {
     let lease = lease(book);
     if !ends_badly(book, lease)? || !book.settled() {
@@ -197,7 +198,7 @@ fn large_report(rt: HostRuntime) -> Result<(), Fail> {
     Ok(())
 }
 
-// The plan of so many derivations, and as many users of all of these; all are roots.
+// The plan of `count` derivations and of `count` users of all of these; all are roots.
 fn wide(alloc: Global, count: usize) -> Result<Plan, Fail> {
     let mut made = nothing(alloc);
     for _ in 0..count {
@@ -209,7 +210,7 @@ fn wide(alloc: Global, count: usize) -> Result<Plan, Fail> {
     plan_of(alloc, &made, &made.paths)
 }
 
-// Lets so many derivations fail.
+// Lets `count` derivations fail.
 fn fail_first(book: &mut Book<ListOutlet>, count: usize) -> Result<(), Fail> {
     for _ in 0..count {
         let lease = lease(book);

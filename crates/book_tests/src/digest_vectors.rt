@@ -1,4 +1,4 @@
-//! Outside vectors of each algorithm: the digest of a file in pieces.
+//! Published test vectors of each algorithm: the digest of a file in pieces.
 use crate::verdicts::{ended_well, small_job};
 use drv_graph::{Kind, Method};
 use nix_names::Digest;
@@ -50,7 +50,7 @@ fn of_digits() -> &'static [&'static [u8]] {
 const DIGITS: &[u8] =
     b"12345678901234567890123456789012345678901234567890123456789012345678901234567890";
 
-// A file's bytes, in pieces of so many, the last of them shorter. At least 1.
+// A file in pieces of `size` bytes, of which the last may be shorter. The size is at least 1.
 fn in_pieces(alloc: Global, bytes: &[u8], size: usize) -> Result<Tree, Fail> {
     let mut parts = Vec::new(alloc);
     for piece in bytes.chunks(size.max(1)) {
@@ -90,7 +90,7 @@ fn digest(text: &[u8]) -> Result<Digest, Fail> {
     }
 }
 
-// A file in pieces of so many bytes was found with another digest than the one that was wanted.
+// A file in pieces of `size` bytes has another digest than the wanted one.
 #[derive(Clone, Copy, Debug, PartialEq)]
 struct Wrong {
     size: usize,
@@ -98,8 +98,8 @@ struct Wrong {
     found: Option<Digest>,
 }
 
-// The first of the digests that a flat file with these bytes, in pieces of so many, isn't found
-// with, where each is declared in turn.
+// The first of the digests that a flat file with these bytes, in pieces of `size` bytes, doesn't
+// have, where each is declared in turn.
 fn first_wrong(
     alloc: Global,
     bytes: &[u8],

@@ -1,4 +1,4 @@
-//! Runs over the plan of the example of a whole run, by a builder that does what the example says.
+//! Runs over the plan of the definitions' example of a whole run, by the example's builder.
 ghost use Rattle.std.specs.Prelude.{◌≡◌, ℕ, Result};
 ghost use Rattle.sched_core.specs.declared.job.Answer.{Answer as Given};
 ghost use Rattle.sched_core.specs.declared.reason.Reason.{Reason as Why};
@@ -35,7 +35,7 @@ const RIGHT_TEXT: &[u8] =
 const REPORT: &[u8] =
     b"failed /nix/store/jbgzpvl5d32l046pn5l2g0zdhnnw9lvb-left.drv: ExitStatus(1)\nbuilt /nix/store/m03z95idp2zpb6jp4mgsl7hrcw1lprr8-right.drv\noutput /nix/store/p97i2xxx6v7p6xyy2x3cky78y1s290zm-right\n";
 
-/// `/bin/false` fails, any other program makes an empty folder.
+/// A builder for which `/bin/false` fails, and any other program makes an empty folder.
 #[derive(Drop)]
 struct Program {
     alloc: Global,
@@ -74,7 +74,7 @@ fn alike()
     builds_may_overlap();
 }
 
-// What was given decides what the example leaves.
+// The law at this builder: the outcomes that were given decide the example's history.
 fn decided()
     ensures { (outcomes : ℕ → Result Given Why) × IsDecided may_leave both side_by_side outcomes }
 {
@@ -127,7 +127,8 @@ fn report<O: Outlet>(book: &Book<O>) -> Result<Vec<u8>, Fail> {
     Ok(book.report()?)
 }
 
-// The report of a run that went to its end; its book is closed, as is that of any other.
+// The report of a run that went to its end. Its book is closed, and so is the book of any other
+// run.
 fn report_at_end<J: Naming + Send, R: Wait>(ended: Ended<J, R>) -> Result<Vec<u8>, Fail> {
     match ended {
         Ok(book) => {
@@ -143,7 +144,7 @@ fn report_at_end<J: Naming + Send, R: Wait>(ended: Ended<J, R>) -> Result<Vec<u8
     }
 }
 
-// The report of a run by so many workers over a view of this name.
+// The report of a run by `workers` workers over a view of this name.
 fn report_named<J: Naming + Send + Sync, R: Threads + Wait + Sync>(
     rt: &R,
     alloc: Global,
@@ -159,7 +160,7 @@ fn report_named<J: Naming + Send + Sync, R: Threads + Wait + Sync>(
     report_at_end(ended)
 }
 
-// The report of a run by so many workers.
+// The report of a run by `workers` workers.
 fn report_by<R: Threads + Wait + Sync>(
     rt: &R,
     alloc: Global,
@@ -168,7 +169,7 @@ fn report_by<R: Threads + Wait + Sync>(
     report_named::<Brand, _>(rt, alloc, Name::new(), workers)
 }
 
-// The report is that of the example, by one worker and by two.
+// One worker and two workers give the example's report.
 #[test]
 fn report_of_the_example(rt: HostRuntime) -> Result<(), Fail> {
     alike();

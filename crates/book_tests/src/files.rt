@@ -6,7 +6,7 @@ pub(crate) struct File {
     pub text: &'static [u8],
 }
 
-/// Without inputs, as are `APART`, `TWO` and those behind it, but for the links.
+/// Without inputs. `APART`, `TWO` and the files after it have none either, but for the links.
 pub(crate) const BASE: &[u8] = b"/nix/store/xwrdsxnlq6n2qnx61xya715sfa49wkxm-base.drv";
 
 pub(crate) const BASE_OUT: &[u8] = b"/nix/store/i73x2qwb221ly8r0xpzlngmrfjzb9dr1-base";
@@ -39,14 +39,14 @@ pub(crate) const TWO_DEV: &[u8] = b"/nix/store/0qdxrhz2k1y2kf9hd44ck3ccn61gyd61-
 
 pub(crate) const TWO_OUT: &[u8] = b"/nix/store/8q7dp30dcjpjjh6wsac0q6sa6nr84c57-two";
 
-/// Two outputs, of which the second one's path is the lesser.
+/// With two outputs, of which the second has the lesser path.
 pub(crate) const TURNED: &[u8] = b"/nix/store/dc73kgcgmp44frwsmzwzl782l9iginqg-turned.drv";
 
 pub(crate) const TURNED_DEV: &[u8] = b"/nix/store/fzasir13an74vk4d3c1dmkpqyajjliy6-turned-dev";
 
 pub(crate) const TURNED_OUT: &[u8] = b"/nix/store/5hccl9j0b7qq02gvcaswyabfwsg0wc9f-turned";
 
-/// One output, with the digest of no bytes.
+/// With one fixed output, an empty file.
 pub(crate) const FLAT: &[u8] = b"/nix/store/3amfg5wkizj5j7zbcxv9mnvsgvc78mm6-flat.drv";
 
 pub(crate) const FLAT_OUT: &[u8] = b"/nix/store/jafr3l9gcgc9kss6avik01b7k153scmh-flat";
@@ -68,7 +68,7 @@ pub(crate) const THIRD: &[u8] = b"/nix/store/ccy4irh12zk80fsbyc1h4c8yxivi7gy1-th
 
 pub(crate) const FOURTH: &[u8] = b"/nix/store/bfxxqzj4h82wyxhhx6g784hriy9fkddd-fourth.drv";
 
-/// A source, of which there is no file.
+/// A source without a file.
 pub(crate) const SRC: &[u8] = b"/nix/store/aaaaaaaaaaaaaaaaaaaaaaaaaaaaaaaa-src";
 
 pub(crate) static FILES: [File; 14] = [

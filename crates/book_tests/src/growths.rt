@@ -1,5 +1,5 @@
-//! Memory that is refused while a lease ends: the book stays as it is, and the same call, made once
-//! more, ends the lease.
+//! Memory that is refused while a lease ends: the book doesn't change, and the same call, made
+//! again, ends the lease.
 ghost use Rattle.std.specs.Prelude.{◌≡◌, ◌++◌};
 ghost use Rattle.sched_core.specs.Books.{MayAllRefer};
 
@@ -12,7 +12,7 @@ use std::alloc::Global;
 use std::test::*;
 use valid_table::{Entry, Journal, ListOutlet, Outlet, OutletFault};
 
-// A plain outlet that refuses memory for its next entries, so many times.
+// A plain outlet that refuses memory for its next entries, `refusals` times.
 struct Scarce {
     outlet: ListOutlet,
     refusals: usize,
@@ -54,7 +54,7 @@ impl Outlet for Scarce {
     }
 }
 
-// The book of a run over a plan, over an outlet that refuses memory so many times.
+// The book of a run over a plan, with an outlet that refuses memory `refusals` times.
 fn scarce_book(
     alloc: Global,
     plan: Plan,
@@ -73,8 +73,8 @@ fn is_as_leased(book: &Book<Scarce>) -> bool {
         && state_of(book, 0) == Some(State::Building(0))
 }
 
-// Ends the first lease, and says how often memory was refused for that: at most once, and all must
-// be as it was then.
+// Ends the first lease, and says how often memory was refused for that: at most once, and then
+// nothing may have changed.
 fn finish(book: &mut Book<Scarce>, lease: Lease<usize>, checked: Checked) -> Result<usize, Fail>
     requires { MayAllRefer book.old.history.entries lease.job checked }
 {
@@ -146,7 +146,7 @@ fn refusals(alloc: Global, book: &mut Book<Scarce>) -> Result<usize, Fail> {
     }
 }
 
-// The same where the outlet refuses memory so many times.
+// The same where the outlet refuses memory `scarce` times.
 fn refusals_with(alloc: Global, scarce: usize) -> Result<usize, Fail> {
     let plan = plan(alloc, &[TWO])?;
     let journal = journal(alloc, &[])?;
@@ -162,8 +162,8 @@ fn outlet_refuses_memory(rt: HostRuntime) -> Result<(), Fail> {
     Ok(())
 }
 
-// Prints how often memory was refused: once where a growth of `finish` itself fails, as
-// `tests/refused-growths` lets each one in turn.
+// Prints how often memory was refused: once where a growth of `finish` itself fails.
+// `tests/refused-growths` lets each growth fail in turn.
 #[test]
 fn at_most_one_refusal(rt: HostRuntime) -> Result<(), Fail> {
     let refusals = refusals_with(rt.alloc(), 0)?;

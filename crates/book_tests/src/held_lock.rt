@@ -1,5 +1,5 @@
-//! A reader that is asked while its own thread holds the book's lock: it answers, since no call of a
-//! reader waits.
+//! A reader that is asked while its own thread holds the book's lock. It answers, since no call of
+//! a reader waits.
 ghost use Rattle.std.specs.Prelude.{◌≡◌};
 
 use crate::books::{journal, paths, plan, system};
@@ -13,7 +13,7 @@ use std::sync::{Mutex, Wait};
 use std::test::*;
 use valid_view::{Name, Naming, Tells, ViewFault, ViewReader, open};
 
-// A journal that has the output of `BASE`.
+// A journal with the output of `BASE`.
 const BEFORE: &[&[u8]] = &[b"realiser-journal 2\nA ", BASE_OUT, b" -\n"];
 
 // What a reader answers. Nothing here could wait: no handle is in reach.

@@ -1,8 +1,8 @@
-//! Derivations that ask for what is left out; their paths were computed apart, with Python's
+//! Derivations that ask for a feature that is left out. Their paths were computed with Python's
 //! hashlib.
 use crate::files::File;
 
-/// A derivation that asks for what is left out, with the path of its output.
+/// A derivation that asks for a feature that is left out, with the path of its output.
 pub(crate) struct Hindered {
     pub label: &'static str,
     pub file: File,

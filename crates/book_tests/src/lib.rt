@@ -1,26 +1,26 @@
-//! Tests of books and of runs by workers, of what no clause says: that calls succeed, the texts of
-//! reports and journals, and whole runs, whose builders do as they are told.
+//! Tests of books and of runs by workers, for what no contract says: that calls succeed, the texts
+//! of reports and journals, and whole runs, whose builders follow scripts.
 //!
-//! | Module | What is tried |
+//! | Module | What is tested |
 //! |---|---|
 //! | `rows`, `twin_rows`, `digests` | runs, with their reports, journals and counts of events |
 //! | `runs` | these runs on one thread |
 //! | `workers` | these runs and others by workers, over a view |
-//! | `causes` | derivations that ask for what is left out |
-//! | `calls` | leases, and what a book tells of itself |
+//! | `causes` | derivations that ask for a feature that is left out |
+//! | `calls` | leases, and what a book answers about itself |
 //! | `verdicts` | the verdict on an answer |
 //! | `digest_vectors` | the digest of a file in pieces, by each algorithm |
-//! | `permitted` | what is permitted beside a closure |
+//! | `permitted` | the paths that are permitted beside a closure |
 //! | `many` | a job with many inputs, an entry with many outputs |
 //! | `refusals` | leases of another book, records of another job |
 //! | `example` | the run of the example in the definitions, by its laws and by workers |
 //! | `growths` | memory that is refused while a lease ends |
 //! | `held_lock` | a reader that is asked while its thread holds the lock of the book |
-//! | `costs` | what events cost |
-//! | `random_runs` | random plans and answers, beside states that the test works out |
-//! | `random_plans`, `made`, `random` | derivations that are made up, and numbers |
-//! | `builders` | what builders answer, and how leases end with it |
-//! | `books` | plans, journals and books that the tests are made of |
+//! | `costs` | the costs of events |
+//! | `random_runs` | random plans and answers, beside states that the test computes |
+//! | `random_plans`, `made`, `random` | random derivations, and random numbers |
+//! | `builders` | the answers of builders, and how leases end by them |
+//! | `books` | plans, journals and books for the tests |
 //! | `files`, `hindered`, `twin_files` | files of derivations |
 //! | `words` | the words and numbers of faults, reasons and refusals |
 #![tactic(auto)]

@@ -1,5 +1,5 @@
-//! Derivations that are made from drafts and the modulo hashes of their inputs, without a look at the
-//! inputs' files: `Plan::load` finds whether their paths are the ones that they must have.
+//! Derivations that are made from drafts and the modulo hashes of their inputs, without reading the
+//! inputs' files. `Plan::load` tests whether their paths are right.
 ghost use Rattle.std.specs.Prelude.{◌≡◌, length};
 
 use crate::books::{joined, store_dir};
@@ -19,7 +19,7 @@ pub(crate) struct Made {
     pub hash: [u8; 32],
 }
 
-/// The derivation with this name that a draft becomes behind inputs with these hashes.
+/// The derivation that a draft becomes under this name, with inputs with these hashes.
 pub(crate) fn make(
     alloc: Global,
     name: &[u8],
@@ -39,7 +39,8 @@ pub(crate) fn make(
     })
 }
 
-// SHA-256 of a modulo text, or of what stands for one with a fixed output.
+// The SHA-256 digest of a derivation's modulo text, or of the text that replaces it where an output
+// is fixed.
 fn modulo_hash(
     alloc: Global,
     drv: &Derivation,
@@ -55,7 +56,8 @@ fn modulo_hash(
     Ok(Sha256::digest(&modulo_text(alloc, drv, hashes, mask)?))
 }
 
-// What stands for a derivation with this fixed output; its path is left out in a draft.
+// The text that replaces the modulo text of a derivation with this fixed output. A draft leaves the
+// output's path out.
 fn fixed_text(alloc: Global, output: &Output) -> Result<Vec<u8>, AllocError> {
     let algo = output.algo.as_slice();
     let hash = output.hash.as_slice();
@@ -65,7 +67,7 @@ fn fixed_text(alloc: Global, output: &Output) -> Result<Vec<u8>, AllocError> {
     )
 }
 
-// A draft's outputs get their paths, by the hash of its masked text.
+// Gives a draft's outputs their paths, by the hash of its masked text.
 fn with_paths(
     alloc: Global,
     name: &[u8],

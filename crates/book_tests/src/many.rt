@@ -27,7 +27,7 @@ fn numbered(letter: u8, number: usize) -> [u8; 5] {
     ]
 }
 
-// An output with this name, whose path is to be filled.
+// An output with this name and without a path.
 fn output(alloc: Global, name: &[u8]) -> Result<Output, AllocError> {
     Ok(Output {
         name: Vec::from_slice(alloc, name)?,
@@ -57,7 +57,7 @@ fn input(alloc: Global, number: usize) -> Result<Made, Fail> {
     make(alloc, &numbered(b'i', number), draft, &[])
 }
 
-// So many of them, by path.
+// `INPUTS` such derivations, by path.
 fn all_inputs(alloc: Global) -> Result<Vec<Made>, Fail> {
     let mut all = Vec::new(alloc);
     for number in 0..INPUTS {
@@ -118,7 +118,7 @@ fn plan_of(alloc: Global, root: &Made, others: &[Made]) -> Result<Plan, Fail> {
     Ok(Plan::load(alloc, &mut source, &store_dir(alloc)?, &roots)?)
 }
 
-// At how many places of a job's seeds the first output of the input at that place stands.
+// How many of a job's seeds are the first output of the input at the same place.
 fn seeds_in_place(alloc: Global, job: &Job, all: &[Made]) -> Result<usize, Fail> {
     let mut count = 0usize;
     for (seed, one) in job.seeds.iter().zip(all) {
@@ -129,7 +129,7 @@ fn seeds_in_place(alloc: Global, job: &Job, all: &[Made]) -> Result<usize, Fail>
     Ok(count)
 }
 
-// The same of the next job of a book, and how many seeds it has.
+// The same count for the next job of a book, and how many seeds it has.
 fn next_seeds(
     alloc: Global,
     book: &mut Book<ListOutlet>,
@@ -176,8 +176,8 @@ fn registered(alloc: Global, book: &Book<ListOutlet>, made: &Made) -> Result<usi
     Ok(count)
 }
 
-// Builds the only derivation of a book, and says how many entries the journal has then, and how
-// many of the outputs it registers.
+// Builds the only derivation of a book. Says how many entries the journal has then, and how many of
+// the outputs it registers.
 fn build_alone(
     alloc: Global,
     book: &mut Book<ListOutlet>,

@@ -1,4 +1,4 @@
-//! What is permitted beside a closure.
+//! The paths that are permitted beside a closure.
 ghost use Rattle.std.specs.Prelude.{IfOk};
 ghost use Rattle.nix_names.specs.Rising.{IsRising};
 
@@ -11,7 +11,7 @@ use std::alloc::Global;
 use std::test::*;
 use valid_table::Table;
 
-// What seeds lead to, the outputs of a job, and what is permitted to it.
+// The closure of a job's seeds, the job's outputs, and the paths that are permitted to it.
 struct Beside {
     reached: &'static [&'static [u8]],
     outputs: &'static [&'static [u8]],
@@ -34,13 +34,13 @@ const BESIDE: [Beside; 5] = [
         outputs: &[LEFT_OUT, LEFT_DEV],
         permitted: &[LEFT_DEV, SRC, BASE_OUT, LEFT_OUT],
     },
-    // One of the outputs is reached.
+    // The closure has one of the outputs.
     Beside {
         reached: &[SRC, LEFT_OUT],
         outputs: &[LEFT_DEV, LEFT_OUT],
         permitted: &[LEFT_DEV, SRC, LEFT_OUT],
     },
-    // Each of two outputs is there twice.
+    // Each of two outputs comes twice.
     Beside {
         reached: &[SRC],
         outputs: &[LEFT_OUT, LEFT_DEV, LEFT_OUT, LEFT_DEV],
@@ -62,7 +62,7 @@ const REGISTERED: [&[u8]; 10] = [
     b" -\n",
 ];
 
-// What these paths lead to, which are all registered.
+// The closure of these paths, which are all registered.
 fn reached(alloc: Global, texts: &[&[u8]]) -> Result<Vec<StorePath>, Fail>
     ensures { IfOk result (λ paths. IsRising paths.items) }
 {
@@ -88,7 +88,7 @@ fn job(alloc: Global, texts: &[&[u8]]) -> Result<Job, Fail> {
     })
 }
 
-// Whether just this is permitted.
+// Whether these paths and no others are permitted.
 fn is_permitted(alloc: Global, beside: &Beside) -> Result<bool, Fail> {
     let reached = reached(alloc, beside.reached)?;
     let permitted = permitted_beside(alloc, reached, &job(alloc, beside.outputs)?)?;

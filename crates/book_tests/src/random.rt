@@ -1,4 +1,4 @@
-//! Numbers that look random.
+//! Pseudorandom numbers.
 ghost use Rattle.std.specs.Prelude.{◌<◌};
 
 /// A generator of numbers, by shifts (Marsaglia, "Xorshift RNGs", 2003).

@@ -1,5 +1,5 @@
-//! Random plans, of derivations that are made up. The first letter of a derivation's name says how
-//! it stands by itself, but for twins with a fixed output: that of their argument does.
+//! Plans of random derivations. The first letter of a derivation's name says which kind it is of.
+//! For twins with a fixed output the first letter of their argument says it.
 use crate::books::store_dir;
 use crate::made::{Made, derivation, make};
 use crate::random::Random;
@@ -16,7 +16,7 @@ pub(crate) const REUSED: u8 = b'r';
 /// For another system.
 pub(crate) const FOREIGN: u8 = b's';
 
-/// With a key that asks for what is left out.
+/// With a key that asks for a feature that is left out.
 pub(crate) const KEYED: u8 = b'k';
 
 /// With a source that isn't valid.
@@ -25,23 +25,23 @@ pub(crate) const SOURCED: u8 = b'm';
 /// With two outputs, of which the first is valid.
 pub(crate) const PARTLY: u8 = b'p';
 
-/// One of the twins that have to make one empty file.
+/// A twin whose fixed output is an empty file.
 pub(crate) const TWIN: u8 = b't';
 
-/// One that can be built, but for its inputs.
+/// A derivation that can be built, if its inputs can.
 pub(crate) const BUILDABLE: u8 = b'f';
 
-// As often as they come.
+// The kinds, each as often as its chance.
 const LETTERS: [u8; 64] = *b"ffffffffffffffffffffffffffffffffffffffffffffffffffffrrrrrrrrskmp";
 
-// The same of twins.
+// The kinds of twins, each as often as its chance.
 const TWIN_LETTERS: [u8; 16] = *b"fffffffffffssskm";
 
 // SHA-256 of no bytes (FIPS 180-4), in hex digits.
 const EMPTY_DIGITS: &[u8] = b"e3b0c44298fc1c149afbf4c8996fb92427ae41e4649b934ca495991b7852b855";
 
-/// Derivations that were made up, each behind those that it uses: their files, and their paths and
-/// modulo hashes at the same places; and which outputs are valid at the opening.
+/// Random derivations, each after those that it uses: their files, and their paths and modulo
+/// hashes at the same places; and which outputs are valid at the opening.
 #[derive(Drop)]
 pub(crate) struct MadeUp {
     pub files: Vec<ListedFile>,
@@ -50,7 +50,7 @@ pub(crate) struct MadeUp {
     pub journal: Journal,
 }
 
-// How many of those before it a derivation may use.
+// A derivation may use only the last `WINDOW` derivations before it.
 const WINDOW: usize = 60;
 
 fn texts(alloc: Global, all: &[&[u8]]) -> Result<Vec<Vec<u8>>, AllocError> {
@@ -61,7 +61,7 @@ fn texts(alloc: Global, all: &[&[u8]]) -> Result<Vec<Vec<u8>>, AllocError> {
     Ok(texts)
 }
 
-// Outputs with these names, whose paths are to be filled.
+// Outputs with these names and without paths.
 fn empty_outputs(alloc: Global, names: &[&[u8]]) -> Result<Vec<Output>, AllocError> {
     let mut outputs = Vec::new(alloc);
     for name in names {
@@ -75,7 +75,7 @@ fn empty_outputs(alloc: Global, names: &[&[u8]]) -> Result<Vec<Output>, AllocErr
     Ok(outputs)
 }
 
-// Up to so many of the last paths, in order; some of them may be the same.
+// At most `most` of the last paths, in order; some of them may be the same.
 fn used(
     alloc: Global,
     paths: &[StorePath],
@@ -169,7 +169,7 @@ fn draft(alloc: Global, letter: u8, inputs: Vec<Input>) -> Result<Derivation, Fa
     derivation(parts)
 }
 
-// The same with one fixed output, an empty file; this is its argument.
+// A draft with one fixed output, an empty file, and this argument.
 fn twin_draft(
     alloc: Global,
     letter: u8,
@@ -224,8 +224,8 @@ impl MadeUp {
         Ok(hashes)
     }
 
-    // Another one of the last derivations with the modulo hash of the one at this path: its twin. The
-    // same path where there is none.
+    // Another one of the last derivations with the modulo hash of the one at this path: its twin.
+    // The same path where there is none.
     fn twin_of<'a>(&'a self, path: &'a [u8]) -> &'a [u8] {
         let Some(hash) = self.hash_of(path) else {
             return path;
@@ -262,8 +262,8 @@ impl MadeUp {
         Ok(())
     }
 
-    // Makes up one more derivation, of a draft with this name, whose inputs have these hashes. The
-    // first letter of its name says whether an output of it is valid.
+    // Adds a derivation of a draft with this name, whose inputs have these hashes. The first letter
+    // of its name says whether one of its outputs is valid.
     fn push_draft(
         &mut self,
         alloc: Global,
@@ -277,7 +277,7 @@ impl MadeUp {
         self.add(alloc, made)
     }
 
-    // Makes up one more derivation, with this letter, whose inputs have these hashes.
+    // Adds a derivation with this letter, whose inputs have these hashes.
     fn push(
         &mut self,
         alloc: Global,
@@ -289,8 +289,8 @@ impl MadeUp {
         self.push_draft(alloc, &name, draft(alloc, letter, inputs)?, hashes)
     }
 
-    // Makes up one more derivation, with this letter and up to so many of those before it as inputs;
-    // and its twin behind twins of these, where there are any.
+    // Adds a derivation with this letter and at most `most` of those before it as inputs; and its
+    // twin, with twins of these inputs, where there are any.
     fn push_over(
         &mut self,
         alloc: Global,
@@ -307,7 +307,7 @@ impl MadeUp {
         self.push_draft(alloc, &name, draft(alloc, letter, second)?, &other_hashes)
     }
 
-    // Makes up one of the twins of a group, with up to so many of those before it as inputs. The
+    // Adds a twin of a group, with at most `most` of the derivations before it as inputs. The
     // output of each eighth group is valid.
     fn push_twin_over(
         &mut self,
@@ -328,9 +328,8 @@ impl MadeUp {
         self.push_draft(alloc, &name_of(of, group), draft, &[])
     }
 
-    /// Makes up one more derivation that can be built, one of the twins of a group, with the one that
-    /// was made up as this one, counted from 0, as its only input: without inputs where there is none
-    /// yet.
+    /// Adds a derivation that can be built, a twin of a group, with derivation `of` as its only
+    /// input, counted from 0; without inputs where there is no such derivation yet.
     pub(crate) fn push_twin(&mut self, alloc: Global, group: usize, of: usize) -> Result<(), Fail> {
         let inputs = match self.paths.get(of) {
             Some(path) => one_input(alloc, path)?,
@@ -341,8 +340,8 @@ impl MadeUp {
         self.push_draft(alloc, &name_of(TWIN, group), draft, &[])
     }
 
-    /// Makes up one more derivation that can be built, with the one that was made up as this one,
-    /// counted from 0, as its only input: without inputs where there is none yet.
+    /// Adds a derivation that can be built, with derivation `of` as its only input, counted from 0;
+    /// without inputs where there is no such derivation yet.
     pub(crate) fn push_user(&mut self, alloc: Global, of: usize) -> Result<(), Fail> {
         match (self.paths.get(of), self.hashes.get(of)) {
             (Some(path), Some(hash)) => {
@@ -354,7 +353,7 @@ impl MadeUp {
         }
     }
 
-    /// Makes up one more derivation that can be built, with the first so many as inputs.
+    /// Adds a derivation that can be built, with the first `count` derivations as inputs.
     pub(crate) fn push_user_of_all(&mut self, alloc: Global, count: usize) -> Result<(), Fail> {
         let mut used = Vec::new(alloc);
         for (path, hash) in self.paths.iter().zip(&self.hashes).take(count) {
@@ -395,7 +394,8 @@ pub(crate) fn nothing(alloc: Global) -> MadeUp {
     }
 }
 
-/// So many derivations, and twins of some: one of four is one of a group of about four twins.
+/// `count` random derivations, and twins of some. One derivation of four is in a group of about
+/// four twins.
 pub(crate) fn made_up(alloc: Global, random: &mut Random, count: usize) -> Result<MadeUp, Fail> {
     let mut made_up = nothing(alloc);
     for _ in 0..count {
@@ -410,7 +410,7 @@ pub(crate) fn made_up(alloc: Global, random: &mut Random, count: usize) -> Resul
     Ok(made_up)
 }
 
-// So many derivations that can be built, of which each uses up to so many of those before it.
+// `count` derivations that can be built, each of which uses at most `most` of those before it.
 fn buildable(alloc: Global, count: usize, most: u8) -> Result<MadeUp, Fail> {
     let mut random = Random { state: 271_828 };
     let mut made_up = nothing(alloc);
@@ -446,7 +446,7 @@ fn some_of(
     Ok(some)
 }
 
-/// The plan of some of the derivations that were made up, as roots.
+/// The plan of some of the random derivations, as roots.
 pub(crate) fn random_plan(
     alloc: Global,
     made_up: &MadeUp,
@@ -465,15 +465,15 @@ fn last_first(alloc: Global, paths: &[StorePath]) -> Result<Vec<StorePath>, Fail
     Ok(turned)
 }
 
-/// The plan of so many derivations that can be built, of which each uses up to so many of those
-/// before it; all are roots, the last of them first.
+/// The plan of `count` derivations that can be built, each of which uses at most `most` of those
+/// before it. All are roots, the last of them first.
 pub(crate) fn buildable_plan(alloc: Global, count: usize, most: u8) -> Result<Plan, Fail> {
     let made_up = buildable(alloc, count, most)?;
     let roots = last_first(alloc, &made_up.paths)?;
     plan_of(alloc, &made_up, &roots)
 }
 
-/// The plan of these roots, which were made up.
+/// The plan of these roots, which are random derivations.
 pub(crate) fn plan_of(alloc: Global, made_up: &MadeUp, roots: &[StorePath]) -> Result<Plan, Fail> {
     let dir = store_dir(alloc)?;
     let mut source = source(alloc, &made_up.files)?;

@@ -1,5 +1,5 @@
-//! Random plans with random answers, driven to their end: behind each step each state is compared
-//! with one that the test works out from what it did.
+//! Runs over random plans with random answers. After each step each state is compared with the
+//! state that the test computes from what it did.
 ghost use Rattle.std.specs.Prelude.{◌<◌, length};
 
 use crate::books::book_of;
@@ -12,7 +12,7 @@ use std::alloc::{AllocError, AllocFailed, Global};
 use std::test::*;
 use valid_table::ListOutlet;
 
-// After how many steps a run has not ended well.
+// A run that has more steps has not ended well.
 const MOST_STEPS: usize = 100_000;
 
 // What the test knows of a run.
@@ -20,13 +20,13 @@ const MOST_STEPS: usize = 100_000;
 struct Known {
     // Which derivations are wanted.
     wanted: Vec<bool>,
-    // Of each its earlier twins: the wanted ones of smaller numbers with the same outputs.
+    // The earlier twins of each: wanted derivations of smaller numbers with the same outputs.
     twins: Vec<Vec<usize>>,
-    // What became of each derivation that began.
+    // The state of each derivation that began.
     begun: Vec<Option<State>>,
 }
 
-// The letter that says how a derivation stands by itself.
+// The letter of a derivation's kind.
 fn letter(plan: &Plan, d: usize) -> Option<u8>
     requires { d < length plan.now.nodes }
 {
@@ -37,7 +37,7 @@ fn letter(plan: &Plan, d: usize) -> Option<u8>
     }
 }
 
-// The state of a derivation by itself, if it has one.
+// The state that a derivation has by its kind alone, if it has one.
 fn own_state(plan: &Plan, d: usize) -> Option<State>
     requires { d < length plan.now.nodes }
 {
@@ -67,8 +67,8 @@ fn state_behind(inputs: &[usize], states: &[State]) -> State {
     state
 }
 
-// The state of a derivation that its earlier twins give it, if they do: one was built, or one still
-// has something before it.
+// The state that its earlier twins give a derivation, if they do: a twin was built, or a twin has
+// not ended.
 fn state_by_twins(twins: &[usize], states: &[State]) -> Option<State> {
     let mut by_twins = None;
     for &twin in twins {
@@ -120,7 +120,7 @@ fn mark(marks: &mut [bool], numbers: &[usize]) {
     }
 }
 
-// Which derivations are wanted: users come behind their inputs.
+// Which derivations are wanted. Users come after their inputs.
 fn wanted(alloc: Global, plan: &Plan) -> Result<Vec<bool>, AllocError> {
     let mut wanted = vec![in alloc; false; plan.len()]?;
     mark(&mut wanted, plan.roots());
@@ -142,7 +142,7 @@ fn first_outputs<'a>(alloc: Global, plan: &'a Plan) -> Result<Vec<Option<&'a [u8
     Ok(firsts)
 }
 
-// The earlier twins of a derivation. Those that share their first output share all.
+// The earlier twins of a derivation. Derivations that share their first output share all.
 fn earlier_twins(
     alloc: Global,
     firsts: &[Option<&[u8]>],
@@ -168,12 +168,12 @@ fn all_twins(alloc: Global, plan: &Plan, wanted: &[bool]) -> Result<Vec<Vec<usiz
     Ok(twins)
 }
 
-// Whether a state has something before it.
+// Whether a derivation in this state has not ended.
 fn is_open(state: State) -> bool {
     matches!(state, State::Blocked | State::Ready | State::Building(_))
 }
 
-// How many wanted derivations have something before them.
+// How many wanted derivations have not ended.
 fn unsettled(known: &Known, states: &[State]) -> usize {
     states
         .iter()
@@ -190,8 +190,8 @@ fn is_idle(known: &Known, states: &[State]) -> bool {
         .all(|(state, wanted)| !*wanted || *state != State::Ready)
 }
 
-// The most steps of a run over a plan: two for each derivation, and two for each pair of one and an
-// input of it or its nearest earlier twin.
+// The greatest number of steps of a run over a plan: two for each derivation, and two for each pair
+// of a derivation and an input of it or its nearest earlier twin.
 fn most_steps(plan: &Plan, twins: &[Vec<usize>]) -> u64 {
     let with_twins = twins.iter().filter(|twins| !twins.is_empty()).count();
     let mut count = with_twins as u64;
@@ -203,7 +203,7 @@ fn most_steps(plan: &Plan, twins: &[Vec<usize>]) -> u64 {
     count.wrapping_mul(2)
 }
 
-// Whether a book's derivations have just these states.
+// Whether a book's derivations have these states.
 fn has_states(book: &Book<ListOutlet>, states: &[State]) -> bool {
     for d in 0..book.plan().len() {
         if states.get(d) != Some(&book.state(d)) {
@@ -213,7 +213,7 @@ fn has_states(book: &Book<ListOutlet>, states: &[State]) -> bool {
     true
 }
 
-// Notes what became of a derivation.
+// Notes a derivation's new state.
 fn note(known: &mut Known, d: usize, state: State) {
     if let Some(place) = known.begun.get_mut(d) {
         *place = Some(state);
@@ -268,8 +268,8 @@ fn ends(known: &Known, states: &[State]) -> Option<Ends> {
     Some(ends)
 }
 
-/// How the wanted derivations of a plan end with these events; none where some event may not come
-/// behind those before it, or something is not ended.
+/// How the wanted derivations of a plan end by these events; none where an event may not come after
+/// those before it, or a derivation has not ended.
 pub(crate) fn ends_of(alloc: Global, plan: &Plan, events: &[Event]) -> Result<Option<Ends>, Fail> {
     let mut known = nothing_begun(alloc, plan)?;
     for event in events {
@@ -282,7 +282,7 @@ pub(crate) fn ends_of(alloc: Global, plan: &Plan, events: &[Event]) -> Result<Op
     Ok(ends(&known, &states))
 }
 
-// A run, and its leases that have not ended. At one of so many steps, all states are compared.
+// A run, and its open leases. At one of `every` steps, all states are compared.
 struct Running {
     book: Book<ListOutlet>,
     leases: Vec<Lease<usize>>,
@@ -292,7 +292,7 @@ struct Running {
 }
 
 impl Running {
-    // Whether the book's states are those that are known, and so is how many are unsettled.
+    // Whether the book has the known states and the known number of unsettled derivations.
     fn agrees(&self, alloc: Global) -> Result<bool, AllocError> {
         let states = states(alloc, self.book.plan(), &self.known)?;
         let unsettled = unsettled(&self.known, &states);
@@ -312,8 +312,8 @@ impl Running {
         Ok(is_idle(&self.known, &states))
     }
 
-    // Takes the next lease, and where it is looked at says whether it is one that can be given, or
-    // whether there is none.
+    // Takes the next lease. Where it is checked, says whether the lease is right: it can be given,
+    // or there is none.
     fn begin(&mut self, alloc: Global, looked_at: bool) -> Result<bool, Fail> {
         let Some(lease) = self.book.next()? else {
             return Ok(!looked_at || self.is_idle(alloc)?);
@@ -326,7 +326,7 @@ impl Running {
         Ok(can_begin)
     }
 
-    // Ends some lease, if there is one: one of twelve by a failure.
+    // Ends an open lease, if there is one: one of twelve by a failure.
     fn end(&mut self, alloc: Global) -> Result<(), Fail> {
         let Some(lease) = any_lease(&mut self.leases, &mut self.random) else {
             return Ok(());
@@ -341,7 +341,7 @@ impl Running {
         build(alloc, &mut self.book, lease, &[])
     }
 
-    // Makes a step, and says whether it could be made, where it is looked at.
+    // Makes a step. Says whether it was right, where it is checked.
     fn step(&mut self, alloc: Global, looked_at: bool) -> Result<bool, Fail> {
         if self.random.below(2) == 0 {
             return self.begin(alloc, looked_at);
@@ -350,18 +350,18 @@ impl Running {
         Ok(true)
     }
 
-    // Makes a step, and says whether the book is as it has to be, where that is looked at.
+    // Makes a step. Says whether the book is right after it, where that is checked.
     fn step_is_right(&mut self, alloc: Global, looked_at: bool) -> Result<bool, Fail> {
         Ok(self.step(alloc, looked_at)? && (!looked_at || self.agrees(alloc)?))
     }
 
-    // Whether the book is as it has to be where it is settled.
+    // Whether a settled book is right.
     fn ends_well(&self, alloc: Global) -> Result<bool, AllocError> {
         let is_quick = self.book.steps() <= most_steps(self.book.plan(), &self.known.twins);
         Ok(is_quick && self.leases.is_empty() && self.agrees(alloc)?)
     }
 
-    // Whether the book is as it has to be, up to its end and there.
+    // Whether the book is right at each checked step and at its end.
     fn runs(&mut self, alloc: Global) -> Result<bool, Fail> {
         for step in 0..MOST_STEPS {
             if self.book.settled() {
@@ -374,7 +374,7 @@ impl Running {
         Ok(false)
     }
 
-    // Ends the run, whatever there is of it.
+    // Gives all open leases up, and closes the book.
     fn close(self) {
         let Running {
             book,
@@ -399,7 +399,7 @@ fn keep(leases: &mut Vec<Lease<usize>>, lease: Lease<usize>) -> Result<(), Fail>
     }
 }
 
-// Some lease of these.
+// A random lease of these.
 fn any_lease(leases: &mut Vec<Lease<usize>>, random: &mut Random) -> Option<Lease<usize>> {
     match leases.len() {
         0 => None,
@@ -414,7 +414,7 @@ fn give_up_all(mut leases: Vec<Lease<usize>>) {
     leases.destroy_empty();
 }
 
-// A random run that begins, with so many derivations.
+// A random run over `count` random derivations, at its beginning.
 fn begin_run(alloc: Global, seed: u64, count: usize, every: usize) -> Result<Running, Fail> {
     let mut random = Random { state: seed };
     let made_up = made_up(alloc, &mut random, count)?;
@@ -440,7 +440,7 @@ fn nothing_begun(alloc: Global, plan: &Plan) -> Result<Known, AllocError> {
     })
 }
 
-// How many events there are in a random run in which all is as it has to be.
+// How many events a random run has, if its book is right.
 fn events(alloc: Global, seed: u64, count: usize, every: usize) -> Result<usize, Fail> {
     let mut running = begin_run(alloc, seed, count, every)?;
     let runs = running.runs(alloc);

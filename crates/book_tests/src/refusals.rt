@@ -1,4 +1,4 @@
-//! Leases of another book, and records of another job: the book stays as it is.
+//! Leases of another book, and records of another job: the book doesn't change.
 ghost use Rattle.std.specs.Prelude.{IfOk};
 ghost use Rattle.sched_core.specs.Books.{MayAllRefer};
 
@@ -14,13 +14,13 @@ use std::alloc::{AllocError, Global};
 use std::test::*;
 use valid_table::ListOutlet;
 
-// The report of a diamond of which all is built.
+// The report of a diamond whose derivations are all built.
 const ALL_BUILT: [&[u8]; 15] = [
     b"built ", RIGHT, b"\n", b"built ", LEFT, b"\n", b"built ", TOP, b"\n", b"built ", BASE, b"\n",
     b"output ", TOP_OUT, b"\n",
 ];
 
-// What is seen of a book: its events, and its journal's text.
+// A book's events and its journal's text.
 #[derive(Drop)]
 struct Seen {
     events: Vec<Event>,
@@ -34,7 +34,7 @@ fn look(alloc: Global, book: &Book<ListOutlet>) -> Result<Seen, Fail> {
     })
 }
 
-// Whether a book is still as it was seen.
+// Whether a book has the same events and journal as before.
 fn is_as(alloc: Global, book: &Book<ListOutlet>, before: &Seen) -> Result<bool, Fail> {
     let after = look(alloc, book)?;
     Ok(after.events == before.events && after.journal == before.journal)
@@ -93,7 +93,7 @@ fn refuses_lease_of(
     }
 }
 
-// Whether a book stays as it is when it refuses such a lease, and goes on to its end.
+// Whether a book doesn't change when it refuses such a lease, and goes on to its end.
 fn stays_beside(
     alloc: Global,
     book: &mut Book<ListOutlet>,
@@ -107,7 +107,7 @@ fn stays_beside(
     has_report(alloc, book, &ALL_BUILT)
 }
 
-// The same of books of two diamonds.
+// The same for the books of two diamonds.
 fn stays_beside_another(alloc: Global, book: &mut Book<ListOutlet>) -> Result<bool, Fail> {
     let mut other = open(alloc, &[TOP], &[])?;
     let stays = stays_beside(alloc, book, &mut other);
@@ -124,9 +124,9 @@ fn foreign_lease(rt: HostRuntime) -> Result<(), Fail> {
     Ok(())
 }
 
-// The run of a root, for whose first lease records are refused that were found under another job:
-// some of the lease's outputs, by their places, without a declared digest. What the run's report
-// and journal are when it goes on from there, with empty files.
+// A run of a root. For its first lease, records are refused that were found under another job,
+// which has some of the lease's outputs, by their places, and no declared digest. Then the run goes
+// on with empty files, and has this report and this journal.
 struct Other {
     root: &'static [u8],
     places: &'static [usize],
@@ -138,22 +138,22 @@ struct Other {
 const EMPTY: &[u8] = b" sha256:e3b0c44298fc1c149afbf4c8996fb92427ae41e4649b934ca495991b7852b855\n";
 
 static OTHERS: [Other; 4] = [
-    // One output more.
+    // The job has one more output.
     Other {
         root: BASE,
         places: &[0, 0],
         report: &[b"built ", BASE, b"\noutput ", BASE_OUT, b"\n"],
         journal: &[b"realiser-journal 2\nD ", BASE, b"\nO ", BASE_OUT, EMPTY],
     },
-    // None.
+    // The job has no output.
     Other {
         root: BASE,
         places: &[],
         report: &[b"built ", BASE, b"\noutput ", BASE_OUT, b"\n"],
         journal: &[b"realiser-journal 2\nD ", BASE, b"\nO ", BASE_OUT, EMPTY],
     },
-    // Each holds its own path; taken in another order, the two make a cycle. The second one's path
-    // is the lesser, so it is registered first.
+    // Each output holds its own path; in another order, the two make a cycle. The second one has
+    // the lesser path, so it is registered first.
     Other {
         root: TURNED,
         places: &[1, 0],
@@ -177,7 +177,7 @@ static OTHERS: [Other; 4] = [
             EMPTY,
         ],
     },
-    // It hasn't the declared digest.
+    // The file hasn't the declared digest.
     Other {
         root: FLAT,
         places: &[0],
@@ -197,7 +197,7 @@ fn output(alloc: Global, path: &StorePath) -> Result<JobOutput, Fail> {
     })
 }
 
-// A job that is to make the outputs of another one that are at these places.
+// A job for the outputs of another job that are at these places.
 fn job_of(alloc: Global, job: &Job, places: &[usize]) -> Result<Job, Fail> {
     let mut outputs = Vec::new(alloc);
     for place in places {
@@ -246,7 +246,7 @@ fn other_verdict(
     Ok(examine(alloc, &job, &permitted, answer))
 }
 
-// The lease that comes back with so many records that may not be registered, where it does.
+// The lease that comes back with `count` records that may not be registered, if it does.
 fn unlawful(
     book: &mut Book<ListOutlet>,
     lease: Lease<usize>,
@@ -268,7 +268,7 @@ fn unlawful(
     }
 }
 
-// The first lease, once records of another job were refused for it, where they are.
+// The first lease, after records of another job were refused for it, if they were.
 fn refused_lease(
     alloc: Global,
     book: &mut Book<ListOutlet>,
@@ -288,7 +288,7 @@ fn refused_lease(
     }
 }
 
-// Whether a book stays as it is when it refuses such records, and goes on under that lease.
+// Whether a book doesn't change when it refuses such records, and goes on under that lease.
 fn stays_with_lease(
     alloc: Global,
     book: &mut Book<ListOutlet>,
@@ -303,7 +303,7 @@ fn stays_with_lease(
     Ok(stays && has_report(alloc, book, other.report)? && has_journal(alloc, book, other.journal)?)
 }
 
-// The same of the book of such a run.
+// The same for the book of such a run.
 fn is_refused(alloc: Global, other: &Other) -> Result<bool, Fail> {
     let mut book = open(alloc, &[other.root], &[])?;
     let stays = stays_with_lease(alloc, &mut book, other);

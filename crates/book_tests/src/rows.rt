@@ -3,8 +3,8 @@ use crate::books::Pieces;
 use crate::builders::Script;
 use crate::files::*;
 
-/// A run: its roots, the lines of its journal before and, where they are looked at, after it, its
-/// builders, how many events there are, and its report.
+/// A run: its roots, the lines of its journal before it and, where they are checked, after it, its
+/// builders, its number of events, and its report.
 pub(crate) struct Row {
     pub label: &'static str,
     pub roots: &'static [&'static [u8]],

@@ -1,4 +1,4 @@
-//! Runs to their end on one thread, whose builders do as they are told.
+//! Runs on one thread to their end, whose builders follow scripts.
 use crate::books::{has_journal, has_report, open};
 use crate::builders::build_all;
 use crate::digests::digests;
@@ -10,7 +10,7 @@ use std::alloc::Global;
 use std::test::*;
 use valid_table::ListOutlet;
 
-// Whether a book ends as its row says, when all that can be built is built.
+// Whether a book ends as its row says, when every derivation that can be built is built.
 fn runs_to(alloc: Global, book: &mut Book<ListOutlet>, row: &Row) -> Result<bool, Fail> {
     build_all(alloc, book, row.scripts)?;
     let is_journal = row.after.is_empty() || has_journal(alloc, book, row.after)?;
@@ -58,7 +58,7 @@ fn runs_of_digests(rt: HostRuntime) -> Result<(), Fail> {
     Ok(())
 }
 
-// The derivations that began, in order, when all that can be built is built.
+// The derivations that began, in order, when every derivation that can be built is built.
 fn begun(alloc: Global, book: &mut Book<ListOutlet>) -> Result<Vec<usize>, Fail> {
     build_all(alloc, book, &[])?;
     let mut begun = Vec::new(alloc);

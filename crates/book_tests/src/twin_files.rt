@@ -1,8 +1,8 @@
-//! Files of derivations that share all their outputs; their paths were computed apart, with
-//! Python's hashlib.
+//! Files of derivations that share all their outputs. Their paths were computed with Python's
+//! hashlib.
 use crate::files::File;
 
-/// Makes the empty file that it has to make, as do its twins: `BROKEN`, `BROKEN_TOO` and
+/// Its fixed output is an empty file, which it makes. Its twins are `BROKEN`, `BROKEN_TOO` and
 /// `STRANGE`.
 pub(crate) const MADE: &[u8] = b"/nix/store/y4gkksjak2r20aivgi2lrd5ivyhbi74m-src.drv";
 
@@ -12,10 +12,10 @@ pub(crate) const MADE_OUT: &[u8] = b"/nix/store/2qgpd47jrm1g5pyj4s1dacj3hnkrfzvw
 /// Ends with the status 1; its path is less than that of `MADE`.
 pub(crate) const BROKEN: &[u8] = b"/nix/store/iil3n6d0ylvfgixc221yq8cj7x3rlbks-src.drv";
 
-/// The same again.
+/// Another twin that ends with the status 1.
 pub(crate) const BROKEN_TOO: &[u8] = b"/nix/store/jl3qn6wzqsyjxa0f15by7vbi53akpaiz-src.drv";
 
-/// The same for another system; its path is less than that of `MADE`.
+/// A twin for another system; its path is less than that of `MADE`.
 pub(crate) const STRANGE: &[u8] = b"/nix/store/xqxcbynh1vy3j3jmqfjvcg6kdjwlsdp5-src.drv";
 
 /// A user of `BROKEN` and `MADE`, in this order.
@@ -28,7 +28,7 @@ pub(crate) const PAIR_DEV: &[u8] = b"/nix/store/h94mvq3k35h82m840w7h4932am57d7vy
 
 pub(crate) const PAIR_OUT: &[u8] = b"/nix/store/jd3l5q76p6slrfdniharsw9pkpf1dk21-pair";
 
-/// Its twin, a user of `MADE`.
+/// The twin of that one, a user of `MADE`.
 pub(crate) const PAIRED: &[u8] = b"/nix/store/gvmmai0751cnfrxblynpas310i2l2gfm-pair.drv";
 
 /// A user of `BROKEN`, for another system.

@@ -1,4 +1,4 @@
-//! The rows of an output's check, and the order of the reasons.
+//! The verdicts on outputs, and the order of the reasons.
 ghost use Rattle.std.specs.Prelude.{◌≡◌, IfOk};
 ghost use Rattle.std.specs.Ordering.{nat_cmp};
 ghost use Rattle.std.specs.Cmp.Lexicographic.{slice_cmp};
@@ -51,7 +51,7 @@ fn output(alloc: Global, text: &[u8]) -> Result<JobOutput, Fail> {
     })
 }
 
-// A job that is to make these outputs.
+// A job for these outputs.
 fn job(alloc: Global, kind: Kind, outputs: Vec<JobOutput>) -> Job {
     Job {
         derivation: 0,
@@ -64,7 +64,7 @@ fn job(alloc: Global, kind: Kind, outputs: Vec<JobOutput>) -> Job {
     }
 }
 
-/// A job that is to make so many outputs, at most three.
+/// A job for `count` outputs, at most three.
 pub(crate) fn small_job(alloc: Global, kind: Kind, count: usize) -> Result<Job, Fail> {
     let mut outputs = Vec::new(alloc);
     for text in [DEV, DOC, OUT].iter().take(count) {
@@ -82,7 +82,7 @@ enum Left {
     Nothing,
     File(&'static [u8]),
     Folder,
-    // Past the limits of an output: a file, and a folder of two files.
+    // Larger than an output may be: a file, and a folder of two files.
     LargeFile,
     LargeFolder,
 }
@@ -147,7 +147,7 @@ fn refers(record: Option<&Record>, texts: &[&[u8]]) -> bool {
 
 const FLAT: Kind = Kind::Fixed(Method::Flat, Digest::Sha256(EMPTY));
 
-// What a builder leaves at its outputs, and how it ends: the first reason that holds, or none.
+// What a builder leaves at its outputs, how it ends, and the first reason that holds, or none.
 struct Row {
     kind: Kind,
     status: Option<i32>,
@@ -155,7 +155,7 @@ struct Row {
     reason: Option<Reason>,
 }
 
-// In most rows two reasons hold, which come one behind the other in their order.
+// In most rows two reasons hold, which are neighbours in their order.
 const ROWS: [Row; 17] = [
     Row {
         kind: FLAT,
@@ -217,7 +217,7 @@ const ROWS: [Row; 17] = [
         left: &[Left::File(DOC), Left::File(DEV), Left::LargeFile],
         reason: Some(Reason::TooLarge),
     },
-    // Of two outputs that aren't taken, the first one's reason counts.
+    // Of two outputs that aren't accepted, the first one's reason counts.
     Row {
         kind: FLAT,
         status: Some(0),
@@ -319,7 +319,7 @@ fn numbered(number: usize) -> [u8; 45] {
     text
 }
 
-// The job that is to make many outputs.
+// The job for many outputs.
 fn large_job(alloc: Global) -> Result<Job, Fail> {
     let mut outputs = Vec::new(alloc);
     for number in 0..MANY {

@@ -64,7 +64,7 @@ const REASONS: [(Reason, u8, &[u8]); 13] = [
     (Reason::Killed, 59, b": Killed\n"),
 ];
 
-// Whether the one derivation of a book is reported with these words once it failed so.
+// Whether a book reports its one derivation with these words, once it failed for this reason.
 fn is_reported(
     alloc: Global,
     book: &mut Book<ListOutlet>,
@@ -76,7 +76,7 @@ fn is_reported(
     has_report(alloc, book, &[b"failed ", TWO, words])
 }
 
-// The same of a book that is opened for it.
+// The same for a book that is opened for the test.
 fn is_told(alloc: Global, reason: Reason, words: &[u8]) -> Result<bool, Fail> {
     let mut book = open(alloc, &[TWO], &[])?;
     let is_told = is_reported(alloc, &mut book, reason, words);

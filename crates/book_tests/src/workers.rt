@@ -30,7 +30,7 @@ mod stops;
 mod traces;
 mod waking;
 
-// So many builders that do as these scripts say.
+// `count` builders that follow these scripts.
 fn scripted(
     alloc: Global,
     scripts: &'static [Script],
@@ -39,14 +39,14 @@ fn scripted(
     Ok(vec![in alloc; Scripted { alloc, scripts }; count]?)
 }
 
-// Whether a run left behind what its row says.
+// Whether a run ended as its row says.
 fn is_right(alloc: Global, traces: &Traces, row: &Row) -> Result<bool, AllocError> {
     let is_journal = row.after.is_empty() || traces.text == joined(alloc, row.after)?;
     let is_report = traces.report == joined(alloc, row.report)?;
     Ok(is_report && is_journal && traces.events.len() == row.events)
 }
 
-// Whether a run by so many workers ends as its row says.
+// Whether a run by `workers` workers ends as its row says.
 fn holds<R: Threads + Wait + Sync>(
     rt: &R,
     alloc: Global,
@@ -138,7 +138,7 @@ fn order_of_a_diamond(rt: HostRuntime) -> Result<(), Fail> {
     Ok(())
 }
 
-// How many events a run has whose builders are refused memory, and its report.
+// The number of events and the report of a run whose builders are refused memory.
 fn hungry_run<R: Threads + Wait + Sync>(
     rt: &R,
     alloc: Global,
@@ -162,7 +162,7 @@ fn builder_is_refused_memory(rt: HostRuntime) -> Result<(), Fail> {
     Ok(())
 }
 
-// No workers, and one more than there may be.
+// No workers, and one worker too many.
 #[test]
 fn wrong_number_of_workers(rt: HostRuntime) -> Result<(), Fail> {
     let plan = plan(rt.alloc(), &[APART])?;
@@ -174,7 +174,7 @@ fn wrong_number_of_workers(rt: HostRuntime) -> Result<(), Fail> {
     Ok(())
 }
 
-// What is put behind a lock is the book that comes back, and nothing stopped it.
+// The book that is put behind a lock comes back, and nothing stopped it.
 #[test]
 fn book_behind_a_lock(rt: HostRuntime) -> Result<(), Fail> {
     let plan = plan(rt.alloc(), &[APART])?;

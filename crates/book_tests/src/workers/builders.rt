@@ -8,7 +8,7 @@ use std::sync::atomic::{AtomicU64, Ordering};
 use std::thread;
 use store_run::{Build, Watch};
 
-/// A builder that does as these scripts say.
+/// A builder that follows these scripts.
 #[derive(Clone, Copy)]
 pub(super) struct Scripted {
     pub alloc: Global,
@@ -47,11 +47,11 @@ impl Watch for Hungry {
     fn ended(&self, _is_good: bool, _unsettled: usize) {}
 }
 
-// How often a gate looks whether enough builds have begun.
+// How often a gate tests whether enough builds have begun.
 const TURNS: u64 = 1_000_000;
 
-/// A builder that makes a job's outputs once so many builds have begun, its own among them; after
-/// 1,000,000 looks it ends with the status 99.
+/// A builder that makes a job's outputs once `enough` builds have begun, with its own. After
+/// 1,000,000 tests it ends with the status 99.
 #[derive(Clone, Copy)]
 pub(super) struct Gate<'a> {
     pub alloc: Global,
@@ -80,8 +80,8 @@ impl<'a> Watch for Gate<'a> {
     fn ended(&self, _is_good: bool, _unsettled: usize) {}
 }
 
-/// A builder of those that count their calls together, from 0: the call with this number is ended
-/// by a signal, and any other leaves empty files.
+/// A builder that shares a counter of calls, from 0, with others. A signal ends the call with this
+/// number; every other call leaves empty files.
 #[derive(Clone, Copy)]
 pub(super) struct Counting<'a> {
     pub alloc: Global,
@@ -106,9 +106,9 @@ impl<'a> Watch for Counting<'a> {
     fn ended(&self, _is_good: bool, _unsettled: usize) {}
 }
 
-/// A builder whose outcome depends on the derivation's number alone: of sixteen, one ends with a
-/// status, and five leave files that hold the path of an input. It yields up to 31 times first, by
-/// its seed and the lease's number.
+/// A builder whose outcome depends on the derivation's number alone: of sixteen derivations, one
+/// ends with a status, and five leave files that hold the path of an input. Before that it yields
+/// up to 31 times, by its seed and the lease's number.
 #[derive(Clone, Copy)]
 pub(super) struct Wild {
     pub alloc: Global,
@@ -136,7 +136,7 @@ impl Watch for Wild {
     fn ended(&self, _is_good: bool, _unsettled: usize) {}
 }
 
-// The next of a row of numbers that look random (Knuth's MMIX).
+// The next pseudorandom number (Knuth's MMIX).
 fn next(seed: u64) -> u64 {
     seed.wrapping_mul(6_364_136_223_846_793_005)
         .wrapping_add(1_442_695_040_888_963_407)

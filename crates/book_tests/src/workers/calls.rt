@@ -1,4 +1,4 @@
-//! Runs in which one call of a builder fails, whichever derivation it is for.
+//! Runs in which one call of a builder fails, for whichever derivation.
 use super::builders::Counting;
 use super::traces::report_of;
 use crate::books::plan;
@@ -11,7 +11,7 @@ use std::sync::atomic::AtomicU64;
 use std::test::*;
 use std::thread::Threads;
 
-// The report of a run of which the call of a builder with this number fails.
+// The report of a run in which the builder's call with this number fails.
 fn report_of_calls<R: Threads + Wait + Sync>(
     rt: &R,
     alloc: Global,
@@ -40,7 +40,7 @@ fn is_one_killed(report: &[u8]) -> bool {
     }
 }
 
-// Whichever call fails, the run goes to its end, and reports that failure.
+// Whichever call fails, the run goes to its end and reports that failure.
 #[test]
 fn one_call_fails(rt: HostRuntime) -> Result<(), Fail> {
     let plan = plan(rt.alloc(), &[TOP])?;

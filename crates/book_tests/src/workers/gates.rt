@@ -1,4 +1,4 @@
-//! Runs in which each build waits until so many have begun.
+//! Runs in which each build waits until enough builds have begun.
 use super::builders::Gate;
 use super::many::lines;
 use super::traces::report_of;
@@ -13,7 +13,7 @@ use std::sync::atomic::AtomicU64;
 use std::test::*;
 use std::thread::Threads;
 
-// The report of a run in which each build waits until so many have begun.
+// The report of a run in which each build waits until `enough` builds have begun.
 fn gated<R: Threads + Wait + Sync>(
     rt: &R,
     alloc: Global,
@@ -31,7 +31,7 @@ fn gated<R: Threads + Wait + Sync>(
     report_of(rt, alloc, plan, builders)
 }
 
-// Two builds, of which the first ends well only if the other begins meanwhile.
+// Two builds: the first ends well only if the other begins meanwhile.
 #[test]
 fn two_at_once(rt: HostRuntime) -> Result<(), Fail> {
     let plan = plan(rt.alloc(), &[APART, BASE])?;
@@ -62,7 +62,7 @@ fn one_after_the_other(rt: HostRuntime) -> Result<(), Fail> {
     Ok(())
 }
 
-// Of 64 builds none ends well before all have begun.
+// None of 64 builds ends well before all have begun.
 #[test]
 fn sixty_four_at_once(rt: HostRuntime) -> Result<(), Fail> {
     let plan = buildable_plan(rt.alloc(), 64, 0)?;

@@ -1,4 +1,5 @@
-//! What builders hear of a run: the numbers of their leases, and how many derivations are left.
+//! What builders hear of a run: the numbers of their leases, and how many derivations are
+//! unsettled.
 ghost use Rattle.std.specs.Prelude.{⊤};
 
 use super::traces::realised;
@@ -15,9 +16,9 @@ use std::thread::Threads;
 use store_run::{Build, Watch};
 use valid_table::Journal;
 
-// What was heard in a run over four derivations: which numbers were left when a job began, and when
-// one ended, as the bits of a number; how many jobs ended well; and of each derivation one more than
-// its lease's number.
+// What was heard in a run over four derivations: which numbers of unsettled derivations were heard
+// when a job began and when a job ended, as the bits of a number; how many jobs ended well; and for
+// each derivation its lease's number plus 1.
 #[derive(Drop)]
 struct Heard {
     begun: AtomicU64,
@@ -47,7 +48,7 @@ fn note(bits: &AtomicU64, number: usize) {
     }
 }
 
-// A builder that does as these scripts say, and notes what it hears.
+// A builder that follows these scripts, and notes what it hears.
 #[derive(Clone, Copy)]
 struct Listening<'a> {
     alloc: Global,
@@ -79,7 +80,7 @@ impl<'a> Watch for Listening<'a> {
     }
 }
 
-// Whether an event, if it is a beginning, is that of a derivation that was built under its number.
+// Whether an event, if it is a `Begin`, has the lease number under which its derivation was built.
 fn is_numbered(heard: &Heard, event: &Event) -> bool {
     let Event::Begin(d, number) = event else {
         return true;
@@ -102,7 +103,7 @@ fn are_numbered(heard: &Heard, events: &[Event]) -> bool {
     begun.count() == built.count() && events.iter().all(|event| is_numbered(heard, event))
 }
 
-// What is heard of a run over a plan by so many workers; none where a number is wrong.
+// What is heard of a run over a plan by `workers` workers; none where a number is wrong.
 fn heard_of<R: Threads + Wait + Sync>(
     rt: &R,
     alloc: Global,
@@ -128,7 +129,8 @@ fn heard_of<R: Threads + Wait + Sync>(
     )))
 }
 
-// A diamond, whose third job may begin with three left or with two; and one whose base fails.
+// A diamond, whose third job may begin with three or with two unsettled derivations; and a diamond
+// whose base fails.
 #[test]
 fn numbers_of_leases_and_of_what_is_left(rt: HostRuntime) -> Result<(), Fail> {
     const FAILS: &[Script] = &[Script {

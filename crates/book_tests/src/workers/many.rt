@@ -1,4 +1,4 @@
-//! Runs by workers over many derivations, which are made up for them.
+//! Runs by workers over many random derivations.
 use super::all_built;
 use super::builders::Wild;
 use super::traces::{Traces, realised};
@@ -21,7 +21,7 @@ pub(super) fn lines(report: &[u8], start: &[u8]) -> usize {
         .count()
 }
 
-// Many derivations by one worker, and one derivation by as many workers as there may be.
+// Many derivations by one worker, and one derivation by 64 workers.
 #[test]
 fn one_worker_or_one_derivation(rt: HostRuntime) -> Result<(), Fail> {
     for (count, workers) in [(64, 1), (1, 64)] {
@@ -37,7 +37,7 @@ fn are_alike(some: &[Entry], others: &[Entry]) -> bool {
     some.len() == others.len() && some.iter().all(|entry| others.contains(entry))
 }
 
-// One worker and eight end with one report, and register the same.
+// One worker and eight workers have the same report, and register the same records.
 #[test]
 fn one_worker_or_eight(rt: HostRuntime) -> Result<(), Fail> {
     let plan = buildable_plan(rt.alloc(), 200, 3)?;
@@ -59,7 +59,7 @@ fn wild(alloc: Global, count: usize) -> Result<Vec<Wild>, AllocError> {
     Ok(builders)
 }
 
-// What is left of a run in which some builds fail.
+// What a run leaves behind in which some builds fail.
 fn after_wild<R: Threads + Wait + Sync>(
     rt: &R,
     alloc: Global,
@@ -71,8 +71,8 @@ fn after_wild<R: Threads + Wait + Sync>(
     realised(rt, alloc, plan, journal, builders)
 }
 
-// However the builds of a run fall out, any number of workers ends with one report, and registers
-// the same.
+// Whatever the outcomes of a run's builds, any number of workers has the same report, and registers
+// the same records.
 #[test]
 fn some_builds_fail(rt: HostRuntime) -> Result<(), Fail> {
     let plan = buildable_plan(rt.alloc(), 300, 2)?;
@@ -92,13 +92,13 @@ fn some_builds_fail(rt: HostRuntime) -> Result<(), Fail> {
     Ok(())
 }
 
-// How many lines of a report there are of each way to end.
+// How many lines a report has for each way to end.
 fn reported(report: &[u8]) -> Ends {
     [BUILT, REUSED, FAILED, REFUSED].map(|start| lines(report, start))
 }
 
-// The events of a run over a random plan come as they may, whatever the workers, and the report tells
-// how the derivations end with them.
+// The events of a run over a random plan come in a legal order, whatever the number of workers, and
+// the report says how the derivations end by them.
 #[test]
 fn random_plan_by_workers(rt: HostRuntime) -> Result<(), Fail> {
     let mut random = Random { state: 161_803 };

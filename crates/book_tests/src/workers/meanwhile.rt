@@ -1,4 +1,4 @@
-//! A derivation that refers to an input that was built while another build was open.
+//! A derivation that refers to an input that was built while another build was under way.
 ghost use Rattle.std.specs.Prelude.{⊤};
 
 use super::traces::realised;
@@ -16,7 +16,8 @@ use std::thread::Threads;
 use store_run::{Build, Watch};
 use valid_table::{Entry, Journal, Registration};
 
-// What a builder leaves for a derivation, how many stages it goes on, and which it waits for.
+// What a builder leaves for a derivation, how many stages it adds, and the stage for which it
+// waits.
 #[derive(Clone, Copy)]
 struct Part {
     bytes: &'static [u8],
@@ -24,7 +25,7 @@ struct Part {
     awaits: u64,
 }
 
-// `APART` opens, and stays open until `TOP` has begun.
+// `APART` begins, and doesn't end until `TOP` has begun.
 const OF_APART: Part = Part {
     bytes: b"",
     goes_on: 1,
@@ -38,17 +39,17 @@ const OF_TOP: Part = Part {
     awaits: 2,
 };
 
-// Any other waits until `APART` is open.
+// Any other derivation waits until `APART` has begun.
 const OF_OTHERS: Part = Part {
     bytes: b"",
     goes_on: 0,
     awaits: 1,
 };
 
-// How often a builder looks which stage it is.
+// How often a builder tests which stage it is.
 const TURNS: u64 = 1_000_000;
 
-// A builder that does its part; where the stage that it waits for doesn't come it ends with the
+// A builder that plays its part. Where the stage for which it waits doesn't come, it ends with the
 // status 99.
 #[derive(Clone, Copy)]
 struct Staged<'a> {
@@ -78,7 +79,7 @@ impl<'a> Watch for Staged<'a> {
     fn ended(&self, _is_good: bool, _unsettled: usize) {}
 }
 
-// The part of the derivation that a job is for.
+// The part of a job's derivation.
 fn part_of(job: &Job) -> Part {
     match job.outputs.first() {
         Some(output) if output.path.text() == APART_OUT => OF_APART,
@@ -87,7 +88,7 @@ fn part_of(job: &Job) -> Part {
     }
 }
 
-// The journal's entries after a run by so many workers.
+// The journal's entries after a run by `workers` workers.
 fn entries<R: Threads + Wait + Sync>(
     rt: &R,
     alloc: Global,

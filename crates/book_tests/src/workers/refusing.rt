@@ -1,5 +1,5 @@
-//! What a run is made of that stops: an outlet that refuses to show more than it showed at first,
-//! and a builder that gives the other workers time to wait.
+//! The parts of a run that stops: an outlet that refuses to show more than it showed at first, and
+//! a builder that gives the other workers time to wait.
 ghost use Rattle.std.specs.Prelude.{◌≡◌, ⊤};
 
 use crate::builders::{left, left_nothing};
@@ -14,8 +14,8 @@ use store_run::{Build, Watch};
 use valid_table::{Entry, Outlet, OutletFault};
 use valid_view::{Front, Naming, Tells, ViewWriter};
 
-/// An outlet that shows what its view showed at first, and refuses by a fault to show more. Its
-/// view is there until it is closed, or gone before, where it has no writer.
+/// An outlet that shows what its view showed at first, and answers a fault when it should show
+/// more. Its view is there until the outlet is closed; without a writer it is gone before.
 pub(super) struct Refusing<J: Naming, R> {
     pub writer: Option<ViewWriter<J, R>>,
     pub front: Front<J>,
@@ -68,14 +68,15 @@ impl<J: Naming + Send, R: Wait + Drop> Tells<J> for Refusing<J, R> {
     }
 }
 
-// How many milliseconds a builder takes, so that each other worker waits when it ends, or builds.
+// How many milliseconds a builder takes, so that each other worker waits or builds when it ends.
 const HEAD_START: u64 = 100;
 
-// How often the builder of `APART` looks, once a millisecond, whether another lease has ended.
+// How often the builder of `APART` tests, once a millisecond, whether another lease has ended.
 const LOOKS: u64 = 10_000;
 
-/// A builder that leaves empty files: for `APART` once it was heard that another lease has ended,
-/// and else after a while. Where that isn't heard for ten seconds it ends with the status 99.
+/// A builder that leaves empty files: for `APART` once it heard that another lease has ended, and
+/// for any other derivation after a while. Where it hears nothing for ten seconds, it ends with the
+/// status 99.
 #[derive(Drop)]
 pub(super) struct Lasting<'a, R> {
     pub rt: &'a R,
@@ -84,7 +85,7 @@ pub(super) struct Lasting<'a, R> {
     pub left: &'a AtomicU64,
 }
 
-/// What is told that its worker has ended.
+/// Something that is told that its worker has ended.
 pub(super) trait Leaves {
     /// The worker has ended.
     fn leaves(&self);

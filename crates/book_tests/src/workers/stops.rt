@@ -1,5 +1,5 @@
-//! Runs that are stopped before anything is settled, while other workers wait or build: all workers
-//! end, what was built is in the book, and the cause of the stop is the first one.
+//! Runs that are stopped before anything is settled, while other workers wait or build. All workers
+//! end, the book has what was built, and the run stops for its first cause.
 ghost use Rattle.std.specs.Prelude.{◌≡◌, ◌≤◌};
 ghost use Rattle.store_run.specs.Builders.{IsAnswered};
 
@@ -21,7 +21,7 @@ use store_run::{Build, Locked, Watch, work};
 use valid_table::{Entry, Journal, Outlet, OutletFault};
 use valid_view::{Name, Naming, Tells, ViewReader, open};
 
-// A cause for which a run stops: the view refuses to show what was built, or is gone before.
+// A cause for which a run stops: the view refuses to show what was built, or the view is gone.
 #[derive(Clone, Copy)]
 struct Cause {
     label: &'static str,
@@ -30,8 +30,8 @@ struct Cause {
     stop: BookFault,
 }
 
-// The cause is met where the next lease is taken, by want of memory or since the view can't be
-// reached; or where a verdict is to be found, by a reader whose view is gone.
+// The run meets the cause when the next lease is taken: memory is refused, or the view is gone; or
+// when a verdict is found, by a reader whose view is gone.
 static CAUSES: [Cause; 3] = [
     Cause {
         label: "no memory to show what was built",
@@ -53,7 +53,7 @@ static CAUSES: [Cause; 3] = [
     },
 ];
 
-// What is left of a run that was stopped: why, its events, and the first path of each entry.
+// What a stopped run leaves behind: its cause, its events, and the first path of each entry.
 #[derive(Drop)]
 struct Remains {
     stop: Option<BookFault>,
@@ -62,10 +62,10 @@ struct Remains {
     paths: Vec<Vec<u8>>,
 }
 
-// How many milliseconds the workers have to end, once they were started.
+// How many milliseconds the workers may take from their start to their end.
 const PATIENCE: u64 = 20_000;
 
-// Whether so many workers end within that time.
+// Whether `workers` workers end within that time.
 fn all_end<R: Clock>(rt: &R, left: &AtomicU64, workers: u64) -> bool {
     for _ in 0..PATIENCE {
         if left.load(Ordering::SeqCst) >= workers {
@@ -88,8 +88,8 @@ fn work_counted<R: Wait, J: Naming, O: Tells<J>, B: Build + Watch + Leaves>(
     builder.leaves();
 }
 
-// Lets each builder work in a thread of its own. Where one still waits when all should have ended,
-// nobody would wake it: the test ends there.
+// Lets each builder work in a thread of its own. Where a worker still waits when all should have
+// ended, nobody would wake it, and the test ends.
 fn work_all<R, J, O, B>(
     rt: &R,
     alloc: Global,
@@ -137,7 +137,7 @@ fn rest_of<O: Outlet>(
     })
 }
 
-// What is left of a run over a book by these builders.
+// What a run over a book by these builders leaves behind.
 fn rest_by<R, J, O, B>(
     rt: &R,
     alloc: Global,
@@ -161,8 +161,8 @@ where
     rest
 }
 
-// So many builders that hear together which leases have ended, and count together whose workers
-// have ended.
+// `workers` builders that share a counter of the leases that have ended, and a counter of the
+// workers that have ended.
 fn lasting<'a, R>(
     rt: &'a R,
     alloc: Global,
@@ -181,7 +181,7 @@ fn lasting<'a, R>(
     Ok(builders)
 }
 
-// What is left of a run over a plan, over a view of this name, that is stopped for a cause.
+// What a run over a plan and a view of this name leaves behind, which is stopped for a cause.
 fn rest_named<J: Naming + Send + Sync, R: Threads + Wait + Clock + Abort + Sync>(
     rt: &R,
     alloc: Global,
@@ -228,7 +228,7 @@ fn rest<R: Threads + Wait + Clock + Abort + Sync>(
     rest_named::<Brand, _>(rt, alloc, Name::new(), plan, cause, workers)
 }
 
-// Whether a run was stopped for a cause, with just these events, and entries of these outputs.
+// Whether a run was stopped for a cause, with these events, and with entries of these outputs.
 fn is_right(rest: &Remains, cause: &Cause, events: &[Event], outputs: &[&[u8]]) -> bool {
     let are_outputs = rest.paths.len() == outputs.len()
         && rest
@@ -260,8 +260,8 @@ fn stopped_while_others_wait(rt: HostRuntime) -> Result<(), Fail> {
     Ok(())
 }
 
-// The run is stopped while `APART` is being built, which ends well afterwards: what was built is
-// registered, but where there is no view for its verdict.
+// The run is stopped while `APART` is being built, which ends well afterwards. Its output is
+// registered, unless there is no view for its verdict.
 #[test]
 fn stopped_while_another_builds(rt: HostRuntime) -> Result<(), Fail> {
     for cause in &CAUSES {

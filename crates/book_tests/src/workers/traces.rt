@@ -1,4 +1,4 @@
-//! What runs leave behind, and how those end that leave no book.
+//! What runs leave behind, and how runs without a book end.
 ghost use Rattle.std.specs.Prelude.{◌≡◌};
 
 use crate::books::SYSTEM;
@@ -13,7 +13,7 @@ use store_run::{Build, Ended, RunFault, Watch, realise};
 use valid_table::{Entry, Journal, Outlet, TableFault};
 use valid_view::{Name, Naming};
 
-/// What a run that went to its end leaves behind.
+/// What a run leaves behind at its end.
 #[derive(Drop)]
 pub(super) struct Traces {
     pub report: Vec<u8>,
@@ -51,7 +51,7 @@ fn traces_of<O: Outlet>(alloc: Global, book: &Book<O>) -> Result<Traces, Fail> {
     })
 }
 
-// The book of a run that went to its end; any other is closed.
+// The book of a run that went to its end. The book of any other run is closed.
 fn settled<O: Outlet>(
     ended: Result<Book<O>, (RunFault, Option<Book<O>>)>,
 ) -> Result<Book<O>, RunFault> {
@@ -117,7 +117,7 @@ fn fault_without_book<O: Outlet>(
     }
 }
 
-// How a run over a view of this name ended, if without a book.
+// How a run over a view of this name ended, if it left no book.
 fn fault_named<J: Naming + Send + Sync, R: Threads + Wait + Sync, B: Build + Watch + Send + Drop>(
     rt: &R,
     alloc: Global,
@@ -132,7 +132,7 @@ fn fault_named<J: Naming + Send + Sync, R: Threads + Wait + Sync, B: Build + Wat
     fault_without_book(ended)
 }
 
-/// How a run by these builders ended, if without a book.
+/// How a run by these builders ended, if it left no book.
 pub(super) fn fault_of<R: Threads + Wait + Sync, B: Build + Watch + Send + Drop>(
     rt: &R,
     alloc: Global,

@@ -1,5 +1,5 @@
-//! Runs whose derivations become ready while other workers wait: each of those that can build one
-//! is woken.
+//! Runs whose derivations become ready while other workers wait: each worker that can build one is
+//! woken.
 ghost use Rattle.std.specs.Prelude.{⊤};
 
 use super::many::lines;
@@ -18,13 +18,13 @@ use std::thread::Threads;
 use std::time::{Clock, Duration};
 use store_run::{Build, Watch};
 
-// How many milliseconds the base's builder takes, so that all other workers wait when it ends.
+// How many milliseconds the builder of the base takes, so that all other workers wait when it ends.
 const HEAD_START: u64 = 100;
 
-// How often a builder looks whether enough others have begun.
+// How often a builder tests whether enough other builds have begun.
 const TURNS: u64 = 1_000_000;
 
-// Whether so many builds have begun, after at most 1,000,000 looks.
+// Whether `enough` builds have begun, after at most 1,000,000 tests.
 fn have_begun(begun: &AtomicU64, enough: u64) -> bool {
     for _ in 0..TURNS {
         if begun.load(Ordering::SeqCst) >= enough {
@@ -35,8 +35,8 @@ fn have_begun(begun: &AtomicU64, enough: u64) -> bool {
     false
 }
 
-// A builder of a base, and of its users: of those each waits until so many have begun, or else ends
-// with the status 99.
+// A builder of a base and of its users. Each build of a user waits until `enough` builds have
+// begun, or else ends with the status 99.
 #[derive(Drop)]
 struct Together<'a, R> {
     rt: &'a R,
@@ -67,7 +67,7 @@ impl<'a, R> Watch for Together<'a, R> {
     fn ended(&self, _is_good: bool, _unsettled: usize) {}
 }
 
-// The plan of a base, and of so many derivations with it as their only input; all are roots.
+// The plan of a base, and of `users` derivations with it as their only input; all are roots.
 fn star(alloc: Global, users: u64) -> Result<Plan, Fail> {
     let mut made = nothing(alloc);
     for _ in 0..=users {
@@ -76,7 +76,7 @@ fn star(alloc: Global, users: u64) -> Result<Plan, Fail> {
     plan_of(alloc, &made, &made.paths)
 }
 
-// The report of a run over a base and so many users of it, of which each waits for all others.
+// The report of a run over a base and `users` users of it, each of which waits for all others.
 fn report_of_users<R: Threads + Wait + Clock + Sync>(
     rt: &R,
     alloc: Global,
@@ -98,7 +98,7 @@ fn report_of_users<R: Threads + Wait + Clock + Sync>(
     report_of(rt, alloc, &plan, builders)
 }
 
-// Behind a base two users are under way at once, or as many as there are workers.
+// After a base is built, all its users are under way at once, where there are enough workers.
 #[test]
 fn all_users_at_once(rt: HostRuntime) -> Result<(), Fail> {
     for (users, workers, all) in [(2, 2, 3), (2, 4, 3), (4, 4, 5), (2, 64, 3), (64, 64, 65)] {
@@ -108,8 +108,8 @@ fn all_users_at_once(rt: HostRuntime) -> Result<(), Fail> {
     Ok(())
 }
 
-// A builder of which the first call fails, and of the others each waits until three have begun in
-// all, or else ends with the status 99.
+// A builder whose first call fails. Every other call waits until three calls have begun in all, or
+// else ends with the status 99.
 #[derive(Drop)]
 struct FailingFirst<'a, R> {
     rt: &'a R,
@@ -138,8 +138,8 @@ impl<'a, R> Watch for FailingFirst<'a, R> {
     fn ended(&self, _is_good: bool, _unsettled: usize) {}
 }
 
-// The plan of two pairs of twins; all are roots. The first of the second pair uses the first of the
-// first, so once that fails, the later twin of each pair is ready.
+// The plan of two pairs of twins; all are roots. The first twin of the second pair uses the first
+// twin of the first pair. So once that one fails, the later twin of each pair is ready.
 fn two_pairs(alloc: Global) -> Result<Plan, Fail> {
     let mut made = nothing(alloc);
     for (pair, of) in [(1, usize::MAX), (1, usize::MAX), (2, 0), (2, usize::MAX)] {
@@ -148,7 +148,7 @@ fn two_pairs(alloc: Global) -> Result<Plan, Fail> {
     plan_of(alloc, &made, &made.paths)
 }
 
-// Behind a failure two derivations are under way at once.
+// After a failure two derivations are under way at once.
 #[test]
 fn two_twins_behind_a_failure(rt: HostRuntime) -> Result<(), Fail> {
     for workers in [2, 4, 64] {
