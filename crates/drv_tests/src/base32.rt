@@ -42,7 +42,7 @@ fn base32_texts(rt: HostRuntime) -> Result<(), Fail> {
     Ok(())
 }
 
-// Texts that are none of one byte.
+// Texts that are not the text of one byte.
 static REFUSED: [(&str, NameFault); 6] = [
     ("8z", NameFault::Overflow),
     ("0e", NameFault::BadChar(1)),

@@ -1,4 +1,4 @@
-//! Derivations at their own paths and at others, sources of files, and the numbers of faults.
+//! Derivations at their own paths and at other paths, sources of files, and the numbers of faults.
 use crate::nix_derivations::derivations;
 use nix_drv::{
     DrvFault, DrvSource, ListSource, ListedFile, MAX_LEN, SourceFault, check_text, text_path,
@@ -9,10 +9,10 @@ use std::test::*;
 
 const NOTHING: &[u8] = b"Derive([],[],[],\"\",\"\",[],[])";
 
-// Where Nix 2.8 puts these bytes under the name `nothing.drv`.
+// The path that Nix 2.8 gives these bytes under the name `nothing.drv`.
 const NOTHING_PATH: &[u8] = b"/nix/store/5lhp9n6nphjda2gcbmin4vshljbil6kq-nothing.drv";
 
-// No file stands here.
+// A path without a file.
 const MISSING: &[u8] = b"/nix/store/aaaaaaaaaaaaaaaaaaaaaaaaaaaaaaaa-x";
 
 // A derivation that Nix 2.8 made, with two sources.
@@ -55,8 +55,8 @@ fn text_path_with_references(rt: HostRuntime) -> Result<(), Fail> {
     Ok(())
 }
 
-// What a check of bytes at a path answers: the number of the fault, or 0 if the bytes are sound,
-// and the place, the own path or the reference that the fault names.
+// What a check of bytes at a path answers: the number of the fault, or 0 if the bytes are sound;
+// and the place, the bytes' own path or the reference that the fault names.
 struct Answer {
     number: u8,
     place: usize,
@@ -90,7 +90,7 @@ fn has_named(fault: &DrvFault, answer: &Answer) -> bool {
     }
 }
 
-// Whether a check of the bytes at the path answers so.
+// Whether a check of the bytes at the path has this answer.
 fn answers(alloc: Global, path: &[u8], bytes: &[u8], answer: &Answer) -> Result<bool, Fail> {
     let dir = StoreDir::new(alloc, b"/nix/store")?;
     let path = parse_path(alloc, &dir, path)?;
@@ -196,7 +196,7 @@ fn too_long(alloc: Global) -> Result<Vec<u8>, AllocError> {
     Ok(long)
 }
 
-// Paths at which the text is too long. The name is looked at before the length.
+// Paths at which the text is too long. The name is tested before the length.
 static LONG_ROWS: [(&[u8], Answer); 4] = [
     (
         b"/nix/store/aaaaaaaaaaaaaaaaaaaaaaaaaaaaaaaa-x.drv",
@@ -236,7 +236,7 @@ fn derivations_of_nix_stand_at_their_paths(rt: HostRuntime) -> Result<(), Fail> 
 // A derivation of Nix 2.8.0 that has inputs, a source and arguments.
 const USER_PATH: &[u8] = b"/nix/store/pszp8hiyx2gjz2bjw7jlvm63x58jvx76-user-2.0.drv";
 
-// Where that derivation stands once the last name in its argument `cat $a $b $c > $out` is `d`.
+// That derivation's path once the last name in its argument `cat $a $b $c > $out` is `d`.
 const CHANGED_USER_PATH: &[u8] = b"/nix/store/g8qbdhkq7gg88dvj8xiywj8532yx7hbl-user-2.0.drv";
 
 const MOVED: Answer = Answer {
@@ -283,8 +283,8 @@ fn at_nothing(alloc: Global, bytes: &[u8]) -> Result<ListedFile, AllocError> {
     Ok(ListedFile { path, bytes })
 }
 
-// A source's files and the fetches that fail in it, a path, and what each fetch of it in turn
-// answers: the derivation of nothing or a fault, and how many fetches have failed.
+// A source's files and the fetches that fail in it, a path, and the answers of the fetches of the
+// path in turn: the derivation of nothing or a fault, and how many fetches have failed.
 struct FetchRow {
     label: &'static str,
     files: &'static [&'static [u8]],

@@ -16,7 +16,7 @@ pub(crate) const GREET: &[u8; 97] =
 const FULL: &[u8] =
     b"Derive([(\"dev\",\"/d\",\"sha256\",\"00\")],[(\"/i\",[\"a\",\"b\"])],[\"/s\",\"/t\"],\"sys\",\"/sh\",[\"z\",\"y\"],[(\"k\",\"v\")])";
 
-// A derivation whose builder has each escape but that of a return.
+// A derivation whose builder has each escape but that of a carriage return.
 const BUILDER_ESCAPES: &[u8] = b"Derive([],[],[],\"\",\"\\\"\\\\\\n\\t\xff\",[],[])";
 
 // The bytes of that builder.
@@ -42,8 +42,8 @@ pub(crate) fn make_text(alloc: Global, parts: Parts, text: &[u8]) -> bool {
     }
 }
 
-// A text, and what is read in it: the system, the builder, and how many sources, arguments and
-// entries there are.
+// A text, and what it says: the system, the builder, and the numbers of sources, arguments and
+// entries.
 struct TextRow {
     label: &'static str,
     text: &'static [u8],
@@ -146,7 +146,7 @@ fn elements_of_a_derivation(rt: HostRuntime) -> Result<(), Fail> {
     Ok(())
 }
 
-// A text, and where it stops being one of the language or breaks the order of a list.
+// A text, and the place at which it leaves the language or breaks the order of a list.
 struct PlaceRow {
     text: &'static [u8],
     is_order: bool,
@@ -220,7 +220,7 @@ fn place_rows() -> &'static [PlaceRow] {
     &PLACE_ROWS
 }
 
-// Whether the bytes are refused at this place, for an order or for the language.
+// Whether the bytes are refused at this place, for an order or for the syntax.
 fn is_refused_at(alloc: Global, text: &[u8], is_order: bool, place: usize) -> bool {
     match read(alloc, text) {
         Err(DrvFault::Syntax(at)) => !is_order && at == place,
@@ -250,8 +250,8 @@ fn each_beginning_of_a_draft(rt: HostRuntime) {
     }
 }
 
-// Whether the bytes are a derivation that is written back the same, or a fault with a place of
-// at most 97.
+// Whether the bytes are a derivation that is written back to the same bytes, or are refused at a
+// place of at most 97.
 fn is_read_or_placed(alloc: Global, text: &[u8]) -> bool {
     match read(alloc, text) {
         Ok(drv) => is_written_as(alloc, &drv, text),
@@ -305,7 +305,7 @@ fn push_entry(alloc: Global, env: &mut Vec<EnvEntry>, key: &[u8]) -> Result<(), 
     Ok(())
 }
 
-// Parts with these keys in their environment, and with these arguments.
+// Parts with these environment keys and these arguments.
 fn with_texts(alloc: Global, keys: &[&[u8]], args: &[&[u8]]) -> Result<Parts, Fail> {
     let mut parts = parts_of(alloc, NOTHING)?;
     for key in keys {
@@ -317,7 +317,7 @@ fn with_texts(alloc: Global, keys: &[&[u8]], args: &[&[u8]]) -> Result<Parts, Fa
     Ok(parts)
 }
 
-// How many arguments the derivation has that the parts make, if they are in order.
+// How many arguments the derivation of the parts has, if the parts are in order.
 fn sorted_args(parts: Parts) -> Result<Option<usize>, Fail> {
     match Derivation::new(parts) {
         Ok(drv) => Ok(Some(drv.args().len())),
@@ -326,7 +326,7 @@ fn sorted_args(parts: Parts) -> Result<Option<usize>, Fail> {
     }
 }
 
-// Keys, arguments, and how many arguments are counted.
+// Keys, arguments, and the number of arguments that is found.
 static PARTS_ROWS: [(&[&[u8]], &[&[u8]], Option<usize>); 3] = [
     (&[b"b", b"a"], &[], None),
     (&[b"a", b"a"], &[], None),
@@ -342,7 +342,7 @@ fn keys_must_rise_and_arguments_need_not(rt: HostRuntime) -> Result<(), Fail> {
     Ok(())
 }
 
-// A derivation's text of so many bytes, with a long system.
+// A derivation's text of `len` bytes, with a long system.
 fn long_text(alloc: Global, len: usize) -> Result<Vec<u8>, AllocError>
     requires { 28 ≤ len }
 {
@@ -353,7 +353,7 @@ fn long_text(alloc: Global, len: usize) -> Result<Vec<u8>, AllocError>
     Ok(text)
 }
 
-// How long a text's system is, if the text isn't too long.
+// The length of a text's system, if the text isn't too long.
 fn system_length(alloc: Global, text: &[u8]) -> Result<Option<usize>, Fail> {
     match read(alloc, text) {
         Ok(drv) => Ok(Some(drv.system().len())),

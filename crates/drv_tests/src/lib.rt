@@ -1,14 +1,14 @@
-//! Tests of names, derivations and plans, of what no clause says: that calls succeed, and what they
-//! answer on texts that Nix wrote or that were made by hand.
+//! Tests of names, derivations and plans, for what no contract says: that calls succeed, and what
+//! they answer on texts that Nix wrote or that were made by hand.
 //!
-//! | Module | What is tried |
+//! | Module | What is tested |
 //! |---|---|
 //! | `base32` | base-32 texts, and the words of a fault of names |
 //! | `store_paths` | store folders, and store paths parsed, made, copied and compared |
 //! | `derivations`, `parts`, `places` | derivations read, taken apart, made and written |
-//! | `checks` | derivations at their own paths and at others, sources of files, and numbers of faults |
+//! | `checks` | derivations at their own paths and at other paths, sources, and numbers of faults |
 //! | `modulo_texts` | modulo texts |
-//! | `loads` | plans loaded, what is wrong with others, and drafts filled |
+//! | `loads` | plans loaded, the faults of others, and drafts filled |
 //! | `nix_derivations` | derivations that Nix wrote |
 #![tactic(auto)]
 

@@ -47,7 +47,7 @@ fn all_files(alloc: Global) -> Result<Vec<ListedFile>, AllocError> {
     Ok(files)
 }
 
-// The source of all files, of which the fetches with these numbers fail.
+// The source of all files, in which the fetches with these numbers fail.
 fn all_but(alloc: Global, failing: &[u64]) -> Result<ListSource, Fail> {
     let files = all_files(alloc)?;
     let failing = Vec::from_slice(alloc, failing)?;
@@ -198,7 +198,7 @@ static PLAN_ROWS: [PlanRow; 14] = [
     },
 ];
 
-// Whether a plan has just these derivations, with the numbers of the inputs of each.
+// Whether a plan has these derivations and no others, with the numbers of the inputs of each.
 fn has_nodes(plan: &Plan, nodes: &[(&[u8], &[usize])]) -> bool {
     for number in 0..plan.len() {
         let Some((path, inputs)) = nodes.get(number) else {
@@ -228,8 +228,8 @@ fn plans_of_roots(rt: HostRuntime) -> Result<(), Fail> {
     Ok(())
 }
 
-// Roots, the path at which loading them finds a fault, the fault's number, and the path that it
-// names: the own one of a text.
+// Roots, the path at which loading them finds a fault, the fault's number, and the path that the
+// fault names, a text's own path.
 struct FaultRow {
     label: &'static str,
     roots: &'static [&'static [u8]],
@@ -302,7 +302,8 @@ fn is_blamed(answer: &Result<Plan, GraphFault>, at: &[u8], number: u8) -> bool {
     }
 }
 
-// Whether what loading found names this path, or none if it is empty. Faults of outputs aside.
+// Whether the fault of loading names this path, or no path if this is empty. Faults of outputs are
+// not looked into.
 fn has_named(answer: &Result<Plan, GraphFault>, path: &[u8]) -> bool {
     match answer {
         Err(GraphFault::At(_, NodeFault::Text(DrvFault::TextPathMismatch(own)))) => {
@@ -335,7 +336,7 @@ static FETCHES: [(u64, &[u8]); 6] = [
     (5, SPLIT),
 ];
 
-// Whether the fetch with this number fails once in loading `BOTH`, at the path.
+// Whether loading `BOTH` fails at the path, if the fetch with this number fails; once.
 fn is_failed_fetch(alloc: Global, number: u64, path: &[u8]) -> Result<bool, Fail> {
     let mut source = all_but(alloc, &[number])?;
     let answer = load(alloc, &mut source, &[BOTH])?;
@@ -381,7 +382,7 @@ fn add_inputs(text: &mut Vec<u8>, inputs: &[StorePath]) -> Result<(), AllocError
     Ok(())
 }
 
-// The text of a derivation with these inputs, whose one output has a hash that begins with the
+// The text of a derivation with these inputs and one fixed output, whose hash begins with the
 // place.
 fn link_text(
     alloc: Global,
@@ -407,7 +408,7 @@ fn link_text(
     Ok(text)
 }
 
-// Adds a derivation's text at its own path, and gives that.
+// Adds a derivation's text at its own path, and gives the path.
 fn add_text(
     alloc: Global,
     dir: &StoreDir,
@@ -436,7 +437,7 @@ fn add_link(
     Ok(path)
 }
 
-// Adds a chain of so many derivations, of which `LEAF` is the first, and gives the path of the
+// Adds a chain of `count` derivations, of which `LEAF` is the first, and gives the path of the
 // last.
 fn add_chain(
     alloc: Global,
@@ -451,8 +452,8 @@ fn add_chain(
     Ok(last)
 }
 
-// What loading a chain of so many derivations answers, where the fetches with these numbers fail,
-// and `LEAF` has another text, if that isn't empty.
+// What loading a chain of `count` derivations answers, where the fetches with these numbers fail.
+// `LEAF` has the text `leaf`, if that isn't empty.
 fn load_chain(
     alloc: Global,
     count: u32,

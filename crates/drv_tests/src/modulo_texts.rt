@@ -1,4 +1,4 @@
-//! Tests of modulo texts. The texts were made apart, with Python.
+//! Tests of modulo texts. The texts were made with Python.
 use drv_graph::modulo_text;
 use nix_drv::{Derivation, read};
 use std::alloc::Global;

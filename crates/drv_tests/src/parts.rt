@@ -4,7 +4,8 @@ use nix_drv::{Parts, write_string};
 use std::alloc::Global;
 use std::test::Fail;
 
-// A derivation's text with one input derivation, and the same with another one in its place.
+// A derivation's text with one input derivation, and the text with another input derivation
+// instead.
 const ONE_INPUT: &[u8] = b"Derive([],[(\"/i.drv\",[\"a\",\"b\"])],[\"/s\"],\"sys\",\"/sh\",[],[])";
 
 const OTHER_INPUT: &[u8] = b"Derive([],[(\"00ff\",[\"a\"])],[\"/s\"],\"sys\",\"/sh\",[],[])";
@@ -17,8 +18,8 @@ fn parts_make_the_derivation_again(rt: HostRuntime) -> Result<(), Fail> {
     Ok(())
 }
 
-// Whether the parts have the other text, once with other inputs beside them and once with those
-// inputs as their own.
+// Whether the parts have the other text: once with the other inputs given beside them, and once
+// with these inputs as their own.
 fn change_text(alloc: Global, mut parts: Parts, other: Parts) -> Result<bool, Fail> {
     let text = parts.text_with_inputs(alloc, &other.inputs)?;
     let is_text = text.as_slice() == OTHER_INPUT;
@@ -34,7 +35,7 @@ fn other_inputs_make_another_derivation(rt: HostRuntime) -> Result<(), Fail> {
     Ok(())
 }
 
-// Bytes, and the string that they are written as.
+// Bytes, and the string as which they are written.
 static STRINGS: [(&[u8], &[u8]); 4] = [
     (b"", b"\"\""),
     (b"a word", b"\"a word\""),

@@ -33,7 +33,7 @@ fn places_of_names(rt: HostRuntime) -> Result<(), Fail> {
     Ok(())
 }
 
-// The same text with one part changed.
+// Texts, each with one part of that text changed.
 static OTHERS: [&[u8]; 8] = [
     b"Derive([(\"dev\",\"/d\",\"\",\"\"),(\"doc\",\"/e\",\"\",\"\"),(\"out\",\"/o\",\"\",\"x\")],[(\"/i\",[\"a\"])],[\"/s\"],\"sys\",\"/sh\",[\"z\"],[(\"a\",\"1\"),(\"a b\",\"2\"),(\"out\",\"/o\")])",
     b"Derive([(\"dev\",\"/d\",\"\",\"\"),(\"doc\",\"/e\",\"\",\"\")],[(\"/i\",[\"a\"])],[\"/s\"],\"sys\",\"/sh\",[\"z\"],[(\"a\",\"1\"),(\"a b\",\"2\"),(\"out\",\"/o\")])",
@@ -45,7 +45,7 @@ static OTHERS: [&[u8]; 8] = [
     b"Derive([(\"dev\",\"/d\",\"\",\"\"),(\"doc\",\"/e\",\"\",\"\"),(\"out\",\"/o\",\"\",\"\")],[(\"/i\",[\"a\"])],[\"/s\"],\"sys\",\"/sh\",[\"z\"],[(\"a\",\"1\"),(\"a b\",\"3\"),(\"out\",\"/o\")])",
 ];
 
-// Whether the text's derivation is another one.
+// Whether the text is that of another derivation.
 fn is_other(alloc: Global, drv: &Derivation, text: &[u8]) -> bool {
     match read(alloc, text) {
         Ok(other) => *drv != other,

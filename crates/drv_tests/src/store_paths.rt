@@ -5,7 +5,7 @@ use std::collections::HashMap;
 use std::mem::size_of;
 use std::test::Fail;
 
-// SHA-256 of nothing (FIPS 180-4).
+// The SHA-256 digest of no bytes (FIPS 180-4).
 const NOTHING: &[u8; 64] = b"e3b0c44298fc1c149afbf4c8996fb92427ae41e4649b934ca495991b7852b855";
 
 const EMPTY: &[u8] = b"/nix/store/wi0sw9r4p5prk7acm7i0z1b97h75faw7-empty";
@@ -31,7 +31,7 @@ fn fold_of_empty(rt: HostRuntime) -> Result<(), Fail> {
     Ok(())
 }
 
-// A text, and why it is no path in `/nix/store`, or none where it is one.
+// A text, and the reason why it is no path in `/nix/store`; none where it is one.
 static PARSED: [(&[u8], Option<NameFault>); 6] = [
     (EMPTY, None),
     (
@@ -82,7 +82,7 @@ fn in_store(alloc: Global, text: &[u8]) -> Result<StorePath, NameFault> {
     parse_path(alloc, &dir, text)
 }
 
-// What other threads may hold too.
+// A value that may be shared by threads.
 fn held_by_threads<T: Send + Sync>(value: T) -> T {
     value
 }
@@ -97,10 +97,9 @@ fn copies_outlive_their_path(rt: HostRuntime) -> Result<(), Fail> {
     Ok(())
 }
 
-// The types, names and texts of paths in `/nix/store` with the digest of nothing. The first as
-// Nix 2.8 prints it for `builtins.toFile "empty" ""`, the second as its
-// `nix-store --print-fixed-path --recursive sha256` prints it, the third by sha256sum of the 185
-// bytes of the fingerprint.
+// The types, names and texts of paths in `/nix/store` with the digest of no bytes. Nix 2.8 prints
+// the first for `builtins.toFile "empty" ""`, and the second with `nix-store --print-fixed-path
+// --recursive sha256`. The third was computed with sha256sum from the 185 bytes of the fingerprint.
 static MADE: [(&[u8], &[u8], &[u8]); 3] = [
     (
         b"text",
@@ -168,7 +167,7 @@ fn is_lesser(x: &StorePath, y: &StorePath) -> bool {
     x != y && x < y
 }
 
-// Whether a copy of the path is equal to it, and found in a map where the other path isn't.
+// Whether a copy of the path is equal to it, and is found in a map in which the other path isn't.
 fn is_found(alloc: Global, path: &StorePath, other: &StorePath) -> Result<bool, Fail> {
     let copy = path.copy(alloc)?;
     let is_equal = *path == copy;

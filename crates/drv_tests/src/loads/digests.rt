@@ -1,5 +1,5 @@
-//! Tests of the methods and the hashes of fixed outputs: which are taken and which aren't, and that
-//! digests of one file by several algorithms have paths of their own.
+//! Tests of the methods and the hashes of fixed outputs: which are accepted and which aren't, and
+//! that the digests of one file by several algorithms have different paths.
 use super::output_files::*;
 use super::{add_text, plan_of};
 use drv_graph::Plan;
@@ -8,7 +8,7 @@ use nix_names::StoreDir;
 use std::alloc::{AllocError, Global};
 use std::test::*;
 
-// A method, and a digit that the hash has so many times.
+// A method, a digit, and how often the hash repeats the digit.
 type HashRow = (&'static [u8], u8, usize);
 
 static TAKEN_ROWS: [HashRow; 9] = [
@@ -65,8 +65,7 @@ static REFUSED_ROWS: [HashRow; 39] = [
     (b"SHA256", b'0', 64),
 ];
 
-// The text of a derivation whose output has this method and this hash, and a path that isn't that
-// of any.
+// The text of a derivation whose output has this method and this hash, and a wrong path.
 fn fixed_text(alloc: Global, row: &HashRow) -> Result<Vec<u8>, AllocError> {
     let hash = vec![in alloc; row.1; row.2]?;
     let mut text = Vec::new(alloc);
@@ -82,7 +81,8 @@ fn fixed_text(alloc: Global, row: &HashRow) -> Result<Vec<u8>, AllocError> {
     Ok(text)
 }
 
-// The number of the fault of such a derivation: that of its path where method and hash are taken.
+// The number of the fault of such a derivation: that of the path, where method and hash are
+// accepted.
 fn number_of(alloc: Global, row: &HashRow) -> Result<u8, Fail> {
     let dir = StoreDir::new(alloc, b"/nix/store")?;
     let mut files = Vec::new(alloc);

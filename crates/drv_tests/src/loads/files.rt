@@ -1,5 +1,5 @@
 //! Files of the tests of loading. Nix 2.8.0 wrote the last six; the paths of the others were
-//! computed apart, with Python's hashlib.
+//! computed with Python's hashlib.
 
 /// A file: its path and its bytes.
 pub(crate) struct File {
@@ -28,7 +28,7 @@ pub(crate) const FAR: &[u8] = b"/nix/store/09dln05jj1anwsfp0ijlxf2nfcshbz2c-far.
 /// Another derivation with the output of `LEAF`.
 pub(crate) const TWIN: &[u8] = b"/nix/store/3kncmmxnrnj6rfaszzg2jp40n520irpc-leaf.drv";
 
-/// Names the output `doc` of `LEAF`, which it hasn't.
+/// Names the output `doc` of `LEAF`, which `LEAF` hasn't.
 pub(crate) const ASKING: &[u8] = b"/nix/store/w6fiin11k3l6n2fr6khbvwv6y4f54ky0-asking.drv";
 
 /// A user of `LEAF`, with the path of another output.
@@ -40,19 +40,19 @@ pub(crate) const OVER: &[u8] = b"/nix/store/blvss0qcq2jlx0abwg69fqqkgl9b7b2w-ove
 /// The derivation of nothing.
 pub(crate) const NOTHING: &[u8] = b"/nix/store/5lhp9n6nphjda2gcbmin4vshljbil6kq-nothing.drv";
 
-/// No file stands here.
+/// A path without a file.
 pub(crate) const GONE: &[u8] = b"/nix/store/w2izfm307infjbsm5nrnqlvm5gvqmf3s-gone.drv";
 
-/// The text of `LEAF`, which does not stand here.
+/// The text of `LEAF`, at another path than its own.
 pub(crate) const MOVED: &[u8] = b"/nix/store/00000000000000000000000000000000-moved.drv";
 
-/// Where that text stands under that name.
+/// The path of that text under that name.
 pub(crate) const OWN: &[u8] = b"/nix/store/5j091d4jr6i1hgv0cm4qwb73fj9g8kdr-moved.drv";
 
 /// A user of `UNICODE`, `USER` and `SPLIT`.
 pub(crate) const BOTH: &[u8] = b"/nix/store/s667mngmigv270rpvh08nih0jmkw5268-both.drv";
 
-/// Without inputs, as are `SPLIT`, `SRC` and `GREET`.
+/// Without inputs. `SPLIT`, `SRC` and `GREET` have none either.
 pub(crate) const UNICODE: &[u8] = b"/nix/store/gm2q3pr4izf1xksvsj3lyc4z2g123jxl-unicode.drv";
 
 /// A user of `SRC`, `GREET` and `SPLIT`.

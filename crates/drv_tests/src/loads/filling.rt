@@ -1,4 +1,4 @@
-//! Tests of filling: derivations whose outputs' paths are left out get them again.
+//! Tests of filling: a derivation without its outputs' paths gets them back.
 use super::files::UNICODE;
 use super::outputs::sound_rows;
 use super::{all_but, plan_of};
@@ -37,7 +37,7 @@ fn filled(
     Ok(fill_outputs(alloc, &mut source, &dir, name, draft))
 }
 
-// Whether the draft of the derivation with this number is filled as it was, at its path.
+// Whether filling the draft of the derivation with this number gives the derivation, at its path.
 fn is_filled_again(alloc: Global, plan: &Plan, number: usize) -> Result<bool, Fail> {
     if number >= plan.len() {
         return Ok(false);
@@ -76,7 +76,7 @@ fn plain_draft(alloc: Global) -> Result<Derivation, Fail> {
     draft_of(alloc, plan.drv(0))
 }
 
-// The number of the fault of filling the draft under a name of so many bytes, or 0.
+// The number of the fault of filling the draft under a name of `length` bytes, or 0.
 fn number_under(alloc: Global, draft: &Derivation, length: usize) -> Result<u8, Fail> {
     let name = vec![in alloc; b'n'; length]?;
     match filled(alloc, &name, draft)? {
@@ -99,7 +99,7 @@ fn longest_name_of_a_draft(rt: HostRuntime) -> Result<(), Fail> {
 
 const STRAY: &[u8] = b"/other/store/source";
 
-// Whether filling these parts tells of the stray path.
+// Whether the fault of filling these parts names the stray path.
 fn tells_of_stray(alloc: Global, parts: Parts) -> Result<bool, Fail> {
     let draft = Derivation::new(parts)?;
     match filled(alloc, b"draft", &draft)? {

@@ -1,4 +1,4 @@
-//! Tests of large inputs, for which memory is granted: many inputs, outputs and steps.
+//! Tests of large plans, for which memory is granted: many inputs, outputs and steps.
 use super::{add_text, link_text, push_file};
 use drv_graph::{Plan, fill_outputs};
 use nix_drv::{Derivation, ListSource, ListedFile, read, write};
@@ -23,7 +23,7 @@ fn add_users(
     Ok(paths)
 }
 
-// How many inputs the derivations of a plan have together.
+// The number of inputs of all derivations of a plan.
 fn steps_of(plan: &Plan) -> usize {
     let mut steps: usize = 0;
     for number in 0..plan.len() {
@@ -62,7 +62,7 @@ fn wide_text(alloc: Global, inputs: &[StorePath]) -> Result<Vec<u8>, Fail> {
     Ok(text)
 }
 
-// What the wide draft with these files as inputs is filled to.
+// The wide draft with these files as inputs, filled.
 fn fill_wide(
     alloc: Global,
     dir: &StoreDir,
@@ -74,7 +74,8 @@ fn fill_wide(
     Ok(fill_outputs(alloc, &mut source, dir, b"wide", &draft)?)
 }
 
-// How many derivations the plan of the wide derivation has, and its last one outputs.
+// The number of derivations in the plan of the wide derivation, and the number of outputs of the
+// last.
 fn wide_plan(alloc: Global) -> Result<(usize, usize), Fail> {
     let dir = StoreDir::new(alloc, b"/nix/store")?;
     let mut files = Vec::new(alloc);

@@ -1,4 +1,4 @@
-//! Tests of the order of faults: derivations and drafts with two, of which one is told.
+//! Tests of the order of faults: derivations and drafts with two faults, of which one is answered.
 use super::files::*;
 use super::{add_text, all_files, is_blamed, load, load_chain, push_file};
 use drv_graph::{GraphFault, Plan, fill_outputs};
@@ -7,8 +7,8 @@ use nix_names::{StoreDir, parse_path};
 use std::alloc::Global;
 use std::test::*;
 
-// A derivation with two faults: the name of its file and its text, the number of the fault that is
-// told, and the path at which; none is the derivation's own.
+// A derivation with two faults: the name of its file and its text, the number of the answered
+// fault, and the path that is blamed; an empty path is the derivation's own.
 struct PairRow {
     label: &'static str,
     name: &'static [u8],
@@ -55,8 +55,8 @@ static PAIR_ROWS: [PairRow; 5] = [
     },
 ];
 
-// The number of the fault that is told of the row's derivation behind `LEAF`, and whether it is
-// told at the path that is wanted.
+// The number of the fault that is answered for the row's derivation after `LEAF`, and whether the
+// wanted path is blamed.
 fn told_of(alloc: Global, row: &PairRow) -> Result<(u8, bool), Fail> {
     let dir = StoreDir::new(alloc, b"/nix/store")?;
     let mut files = all_files(alloc)?;
@@ -95,8 +95,8 @@ fn first_of_two_faults(rt: HostRuntime) -> Result<(), Fail> {
     Ok(())
 }
 
-// What is wrong with a text is told before its inputs are fetched: it stands at another path than
-// its own, and its input is missing.
+// A fault of a text is answered before its inputs are fetched: this text isn't at its own path, and
+// its input is missing.
 #[test]
 fn text_before_an_input(rt: HostRuntime) -> Result<(), Fail> {
     let alloc = rt.alloc();
@@ -110,8 +110,8 @@ fn text_before_an_input(rt: HostRuntime) -> Result<(), Fail> {
     Ok(())
 }
 
-// A draft with two faults: its name and its text, and the number of the fault that is told of it,
-// or of another derivation where that is said.
+// A draft with two faults: its name and its text, the number of the answered fault, and whether
+// that is an input's.
 struct DraftRow {
     label: &'static str,
     name: &'static [u8],
@@ -158,7 +158,7 @@ static DRAFT_ROWS: [DraftRow; 5] = [
     },
 ];
 
-// What is told of a draft with this text: the fault's number, and whether it is an input's.
+// What is answered for a draft with this text: the fault's number, and whether it is an input's.
 fn told_of_draft(alloc: Global, name: &[u8], text: &[u8]) -> Result<(u8, bool), Fail> {
     let dir = StoreDir::new(alloc, b"/nix/store")?;
     let draft = read(alloc, text)?;
@@ -184,8 +184,8 @@ fn first_of_two_faults_of_a_draft(rt: HostRuntime) -> Result<(), Fail> {
     Ok(())
 }
 
-// A draft's text within the limit, which is past it when the output's path is put into it: with a
-// source outside the folder, or without.
+// A draft's text within the limit, which is too long once the output's path is put into it; with
+// these sources, of which one may be outside the folder.
 fn long_text(alloc: Global, sources: &[u8]) -> Result<Vec<u8>, Fail> {
     let mut text = Vec::from_slice(alloc, b"Derive([(\"out\",\"\",\"\",\"\")],[],[")?;
     text.extend_from_slice(sources)?;

@@ -1,15 +1,15 @@
-//! Files of the tests of outputs. Their paths, and those of their outputs, were computed apart,
-//! with Python's hashlib.
+//! Files of the tests of outputs. Their paths and the paths of their outputs were computed with
+//! Python's hashlib.
 use super::files::File;
 
-/// Its output is fixed by `r:sha256`, with the digest of nothing.
+/// Its output is fixed by `r:sha256`, with the digest of no bytes.
 pub(crate) const TREE: &[u8] = b"/nix/store/77xb0y9fbq2s9ivfa01c84mhyh4rb55d-src.drv";
 
-/// Its output is fixed by `sha256`, with the digest of nothing: its path is made of a text of 82
-/// bytes.
+/// Its output is fixed by `sha256`, with the digest of no bytes; the output's path is made of a
+/// text of 82 bytes.
 pub(crate) const FLAT: &[u8] = b"/nix/store/zvimv3qk155jiygmk76mxvfx0793jrkb-flat.drv";
 
-/// The same by `md5`: its path is made of a text of 47 bytes.
+/// The same by `md5`; the output's path is made of a text of 47 bytes.
 pub(crate) const FLAT_MD5: &[u8] = b"/nix/store/prknrxy4l0apgs9y369r4xsxgs4vv0y1-flat.drv";
 
 /// The same by `sha1`, of a text of 56 bytes.
@@ -77,11 +77,11 @@ pub(crate) const LONG_OUT: &[u8] =
 pub(crate) const LONG_DEV: &[u8] =
     b"/nix/store/8mf3sip5lwy2y2mb1w1zm6j58fnphvgd-nnnnnnnnnnnnnnnnnnnnnnnnnnnnnnnnnnnnnnnnnnnnnnnnnnnnnnnnnnnnnnnnnnnnnnnnnnnnnnnnnnnnnnnnnnnnnnnnnnnnnnnnnnnnnnnnnnnnnnnnnnnnnnnnnnnnnnnnnnnnnnnnnnnnnnnnnnnnnnnnnnnnnnnnnnnnnnnnnnnnnnnnnnnnnnnnnnnnnnnnnnnnnnn.drv";
 
-/// That name has 212 bytes. It also asks `LEAF` for an output that it hasn't.
+/// That name has 212 bytes. The derivation also names an output of `LEAF` that `LEAF` hasn't.
 pub(crate) const LONG_DEVS: &[u8] =
     b"/nix/store/zlfhczk6rz21k3mwvq5jy8hq81kvjhkq-nnnnnnnnnnnnnnnnnnnnnnnnnnnnnnnnnnnnnnnnnnnnnnnnnnnnnnnnnnnnnnnnnnnnnnnnnnnnnnnnnnnnnnnnnnnnnnnnnnnnnnnnnnnnnnnnnnnnnnnnnnnnnnnnnnnnnnnnnnnnnnnnnnnnnnnnnnnnnnnnnnnnnnnnnnnnnnnnnnnnnnnnnnnnnnnnnnnnnnnnnnnnnnn.drv";
 
-/// The name of its output is none.
+/// The name of its output is not well-formed.
 pub(crate) const NO_NAME: &[u8] = b"/nix/store/dsc5fwzb2zm0hylr5k61vff9dig9dxny-some.drv";
 
 /// Its output is fixed by `md5` with 64 digits, and `LEAF` has no output `doc`.

@@ -1,4 +1,4 @@
-//! Tests of outputs: those that are right, and what is wrong with others.
+//! Tests of outputs: right ones, and the faults of others.
 use super::files::*;
 use super::nix_files::*;
 use super::output_files::*;
@@ -30,9 +30,9 @@ const SHA512_OF_NOTHING: Digest = Digest::Sha512([
     0x63, 0xb9, 0x31, 0xbd, 0x47, 0x41, 0x7a, 0x81, 0xa5, 0x38, 0x32, 0x7a, 0xf9, 0x27, 0xda, 0x3e,
 ]);
 
-/// A root, and what its plan tells of its outputs: derivations that Nix wrote, and others whose
-/// paths were computed apart, with several outputs, fixed ones of a file and of a tree, inputs
-/// that others share, sources, and names at the limits.
+/// A root, and what its plan says of its outputs. Nix wrote some of the derivations; the paths of
+/// the others were computed with Python. They have several outputs, fixed outputs of a file and of
+/// a tree, inputs that others share, sources, and names at the limits.
 pub(crate) struct SoundRow {
     pub root: &'static [u8],
     pub kind: Kind,
@@ -176,7 +176,7 @@ fn are_texts(paths: &[StorePath], texts: &[&[u8]]) -> bool {
     paths.len() == texts.len()
 }
 
-// Whether a plan tells this of the row's root.
+// Whether a plan says this of the row's root.
 fn has_outputs(plan: &Plan, row: &SoundRow) -> bool {
     for number in 0..plan.len() {
         if plan.path(number).text() == row.root {
@@ -204,8 +204,8 @@ fn outputs_that_are_right(rt: HostRuntime) -> Result<(), Fail> {
     Ok(())
 }
 
-// The path of a derivation, and what is wrong with its outputs: the fault's number, the output that
-// it names, and the path.
+// The path of a derivation, and the fault of its outputs: its number, and the output and the path
+// that it names.
 struct OutputRow {
     label: &'static str,
     at: &'static [u8],
@@ -364,7 +364,7 @@ static OUTPUT_ROWS: [OutputRow; 21] = [
     },
 ];
 
-// Whether a fault names this output and this path; of those that name none, whether there is none.
+// Whether a fault names this output and this path; empty ones stand for a fault that names none.
 fn names(fault: &OutputFault, output: &[u8], path: &[u8]) -> bool {
     match fault {
         OutputFault::UnknownMethod(name) | OutputFault::EnvMismatch(name) => {

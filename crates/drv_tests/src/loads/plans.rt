@@ -1,10 +1,10 @@
-//! Tests of plans that are copied and compared.
+//! Tests of copying and comparing plans.
 use super::files::*;
 use super::plan_of;
 use std::alloc::Global;
 use std::test::*;
 
-// Roots, and others that have the same plan or another one.
+// Roots, and other roots with the same plan or another one.
 struct PairRow {
     label: &'static str,
     roots: &'static [&'static [u8]],

@@ -1,11 +1,11 @@
-//! Files of derivations that share all their outputs. Their paths were computed apart, with Python's
+//! Files of derivations that share all their outputs. Their paths were computed with Python's
 //! hashlib.
 use super::files::File;
 
-/// Fails, and has the output of `SRC`; its path is the lesser.
+/// Fails, and has the output of `SRC`; its path is less than that of `SRC`.
 pub(crate) const EARLY: &[u8] = b"/nix/store/10p6854hlxhkg4vjrziis6g4fxdvgxrk-src.drv";
 
-/// The same by another script; its path is the greatest of the three.
+/// Fails by another script, and has the same output; its path is the greatest of the three.
 pub(crate) const LATE: &[u8] = b"/nix/store/qq74i9r8mva3mgg6pqbpq4pm5hp0k9c2-src.drv";
 
 /// A user of `EARLY` and `SRC`, in this order.
@@ -14,7 +14,7 @@ pub(crate) const TWINS: &[u8] = b"/nix/store/rdfwqzp2q2rinyrrrmhrvw9z07l2a6h4-u.
 /// A user of `EARLY`, with two outputs.
 pub(crate) const PAIR: &[u8] = b"/nix/store/r0jwyl8llg554cryxz24cigzaiv1bln9-pair.drv";
 
-/// The same of `SRC`, with the same outputs.
+/// A user of `SRC`, with the same outputs.
 pub(crate) const PAIRED: &[u8] = b"/nix/store/v279qz7ddpx1dmaqmbbx66ryq43gb10n-pair.drv";
 
 /// A user of `out` of `PAIR` and of `dev` of `PAIRED`.

@@ -61,7 +61,7 @@ fn output_faults(alloc: Global, path: &StorePath) -> Result<Vec<OutputFault>, Al
     ]?)
 }
 
-// Faults of all kinds, each told through those that hold it.
+// Faults of all kinds, each also within the faults that hold it.
 fn all_faults(alloc: Global, path: &StorePath) -> Result<Vec<GraphFault>, AllocError> {
     let mut faults = vec![in alloc;
         GraphFault::NoMemory,
@@ -79,7 +79,7 @@ fn all_faults(alloc: Global, path: &StorePath) -> Result<Vec<GraphFault>, AllocE
     Ok(faults)
 }
 
-// What a fault tells: its words, and its number.
+// A fault's words and its number.
 fn told(alloc: Global, fault: &GraphFault) -> Result<String, AllocError> {
     format!(in alloc; "{fault} {}", fault.number())
 }
