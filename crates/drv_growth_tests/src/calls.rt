@@ -1,5 +1,5 @@
-//! Calls between two lines, from the first of which to the second `tests/refused-growths` refuses
-//! memory, and what is done where it was refused.
+//! Calls between two printed lines, and what is done where memory was refused to a call.
+//! `tests/refused-growths` refuses memory from the first line to the second.
 
 use drv_graph::GraphFault;
 use nix_drv::DrvFault;
@@ -37,18 +37,18 @@ impl Wanting for GraphFault {
     }
 }
 
-/// Says that the call with this name begins.
+/// Prints the line that the call with this name begins.
 pub(crate) fn begins<R: Print>(rt: &R, call: &str) {
     let _ = rt.println(format_args!("begins {call}"));
 }
 
-/// Says that it ended.
+/// Prints the line that the call ended.
 pub(crate) fn ends<R: Print>(rt: &R, call: &str) {
     let _ = rt.println(format_args!("ends {call}"));
 }
 
-/// What a call on values that are lent answered; where memory was refused to it, what the same call
-/// answered again.
+/// The answer of a call on lent values; where memory was refused to it, the answer of the same call
+/// made again.
 pub(crate) fn granted<T: Drop, E: Wanting + Drop>(
     first: Result<T, E>,
     again: Result<T, E>,
@@ -61,12 +61,12 @@ pub(crate) fn granted<T: Drop, E: Wanting + Drop>(
 
 const BEFORE: &[u8] = b"before";
 
-/// A list in which bytes stand already.
+/// A list that has some bytes already.
 pub(crate) fn begun(alloc: Global) -> Result<Vec<u8>, AllocError> {
     Vec::from_slice(alloc, BEFORE)
 }
 
-/// Takes away what a call left behind those bytes.
+/// Removes what a call added after those bytes.
 pub(crate) fn cut_back(list: &mut Vec<u8>) -> Result<(), Fail> {
     if !list.starts_with(BEFORE) {
         return Err("what stood before is gone".into());
@@ -75,7 +75,7 @@ pub(crate) fn cut_back(list: &mut Vec<u8>) -> Result<(), Fail> {
     Ok(())
 }
 
-/// Whether just this text stands behind those bytes.
+/// Whether this text and nothing else was added after those bytes.
 pub(crate) fn has_added(list: &[u8], text: &[u8]) -> bool {
     list.strip_prefix(BEFORE) == Some(text)
 }

@@ -8,7 +8,7 @@ use std::alloc::Global;
 use std::io::Print;
 use std::test::*;
 
-// A text with a source, an argument and an entry, and the same with another input.
+// A text with a source, an argument and an entry, and the same text with another input.
 const PLAIN: &[u8] =
     b"Derive([],[(\"/i.drv\",[\"a\",\"b\"])],[\"/s\"],\"sys\",\"/sh\",[\"x\"],[(\"k\",\"v\")])";
 
@@ -71,7 +71,8 @@ fn copies_of_parts(rt: HostRuntime) -> Result<(), Fail> {
 
 const WORDS: &[u8] = b"a \"word\" and a line\n";
 
-// Whether a string is written between two lines; where memory was refused, once more.
+// Whether a string is written, between two printed lines; where memory was refused, it is written
+// again.
 fn writes_string<R: Print>(rt: &R, alloc: Global) -> Result<bool, Fail> {
     let mut out = begun(alloc)?;
     begins(rt, "write_string");
@@ -113,8 +114,8 @@ fn sources_that_are_made(rt: HostRuntime) -> Result<(), Fail> {
     Ok(())
 }
 
-// What a source answers for a path; where memory was refused, what it answers then. Its count of
-// failures stays.
+// What a source answers for a path. Where memory was refused, it is asked again. Its count of
+// failures doesn't change.
 fn fetched<R: Print>(
     rt: &R,
     alloc: Global,
@@ -142,7 +143,7 @@ fn files_that_are_fetched(rt: HostRuntime) -> Result<(), Fail> {
     Ok(())
 }
 
-// The path of the text of `TOP`, whose name is known to be one.
+// The path of the text of `TOP`, under a name that was tested before.
 fn named<R: Print>(rt: &R, alloc: Global, refs: &[StorePath]) -> Result<StorePath, Fail> {
     let dir = store_dir(alloc)?;
     let [right, left] = refs else {
@@ -160,7 +161,7 @@ fn named<R: Print>(rt: &R, alloc: Global, refs: &[StorePath]) -> Result<StorePat
     )?)
 }
 
-// The same of a name that is not known to be one.
+// The same under a name that was not tested before.
 fn text_path_of_top<R: Print>(
     rt: &R,
     alloc: Global,
@@ -189,7 +190,7 @@ fn paths_of_texts(rt: HostRuntime) -> Result<(), Fail> {
     Ok(())
 }
 
-// The derivation whose text stands at its own path.
+// The derivation whose text is at its own path.
 fn checked<R: Print>(rt: &R, alloc: Global) -> Result<Derivation, Fail> {
     let (dir, own) = (store_dir(alloc)?, path(alloc, TOP)?);
     begins(rt, "check_text");
@@ -216,7 +217,7 @@ fn texts_at_their_own_paths(rt: HostRuntime) -> Result<(), Fail> {
     Ok(())
 }
 
-// Whether the fault of a text that stands elsewhere names its own path.
+// Whether the fault of a text at another path names its own path.
 fn is_elsewhere(answer: Result<Derivation, DrvFault>) -> bool {
     match answer {
         Err(DrvFault::TextPathMismatch(own)) => own.text() == TOP,
@@ -240,7 +241,7 @@ fn text_at_another_path(rt: HostRuntime) -> Result<(), Fail> {
     Ok(())
 }
 
-// Whether the fault of a text with a reference outside the folder names that.
+// Whether the fault of a text with a reference outside the folder names the reference.
 fn is_stray(answer: Result<Vec<StorePath>, DrvFault>) -> bool {
     match answer {
         Err(DrvFault::BadReference(text)) => text.as_slice() == b"/i.drv".as_slice(),
@@ -260,7 +261,7 @@ fn references_outside_the_folder(rt: HostRuntime) -> Result<(), Fail> {
     Ok(())
 }
 
-// Whether the parts of `PLAIN` are told.
+// Whether the calls on the parts of `PLAIN` answer right.
 fn are_parts_told(drv: &Derivation) -> bool {
     drv.outputs().is_empty()
         && drv.inputs().len() == 1

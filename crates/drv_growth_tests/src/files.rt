@@ -1,4 +1,4 @@
-//! Files of a diamond of four derivations, and what is made of them. The paths were computed apart,
+//! Files of a diamond of four derivations, and sources and plans of them. The paths were computed
 //! with Python's hashlib.
 
 use drv_graph::Plan;

@@ -10,7 +10,7 @@ use std::alloc::Global;
 use std::io::Print;
 use std::test::*;
 
-// The paths of a plan's derivations are these, in its order.
+// Whether a plan's derivations have these paths, in its order.
 fn has_paths(plan: &Plan, texts: &[&[u8]]) -> bool {
     let mut is_right = plan.len() == texts.len();
     for number in 0..plan.len() {
@@ -19,11 +19,11 @@ fn has_paths(plan: &Plan, texts: &[&[u8]]) -> bool {
     is_right
 }
 
-// The plan of the diamond.
+// The paths of the plan of the diamond, in its order.
 const ORDER: [&[u8]; 4] = [BASE, RIGHT, LEFT, TOP];
 
-// The plan of a root; where memory was refused, what is loaded then, from the same source. The
-// source's count of failures stays.
+// The plan of the roots. Where memory was refused, it is loaded again from the same source. The
+// source's count of failures doesn't change.
 fn loaded<R: Print>(
     rt: &R,
     alloc: Global,
@@ -63,7 +63,7 @@ fn plans(rt: HostRuntime) -> Result<(), Fail> {
     Ok(())
 }
 
-// A draft, filled; where memory was refused, what it is filled to then.
+// A draft, filled. Where memory was refused, it is filled again.
 fn filled<R: Print>(
     rt: &R,
     alloc: Global,
@@ -80,7 +80,7 @@ fn filled<R: Print>(
     }
 }
 
-// The draft of `LEFT`, and what it is filled to.
+// The draft of `LEFT`, and the same draft filled.
 fn filled_left<R: Print>(
     rt: &R,
     alloc: Global,
@@ -123,7 +123,7 @@ fn modulo_texts(rt: HostRuntime) -> Result<(), Fail> {
     Ok(())
 }
 
-// Whether what a plan tells of its last derivation is what `TOP` has.
+// Whether a plan says of its last derivation what `TOP` has.
 fn is_top_told(plan: &Plan) -> bool {
     let Some(number) = plan.len().checked_sub(1) else {
         return false;

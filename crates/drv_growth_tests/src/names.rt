@@ -13,7 +13,7 @@ const HASH: &[u8] = b"wi0sw9r4p5prk7acm7i0z1b97h75faw7";
 // The characters `wi0sw9r4`.
 const KEY: u64 = 0x7769_3073_7739_7234;
 
-// SHA-256 of nothing (FIPS 180-4): its text, and its bytes folded.
+// The SHA-256 digest of no bytes (FIPS 180-4): its text, and its bytes folded.
 const NOTHING: &[u8] = b"sha256:e3b0c44298fc1c149afbf4c8996fb92427ae41e4649b934ca495991b7852b855";
 
 const FOLDED: [u8; 20] = [
@@ -28,7 +28,7 @@ fn nothing() -> Result<Digest, Fail> {
     }
 }
 
-// The bytes of the same.
+// The bytes of that digest.
 fn inner() -> Result<[u8; 32], Fail> {
     match nothing()? {
         Digest::Sha256(bytes) => Ok(bytes),
@@ -82,7 +82,7 @@ fn made<R: Print>(rt: &R, alloc: Global, dir: &StoreDir) -> Result<StorePath, Fa
     Ok(granted(first, make_path(alloc, b"text", &inner, dir, b"empty"))?)
 }
 
-// The path of a name that is known to be one.
+// The path of a name that was tested before.
 fn named<R: Print>(rt: &R, alloc: Global, dir: &StoreDir) -> Result<StorePath, Fail> {
     let inner = inner()?;
     if !is_name(b"x.drv") {
@@ -97,7 +97,7 @@ fn named<R: Print>(rt: &R, alloc: Global, dir: &StoreDir) -> Result<StorePath, F
     )?)
 }
 
-// The paths were computed apart, with Python's hashlib.
+// The paths were computed with Python's hashlib.
 #[test]
 fn paths_that_are_made(rt: HostRuntime) -> Result<(), Fail> {
     let alloc = rt.alloc();
@@ -109,7 +109,8 @@ fn paths_that_are_made(rt: HostRuntime) -> Result<(), Fail> {
     Ok(())
 }
 
-// Whether the text of the digest is pushed, between two lines; where memory was refused, once more.
+// Whether the text of the digest is pushed, between two printed lines; where memory was refused, it
+// is pushed again.
 fn pushes_text<R: Print>(rt: &R, alloc: Global, digest: &Digest) -> Result<bool, Fail> {
     let mut out = begun(alloc)?;
     begins(rt, "Digest::push_text");
@@ -122,7 +123,7 @@ fn pushes_text<R: Print>(rt: &R, alloc: Global, digest: &Digest) -> Result<bool,
     Ok(has_added(&out, NOTHING))
 }
 
-// The same of its digits.
+// The same for the digits of the digest.
 fn pushes_digits<R: Print>(rt: &R, alloc: Global, digest: &Digest) -> Result<bool, Fail> {
     let mut out = begun(alloc)?;
     begins(rt, "Digest::push_digits");
@@ -157,7 +158,7 @@ fn is_path_told(alloc: Global, path: &StorePath) -> bool {
         && path.key() == KEY
 }
 
-// The same of those on digests and names.
+// Whether the calls on digests and names that take no memory answer right.
 fn are_words_told(digest: &Digest, inner: &[u8; 32]) -> bool {
     let algorithm = digest.algorithm();
     Digest::of_digits(algorithm, NOTHING.split_at(7).1) == Some(*digest)
