@@ -26,8 +26,8 @@ const X: &[u8] = b"/nix/store/aaaaaaaaaaaaaaaaaaaaaaaaaaaaaaaa-x";
 
 const Y: &[u8] = b"/nix/store/cccccccccccccccccccccccccccccccc-y";
 
-// The text of a table's journal, roots, all that they lead to, and the first root that is not
-// valid, if any.
+// The text of a table's journal, roots, their closure, and the first root that is not valid, if
+// any.
 struct Closing {
     journal: &'static [u8],
     roots: &'static [&'static [u8]],
@@ -78,7 +78,7 @@ static CLOSINGS: [Closing; 10] = [
         all: &[P0, P1, P2, P3, P4],
         missing: b"",
     },
-    // Two roots that are not valid: the first is told.
+    // Two roots that are not valid: the first is named.
     Closing {
         journal: SIX_PATHS,
         roots: &[P1, P7, P8],

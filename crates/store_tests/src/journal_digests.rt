@@ -1,4 +1,4 @@
-//! Digests in both versions of a journal's text: how they are read, and how written.
+//! Digests in both versions of a journal's text: how they are read and written.
 use crate::journal_texts::{V1, V2, is_read_rightly, is_refused_or_kept, line_of};
 use crate::paths::{is_written_as, read};
 use std::alloc::{AllocError, Global};
@@ -14,10 +14,11 @@ const SHA256: &[u8] = b"sha256:e3b0c44298fc1c149afbf4c8996fb92427ae41e4649b934ca
 const SHA512: &[u8] = b"sha512:cf83e1357eefb8bdf1542850d66d8007d620e4050b5715dc83f4a921d36ce9ce\
     47d0d13c5d85f2b0ff8318d2877eec2f63b931bd47417a81a538327af927da3e";
 
-// The digits of SHA-256 of no bytes alone.
+// The digits of the SHA-256 digest of no bytes, without the algorithm's name.
 const DIGITS: &[u8] = b"e3b0c44298fc1c149afbf4c8996fb92427ae41e4649b934ca495991b7852b855";
 
-// A version, a digest in a text of it, and how that is written: none where its line is bad.
+// A version, a digest in a text of this version, and how the digest is written; none where its line
+// is bad.
 type Reading = (&'static [u8], &'static [u8], Option<&'static [u8]>);
 
 static READINGS: [Reading; 19] = [
@@ -28,11 +29,11 @@ static READINGS: [Reading; 19] = [
     (V2, SHA512, Some(SHA512)),
     (V1, b"-", Some(b"-")),
     (V2, b"-", Some(b"-")),
-    // The other version's form.
+    // The form of the other version.
     (V1, SHA256, None),
     (V2, DIGITS, None),
     (V1, MD5, None),
-    // Another case, name or count of digits.
+    // Another case, another name or another number of digits.
     (
         V1,
         b"E3B0C44298FC1C149AFBF4C8996FB92427AE41E4649B934CA495991B7852B855",

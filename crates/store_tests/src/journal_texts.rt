@@ -1,4 +1,4 @@
-//! The rows of journals: which texts are read, what stands in them, what is written.
+//! Texts of journals: which are read, what is in them, and what is written.
 use crate::paths::read;
 use std::alloc::{AllocError, Global};
 use std::test::Fail;
@@ -26,8 +26,8 @@ O /nix/store/cccccccccccccccccccccccccccccccc-y -
 R /nix/store/aaaaaaaaaaaaaaaaaaaaaaaaaaaaaaaa-x
 ";
 
-// A text, and how it is read: 0 and how many entries there are, or the number of the fault and its
-// line, or 0 where it has none.
+// A text, and how it is read: 0 and the number of entries, or the number of the fault and its line;
+// the line is 0 where the fault has none.
 type Reading = (&'static [u8], u8, usize);
 
 static READINGS: [Reading; 32] = [
@@ -53,7 +53,7 @@ R /nix/store/aaaaaaaaaaaaaaaaaaaaaaaaaaaaaaaa-x
     (b"realiser-journal \n", 30, 1),
     (b"realiser-journal 3", 30, 1),
     (b"\n", 30, 1),
-    // Lines that have no form, stand where they may not or break an order.
+    // Lines without a form, at a wrong place, or against an order.
     (b"realiser-journal 2\n\n", 30, 2),
     (
         b"realiser-journal 2
@@ -120,8 +120,7 @@ O /nix/store/aaaaaaaaaaaaaaaaaaaaaaaaaaaaaaaa-x -
         30,
         4,
     ),
-    // A deriver's line is bad where its name is no derivation's, or no output follows it, whatever
-    // else does.
+    // A deriver's line is bad where its name is no derivation's, or no output follows it.
     (
         b"realiser-journal 2
 D /nix/store/aaaaaaaaaaaaaaaaaaaaaaaaaaaaaaaa-p
@@ -159,7 +158,7 @@ O x",
         30,
         3,
     ),
-    // Where every line has its form.
+    // Texts whose lines all have a form.
     (
         b"realiser-journal 2
 A /nix/store/aaaaaaaaaaaaaaaaaaaaaaaaaaaaaaaa-x -
@@ -212,7 +211,7 @@ fn readings() -> &'static [Reading] {
     &READINGS
 }
 
-// The same text with the first line of version 1, if it has that of version 2.
+// The text with the first line of version 1 in place of that of version 2, if it has that.
 fn in_version_1(alloc: Global, text: &[u8]) -> Result<Vec<u8>, AllocError> {
     let Some(lines) = text.strip_prefix(V2) else {
         return text.to_vec(alloc);
@@ -222,7 +221,7 @@ fn in_version_1(alloc: Global, text: &[u8]) -> Result<Vec<u8>, AllocError> {
     Ok(other)
 }
 
-// What is behind the first line of a text of either version. No bytes have nothing behind it.
+// The text after the first line, in either version; a text without such a line is left as it is.
 fn behind_version(text: &[u8]) -> &[u8] {
     if let Some(lines) = text.strip_prefix(V1) {
         return lines;
@@ -233,8 +232,8 @@ fn behind_version(text: &[u8]) -> &[u8] {
     }
 }
 
-// Whether a journal that was read of a text, which is of version 2 or has no digests, is written in
-// version 2.
+// Whether a journal that was read from a text is written in version 2 with the same lines. The text
+// is of version 2 or has no digests.
 fn is_kept(alloc: Global, journal: &Journal, text: &[u8]) -> bool {
     match journal.write(alloc) {
         Ok(written) => {
@@ -252,8 +251,8 @@ pub(crate) fn line_of(fault: &TableFault) -> usize {
     }
 }
 
-// How a text of version 2, or one without digests, is read: 0 and how many entries there are, or the
-// number of the fault and its line. None where the journal is not written as it was read.
+// How a text of version 2, or without digests, is read: 0 and the number of entries, or the number
+// of the fault and its line. None where the journal is not written as it was read.
 fn reading(alloc: Global, text: &[u8]) -> Option<(u8, usize)> {
     match read(alloc, text) {
         Ok(journal) if is_kept(alloc, &journal, text) => Some((0, journal.entries().len())),
@@ -272,14 +271,14 @@ fn read_texts(rt: HostRuntime) -> Result<(), Fail> {
     Ok(())
 }
 
-// A text of so many bytes with this first line.
+// A text of `len` bytes with this first line.
 fn long_text(alloc: Global, line: &[u8], len: usize) -> Result<Vec<u8>, AllocError> {
     let mut text = line.to_vec(alloc)?;
     text.resize(len, b'x')?;
     Ok(text)
 }
 
-// The number of the fault of a text of so many bytes with this first line.
+// The number of the fault of a text of `len` bytes with this first line.
 fn fault_of_long(alloc: Global, line: &[u8], len: usize) -> Result<Option<u8>, AllocError> {
     let text = long_text(alloc, line, len)?;
     Ok(reading(alloc, &text).map(|(number, _)| number))
@@ -308,8 +307,8 @@ fn limit_of_other_versions(rt: HostRuntime) -> Result<(), Fail> {
     Ok(())
 }
 
-/// Whether a beginning of a journal of added paths is read as it should be: where a line ends it is
-/// accepted, and else its last line is the bad one.
+/// Whether a beginning of the text of a journal of added paths is read rightly. It is accepted
+/// where it ends with a line, and else its last line is the bad one.
 pub(crate) fn is_read_rightly(alloc: Global, front: &[u8]) -> bool {
     let line = 1 + front.iter().filter(|byte| **byte == b'\n').count();
     let is_whole = front.is_empty() || front.ends_with(b"\n");
@@ -330,7 +329,7 @@ fn beginnings(rt: HostRuntime) -> Result<(), Fail> {
     Ok(())
 }
 
-/// Whether a text with another byte at a place is refused, or else written as it was read.
+/// Whether a text with another byte at a place is refused, or written as it was read.
 pub(crate) fn is_refused_or_kept(
     alloc: Global,
     text: &[u8],

@@ -20,14 +20,14 @@ fn has_two_paths(alloc: Global, journal: &mut Journal) -> Result<bool, Fail> {
     Ok(first == 0 && second == 0)
 }
 
-// Whether X is refused again, and a path whose reference is not valid.
+// Whether X is refused when it is added again, and a path is refused whose reference is not valid.
 fn refuses_paths(alloc: Global, journal: &mut Journal) -> Result<bool, Fail> {
     let again = add(alloc, journal, X, &[Y])?;
     let open = add(alloc, journal, Z_DRV, &[Z])?;
     Ok(again == 37 && open == 36 && journal.entries().len() == 2)
 }
 
-// Whether the copy has the same entries, of which none adds X as one that refers to Y.
+// Whether the copy has the same entries, of which none adds X with a reference to Y.
 fn is_copied(alloc: Global, journal: &Journal) -> Result<bool, Fail> {
     let same = journal.copy(alloc)?.entries() == journal.entries();
     let other = Entry::Add(registration(alloc, X, &[Y])?);
@@ -50,7 +50,7 @@ fn output(alloc: Global) -> Result<Outputs, Fail> {
     Ok(Outputs::new(vec![in alloc; output]?))
 }
 
-// Whether the output of a derivation is one more entry.
+// Whether adding the output of a derivation adds one entry.
 fn takes_output(alloc: Global, journal: &mut Journal) -> Result<bool, Fail> {
     let deriver = path(alloc, Z_DRV)?;
     let outputs = output(alloc)?;

@@ -1,19 +1,19 @@
-//! Tests across the libraries, of what no clause says: that calls succeed, and what they answer on
-//! texts that were written by hand.
+//! Tests across the libraries, for what no contract says: that calls succeed, and what they answer
+//! on texts that were written by hand.
 //!
-//! | Module | What is tried |
+//! | Module | What is tested |
 //! |---|---|
 //! | `journal_texts` | which texts are journals, and where the others are wrong |
 //! | `journal_digests` | digests in both versions of a journal's text |
 //! | `journals` | journals, their copies and their tables |
-//! | `registering` | entries taken into a table, or added where there is room |
+//! | `registering` | entries registered in a table, or added where there is room |
 //! | `closures` | closures of small tables |
-//! | `path_lists` | outputs that are sorted, and unions of lists of paths |
+//! | `path_lists` | sorting of outputs, and unions of lists of paths |
 //! | `outlets` | the plain outlet |
 //! | `scans`, `random_scans` | which paths a tree refers to, and the limits of an output |
-//! | `many_paths` | as many entries, outputs, roots and permitted paths as a large store has |
+//! | `many_paths` | as many entries, outputs, roots and permitted paths as in a large store |
 //! | `fault_words` | the number and the words of each fault |
-//! | `paths` | paths and journals that the tests are made of |
+//! | `paths` | paths and journals for the tests |
 #![tactic(auto)]
 
 #[cfg(test)]

@@ -1,4 +1,4 @@
-//! As many entries, outputs, roots and permitted paths as a large store has.
+//! As many entries, outputs, roots and permitted paths as in a large store.
 use crate::paths::{P0, add, all_paths, are, is_written_as, path, read};
 use nix_names::StorePath;
 use ref_scan::{Tree, scan};
@@ -8,10 +8,10 @@ use valid_table::{Entry, Journal, ListOutlet, Table, union};
 
 const MANY: usize = 200_000;
 
-// How many outputs the derivation has that has many.
+// The number of outputs of the derivation with many outputs.
 const OUTPUTS: usize = 64;
 
-// Path 2500, and the last one.
+// Path 2500, and the last path.
 const MIDDLE: &[u8] = b"/nix/store/00000000000000000000000000002500-x";
 
 const LAST: &[u8] = b"/nix/store/00000000000000000000000000199999-x";
@@ -26,7 +26,7 @@ fn text(alloc: Global, n: usize) -> Result<String, AllocError> {
     format!(in alloc; "/nix/store/{n:032}-x")
 }
 
-// The text of a journal of many paths, each but the first with the one before it as its reference.
+// The text of a journal of `MANY` paths, each of which but the first refers to the path before it.
 fn chain_text(alloc: Global) -> Result<String, AllocError> {
     let mut text = String::new(alloc);
     text.push_str("realiser-journal 2\nA /nix/store/00000000000000000000000000000000-x -\n")?;
@@ -38,14 +38,14 @@ fn chain_text(alloc: Global) -> Result<String, AllocError> {
     Ok(text)
 }
 
-// Adds path n, which refers to the path before it: the number of the fault, or 0.
+// Adds path n, which refers to the path before it. Gives the number of the fault, or 0.
 fn add_link(alloc: Global, journal: &mut Journal, n: usize) -> Result<u8, Fail> {
     let before = text(alloc, n.saturating_sub(1))?;
     let text = text(alloc, n)?;
     add(alloc, journal, text.as_bytes(), &[before.as_bytes()])
 }
 
-// The journal that is written so, path by path.
+// The journal with that text, made path by path.
 fn chain(alloc: Global) -> Result<Journal, Fail> {
     let mut journal = Journal::new(alloc);
     add(alloc, &mut journal, P0, &[])?;
@@ -55,8 +55,8 @@ fn chain(alloc: Global) -> Result<Journal, Fail> {
     Ok(journal)
 }
 
-// Whether the text is read as many entries and written as it was, and the journal that is made
-// path by path is written so.
+// Whether the text is read as `MANY` entries and written back to the same text, and the journal
+// that is made path by path is written to it too.
 fn is_chain(alloc: Global, text: &[u8]) -> Result<bool, Fail> {
     let journal = read(alloc, text)?;
     Ok(
@@ -67,7 +67,7 @@ fn is_chain(alloc: Global, text: &[u8]) -> Result<bool, Fail> {
     )
 }
 
-// How many entries an outlet shows that is opened with the journal.
+// How many entries an outlet shows that opens with the journal.
 fn shown(alloc: Global, journal: &Journal) -> Result<usize, Fail> {
     let outlet = ListOutlet::open(alloc, journal)?;
     Ok(outlet.shown().len())
@@ -96,7 +96,7 @@ fn chain_paths(alloc: Global) -> Result<Vec<StorePath>, Fail> {
     Ok(paths)
 }
 
-// Whether all paths lead to all paths, and so does the last one alone.
+// Whether the closure of all paths is all paths, and so is the closure of the last path.
 fn leads_to_all(alloc: Global, table: &Table, paths: &[StorePath]) -> Result<bool, Fail> {
     let of_all = table.closure(alloc, paths)?;
     let of_last = table.closure(alloc, &all_paths(alloc, &[LAST])?)?;
@@ -105,7 +105,7 @@ fn leads_to_all(alloc: Global, table: &Table, paths: &[StorePath]) -> Result<boo
     Ok(are_all && both.as_slice() == paths)
 }
 
-// Whether a file that holds the hash parts of three paths refers to just these, of all paths.
+// Whether a file that holds the hash parts of three paths refers to these three of all paths.
 fn finds_three(alloc: Global, table: &Table) -> Result<bool, Fail> {
     let permitted = table.closure(alloc, &all_paths(alloc, &[LAST])?)?;
     let tree = Tree::File(THREE_PARTS.to_vec(alloc)?);
@@ -131,7 +131,7 @@ fn outputs_text(alloc: Global) -> Result<String, AllocError> {
     Ok(text)
 }
 
-// How many outputs are valid in a table that takes in the entries of this text.
+// How many outputs are valid in a table that registers the entries of this text.
 fn valid_outputs(alloc: Global, text: &[u8]) -> Result<usize, Fail> {
     let journal = read(alloc, text)?;
     let mut table = Table::new(alloc);

@@ -1,4 +1,4 @@
-//! The plain outlet: what waits is shown once it is published.
+//! The plain outlet: pending entries are shown once they are published.
 ghost use Rattle.std.specs.Prelude.{◌≡◌, [], IfOk};
 ghost use Rattle.valid_table.specs.Valid.{references_of};
 ghost use Rattle.valid_table.specs.Entries.{registered_by};
@@ -17,12 +17,12 @@ fn added(alloc: Global) -> Result<Entry, Fail>
     Ok(Entry::Add(Registration { path, info }))
 }
 
-// What any outlet that counts its entries tells.
+// The count that an outlet tells, which counts its entries.
 fn told<O: Outlet<Told = usize>>(outlet: &O) -> usize {
     outlet.tell()
 }
 
-// Whether so many entries are shown, as the outlet tells, and so many wait.
+// Whether `shown` entries are shown, as the outlet tells, and `pending` entries are pending.
 fn is_at(outlet: &ListOutlet, shown: usize, pending: usize) -> bool {
     told(outlet) == shown && outlet.shown().len() == shown && outlet.pending().len() == pending
 }

@@ -1,10 +1,10 @@
-//! Lists of paths and of outputs, sorted and put together.
+//! Lists of paths and of outputs: sorting and unions.
 use crate::paths::*;
 use std::alloc::Global;
 use std::test::Fail;
 use valid_table::{Outputs, union};
 
-// Outputs with their references in any order, and in their own: none, where there are no outputs
+// Outputs with their references in any order, and the same sorted; none where there are no outputs
 // or a path comes twice.
 static SORTINGS: [(&[Pair], &[Pair]); 8] = [
     (&[(P1, P4)], &[(P1, P4)]),
@@ -30,7 +30,7 @@ fn sortings() -> &'static [(&'static [Pair], &'static [Pair])] {
     &SORTINGS
 }
 
-// Whether the outputs are sorted so, or none where no pairs are given.
+// Whether the outputs are sorted to these pairs, or refused where no pairs are given.
 fn is_sorted(alloc: Global, outputs: &[Pair], sorted: &[Pair]) -> Result<bool, Fail> {
     let sorted = registrations(alloc, sorted)?;
     match Outputs::sorted(registrations(alloc, outputs)?) {

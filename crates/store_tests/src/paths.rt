@@ -1,4 +1,4 @@
-//! Paths, registrations and journals that the tests are made of.
+//! Paths, registrations and journals for the tests.
 ghost use Rattle.std.specs.Prelude.{◌++◌, ◌∷◌, [], IfOk, IsTrue};
 ghost use Rattle.nix_names.specs.Rising.{IsRising};
 
@@ -32,7 +32,7 @@ pub(crate) const P10: &[u8] = b"/nix/store/00000000000000000000000000000010-x";
 
 pub(crate) const P100: &[u8] = b"/nix/store/00000000000000000000000000000100-x";
 
-// The text of a path, and the one to which it refers.
+// The text of a path, and the text of the path to which it refers.
 pub(crate) type Pair = (&'static [u8], &'static [u8]);
 
 // The path of the store with this text.
@@ -60,7 +60,7 @@ pub(crate) fn follows(paths: &[StorePath], path: &StorePath) -> bool
     }
 }
 
-// The paths with these texts, which rise: one that does not follow is left out.
+// The paths with these texts, in rising order; a path out of order is left out.
 pub(crate) fn rising(alloc: Global, texts: &[&[u8]]) -> Result<Vec<StorePath>, Fail>
     ensures { IfOk result (λ paths. IsRising paths.items) }
 {
@@ -103,7 +103,7 @@ pub(crate) fn registrations(alloc: Global, pairs: &[Pair]) -> Result<Vec<Registr
     Ok(all)
 }
 
-// Adds a path with its references to a journal: the number of the fault, or 0.
+// Adds a path with its references to a journal. Gives the number of the fault, or 0.
 pub(crate) fn add(
     alloc: Global,
     journal: &mut Journal,
@@ -125,7 +125,7 @@ pub(crate) fn read(alloc: Global, text: &[u8]) -> Result<Journal, TableFault> {
     }
 }
 
-// Whether a journal is written as this text.
+// Whether a journal is written to this text.
 pub(crate) fn is_written_as(alloc: Global, journal: &Journal, text: &[u8]) -> bool {
     match journal.write(alloc) {
         Ok(written) => written.as_slice() == text,

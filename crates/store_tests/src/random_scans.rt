@@ -1,4 +1,4 @@
-//! The scanner against a plain search, over random lists in random pieces.
+//! The scanner compared with a plain search, over random lists of bytes in random pieces.
 ghost use Rattle.std.specs.Prelude.{◌<◌, IfOk};
 ghost use Rattle.nix_names.specs.Rising.{IsRising};
 
@@ -34,7 +34,7 @@ impl Random {
     }
 }
 
-// The text of a path: two paths have each hash part, whose first digits count them.
+// The text of a path. Two paths share each hash part, whose first digits count the parts.
 fn path_text(number: usize) -> [u8; 45] {
     let part = number / 2;
     let mut text = *b"/nix/store/00000000000000000000000000000000-a";
@@ -50,7 +50,7 @@ fn path_text(number: usize) -> [u8; 45] {
     text
 }
 
-// So many paths, in order.
+// `count` paths, in order.
 fn rising_paths(alloc: Global, count: usize) -> Result<Vec<StorePath>, Fail>
     ensures { IfOk result (λ paths. IsRising paths.items) }
 {
@@ -64,7 +64,7 @@ fn rising_paths(alloc: Global, count: usize) -> Result<Vec<StorePath>, Fail>
     Ok(paths)
 }
 
-// Some bytes: hash parts, the first bytes of hash parts, other digits and other bytes.
+// Random bytes: hash parts, the first bytes of hash parts, other digits and other bytes.
 fn random_bytes(alloc: Global, random: &mut Random, paths: &[StorePath]) -> Result<Vec<u8>, Fail> {
     let mut bytes = Vec::new(alloc);
     for _ in 0..400 {
@@ -134,7 +134,7 @@ fn occurs(lists: &[Vec<u8>], part: &[u8]) -> bool {
         .any(|list| list.windows(32).any(|window| window == part))
 }
 
-// Whether these are just the paths whose hash part occurs.
+// Whether these are the paths whose hash part occurs.
 fn are_found(found: &[StorePath], paths: &[StorePath], lists: &[Vec<u8>]) -> bool {
     let mut rest = found.iter();
     for path in paths {

@@ -1,4 +1,4 @@
-//! Entries taken into a table, and added to a journal that has room.
+//! Entries registered in a table, and added to a journal that has room.
 ghost use Rattle.std.specs.Prelude.{◌+◌, ◌≤◌};
 
 use crate::paths::*;
@@ -20,7 +20,7 @@ R /nix/store/00000000000000000000000000000000-x
 const TWO_VALID: [bool; 5] = [true, false, false, true, false];
 
 // Outputs, each with its reference; the number and the path of the fault with which the table of
-// two paths refuses them, or 0 and no path; and which of paths 0 to 4 are valid behind that.
+// two paths refuses them, or 0 and no path; and which of paths 0 to 4 are valid then.
 struct Attempt {
     outputs: &'static [Pair],
     fault: u8,
@@ -47,7 +47,7 @@ static ATTEMPTS: [Attempt; 8] = [
         path: b"",
         valid: [true, true, true, true, false],
     },
-    // A path that is valid, the first one where there are two.
+    // An output that is valid already; of two such outputs, the first one.
     Attempt {
         outputs: &[(P3, P0)],
         fault: 37,
@@ -60,7 +60,7 @@ static ATTEMPTS: [Attempt; 8] = [
         path: P0,
         valid: TWO_VALID,
     },
-    // A reference that is neither valid nor an output, the first one where there are two.
+    // A reference that is neither valid nor an output; of two such references, the first one.
     Attempt {
         outputs: &[(P1, P2), (P2, P4)],
         fault: 36,
@@ -73,7 +73,7 @@ static ATTEMPTS: [Attempt; 8] = [
         path: P5,
         valid: TWO_VALID,
     },
-    // Both: the path that is valid is told, though it comes behind the reference.
+    // Both faults: the valid path is named, though it comes after the reference.
     Attempt {
         outputs: &[(P2, P4), (P3, P0)],
         fault: 37,
@@ -103,7 +103,7 @@ fn two_paths(alloc: Global) -> Result<Table, Fail> {
     Ok(table)
 }
 
-// Whether just these of paths 0 to 4 are valid.
+// Whether these of paths 0 to 4 are valid and no others.
 fn are_valid(alloc: Global, table: &Table, valid: &[bool; 5]) -> Result<bool, Fail> {
     for (text, is_valid) in [P0, P1, P2, P3, P4].iter().zip(valid) {
         if table.registers(&path(alloc, text)?) != *is_valid {
@@ -113,7 +113,8 @@ fn are_valid(alloc: Global, table: &Table, valid: &[bool; 5]) -> Result<bool, Fa
     Ok(true)
 }
 
-// Whether the entry is taken in just where the row has no fault, and else is refused so.
+// Whether the entry is registered where the row has no fault, and else refused with the row's
+// fault.
 fn is_answered(table: &mut Table, entry: &Entry, row: &Attempt) -> bool {
     match table.register(entry) {
         Ok(()) => row.fault == 0,
@@ -123,7 +124,7 @@ fn is_answered(table: &mut Table, entry: &Entry, row: &Attempt) -> bool {
     }
 }
 
-// Whether just this stands against the entry.
+// Whether the obstacle of the entry is the row's.
 fn is_obstacle(table: &Table, entry: &Entry, row: &Attempt) -> bool {
     match table.obstacle(entry) {
         None => row.fault == 0,
@@ -132,7 +133,7 @@ fn is_obstacle(table: &Table, entry: &Entry, row: &Attempt) -> bool {
     }
 }
 
-// Whether the table of two paths answers so, and registers just these paths then.
+// Whether the table of two paths answers as the row says, and has the row's paths then.
 fn holds(alloc: Global, row: &Attempt) -> Result<bool, Fail> {
     let mut table = two_paths(alloc)?;
     let entry = built(alloc, row.outputs)?;
@@ -151,7 +152,7 @@ fn registered_entries_and_obstacles(rt: HostRuntime) -> Result<(), Fail> {
     Ok(())
 }
 
-// The record that comes with a path is the one that the table has of it.
+// The table has the record of a path that came with it.
 #[test]
 fn registered_record(rt: HostRuntime) -> Result<(), Fail> {
     let entry = registration(rt.alloc(), P3, &[P0])?;
@@ -159,7 +160,7 @@ fn registered_record(rt: HostRuntime) -> Result<(), Fail> {
     Ok(())
 }
 
-// Adds a path with its reference in the room that there is, where nothing stands against it.
+// Adds a path with its reference to a journal that has room, where there is no obstacle.
 fn push(alloc: Global, journal: &mut Journal, text: &[u8], reference: &[u8]) -> Result<bool, Fail>
     requires { 1 ≤ journal.old.room }
     ensures { journal.old.room ≤ journal.new.room + 1 }
@@ -173,7 +174,7 @@ fn push(alloc: Global, journal: &mut Journal, text: &[u8], reference: &[u8]) -> 
     Ok(true)
 }
 
-// Whether two paths are added, and one that is valid by then is not.
+// Whether two paths are added, and a path that is valid then is not.
 fn are_pushed(alloc: Global, journal: &mut Journal) -> Result<bool, Fail>
     requires { 3 ≤ journal.old.room }
 {

@@ -27,19 +27,19 @@ const B_Q: &[u8] = b"/nix/store/aaaaaaaaaaaaaaaaaaaaaaaaaaaaaaab-q";
 
 const TWO: &[&[u8]] = &[A_P, B_Q];
 
-// What a tree is made of.
+// The parts of a tree.
 enum Form {
     // A file with these bytes.
     File(&'static [u8]),
     // A file of these pieces.
     Pieces(&'static [&'static [u8]]),
-    // A folder of files with these names and bytes, within folders of these names.
+    // A folder of files with these names and bytes, inside folders with these names.
     Files(&'static [&'static [u8]], &'static [Named]),
-    // A folder of so many empty folders.
+    // A folder of this many empty folders.
     Wide(usize),
-    // A file of so many zeros.
+    // A file of this many zeros.
     Zeros(usize),
-    // A file of so many zeros in one piece and one more in another.
+    // A file of this many zeros in one piece, and one more zero in another.
     TwoPieces(usize),
 }
 
@@ -69,7 +69,8 @@ struct Row {
 }
 
 static ROWS: [Row; 22] = [
-    // Parts that overlap, too few bytes, a name, and a part cut between a name and its bytes.
+    // Hash parts that overlap, too few bytes, a name, and a part that is cut between a name and its
+    // bytes.
     Row {
         tree: Form::File(b"aaaaaaaaaaaaaaaaaaaaaaaaaaaaaaaab"),
         permitted: TWO,
@@ -95,7 +96,7 @@ static ROWS: [Row; 22] = [
         permitted: TWO,
         found: &[],
     },
-    // Hash parts over the ends of pieces.
+    // Hash parts across the ends of pieces.
     Row {
         tree: Form::Pieces(&[b"aaaaaaaaaaaaaaaaaaaaaaaaaaaaaaa", b"ab"]),
         permitted: TWO,
@@ -141,7 +142,7 @@ static ROWS: [Row; 22] = [
         permitted: TWO,
         found: &[],
     },
-    // A part at the beginning, at the end, cut by another byte, and in a folder's folder.
+    // A hash part at the beginning, at the end, cut by another byte, and in a folder of a folder.
     Row {
         tree: Form::File(b"aaaaaaaaaaaaaaaaaaaaaaaaaaaaaaaab-p and more"),
         permitted: TWO,
@@ -162,7 +163,7 @@ static ROWS: [Row; 22] = [
         permitted: TWO,
         found: TWO,
     },
-    // One part of two paths.
+    // A hash part that two paths share.
     Row {
         tree: Form::File(A),
         permitted: &[A_P, A_Q],
@@ -186,7 +187,7 @@ static ROWS: [Row; 22] = [
     },
 ];
 
-// Pieces for a scanner of two paths, of which `CUT` stands for a cut, and what it finds.
+// Pieces for a scanner of two paths, with `CUT` for a cut, and what the scanner finds.
 type Fed = (&'static [&'static [u8]], &'static [&'static [u8]]);
 
 static FED: [Fed; 10] = [
@@ -244,7 +245,7 @@ fn folder(alloc: Global, name: &[u8], tree: Tree) -> Result<Tree, Fail> {
     Ok(Tree::Dir(vec![in alloc; Member { name, tree }]?))
 }
 
-// A folder of these files, within folders of these names.
+// A folder of these files, inside folders with these names.
 fn files(alloc: Global, above: &[&[u8]], files: &[Named]) -> Result<Tree, Fail> {
     let mut members = Vec::new(alloc);
     for (name, bytes) in files {
@@ -259,7 +260,7 @@ fn files(alloc: Global, above: &[&[u8]], files: &[Named]) -> Result<Tree, Fail> 
     Ok(tree)
 }
 
-// A folder of so many empty folders.
+// A folder of `members` empty folders.
 fn wide(alloc: Global, members: usize) -> Result<Tree, Fail> {
     let mut entries = Vec::new(alloc);
     for _ in 0..members {
@@ -270,7 +271,7 @@ fn wide(alloc: Global, members: usize) -> Result<Tree, Fail> {
     Ok(Tree::Dir(entries))
 }
 
-// A file of so many zeros in one piece and one more in another.
+// A file of `len` zeros in one piece, and one more zero in another.
 fn two_pieces(alloc: Global, len: usize) -> Result<Tree, Fail> {
     let first = vec![in alloc; 0; len]?;
     let last = vec![in alloc; 0; 1]?;
@@ -296,7 +297,7 @@ fn limits_of_an_output(rt: HostRuntime) -> Result<(), Fail> {
     Ok(())
 }
 
-// Whether the tree refers to just these of the permitted paths.
+// Whether the tree refers to these of the permitted paths and no others.
 fn refers(alloc: Global, row: &Row) -> Result<bool, Fail> {
     let tree = made(alloc, &row.tree)?;
     let permitted = rising(alloc, row.permitted)?;
