@@ -1,4 +1,4 @@
-//! As many readers as there may be, in threads of their own, beside a writer that publishes
+//! The greatest number of readers, in threads of their own, beside a writer that publishes
 //! thousands of entries.
 ghost use Rattle.std.specs.Prelude.{◌≡◌};
 
@@ -16,14 +16,14 @@ use valid_view::{Front, Name, Naming, Seen, ViewFault, ViewReader};
 
 const READERS: u64 = 64;
 
-// How many entries are published behind the first.
+// How many entries are published after the first.
 const LAST: usize = 10_000;
 
-// How often a reader asks at most.
+// The greatest number of turns of a reader.
 const TURNS: u64 = 1_000_000;
 
-// What all threads have: the paths by their numbers, what the writer told last, and how many
-// readers were answered as they must be.
+// What all threads share: the numbered paths, the list that the writer told last, and how many
+// readers had right answers.
 #[derive(Drop)]
 struct Square<J: Naming> {
     alloc: Global,
@@ -32,7 +32,7 @@ struct Square<J: Naming> {
     content: AtomicU64,
 }
 
-// A reader, and the last path that was valid to it.
+// A reader, and the last path that it found valid.
 #[derive(Drop)]
 struct Watcher<'a, J: Naming> {
     square: &'a Square<J>,
@@ -53,15 +53,15 @@ impl<'a, J: Naming> Watcher<'a, J> {
         Ok(valid)
     }
 
-    // Asks for path n. Whether the answers fit: it is valid only behind the path before it, and the
-    // last path that was valid is valid still.
+    // Asks for path n. Says whether the answers fit: the path is valid only where the path before
+    // it is, and the last path that was valid is still valid.
     fn asks(&mut self, n: usize) -> Result<bool, ViewFault> {
         let fits = !self.sees(n)? || self.sees(n.saturating_sub(1))?;
         Ok(fits && self.sees(self.last)?)
     }
 
-    // Asks for the closure of path n. Whether the answer fits: all paths up to it, or else that it
-    // is not valid and never was.
+    // Asks for the closure of path n. Says whether the answer fits: all paths up to it, or that it
+    // is not valid, if it never was.
     fn asks_all(&mut self, n: usize) -> Result<bool, ViewFault> {
         let paths = &self.square.paths;
         let (Some(path), Some(all)) = (paths.get(n), paths.get(..=n)) else {
@@ -80,15 +80,16 @@ impl<'a, J: Naming> Watcher<'a, J> {
         }
     }
 
-    // Learns what was told. Whether the last path of it is valid then.
+    // Learns of the told list. Says whether the list's last path is valid then.
     fn learns(&mut self, told: Front<J>) -> Result<bool, ViewFault> {
         let last = (told.len() as usize).saturating_sub(1);
         self.reader.learn(told);
         Ok(self.asks(last)? && self.last >= last)
     }
 
-    // One turn: of 1,024 one asks for the closure of any path, 15 for one of the first 256, and 256
-    // learn. Publishing waits for closures that are being made.
+    // One turn. Of 1,024 turns, one asks for the closure of any path, 15 ask for the closure of one
+    // of the first 256 paths, 256 learn, and the others ask for a path. Publishing waits for
+    // closures that are being computed.
     fn turn<R: Wait>(&mut self, rt: &R, seed: u64) -> Result<bool, ViewFault> {
         let n = (seed >> 33) as usize % (LAST + 1);
         match seed >> 23 & 1_023 {
@@ -102,7 +103,7 @@ impl<'a, J: Naming> Watcher<'a, J> {
         }
     }
 
-    // Asks until the last path is valid. Whether all answers fitted.
+    // Asks until the last path is valid. Says whether all answers fitted.
     fn watches<R: Wait>(&mut self, rt: &R, mut seed: u64) -> Result<bool, ViewFault> {
         for _ in 0..TURNS {
             seed = next(seed);
@@ -118,13 +119,13 @@ impl<'a, J: Naming> Watcher<'a, J> {
     }
 }
 
-// The next of a row of numbers that look random (Knuth's MMIX).
+// The next pseudorandom number (Knuth's MMIX).
 fn next(seed: u64) -> u64 {
     seed.wrapping_mul(6_364_136_223_846_793_005)
         .wrapping_add(1_442_695_040_888_963_407)
 }
 
-// What one reader does. It is counted where all answers fitted.
+// One reader's thread. The reader is counted where all answers fitted.
 fn watch<J: Naming, R: Wait>(rt: &R, square: &Square<J>, reader: ViewReader<J>, seed: u64) {
     let last = 0;
     let mut watcher = Watcher {
@@ -137,7 +138,7 @@ fn watch<J: Naming, R: Wait>(rt: &R, square: &Square<J>, reader: ViewReader<J>, 
     }
 }
 
-// Publishes all paths, one by one, and tells of each.
+// Publishes all paths, one by one, and tells the list after each.
 fn write<J: Naming + Send, R: Wait, W: Wait + Drop>(
     rt: &R,
     square: &Square<J>,
@@ -170,7 +171,7 @@ fn write_watched<J: Naming + Send + Sync, R: Threads + Wait + Sync, W: Wait + Dr
     })
 }
 
-// How many readers were answered as they must be.
+// How many readers had right answers.
 fn content<J: Naming + Send + Sync, R: Threads + Wait + Sync, W: Wait + Drop>(
     rt: &R,
     alloc: Global,

@@ -1,5 +1,5 @@
-//! Memory that is refused to a writer or a reader: all is as it was then, and the same call, made
-//! once more, does it.
+//! Memory that is refused to a writer or a reader: nothing changes, and the same call, made again,
+//! succeeds.
 ghost use Rattle.std.specs.Prelude.{◌≡◌};
 
 use crate::stores::{Store, all_numbered};
@@ -16,11 +16,11 @@ use valid_view::{Name, Naming, Seen, ViewFault, ViewReader};
 // How many entries are published each time.
 const GROUPS: [usize; 4] = [1, 3, 9, 27];
 
-// One path more than may be appended where memory is refused once.
+// One path more than can be appended where memory is refused once.
 const PATHS: usize = 43;
 
-// A view with a reader that learns nothing, the paths by their numbers, the last path that was
-// appended, and the call to which memory was refused.
+// A view with a reader that learns nothing, the numbered paths, the last path that was appended,
+// and the call to which memory was refused.
 struct Trial<'a, J: Naming, R> {
     alloc: Global,
     paths: &'a [StorePath],
@@ -39,13 +39,13 @@ impl<'a, J: Naming + Send, R: Wait + Drop> Trial<'a, J, R> {
         }
     }
 
-    // Whether the paths up to path n are shown, and no more.
+    // Whether the paths up to path n are shown and no others.
     fn shows(&mut self, n: usize) -> Result<bool, Fail> {
         let next = n.saturating_add(1);
         Ok(self.store.tell().len() == next as u64 && self.sees(n)? && !self.sees(next)?)
     }
 
-    // Appends the next path, once more where memory is refused.
+    // Appends the next path; again where memory is refused.
     fn append(&mut self) -> Result<(), Fail> {
         let next = self.last.saturating_add(1);
         if !self.store.append(self.alloc, self.paths, next)? {
@@ -58,8 +58,8 @@ impl<'a, J: Naming + Send, R: Wait + Drop> Trial<'a, J, R> {
         Ok(())
     }
 
-    // Publishes behind path `shown`. Where memory is refused, appends one path more, and publishes
-    // once more.
+    // Publishes the paths after path `shown`. Where memory is refused, appends one more path, and
+    // publishes again.
     fn publish(&mut self, shown: usize) -> Result<bool, Fail> {
         match self.store.publish() {
             Ok(()) => self.shows(self.last),
@@ -71,15 +71,15 @@ impl<'a, J: Naming + Send, R: Wait + Drop> Trial<'a, J, R> {
         }
     }
 
-    // Appends one path more, and publishes.
+    // Appends one more path, and publishes.
     fn publish_more(&mut self) -> Result<bool, Fail> {
         self.append()?;
         self.store.publish()?;
         self.shows(self.last)
     }
 
-    // Asks for the closure of the last path, once more where memory is refused. Whether it is all
-    // paths up to that.
+    // Asks for the closure of the last path; again where memory is refused. Says whether the
+    // closure is all paths up to it.
     fn asks(&mut self) -> Result<bool, Fail> {
         match self.closes() {
             Ok(is_all) => Ok(is_all),
@@ -101,7 +101,7 @@ impl<'a, J: Naming + Send, R: Wait + Drop> Trial<'a, J, R> {
         Ok(closure.as_slice() == all)
     }
 
-    // Publishes so many paths behind those that are shown.
+    // Publishes `size` more paths.
     fn group(&mut self, size: usize) -> Result<bool, Fail> {
         let shown = self.last;
         for _ in 0..size {
@@ -123,7 +123,7 @@ impl<'a, J: Naming + Send, R: Wait + Drop> Trial<'a, J, R> {
         store.close();
     }
 
-    // Publishes all groups, and asks for each. Whether all answers were right.
+    // Publishes all groups, and asks for each. Says whether all answers were right.
     fn groups(&mut self) -> Result<bool, Fail> {
         for size in GROUPS {
             if !(self.group(size)? && self.asks()?) {
@@ -134,7 +134,7 @@ impl<'a, J: Naming + Send, R: Wait + Drop> Trial<'a, J, R> {
     }
 }
 
-// The call to which memory was refused, where all is as it must be.
+// The call to which memory was refused, if all answers were right.
 fn refused<J: Naming + Send, R: Wait + Abort>(
     rt: &R,
     alloc: Global,
@@ -166,8 +166,7 @@ fn refused<J: Naming + Send, R: Wait + Abort>(
     }
 }
 
-// Prints the call to which memory was refused, as `tests/refused-growths` refuses each growth in
-// turn.
+// Prints the call to which memory was refused. `tests/refused-growths` refuses each growth in turn.
 #[test]
 fn refused_to_a_call(rt: HostRuntime) -> Result<(), Fail> {
     let refused = refused::<Brand, _>(&rt, rt.alloc(), Name::new())?;
@@ -175,7 +174,7 @@ fn refused_to_a_call(rt: HostRuntime) -> Result<(), Fail> {
     Ok(())
 }
 
-// How many of some paths are valid to a reader that has learnt all that is shown.
+// How many of some paths are valid to a reader that has learnt of the shown list.
 fn valid_of<J: Naming + Send, R: Wait + Drop>(
     store: &Store<J, R>,
     reader: &mut ViewReader<J>,
@@ -208,7 +207,7 @@ fn looked<J: Naming + Send, R: Wait + Abort + Print>(
     Ok(())
 }
 
-// `tests/refused-growths` refuses memory between the two lines that are printed.
+// `tests/refused-growths` refuses memory between the two printed lines.
 #[test]
 fn looks_without_memory(rt: HostRuntime) -> Result<(), Fail> {
     looked::<Brand, _>(&rt, rt.alloc(), Name::new())
@@ -246,8 +245,8 @@ fn published_again<J: Naming + Send, R: Wait + Abort + Print>(
     Ok(())
 }
 
-// Bringing the copy up that is not shown would take memory, which `tests/refused-growths` refuses
-// between the two lines that are printed.
+// To bring the other copy up to date would take memory, which `tests/refused-growths` refuses
+// between the two printed lines.
 #[test]
 fn publishes_nothing_without_memory(rt: HostRuntime) -> Result<(), Fail> {
     published_again::<Brand, _>(&rt, rt.alloc(), Name::new())

@@ -1,13 +1,13 @@
-//! Tests of views: what readers are answered beside a writer, and memory that is refused.
+//! Tests of views: the answers to readers beside a writer, and refused memory.
 //!
-//! | Module | What is tried |
+//! | Module | What is tested |
 //! |---|---|
-//! | `views` | what readers are answered, before and after a path is shown |
-//! | `crowd` | as many readers as there may be, beside a writer of thousands of entries |
-//! | `many_entries` | a view of as many entries as a large store has |
+//! | `views` | the answers to readers, before and after a path is shown |
+//! | `crowd` | the greatest number of readers, beside a writer of thousands of entries |
+//! | `many_entries` | a view with as many entries as a large store has |
 //! | `growths` | memory that is refused to a writer or a reader |
 //! | `fault_words` | the number and the words of each fault |
-//! | `stores` | paths by their numbers, and a writer beside its journal |
+//! | `stores` | numbered paths, and a writer beside its journal |
 #![tactic(auto)]
 
 #[cfg(test)]

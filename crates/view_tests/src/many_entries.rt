@@ -1,4 +1,4 @@
-//! A view of as many entries as a large store has.
+//! A view with as many entries as a large store has.
 ghost use Rattle.std.specs.Prelude.{◌≡◌, ◌++◌};
 
 use crate::stores::path;
@@ -15,12 +15,12 @@ use valid_view::{Name, Naming, Seen, ViewReader, ViewWriter, open};
 
 const MANY: usize = 200_000;
 
-// The last path of the journal, and the next one.
+// The last path of the journal, and the next path.
 const LAST: &[u8] = b"/nix/store/00000000000000000000000000199999-x";
 
 const NEXT: &[u8] = b"/nix/store/00000000000000000000000000200000-x";
 
-// The journal of many paths, each but the first with the one before it as its reference.
+// The journal of many paths, each of which but the first refers to the path before it.
 fn chain(alloc: Global) -> Result<Journal, Fail> {
     let mut text = String::new(alloc);
     text.push_str("realiser-journal 2\nA /nix/store/00000000000000000000000000000000-x -\n")?;
@@ -40,7 +40,8 @@ fn next(alloc: Global) -> Result<Entry, Fail> {
     Ok(Entry::Add(Registration { path, info }))
 }
 
-// What a reader finds of a path, how many paths it leads to, and how many entries were seen then.
+// What a reader finds of a path, the number of paths in the path's closure, and how many entries
+// the reader saw.
 type Found = (Seen, usize, u64);
 
 fn asked<J: Naming>(
@@ -53,7 +54,7 @@ fn asked<J: Naming>(
     Ok((found, closure.len(), reader.seen().len()))
 }
 
-// What a reader finds of the last path, and of the next one once that is shown.
+// What a reader finds of the last path, and of the next path once that is shown.
 fn grown<J: Naming + Send, R: Wait + Drop>(
     alloc: Global,
     journal: &Journal,

@@ -1,4 +1,4 @@
-//! Paths by their numbers, and a writer beside the journal of all that it was given.
+//! Numbered paths, and a writer beside the journal of all its entries.
 ghost use Rattle.std.specs.Prelude.{◌≡◌, ◌≤◌, ◌++◌, IfOk, length};
 ghost use Rattle.valid_table.specs.Entries.{registered_by};
 ghost use Rattle.valid_table.specs.Valid.{HasDrvPath};
@@ -31,7 +31,7 @@ pub(crate) fn all_numbered(alloc: Global, count: usize) -> Result<Vec<StorePath>
     Ok(paths)
 }
 
-// Path n of these, once more.
+// A copy of path n of these.
 fn nth(alloc: Global, paths: &[StorePath], n: usize) -> Result<StorePath, Fail> {
     match paths.get(n) {
         Some(path) => Ok(path.copy(alloc)?),
@@ -61,7 +61,7 @@ fn added(alloc: Global, paths: &[StorePath], n: usize) -> Result<Entry, Fail>
     Ok(Entry::Add(Registration { path, info }))
 }
 
-// That entry, and two copies of it.
+// The entry that adds path n, and two copies of it.
 fn added_thrice(alloc: Global, paths: &[StorePath], n: usize) -> Result<(Entry, Entry, Entry), Fail>
     ensures one { IfOk result (λ all. length (registered_by all.0) ≡ 1) }
     ensures derived { IfOk result (λ all. HasDrvPath all.0) }
@@ -72,14 +72,14 @@ fn added_thrice(alloc: Global, paths: &[StorePath], n: usize) -> Result<(Entry, 
     Ok((entry, second, third))
 }
 
-// The journal that has path 0 of these alone.
+// The journal of path 0 of these alone.
 fn opening(alloc: Global, paths: &[StorePath]) -> Result<Journal, Fail> {
     let mut journal = Journal::new(alloc);
     journal.add(nth(alloc, paths, 0)?, record(alloc, paths, 0)?)?;
     Ok(journal)
 }
 
-// A writer, beside the journal of all that it was given.
+// A writer, beside the journal of all its entries.
 pub(crate) struct Store<J: Naming, R> {
     journal: Journal,
     writer: ViewWriter<J, R>,
@@ -87,7 +87,7 @@ pub(crate) struct Store<J: Naming, R> {
 }
 
 impl<J: Naming, R> Store<J, R> {
-    // Appends path n of these, and says whether the writer had memory for it; else nothing changes.
+    // Appends path n of these. Says whether the writer had memory for it; if not, nothing changes.
     pub(crate) fn append(
         &mut self,
         alloc: Global,
@@ -106,14 +106,14 @@ impl<J: Naming, R> Store<J, R> {
         Ok(true)
     }
 
-    // What names the list that is shown.
+    // The name of the list that is shown.
     pub(crate) fn tell(&self) -> Front<J> {
         self.writer.tell()
     }
 }
 
 impl<J: Naming + Send, R: Wait + Drop> Store<J, R> {
-    // The view of the journal that has path 0 of these alone, and so many readers.
+    // The view of the journal of path 0 of these alone, and `readers` readers.
     pub(crate) fn open(
         rt: R,
         alloc: Global,
@@ -130,7 +130,7 @@ impl<J: Naming + Send, R: Wait + Drop> Store<J, R> {
         Ok((Store { journal, writer }, readers))
     }
 
-    // Shows what was appended.
+    // Shows the appended entries.
     pub(crate) fn publish(&mut self) -> Result<(), OutletFault> {
         self.writer.publish()
     }

@@ -1,4 +1,4 @@
-//! What readers of a view are answered, before and after a path is shown.
+//! The answers to readers of a view, before and after a path is shown.
 ghost use Rattle.std.specs.Prelude.{◌≡◌, ◌++◌};
 
 use crate::stores::path;
@@ -48,7 +48,7 @@ fn added_y(alloc: Global) -> Result<Entry, Fail> {
     Ok(Entry::Add(Registration { path, info }))
 }
 
-// Appends an entry to what waits behind the journal.
+// Appends an entry to a writer whose entries are the journal's.
 pub(crate) fn append_next<J: Naming, R>(
     journal: &Journal,
     writer: &mut ViewWriter<J, R>,
@@ -62,7 +62,7 @@ pub(crate) fn append_next<J: Naming, R>(
     Ok(writer.append(entry)?)
 }
 
-// Appends y to what waits behind the journal.
+// Appends y to a writer whose entries are the journal's.
 fn append_y<J: Naming, R>(
     alloc: Global,
     journal: &Journal,
@@ -92,7 +92,8 @@ fn asked_at_each_step<J: Naming + Send, R: Wait + Abort>(
     Ok(())
 }
 
-// What a reader is answered of y: at first, once it waits, once it was told of, and again.
+// What a reader finds of y: at first, when y is pending, when the reader has learnt of y, and
+// again.
 fn answers<J: Naming + Send, R: Wait + Drop>(
     alloc: Global,
     journal: &Journal,
@@ -128,7 +129,7 @@ fn asked_for_closures<J: Naming + Send, R: Wait + Abort>(
     Ok(())
 }
 
-// The closure of x and y before y is shown, and that of y behind it.
+// The closure of x and y before y is shown, and the closure of y after that.
 fn closures<J: Naming + Send, R: Wait + Drop>(
     alloc: Global,
     journal: &Journal,
@@ -172,7 +173,7 @@ fn raced<J: Naming + Send + Sync, R: Threads + Wait + Abort + Sync>(
     Ok(())
 }
 
-// Publishes what waits, and then nothing many times. Says whether each one worked.
+// Publishes the pending entries, and then nothing many times. Says whether each call succeeded.
 fn publishes<J: Naming + Send, R: Wait + Drop>(writer: &mut ViewWriter<J, R>) -> bool {
     let mut all = true;
     for _ in 0..5_000 {
@@ -181,7 +182,7 @@ fn publishes<J: Naming + Send, R: Wait + Drop>(writer: &mut ViewWriter<J, R>) ->
     all
 }
 
-// Counts how often a path that was valid isn't any more.
+// Counts how often a path is absent that was valid before.
 fn forgets<J: Naming>(reader: &mut ViewReader<J>, path: &StorePath) -> u32 {
     let (mut last, mut wrong) = (Seen::Absent, 0u32);
     for _ in 0..50_000 {
