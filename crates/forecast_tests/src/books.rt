@@ -1,4 +1,4 @@
-//! Plans, journals and books that the tests are made of.
+//! Plans, journals and books for the tests.
 use crate::files::{FILES, File};
 use drv_graph::Plan;
 use forecast::Forecast;
@@ -56,7 +56,7 @@ fn plan(alloc: Global, roots: &[&[u8]]) -> Result<Plan, Fail> {
     Ok(Plan::load(alloc, &mut source, &dir, &roots)?)
 }
 
-// The journal that this text is.
+// The journal with this text.
 fn journal(alloc: Global, text: &[&[u8]]) -> Result<Journal, Fail> {
     let dir = store_dir(alloc)?;
     let text = joined(alloc, text)?;

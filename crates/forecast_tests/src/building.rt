@@ -20,7 +20,7 @@ fn answer(alloc: Global, job: &Job) -> Result<Answer, AllocError> {
     })
 }
 
-// What is found of what a lease's builder left.
+// What is found of the files that a lease's builder left.
 fn verdict(
     alloc: Global,
     book: &Book<ListOutlet>,
@@ -62,7 +62,7 @@ fn build(alloc: Global, book: &mut Book<ListOutlet>, lease: Lease<usize>) -> Res
     }
 }
 
-/// Builds all that can be built, one after the other.
+/// Builds every derivation that can be built, one after the other.
 pub(crate) fn build_all(alloc: Global, book: &mut Book<ListOutlet>) -> Result<(), Fail> {
     for _ in 0..64 {
         let Some(lease) = book.next()? else {

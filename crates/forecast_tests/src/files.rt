@@ -1,4 +1,4 @@
-//! Files of the tests of forecasts; their paths were computed apart, with Python's hashlib.
+//! Files of the tests of forecasts. Their paths were computed with Python's hashlib.
 
 /// A file: its path and its bytes.
 pub(crate) struct File {
@@ -6,7 +6,8 @@ pub(crate) struct File {
     pub text: &'static [u8],
 }
 
-/// Without inputs, as are `APART`, `SOURCED`, `FOREIGN`, `ASKING` and the twins of `MADE`.
+/// Without inputs. `APART`, `SOURCED`, `FOREIGN`, `ASKING` and the twins of `MADE` have none
+/// either.
 pub(crate) const BASE: &[u8] = b"/nix/store/xwrdsxnlq6n2qnx61xya715sfa49wkxm-base.drv";
 
 /// A user of `BASE`, with two outputs.
@@ -36,15 +37,15 @@ pub(crate) const SOURCED_OUT: &[u8] = b"/nix/store/bf3gvr9lp9av44m7krgy1wf8l3ppr
 /// For another system.
 pub(crate) const FOREIGN: &[u8] = b"/nix/store/l55pa4jc6x77irz0il0lflaw8fj7wqi1-foreign.drv";
 
-/// Has one output, as have its twins: `BROKEN` and `STRANGE`.
+/// Has one output, which its twins `BROKEN` and `STRANGE` share.
 pub(crate) const MADE: &[u8] = b"/nix/store/y4gkksjak2r20aivgi2lrd5ivyhbi74m-src.drv";
 
 pub(crate) const MADE_OUT: &[u8] = b"/nix/store/2qgpd47jrm1g5pyj4s1dacj3hnkrfzvw-src";
 
-/// Its twin, whose path is less.
+/// A twin of `MADE`, whose path is less.
 pub(crate) const BROKEN: &[u8] = b"/nix/store/iil3n6d0ylvfgixc221yq8cj7x3rlbks-src.drv";
 
-/// Its twin for another system, whose path is less.
+/// A twin of `MADE` for another system, whose path is less.
 pub(crate) const STRANGE: &[u8] = b"/nix/store/xqxcbynh1vy3j3jmqfjvcg6kdjwlsdp5-src.drv";
 
 /// A user of `BROKEN` and `MADE`, in this order.
@@ -59,7 +60,7 @@ pub(crate) const PAIR_DEV: &[u8] = b"/nix/store/h94mvq3k35h82m840w7h4932am57d7vy
 
 pub(crate) const PAIR_OUT: &[u8] = b"/nix/store/jd3l5q76p6slrfdniharsw9pkpf1dk21-pair";
 
-/// Its twin, a user of `MADE`.
+/// The twin of that one, a user of `MADE`.
 pub(crate) const PAIRED: &[u8] = b"/nix/store/gvmmai0751cnfrxblynpas310i2l2gfm-pair.drv";
 
 /// A user of `BROKEN`, for another system.
@@ -68,7 +69,7 @@ pub(crate) const ABROAD: &[u8] = b"/nix/store/226r9d70w3z0m51sz4k2nx3mmis6bwwj-a
 /// With a builder of the kind that is left out.
 pub(crate) const ASKING: &[u8] = b"/nix/store/k0x39cs30b55w0ja2ssc40fa54qrnfbn-builtin.drv";
 
-/// A source, of which there is no file.
+/// A source without a file.
 pub(crate) const SRC: &[u8] = b"/nix/store/aaaaaaaaaaaaaaaaaaaaaaaaaaaaaaaa-src";
 
 pub(crate) static FILES: [File; 15] = [

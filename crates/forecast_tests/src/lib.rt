@@ -1,11 +1,11 @@
-//! Tests of forecasts, of what no clause says: that calls succeed, and the texts.
+//! Tests of forecasts, for what no contract says: that calls succeed, and the texts.
 //!
-//! | Module | What is tried |
+//! | Module | What is tested |
 //! |---|---|
 //! | `texts` | forecasts, each beside the report of a run whose builders make their outputs |
-//! | `rows` | plans and what is foretold of them |
+//! | `rows` | plans and their forecasts |
 //! | `building` | builders that make their outputs |
-//! | `books` | plans, journals and books that the tests are made of |
+//! | `books` | plans, journals and books for the tests |
 //! | `files` | files of derivations |
 #![tactic(auto)]
 

@@ -1,10 +1,10 @@
-//! Plans and what is foretold of them.
+//! Plans and their forecasts.
 use crate::files::*;
 
-/// A text, by its pieces.
+/// A text, in pieces.
 pub(crate) type Pieces = &'static [&'static [u8]];
 
-/// A run: its roots, the lines of its journal, its forecast, and whether that is whole.
+/// A run: its roots, the lines of its journal, its forecast, and whether the forecast is whole.
 pub(crate) struct Row {
     pub label: &'static str,
     pub roots: &'static [&'static [u8]],

@@ -7,7 +7,7 @@ use std::alloc::{AllocError, Global};
 use std::test::*;
 use valid_table::ListOutlet;
 
-// A piece of a forecast, as a report has it.
+// A report's piece in place of this piece of a forecast.
 fn reported(piece: &'static [u8]) -> &'static [u8] {
     if piece == BUILD {
         return b"built ";
@@ -18,7 +18,7 @@ fn reported(piece: &'static [u8]) -> &'static [u8] {
     if piece == REFUSE { b"refused " } else { piece }
 }
 
-// The report that a forecast foretells.
+// The report that is forecast.
 fn report_of(alloc: Global, told: Pieces) -> Result<Vec<u8>, AllocError> {
     let mut text = Vec::new(alloc);
     for piece in told {
@@ -27,7 +27,7 @@ fn report_of(alloc: Global, told: Pieces) -> Result<Vec<u8>, AllocError> {
     Ok(text)
 }
 
-// The report of a book, when all that can be built is built.
+// The report of a book, when every derivation that can be built is built.
 fn report_at_end(alloc: Global, book: &mut Book<ListOutlet>) -> Result<Vec<u8>, Fail> {
     build_all(alloc, book)?;
     if !book.settled() {
