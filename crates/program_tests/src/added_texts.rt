@@ -13,9 +13,9 @@ const JOURNAL: &str = "<dir>/realiser-journal";
 
 const ADD: &str = "nix_realise add-text --store-dir <dir> greeting <dir>/file";
 
-// Each path is what a program of another language made of the rule of text paths.
+// Each path was computed with a program in another language, by the rule of text paths.
 static WRITTEN: [Row; 4] = [
-    // The path is printed, and no file is written, where the folder is none.
+    // The path is printed, and no file is written, where the store folder doesn't exist.
     Row {
         name: "printed-before-it-is-written",
         steps: &[
@@ -44,8 +44,8 @@ static WRITTEN: [Row; 4] = [
             Step::Left(1),
         ],
     },
-    // The first run finds nothing, the second another file, the third a link, each no journal; a
-    // name that another run left behind is passed over.
+    // The first run finds nothing at the text's path, the second another file, the third a link; no
+    // run finds a journal. A temporary name that another run left behind is passed over.
     Row {
         name: "replaced",
         steps: &[
@@ -85,7 +85,7 @@ static WRITTEN: [Row; 4] = [
 ];
 
 static REFUSED: [Row; 3] = [
-    // The folder is looked at before the file, the file before the name.
+    // The store folder is tested before the file, and the file before the name.
     Row {
         name: "refused-words",
         steps: &[
@@ -123,7 +123,7 @@ static REFUSED: [Row; 3] = [
             Step::Left(1),
         ],
     },
-    // A text of one byte too many is looked at before the name.
+    // A text with one byte too many is refused before the name is tested.
     Row {
         name: "refused-text",
         steps: &[

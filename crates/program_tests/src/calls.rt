@@ -1,4 +1,4 @@
-//! The calls of the system that each subcommand makes, and what comes of one that is refused.
+//! The system calls of each subcommand, and how a run ends in which one of them is refused.
 use crate::double::{Double, Event};
 use crate::running::{Host, Outcome, run_by};
 use crate::scene::Scene;
@@ -13,7 +13,7 @@ use std::sync::Wait;
 use std::test::Fail;
 use std::thread::Threads;
 
-// The kinds with which each call is refused.
+// The kinds of error with which each call is refused.
 const KINDS: [ErrorKind; 5] = [
     ErrorKind::NotFound,
     ErrorKind::AlreadyExists,
@@ -22,9 +22,10 @@ const KINDS: [ErrorKind; 5] = [
     ErrorKind::Other,
 ];
 
-// What stands before a run, its command line, the calls of a good run, each in a line, in parts, and for each
-// call what comes of the run where it is refused: a letter for each kind. The first letters are of
-// the good run. Behind a run with status 2 or 3 the last steps are taken: they find what it kept.
+// The steps before a run, its command line, the parts of the calls of a good run, one in a line,
+// and for each call how the run ends where the call is refused: a letter for each kind of error.
+// The first letters are those of the good run. After a run with status 2 or 3 the last steps are
+// taken: they find what the run kept.
 struct Row {
     name: &'static str,
     before: &'static [Step],
@@ -53,7 +54,7 @@ const NO_JOURNAL: Step = Step::Stands(JOURNAL, false);
 
 const NO_TEMPORARY: Step = Step::Stands("<dir>/.nix_realise-0", false);
 
-// What a run wrote to standard output and standard error and its status, by its letter.
+// The texts on standard output and standard error and the status of a run, by its letter.
 fn told(letter: u8) -> (&'static str, &'static str, u8) {
     match letter {
         b'M' => ("", "nix_realise: run: NoMemory\n", 3),
@@ -104,7 +105,7 @@ static ADDING: [Row; 4] = [
         ],
         kept: &[NO_JOURNAL, NO_TEMPORARY],
     },
-    // A journal that is there is read, and gives its permissions to the new one.
+    // A journal that exists is read, and gives its permissions to the new one.
     Row {
         name: "calls-add-text-behind",
         before: &[FILE, TEXT, Step::Write(JOURNAL, EMPTY_JOURNAL)],
@@ -139,8 +140,8 @@ static ADDING: [Row; 4] = [
     },
 ];
 
-// The calls of `realise` before it builds anything: the plan and the journal are read, and it is tried
-// out whether a journal can be written.
+// The calls of `realise` before it builds anything: the plan and the journal are read, and it is
+// tried out whether a journal can be written.
 const OPENED: &str = "stat <any>\nopen <any>\nread \nread \nstat <dir>/realiser-journal\n\
     lstat <dir>/realiser-journal\ncreate <dir>/.nix_realise-0\nunlink <dir>/.nix_realise-0\n";
 
@@ -213,7 +214,7 @@ fn run_rows() -> &'static [Row] {
 }
 
 // One refused call of a row: its number, which is 0 for the good run, the kind of its error, and
-// the letter of what comes of it.
+// the letter for the run's end.
 #[derive(Drop)]
 struct Case<'a> {
     row: &'a Row,
@@ -231,7 +232,7 @@ fn cases(alloc: Global, rows: &[Row]) -> Result<Vec<Case<'_>>, AllocError> {
     Ok(cases)
 }
 
-// Adds those of a row.
+// Adds the refused calls of a row.
 fn add_cases<'a>(cases: &mut Vec<Case<'a>>, row: &'a Row) -> Result<(), AllocError> {
     for (number, letters) in row.refusals.iter().enumerate() {
         for (kind, letter) in KINDS.iter().zip(letters.iter()) {
@@ -247,7 +248,7 @@ fn add_cases<'a>(cases: &mut Vec<Case<'a>>, row: &'a Row) -> Result<(), AllocErr
     Ok(())
 }
 
-/// What a run on a double, by builders on it too, wrote and its status.
+/// What a run on a double wrote, and its status. Its builders run on the double too.
 pub fn ran<D, M>(double: &D, make: &M, line: &str) -> Result<Outcome, Fail>
 where
     D: Files + AllocGlobal + Threads + Wait + Sync,
@@ -266,8 +267,8 @@ fn calls_of(alloc: Global, scene: &Scene, row: &Row) -> Result<String, Fail> {
     Ok(calls)
 }
 
-// Whether what was to come of a case came: what the run wrote and its status, these calls where
-// none was refused, and the status 0 of the same run once more.
+// Whether a case ended as wanted: the texts that the run wrote and its status, these calls where
+// none was refused, and the status 0 when the same run is made again.
 fn came<R: Host>(
     rt: &R,
     scene: &Scene,
@@ -285,7 +286,7 @@ fn came<R: Host>(
     Ok(is_told && is_called && second.status == 0)
 }
 
-// Whether a run that was refused or cut short kept what it has to.
+// Whether a run that was refused or cut short kept what it must keep.
 fn keeps<R: Host + Processes, M: Builders>(
     rt: &R,
     make: &M,

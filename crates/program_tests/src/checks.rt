@@ -21,14 +21,14 @@ static ROWS: [Row; 3] = [
             Step::TextPath("nothing", "nothing.drv", DRV),
             Step::Write("<nothing>", DRV),
             Step::Run(CHECK, "ok <nothing>\n", "", 0),
-            // All of the text but its last byte.
+            // The text without its last byte.
             Step::Write("<nothing>", r#"Derive([],[],[],"","",[],[]"#),
             Step::Run(CHECK, "bad <nothing>: Syntax(27)\n", "", 2),
             Step::Fill("<nothing>", b'x', 100),
             Step::Run(CHECK, "bad <nothing>: Syntax(0)\n", "", 2),
         ],
     },
-    // A file of two bytes too many is not read whole.
+    // Of a file with two bytes too many not all bytes are read.
     Row {
         name: "long-file",
         steps: &[
@@ -59,7 +59,7 @@ fn files_on_disk(rt: HostRuntime) -> Result<(), Fail> {
     Ok(())
 }
 
-// A folder, and the path of the derivation of which nothing is set.
+// A folder, and the path of the empty derivation in it.
 fn folder_and_path<R: Env + Files + AllocGlobal>(
     rt: &R,
     process: u32,
@@ -70,7 +70,7 @@ fn folder_and_path<R: Env + Files + AllocGlobal>(
     Ok((folder, path))
 }
 
-// Whether a missing file is no failure of the device, and a folder in its place is one.
+// Whether a missing file is not counted as a failure of the device, and a folder in its place is.
 fn tells_failures<R: Files + AllocGlobal>(rt: &R, path: &StorePath) -> Result<bool, Fail> {
     let mut source = FolderSource::new(rt);
     let missing = matches!(source.fetch(rt.alloc(), path), Err(SourceFault::Missing));

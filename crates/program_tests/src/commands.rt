@@ -1,4 +1,4 @@
-//! Command lines that are run in a store folder, and derivations that are put there.
+//! Running command lines in a store folder, and putting derivations there.
 use crate::running::{Host, Idle, Narrow, Outcome, run_by};
 use crate::scene::Scene;
 use crate::texts::text_of;
@@ -10,7 +10,7 @@ use std::test::Fail;
 use subcommands::run;
 
 impl Scene {
-    // Runs the program on a command line, whose words are parted by spaces.
+    // Runs the program on a command line, whose words are separated by spaces.
     fn ran<R: Host, M: Builders>(&self, rt: &R, make: &M, line: &str) -> Result<Outcome, Fail> {
         let line = self.said(rt.alloc(), line)?;
         let words: Vec<&str> = line.split(' ').collect(rt.alloc())?;
@@ -30,7 +30,8 @@ impl Scene {
         self.is_told(rt.alloc(), &ran, [out, err], status)
     }
 
-    // Whether a run tells of these derivations by their paths, and of these outputs.
+    // Whether a run prints these lines of derivations, ordered by their paths, and then these
+    // outputs.
     pub(crate) fn realises<R: Host, M: Builders>(
         &mut self,
         rt: &R,
@@ -63,7 +64,7 @@ impl Scene {
         self.strays(alloc, wanted.as_str(), came.as_str())
     }
 
-    // Lines by the paths in them, and a text behind them.
+    // Lines, ordered by the paths in them, and a text after them.
     fn report(&self, alloc: Global, told: &[&str], outputs: &str) -> Result<String, Fail> {
         let mut lines = Vec::new(alloc);
         for line in told {
@@ -74,8 +75,8 @@ impl Scene {
         Ok(lines.concat(alloc)?)
     }
 
-    // Whether a run whose standard output has so much room writes this to standard error, and has
-    // this status.
+    // Whether a run writes this to standard error and has this status, if standard output has room
+    // for `room` bytes.
     pub(crate) fn runs_in<R: Host, M: Builders>(
         &self,
         rt: &R,
@@ -92,7 +93,7 @@ impl Scene {
         Ok(written.as_slice() == err.as_bytes() && ended.code() == status)
     }
 
-    // Whether a run does so in each room that is less than a text.
+    // Whether a run does so with room for each number of bytes that is less than a text's.
     pub(crate) fn runs_in_less<R: Host, M: Builders>(
         &self,
         rt: &R,
@@ -111,7 +112,7 @@ impl Scene {
         Ok(rooms > 0)
     }
 
-    // Puts a derivation, and names its path and its outputs'.
+    // Puts a derivation into the folder, and names its path and its outputs' paths.
     pub(crate) fn put<R: Host>(&mut self, rt: &R, name: &str, draft: &str) -> Result<bool, Fail> {
         let draft = self.said(rt.alloc(), draft)?;
         let path = put_draft(rt, self.site.folder.as_str(), name, draft.as_str())?;
@@ -133,14 +134,14 @@ impl Scene {
     }
 }
 
-// What a run writes and its status, in one text.
+// The texts that a run writes and its status, in one text.
 fn told(alloc: Global, out: &[u8], err: &[u8], status: u8) -> Result<String, AllocError> {
     let out = String::from_utf8_lossy(alloc, out)?;
     let err = String::from_utf8_lossy(alloc, err)?;
     format!(in alloc; "{out:?} {err:?} {status}")
 }
 
-/// Puts the derivation of a draft into a store folder. The path of its file.
+/// Puts the derivation of a draft into a store folder. Gives the path of its file.
 pub fn put_draft<R: Host>(rt: &R, folder: &str, name: &str, draft: &str) -> Result<String, Fail> {
     let file = format!(in rt.alloc(); "{folder}/file")?;
     fs::write(rt, file.as_str(), draft.as_bytes())?;
@@ -166,7 +167,7 @@ pub fn outputs_of<R: Host>(rt: &R, file: &str) -> Result<Vec<(String, String)>, 
     Ok(outputs)
 }
 
-// Whether a text was written; one that ends in `…` is the start of what was.
+// Whether a text was written; a text that ends in `…` is the start of what was written.
 fn is_as(written: &[u8], text: &str) -> bool {
     match text.strip_suffix('…') {
         Some(start) => written.starts_with(start.as_bytes()),
@@ -174,7 +175,7 @@ fn is_as(written: &[u8], text: &str) -> bool {
     }
 }
 
-// What stands in a line behind its first word.
+// The text of a line after its first word.
 fn behind_word(line: &str) -> &str {
     match line.split_once(' ') {
         Some((_, rest)) => rest,

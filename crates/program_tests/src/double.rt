@@ -1,5 +1,5 @@
-//! A runtime over another that keeps a log of each call of the system, and can let something happen
-//! beside it.
+//! A runtime over another runtime that keeps a log of each system call, and can let something
+//! happen between calls.
 use crate::running::Plain;
 use std::alloc::{Allocator, Global};
 use std::fs::{Metadata, OpenFile, OpenOptions, Permissions};
@@ -10,7 +10,7 @@ use std::sync::{Arc, Mutex, Wait};
 use std::thread::Threads;
 use std::{fs, io};
 
-/// What happens beside that calls are made, which are counted from 1.
+/// What happens in a run besides its calls, which are counted from 1.
 #[derive(Drop)]
 pub enum Event {
     /// Nothing.
@@ -26,13 +26,13 @@ pub enum Event {
     Removed(usize, String),
     /// Right before the call with this number another process makes a folder at this path.
     Made(usize, String),
-    /// Right before the call with this number another process moves what lies at the second path, if
-    /// anything does, and makes a link to the first path there.
+    /// Right before the call with this number another process moves what lies at the second path,
+    /// if anything does, and makes a link to the first path there.
     Linked(usize, String, String),
 }
 
 impl Event {
-    // Lets happen what happens at the call with this number.
+    // Lets the event happen, if it is one of the call with this number.
     fn happen<R: Plain>(&self, rt: &R, count: usize) -> io::Result<()> {
         match self {
             Event::Refused(number, kind) if *number == count => Err(io::Error::from(*kind)),
@@ -47,7 +47,8 @@ impl Event {
     }
 }
 
-// Puts a link to a path in the place of what lies at another, which gets a name with `-moved`.
+// Puts a link to the path `to` at the path `at`. What lies there is moved to a name that ends in
+// `-moved`.
 fn swap<R: Plain>(rt: &R, to: &str, at: &str) -> io::Result<()> {
     let moved = format!(in rt.alloc(); "{at}-moved")?;
     if fs::symlink_metadata(rt, at).is_ok() {
@@ -56,7 +57,7 @@ fn swap<R: Plain>(rt: &R, to: &str, at: &str) -> io::Result<()> {
     rt.symlink(to, at)
 }
 
-/// The calls so far, and what happens beside them.
+/// The calls so far, and the event of the run.
 #[derive(Drop)]
 pub struct Log {
     calls: Vec<String>,
@@ -71,7 +72,8 @@ pub struct Shared<R> {
 }
 
 impl<R: Plain> Shared<R> {
-    // Notes a call, and lets happen what happens at it: an error where it is refused.
+    // Logs a call, and lets the event happen, if it is the call's; an error where the call is
+    // refused.
     fn note(&self, call: &str, path: &str) -> io::Result<()> {
         let line = format!(in self.rt.alloc(); "{call} {path}\n")?;
         let mut log = self.log.lock(&self.rt);
@@ -87,7 +89,7 @@ impl<R: Plain> Shared<R> {
         }
     }
 
-    // The same log once more.
+    // Another handle of the same log.
     fn again(&self) -> io::Result<Shared<R>> {
         Ok(Shared {
             rt: self.rt.clone()?,
@@ -96,14 +98,14 @@ impl<R: Plain> Shared<R> {
     }
 }
 
-/// A runtime over another.
+/// A runtime over another runtime.
 #[derive(Drop)]
 pub struct Double<R> {
     shared: Shared<R>,
 }
 
 impl<R: Plain> Double<R> {
-    /// Over this runtime, where this happens beside the calls.
+    /// A runtime over this one, with this event.
     pub fn new(rt: R, event: Event) -> io::Result<Double<R>> {
         let calls = Vec::new(rt.alloc());
         let log = Mutex::new(Log { calls, event });
@@ -202,7 +204,7 @@ impl<R: Plain> Files for Double<R> {
     }
 }
 
-/// An open file whose calls are noted.
+/// An open file whose calls are logged.
 #[derive(Drop)]
 pub struct Noted<R, F> {
     shared: Shared<R>,
@@ -284,7 +286,7 @@ impl<R: Plain + Processes> Processes for Double<R> {
     }
 }
 
-/// A started process whose end is noted.
+/// A started process whose end is logged.
 #[derive(Drop)]
 pub struct Watched<R, P: OpenProcess> {
     shared: Shared<R>,

@@ -9,7 +9,7 @@ const FILE: &str = "<dir>/file";
 
 const ADD: &str = "nix_realise add-drv --store-dir <dir> greet <dir>/file";
 
-// The derivation that greets: its draft, one with another path in its output's place, its text.
+// The derivation that greets: its draft, a draft with another path for its output, its text.
 const DRAFT: &str = "Derive([(\"out\",\"\",\"\",\"\")],[],[],\
     \"x86_64-linux\",\"/bin/sh\",[\"-c\",\"echo hello > $out\"],[(\"out\",\"\")])";
 
@@ -20,8 +20,8 @@ const GREET: &str = "Derive([(\"out\",\"<out>\",\"\",\"\")],[],[],\
     \"x86_64-linux\",\"/bin/sh\",[\"-c\",\"echo hello > $out\"],[(\"out\",\"<out>\")])";
 
 static ROWS: [Row; 5] = [
-    // The draft's file is written and its path printed; what was there is replaced. The paths are
-    // made by the rules alone.
+    // The derivation's file is written and its path printed; what was there is replaced. The paths
+    // are made by the rules.
     Row {
         name: "greet-draft",
         steps: &[
@@ -34,8 +34,8 @@ static ROWS: [Row; 5] = [
             Step::Left(2),
         ],
     },
-    // In a folder that is none the file can't be written, and its path isn't printed. The path is
-    // what a program of another language made of the rules.
+    // In a folder that doesn't exist the file can't be written, and its path isn't printed. The
+    // path was computed with a program in another language, by the rules.
     Row {
         name: "greet-in-no-folder",
         steps: &[
@@ -49,7 +49,7 @@ static ROWS: [Row; 5] = [
             Step::Left(1),
         ],
     },
-    // The folder is looked at before the file, the file before the name.
+    // The store folder is tested before the file, and the file before the name.
     Row {
         name: "no-draft",
         steps: &[
@@ -75,7 +75,7 @@ static ROWS: [Row; 5] = [
             Step::Left(1),
         ],
     },
-    // The draft's text is looked at before the name.
+    // The draft's text is tested before the name.
     Row {
         name: "no-text",
         steps: &[
@@ -89,8 +89,9 @@ static ROWS: [Row; 5] = [
             Step::Left(1),
         ],
     },
-    // Faults of the draft itself are found in its file, those of its inputs at their paths: a draft
-    // without outputs, one with another path in its output's place, one whose input has no file.
+    // Faults of the draft itself are blamed on its file, and faults of its inputs on their paths: a
+    // draft without outputs, a draft with another path for its output, a draft whose input has no
+    // file.
     Row {
         name: "bad-draft",
         steps: &[

@@ -1,4 +1,4 @@
-//! Files of a store folder: how they are written, and what is found of them.
+//! Files of a store folder: writing and testing them.
 use crate::running::Host;
 use crate::scene::Scene;
 use std::fs;
@@ -65,7 +65,7 @@ impl Scene {
         self.strays(rt.alloc(), text.as_str(), came.as_str())
     }
 
-    // Whether a file's text ends so.
+    // Whether a file ends with this text.
     pub(crate) fn ends<R: Host>(&self, rt: &R, file: &str, text: &str) -> Result<bool, Fail> {
         let file = self.said(rt.alloc(), file)?;
         let text = self.said(rt.alloc(), text)?;
@@ -84,19 +84,19 @@ impl Scene {
         )
     }
 
-    // Whether a link stands at a path.
+    // Whether there is a link at a path.
     pub(crate) fn is_link<R: Host>(&self, rt: &R, path: &str) -> Result<bool, Fail> {
         let path = self.said(rt.alloc(), path)?;
         Ok(fs::symlink_metadata(rt, path.as_str())?.is_symlink())
     }
 
-    // Whether something lies at a path, be it a link that leads nowhere.
+    // Whether something lies at a path, even a link that leads nowhere.
     pub(crate) fn stands<R: Host>(&self, rt: &R, path: &str) -> Result<bool, Fail> {
         let path = self.said(rt.alloc(), path)?;
         Ok(fs::symlink_metadata(rt, path.as_str()).is_ok())
     }
 
-    // Whether so many files and folders stand in the store folder.
+    // Whether the store folder has `wanted` files and folders.
     pub(crate) fn left<R: Host>(&mut self, rt: &R, wanted: usize) -> Result<bool, Fail> {
         let count = self.count(rt)?;
         if count == wanted {
@@ -107,7 +107,7 @@ impl Scene {
         self.strays(rt.alloc(), wanted.as_str(), came.as_str())
     }
 
-    // How many files and folders stand in the store folder.
+    // How many files and folders the store folder has.
     fn count<R: Host>(&self, rt: &R) -> Result<usize, Fail> {
         let mut count = 0usize;
         for entry in fs::read_dir(rt, self.site.folder.as_str())? {

@@ -11,8 +11,8 @@ const OUT: &str = "<dir>/cccccccccccccccccccccccccccccccc-out";
 
 const BUILD: &str = "<dir>/.build-0";
 
-// Gives the permissions back to what was moved aside since its user can't remove it, so that the
-// store folder can be removed at the end of the row. (The superuser finds nothing there.)
+// Gives the permissions back to what was moved aside because a plain user can't remove it. So the
+// store folder can be removed at the end of the row. (For the superuser nothing was moved aside.)
 const UNLOCK: Step = Step::Script(
     "for left in $NIX_STORE/.nix_realise-left-*; do test -e $left || continue; chmod -R u+rwx $left; \
         done; : > $out",
@@ -21,8 +21,8 @@ const UNLOCK: Step = Step::Script(
 );
 
 static IN_PLACE: [Row; 3] = [
-    // Links in the place of an output and of the build folder are removed, and not what they lead
-    // to.
+    // Links at the path of an output and of the build folder are removed, and what they lead to is
+    // not.
     Row {
         name: "links",
         steps: &[
@@ -54,7 +54,7 @@ static IN_PLACE: [Row; 3] = [
             Step::Stands("<dir>/kept/file", true),
         ],
     },
-    // What an earlier run left at an output's path is gone, be it a folder that must not be written
+    // What an earlier run left at an output's path is gone, even a folder that may not be written
     // or read.
     Row {
         name: "locked",
@@ -73,7 +73,7 @@ static IN_PLACE: [Row; 3] = [
 ];
 
 static BUILD_FOLDERS: [Row; 3] = [
-    // The build folder is empty at the start and gone at the end, after a fault too.
+    // The build folder is empty at the start and gone at the end, also after a fault.
     Row {
         name: "build-folder",
         steps: &[
@@ -110,8 +110,8 @@ static BUILD_FOLDERS: [Row; 3] = [
             UNLOCK,
         ],
     },
-    // What an earlier run left in the place of the build folder is removed: a file, and a folder in
-    // which another must not be written.
+    // What an earlier run left at the path of the build folder is removed: a file, and a folder
+    // that holds a folder that may not be written.
     Row {
         name: "left-build-folders",
         steps: &[
@@ -134,7 +134,7 @@ static BUILD_FOLDERS: [Row; 3] = [
             UNLOCK,
         ],
     },
-    // Where no build folder can be made, since the store folder is gone, nothing is started.
+    // Where no build folder can be made, since the store folder is gone, no builder is started.
     Row {
         name: "gone",
         steps: &[

@@ -1,5 +1,5 @@
-//! Runs whose reads and writes are short, runs that a signal interrupts, and runs in whose way another
-//! process gets.
+//! Runs with short reads and writes, runs that a signal interrupts, and runs beside which another
+//! process changes files.
 use crate::calls::{DRAFT, ran};
 use crate::double::{Double, Event};
 use crate::running::{Host, Outcome};
@@ -12,7 +12,7 @@ use std::process;
 use std::process::Processes;
 use std::test::Fail;
 
-// What gets in the way of a run, whose calls are counted from 1.
+// What hinders a run, whose calls are counted from 1.
 enum Way {
     // Each read and each write takes one byte at most.
     Short,
@@ -28,8 +28,8 @@ enum Way {
     Links(usize, &'static str, &'static str),
 }
 
-// What stands before a run, its command line, what gets in its way, what it writes to standard
-// output and standard error and its status, and the steps that are taken then.
+// The steps before a run, its command line, what hinders it, the texts that it writes to standard
+// output and standard error, its status, and the steps after it.
 struct Row {
     name: &'static str,
     before: &'static [Step],
@@ -61,7 +61,7 @@ const ADD: &str = "nix_realise add-text --store-dir <dir> greeting <dir>/file";
 
 const REALISE: &str = "nix_realise realise --store-dir <dir> <any>";
 
-// The digests of this file are SHA-256 of `hello` with a newline, and of `made` with one.
+// The digests here are the SHA-256 digests of `hello` with a newline, and of `made` with a newline.
 const WITH_TEXT: &str = "realiser-journal 2\nA <text> \
     sha256:5891b5b522d5df086d0ff0b110fbd9d21bb4fc7163af34d08286a2e846f6be03\n";
 
@@ -80,7 +80,7 @@ const GREETED: (&str, &str, u8) = ("<text>\n", "", 0);
 
 const BUILT: (&str, &str, u8) = ("built <any>\noutput <any.out>\n", "", 0);
 
-// Each file is read and written byte by byte, and nothing else comes of a run.
+// Each file is read and written byte by byte, and a run ends the same.
 static SHORT: [Row; 4] = [
     Row {
         name: "short-check",
@@ -120,8 +120,8 @@ static SHORT: [Row; 4] = [
     },
 ];
 
-// The numbers, here and below, are those of the calls in `calls`. A call that a signal interrupts is
-// made again, and nothing else comes of a run: one builder is started.
+// The numbers, here and below, are those of the calls in `calls`. A call that a signal interrupts
+// is made again, and a run ends the same: one builder is started.
 static INTERRUPTED: [Row; 4] = [
     Row {
         name: "interrupted-start",
@@ -166,7 +166,7 @@ static INTERRUPTED: [Row; 4] = [
 ];
 
 static READ: [Row; 5] = [
-    // A derivation's file is removed behind the look at it, or written anew: what is read counts.
+    // A derivation's file is removed or written anew after its kind is tested: what is read counts.
     Row {
         name: "derivation-removed",
         before: &[PUT],
@@ -183,7 +183,7 @@ static READ: [Row; 5] = [
         told: ("bad <any>: Syntax(7)\n", "", 2),
         after: &[],
     },
-    // A journal that is removed before it is opened is an empty one.
+    // A journal that is removed before it is opened counts as empty.
     Row {
         name: "journal-removed-unread",
         before: &[FILE, TEXT, Step::Write(JOURNAL, ANOTHER)],
@@ -192,8 +192,8 @@ static READ: [Row; 5] = [
         told: GREETED,
         after: &[Step::Holds(JOURNAL, WITH_TEXT)],
     },
-    // An output that is removed behind its builder's end is missing; one that is removed behind the
-    // look at it cannot be read.
+    // An output that is removed after its builder's end is missing; an output that is removed after
+    // its kind is tested cannot be read.
     Row {
         name: "output-removed",
         before: &[PUT],
@@ -213,7 +213,7 @@ static READ: [Row; 5] = [
 ];
 
 static WRITTEN: [Row; 5] = [
-    // A journal that is removed, or made, behind its reading: the whole new one takes its place.
+    // A journal that is removed or made after it was read: the whole new one takes its place.
     Row {
         name: "journal-removed",
         before: &[FILE, TEXT, Step::Write(JOURNAL, ANOTHER)],
@@ -230,7 +230,8 @@ static WRITTEN: [Row; 5] = [
         told: GREETED,
         after: &[Step::Holds(JOURNAL, WITH_TEXT), Step::Left(3)],
     },
-    // A folder takes the journal's place, or the text's: it stays, and no temporary file does.
+    // A folder is made at the journal's path, or at the text's: it stays, and no temporary file
+    // does.
     Row {
         name: "folder-for-the-journal",
         before: &[FILE, TEXT],
@@ -247,7 +248,7 @@ static WRITTEN: [Row; 5] = [
         told: ("<text>\n", "nix_realise: <text>: Unwritable\n", 3),
         after: &[Step::Stands(JOURNAL, false), Step::Left(2)],
     },
-    // The first temporary name is taken: the next one is, and that file stays as it is.
+    // The first temporary name exists already: the next name is used, and that file is not changed.
     Row {
         name: "temporary-name-taken",
         before: &[FILE, TEXT],
@@ -264,8 +265,8 @@ static WRITTEN: [Row; 5] = [
 ];
 
 static RUN: [Row; 4] = [
-    // The build folder is made by another, or the output is: the first is no room for a builder,
-    // over the second it writes.
+    // Another process makes the build folder, or the output. With the build folder there, no
+    // builder is started; an output there is written over.
     Row {
         name: "build-folder-made",
         before: &[PUT],
@@ -285,8 +286,8 @@ static RUN: [Row; 4] = [
             Step::Holds(JOURNAL, WITH_OUTPUT),
         ],
     },
-    // A folder takes the journal's place while a builder runs: what was built is not registered, and
-    // the same run builds it anew once the folder is moved.
+    // A folder is made at the journal's path while a builder runs: what was built is not
+    // registered, and the same run builds it anew once the folder is moved.
     Row {
         name: "folder-for-the-journal-of-a-run",
         before: &[PUT],
@@ -300,7 +301,8 @@ static RUN: [Row; 4] = [
             Step::Run(REALISE, "built <any>\noutput <any.out>\n", "", 0),
         ],
     },
-    // The journal is made by another while a builder runs: the run's own takes its place.
+    // Another process makes the journal while a builder runs: the run's own journal takes its
+    // place.
     Row {
         name: "journal-of-a-run-made",
         before: &[PUT],
@@ -311,7 +313,7 @@ static RUN: [Row; 4] = [
     },
 ];
 
-// A path becomes a link between two calls: what the link leads to is never changed.
+// A path becomes a link between two calls: the link's target is never changed.
 static LINKED: [Row; 5] = [
     Row {
         name: "old-output-linked",
@@ -368,7 +370,7 @@ fn tables() -> [&'static [Row]; 6] {
     [&SHORT, &INTERRUPTED, &READ, &WRITTEN, &RUN, &LINKED]
 }
 
-// What gets in the way, in a scene.
+// The event that hinders a run, in a scene.
 fn event_of(alloc: Global, scene: &Scene, way: &Way) -> Result<Event, Fail> {
     match way {
         Way::Short => Ok(Event::Short),
@@ -386,7 +388,7 @@ fn event_of(alloc: Global, scene: &Scene, way: &Way) -> Result<Event, Fail> {
     }
 }
 
-// Whether a run, and the steps behind it, do as a row says.
+// Whether a run, and the steps after it, do as a row says.
 fn does<R: Host + Processes, M: Builders>(
     rt: &R,
     make: &M,

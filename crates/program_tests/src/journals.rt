@@ -13,11 +13,11 @@ const JOURNAL: &str = "<dir>/realiser-journal";
 
 const ADD: &str = "nix_realise add-text --store-dir <dir> greeting <dir>/file";
 
-// The digests are SHA-256 of no bytes, and of `hello` with a newline.
+// The digests are the SHA-256 digests of no bytes, and of `hello` with a newline.
 const WITH_EMPTY: &str = "realiser-journal 2\nA <text> \
     sha256:e3b0c44298fc1c149afbf4c8996fb92427ae41e4649b934ca495991b7852b855\n";
 
-// The same in version 1, and what is written where another text of no bytes comes behind it.
+// The same in version 1, and the text that is written where another text of no bytes is added.
 const IN_VERSION_1: &str = "realiser-journal 1\nA <text> \
     e3b0c44298fc1c149afbf4c8996fb92427ae41e4649b934ca495991b7852b855\n";
 
@@ -31,8 +31,8 @@ const WITH_BOTH: &str = "realiser-journal 2\nA <dir>/aaaaaaaaaaaaaaaaaaaaaaaaaaa
     <text> sha256:5891b5b522d5df086d0ff0b110fbd9d21bb4fc7163af34d08286a2e846f6be03\n";
 
 static WRITTEN: [Row; 4] = [
-    // The first run writes text and journal. The second finds no text and a link to the journal,
-    // and leaves both as they are.
+    // The first run writes the text and the journal. The second finds no text and a link to the
+    // journal, and changes neither.
     Row {
         name: "empty-twice",
         steps: &[
@@ -60,7 +60,7 @@ static WRITTEN: [Row; 4] = [
             Step::Left(3),
         ],
     },
-    // The entry stands behind the others; the journal that is there by default is not looked at.
+    // The entry comes after the others; the default journal file is not read.
     Row {
         name: "given-journal",
         steps: &[
@@ -80,7 +80,7 @@ static WRITTEN: [Row; 4] = [
             Step::Left(4),
         ],
     },
-    // A journal of version 1 stays as it is where the path is valid, and else is written in version
+    // A journal of version 1 is not changed where the path is valid, and else is written in version
     // 2.
     Row {
         name: "version-1",
@@ -136,7 +136,7 @@ const AS_OUTSIDE: &str =
     "realiser-journal 2\nA /nix/store/<dir>/aaaaaaaaaaaaaaaaaaaaaaaaaaaaaaaa-x -\n";
 
 static REFUSED: [Row; 3] = [
-    // A refused journal stays as it is, and nothing is printed.
+    // A refused journal is not changed, and nothing is printed.
     Row {
         name: "refused-journals",
         steps: &[
@@ -162,7 +162,7 @@ static REFUSED: [Row; 3] = [
             Step::Left(2),
         ],
     },
-    // A journal of the greatest length is read, and one with a byte more is not.
+    // A journal of the greatest length is accepted, and a journal with one more byte is not.
     Row {
         name: "long-journals",
         steps: &[
@@ -174,7 +174,8 @@ static REFUSED: [Row; 3] = [
             Step::Left(2),
         ],
     },
-    // A folder in the journal's place is looked at behind the name, and before the path is printed.
+    // A folder in the journal's place is found after the name is tested, and before the path is
+    // printed.
     Row {
         name: "folder-in-place-of-the-journal",
         steps: &[

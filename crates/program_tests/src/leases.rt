@@ -1,4 +1,4 @@
-//! The calls of the system that are made for each lease, where several workers make them.
+//! The system calls for each lease, in runs by several workers.
 use crate::calls::ran;
 use crate::double::{Double, Event};
 use crate::scene::Scene;
@@ -31,18 +31,18 @@ static PUTS: [Step; 3] = [
 
 const WORDS: [&str; 3] = ["a", "b", "c"];
 
-// Command lines by one worker, by as many as there are derivations, and by more.
+// Command lines with one worker, with as many workers as derivations, and with more workers.
 const LINES: [&str; 3] = [
     "nix_realise realise --store-dir <dir> --jobs 1 <a> <b> <c>",
     "nix_realise realise --store-dir <dir> --jobs 3 <a> <b> <c>",
     "nix_realise realise --store-dir <dir> --jobs 8 <a> <b> <c>",
 ];
 
-// The folders in which they are built, one for each.
+// The build folders of the three leases.
 const FOLDERS: [&str; 3] = ["<dir>/.build-0", "<dir>/.build-1", "<dir>/.build-2"];
 
-// The calls of a lease that name its output or its build folder, in their order: room is made, the
-// builder runs, its output is read, and its folder is removed.
+// The calls of a lease that name its output or its build folder, in their order: both are cleared,
+// the builder runs, its output is read, and its folder is removed.
 const LEASE: &str = "lstat <it.out>\nlstat <build>\nmkdir <build>\nspawn cd \"<build>\" && env -i \
     HOME=\"/homeless-shelter\" NIX_BUILD_TOP=\"<build>\" NIX_STORE=\"<dir>\" \
     PATH=\"/path-not-set\" PWD=\"<build>\" TEMP=\"<build>\" TEMPDIR=\"<build>\" \
@@ -50,7 +50,7 @@ const LEASE: &str = "lstat <it.out>\nlstat <build>\nmkdir <build>\nspawn cd \"<b
     \"echo made > $out\" Stdio { .. } Stdio { .. } Stdio { .. }\nlstat <it.out>\nopen <it.out>\n\
     lstat <build>\nrmdir <build>\n";
 
-// The last calls of a run, which no lease makes: the journal is written.
+// The last calls of a run, which belong to no lease: the journal is written.
 const END: &str = "lstat <dir>/realiser-journal\ncreate <dir>/.nix_realise-0\nwrite \nsync \n\
     rename <dir>/realiser-journal\n";
 
@@ -74,7 +74,8 @@ fn is_start(call: &str, output: &str, folder: &str) -> bool {
     call.starts_with("spawn ") && call.contains(output) && call.contains(folder)
 }
 
-// The build folder in which the builder of an output is started; none of the three is `<build>`.
+// The build folder in which the builder of an output is started; `<build>` if it is none of the
+// three.
 fn build_folder(alloc: Global, scene: &Scene, calls: &str, output: &str) -> Result<String, Fail> {
     for folder in FOLDERS {
         let folder = scene.said(alloc, folder)?;
@@ -105,14 +106,14 @@ fn lease_of(alloc: Global, scene: &Scene, word: &str) -> Result<String, Fail> {
     scene.said(alloc, lease.as_str())
 }
 
-// The last calls, as many as there are of the run's end.
+// The last calls, as many as `END` has.
 fn last_calls(alloc: Global, calls: &str) -> Result<String, AllocError> {
     let lines: Vec<&str> = calls.split_inclusive('\n').collect(alloc)?;
     let before = lines.len().saturating_sub(END.lines().count());
     lines[before..].concat(alloc)
 }
 
-// A run's status, the calls for each derivation, and the last ones.
+// A run's status, the calls for each derivation, and the last calls.
 fn found(alloc: Global, scene: &Scene, status: u8, calls: &str) -> Result<String, Fail> {
     let mut found = format!(in alloc; "{status}\n")?;
     for word in WORDS {
@@ -122,7 +123,7 @@ fn found(alloc: Global, scene: &Scene, status: u8, calls: &str) -> Result<String
     Ok(found)
 }
 
-// The same of a good run.
+// What is wanted of a good run.
 fn wanted(alloc: Global, scene: &Scene) -> Result<String, Fail> {
     let mut wanted = String::from_str(alloc, "0\n")?;
     for word in WORDS {
@@ -149,7 +150,7 @@ fn calls_of_each_lease(rt: HostRuntime) -> Result<(), Fail> {
     Ok(())
 }
 
-// A lease builds in the folder of its own number, however many there were before it.
+// A lease builds in the folder of its own number, whatever leases came before it.
 #[test]
 fn folders_of_later_leases(rt: HostRuntime) -> Result<(), Fail> {
     let scene = Scene::new(&rt, process::id(rt.process()), "later-leases")?;

@@ -1,7 +1,7 @@
-//! Tests of the program, of what no clause says: printed texts, statuses, files on disk, refused
+//! Tests of the program, for what no contract says: printed texts, statuses, files on disk, refused
 //! writes, builders that run as processes.
 //!
-//! | Module | What is tried |
+//! | Module | What is tested |
 //! |---|---|
 //! | `runs` | command lines, and what is printed of a usage mistake |
 //! | `usage` | the texts of the helps and of the version |
@@ -13,12 +13,12 @@
 //! | `realising`, `realisations`, `many` | `realise`: its faults, its reports, many derivations |
 //! | `twins` | `realise` over derivations that share all their outputs |
 //! | `progress` | the line of progress |
-//! | `starts`, `folders`, `outputs` | a builder's start, its folder, what is read of its outputs |
-//! | `places` | what is no regular file, and the permissions of a new file |
-//! | `calls`, `leases` | the calls of the system, each refused; those of each lease |
+//! | `starts`, `folders`, `outputs` | a builder's start, its folder, the reading of its outputs |
+//! | `places` | files that are not regular, and the permissions of a new file |
+//! | `calls`, `leases` | the system calls, each refused in turn; the system calls of each lease |
 //! | `hindered` | short reads and writes, signals, and other processes that get in the way |
-//! | `double` | a runtime that notes calls, and lets something happen beside them |
-//! | `steps`, `scene` | the steps of which most rows are made, and how they are taken |
+//! | `double` | a runtime that logs system calls, and lets something happen between them |
+//! | `steps`, `scene` | the steps of most rows, and how they are taken |
 //! | `texts`, `files`, `commands`, `sites` | paths, files, command lines and builders of a step |
 //! | `running` | runs of the program |
 #![tactic(auto)]

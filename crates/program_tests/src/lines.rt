@@ -5,7 +5,7 @@ use std::alloc::Global;
 use std::test::Fail;
 use subcommands::check_lines;
 
-// Each path is what a program of another language made of the rule of text paths.
+// Each path was computed with a program in another language, by the rule of text paths.
 const NOTHING_PATH: &str = "/nix/store/5lhp9n6nphjda2gcbmin4vshljbil6kq-nothing.drv";
 
 const LONGEST_PATH: &str = "/nix/store/jk2a2hjia1pk22bkbz224xsar2hj19mj-big.drv";
@@ -14,8 +14,8 @@ const TEXT_PATH: &str = "/nix/store/lywz1bhqzs79zmmk12zgdnyld4x8clz1-nothing.txt
 
 const NOTHING: &str = r#"Derive([],[],[],"","",[],[])"#;
 
-// A source of one file, some of whose fetches fail, the words that are checked, and their lines
-// and the status. The file's text has so many letters behind its start.
+// A source of one file, in which some fetches fail, the checked words, and their lines and the
+// status. The file's text has `letters` letters between its start and its end.
 struct Row {
     name: &'static str,
     path: &'static str,
@@ -97,7 +97,7 @@ static ROWS: [Row; 9] = [
             BadReference(\"/tmp/\\\"i\")\n",
         status: 2,
     },
-    // The text has 28 bytes beside its letters, 4,194,304 in all.
+    // The text has 28 bytes besides its letters, 4,194,304 in all.
     Row {
         name: "the longest text",
         path: LONGEST_PATH,
@@ -168,7 +168,7 @@ fn source_of(alloc: Global, row: &Row) -> Result<ListSource, Fail> {
     Ok(ListSource::new(alloc, files, Vec::from_slice(alloc, row.failing)?)?)
 }
 
-// Whether a row's words get its lines, and as many fetches fail as it says.
+// Whether a row's words get its lines and status, and all fetches fail that it names.
 fn holds(alloc: Global, row: &Row) -> Result<bool, Fail> {
     let mut source = source_of(alloc, row)?;
     let dir = StoreDir::new(alloc, b"/nix/store")?;

@@ -9,28 +9,28 @@ use std::test::Fail;
 use std::{fs, process};
 use valid_table::Journal;
 
-// How many derivations there are, how many of them each one uses at most, and how far before it
-// those stand; so they stand in many layers.
+// The number of derivations, the greatest number of inputs of each, and how far before it these may
+// be. So the derivations are in many layers.
 const COUNT: usize = 200;
 
 const MOST_INPUTS: usize = 3;
 
 const WINDOW: usize = 10;
 
-// A derivation: the path of its file, and of its output.
+// A derivation: the path of its file, and the path of its output.
 #[derive(Drop)]
 struct Drv {
     path: String,
     output: String,
 }
 
-// The next of a row of numbers that look random (Knuth's MMIX).
+// The next pseudorandom number (Knuth's MMIX).
 fn next(seed: u64) -> u64 {
     seed.wrapping_mul(6_364_136_223_846_793_005)
         .wrapping_add(1_442_695_040_888_963_407)
 }
 
-// The derivations that the next one uses, by their paths, each once.
+// The derivations that the next one uses, ordered by their paths, each once.
 fn picks<'a>(alloc: Global, seed: &mut u64, drvs: &'a [Drv]) -> Result<Vec<&'a Drv>, AllocError> {
     let mut picked: Vec<&Drv> = Vec::new(alloc);
     for _ in 0..MOST_INPUTS {
@@ -45,8 +45,8 @@ fn picks<'a>(alloc: Global, seed: &mut u64, drvs: &'a [Drv]) -> Result<Vec<&'a D
     Ok(picked)
 }
 
-// What a draft says of the derivations that it uses: its inputs, and its script, which writes down
-// the paths of their outputs.
+// The parts of a draft that name the derivations that it uses: its inputs, and its script, which
+// writes the paths of their outputs.
 fn draft_parts(alloc: Global, picked: &[&Drv]) -> Result<(String, String), AllocError> {
     let mut inputs = Vec::new(alloc);
     let mut outputs = Vec::new(alloc);
@@ -58,7 +58,7 @@ fn draft_parts(alloc: Global, picked: &[&Drv]) -> Result<(String, String), Alloc
     Ok((inputs.join(alloc, ",")?, script))
 }
 
-// Puts the derivation of such a draft, the next one behind so many.
+// Puts the derivation of such a draft into the folder, under the name of this number.
 fn put_user<R: Host>(
     rt: &R,
     folder: &str,
@@ -82,7 +82,7 @@ fn drv_at<R: Host>(rt: &R, path: String) -> Result<Drv, Fail> {
     }
 }
 
-// Puts the derivations, each of which uses some of those before it.
+// Puts all derivations into the folder, each of which uses some of those before it.
 fn put_all<R: Host>(rt: &R, folder: &str) -> Result<Vec<Drv>, Fail> {
     let mut drvs = Vec::new(rt.alloc());
     let mut seed = 1;
@@ -93,12 +93,12 @@ fn put_all<R: Host>(rt: &R, folder: &str) -> Result<Vec<Drv>, Fail> {
     Ok(drvs)
 }
 
-// What the draft behind these derivations says.
+// The parts of the draft after these derivations.
 fn next_parts(alloc: Global, seed: &mut u64, drvs: &[Drv]) -> Result<(String, String), AllocError> {
     draft_parts(alloc, &picks(alloc, seed, drvs)?)
 }
 
-// Runs `realise` on the derivations, by so many workers.
+// Runs `realise` on the derivations, by `jobs` workers.
 fn realise_all<R: Host, M: Builders>(
     rt: &R,
     make: &M,
@@ -121,7 +121,7 @@ fn realise_all<R: Host, M: Builders>(
     Ok(run_by(rt, make, &words))
 }
 
-// What a run by so many workers did, and the journal that it left, whose file is removed.
+// The outcome of a run by `jobs` workers, and the journal that it left, whose file is removed.
 fn after<R: Host, M: Builders>(
     rt: &R,
     make: &M,
@@ -143,7 +143,8 @@ fn take_journal<R: Host>(rt: &R, folder: &str) -> Result<Journal, Fail> {
     Ok(Journal::read(rt.alloc(), &dir, &bytes)?)
 }
 
-// Whether two runs built all, printed the same, and left the same entries, in whatever order.
+// Whether two runs built all derivations, printed the same, and left the same entries, in any
+// order.
 fn are_alike(alone: &(Outcome, Journal), together: &(Outcome, Journal)) -> bool {
     let (entries, others) = (alone.1.entries(), together.1.entries());
     alone.0.status == 0
@@ -154,7 +155,7 @@ fn are_alike(alone: &(Outcome, Journal), together: &(Outcome, Journal)) -> bool 
         && entries.iter().all(|entry| others.contains(entry))
 }
 
-// Whether one worker and eight come to the same.
+// Whether runs by one worker and by eight workers end alike.
 fn come_to_the_same<R: Host, M: Builders>(rt: &R, make: &M, folder: &str) -> Result<bool, Fail> {
     let drvs = put_all(rt, folder)?;
     let alone = after(rt, make, folder, &drvs, "1")?;

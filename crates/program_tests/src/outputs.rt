@@ -1,4 +1,4 @@
-//! What is read at the outputs' paths.
+//! Reading at the outputs' paths.
 use crate::scene::first_fault;
 use crate::sites::Made;
 use crate::steps::{Row, Step};
@@ -8,8 +8,8 @@ use std::process;
 use std::test::Fail;
 
 static LIMITS: [Row; 4] = [
-    // The first fault of an output: links, other things than files and folders, names, number of
-    // entries, bytes.
+    // The first fault of an output: a link, something that is neither a file nor a folder, a name,
+    // the number of entries, the bytes.
     Row {
         name: "refused-outputs",
         steps: &[
@@ -24,7 +24,7 @@ static LIMITS: [Row; 4] = [
                 Made::Failed(Reason::ReadFault),
             ),
             Step::Script("mkfifo $out", &["out"], Made::Failed(Reason::ReadFault)),
-            // A device that nobody may open, which Linux lets anybody make since 5.8.
+            // A device that nobody may open. Since Linux 5.8 anybody may make it.
             Step::Script(
                 "mknod $out c 0 0 || mkfifo $out",
                 &["out"],
@@ -90,7 +90,7 @@ static LIMITS: [Row; 4] = [
             ),
         ],
     },
-    // An output of 32 levels, and what passes them.
+    // An output of 32 levels, and one of more levels.
     Row {
         name: "depths",
         steps: &[
@@ -114,7 +114,7 @@ static LIMITS: [Row; 4] = [
 ];
 
 static ORDERS: [Row; 3] = [
-    // The first fault is told, by the byte order of names.
+    // The first fault is the reason, by the byte order of names.
     Row {
         name: "first-fault",
         steps: &[
@@ -158,7 +158,7 @@ static ORDERS: [Row; 3] = [
             ),
         ],
     },
-    // A missing output is none, the others are there; nothing is read after a failure.
+    // A missing output is none, and the others are read; nothing is read after a failure.
     Row {
         name: "missing-outputs",
         steps: &[
@@ -187,7 +187,7 @@ static ORDERS: [Row; 3] = [
 ];
 
 static CONTENTS: [Row; 4] = [
-    // A file comes in pieces of at most 65,536 bytes, the empty one in none.
+    // A file comes in pieces of at most 65,536 bytes, and an empty file in none.
     Row {
         name: "pieces",
         steps: &[
@@ -205,7 +205,7 @@ static CONTENTS: [Row; 4] = [
             ),
         ],
     },
-    // The lines of a file, in order, are what its pieces hold.
+    // The pieces of a file hold its lines in order.
     Row {
         name: "lines-of-a-file",
         steps: &[Step::Script("seq 30000 > $out", &["out"], Made::Lines(30_000))],

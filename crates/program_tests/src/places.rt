@@ -1,4 +1,4 @@
-//! What is no regular file, where a file is read or written, and the permissions of a new file.
+//! Files that are not regular, where a file is read or written, and the permissions of a new file.
 use crate::scene::first_fault;
 use crate::sites::Made;
 use crate::steps::{Row, Step};
@@ -14,7 +14,7 @@ const JOURNAL: &str = "<dir>/realiser-journal";
 
 const PIPE: &str = "<dir>/pipe";
 
-// A script that makes a pipe to which no one writes: who opens it waits.
+// A script that makes a pipe to which nobody writes: opening it would wait.
 const MAKE_PIPE: Step = Step::Script("mkfifo $NIX_STORE/pipe; : > $out", &["out"], Made::File(""));
 
 const ADD: &str = "nix_realise add-text --store-dir <dir> greeting <dir>/file";
@@ -28,7 +28,7 @@ const DRAFT: &str = "Derive([(\"out\",\"\",\"\",\"\")],[],[],\"x86_64-linux\",\"
     \"echo made > $out\"],[(\"out\",\"\")])";
 
 static PIPES: [Row; 3] = [
-    // A derivation's file that is a pipe is not opened: not as a word, and not as a root.
+    // A pipe at a derivation's path is not opened, neither for `check` nor for a root.
     Row {
         name: "pipe-for-a-derivation",
         steps: &[
@@ -48,7 +48,7 @@ static PIPES: [Row; 3] = [
             ),
         ],
     },
-    // A journal that is a pipe or a device is not opened, and stays as it is.
+    // A journal that is a pipe or a device is not opened, and is not changed.
     Row {
         name: "pipe-for-the-journal",
         steps: &[
@@ -64,7 +64,7 @@ static PIPES: [Row; 3] = [
             Step::Stands("<any.out>", false),
         ],
     },
-    // The store folder is looked at before a file is opened.
+    // The store folder is tested before a file is opened.
     Row {
         name: "pipe-for-a-file",
         steps: &[
@@ -86,7 +86,7 @@ static PIPES: [Row; 3] = [
 ];
 
 static WRITTEN: [Row; 5] = [
-    // What is neither a file nor a link is not replaced by a text, and then the journal is not
+    // A text replaces nothing but a file or a link; where it can't be written, the journal is not
     // written.
     Row {
         name: "pipe-for-a-text",
@@ -104,7 +104,7 @@ static WRITTEN: [Row; 5] = [
             ),
         ],
     },
-    // Nor by a derivation.
+    // A derivation replaces nothing but a file or a link.
     Row {
         name: "pipe-for-a-draft",
         steps: &[
@@ -126,7 +126,7 @@ static WRITTEN: [Row; 5] = [
             ),
         ],
     },
-    // The new journal has the permissions of the old one; a link is replaced by a file of its own.
+    // The new journal has the permissions of the old one; a link is replaced by a new file.
     Row {
         name: "modes",
         steps: &[
@@ -156,7 +156,7 @@ static WRITTEN: [Row; 5] = [
             ),
         ],
     },
-    // A journal that can't be written is found out before anything is removed or built.
+    // A journal that can't be written is found before anything is removed or built.
     Row {
         name: "journal-in-no-folder",
         steps: &[
@@ -172,7 +172,7 @@ static WRITTEN: [Row; 5] = [
             Step::Left(3),
         ],
     },
-    // The plan is looked at before the journal, which one that can't be read doesn't hide.
+    // The plan is tested before the journal; a journal that can't be read doesn't hide its fault.
     Row {
         name: "plan-before-journal",
         steps: &[

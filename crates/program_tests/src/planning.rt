@@ -1,4 +1,4 @@
-//! `plan`: what it prints, beside the reports of the runs that it foretells.
+//! `plan`: the texts that it prints, beside the reports of the runs that it forecasts.
 use crate::scene::first_fault;
 use crate::steps::{Row, Step};
 use process_build::ByProcesses;
@@ -11,7 +11,7 @@ const JOURNAL: &str = "<dir>/realiser-journal";
 const MAKER: &str = "Derive([(\"out\",\"\",\"\",\"\")],[],[],\"x86_64-linux\",\"/bin/sh\",[\"-c\",\
     \"> $out\"],[(\"out\",\"\")])";
 
-// The same for another system.
+// The draft of such a derivation for another system.
 const STRANGER: &str =
     "Derive([(\"out\",\"\",\"\",\"\")],[],[],\"aarch64-linux\",\"/bin/sh\",[\"-c\",\
     \"> $out\"],[(\"out\",\"\")])";
@@ -21,7 +21,7 @@ const PAIR: &str =
     "Derive([(\"dev\",\"\",\"\",\"\"),(\"out\",\"\",\"\",\"\")],[],[],\"x86_64-linux\",\
     \"/bin/sh\",[\"-c\",\"> $out; > $dev\"],[(\"dev\",\"\"),(\"out\",\"\")])";
 
-// The drafts of users of it: of both its outputs, and of `out` alone.
+// The drafts of users of that derivation: of both its outputs, and of `out` alone.
 const USER_OF_BOTH: &str =
     "Derive([(\"out\",\"\",\"\",\"\")],[(\"<it>\",[\"dev\",\"out\"])],[],\"x86_64-linux\",\
     \"/bin/sh\",[\"-c\",\"> $out; : <try>\"],[(\"out\",\"\")])";
@@ -31,7 +31,7 @@ const USER_OF_OUT: &str =
     \"/bin/sh\",[\"-c\",\"> $out; : <try>\"],[(\"out\",\"\")])";
 
 static ROWS: [Row; 5] = [
-    // Nothing is made by `plan`; once all is built, all is reused.
+    // `plan` makes nothing; once everything is built, everything is reused.
     Row {
         name: "plan-before-and-behind-a-run",
         steps: &[
@@ -57,7 +57,7 @@ static ROWS: [Row; 5] = [
             ),
         ],
     },
-    // A root that would be refused has the status 1, by the system that is asked for.
+    // The status is 1 where a root would be refused for the given system.
     Row {
         name: "plan-for-a-system",
         steps: &[
@@ -77,8 +77,9 @@ static ROWS: [Row; 5] = [
             Step::Left(2),
         ],
     },
-    // A graph has the same derivations: what is built, with an edge to its input and the outputs
-    // that it uses; what is reused; what is refused for a cause of its own and waits for nothing.
+    // A graph has the same derivations: one that is built, with an edge to its input and the
+    // outputs that it uses; one that is reused; and one that is refused for a cause of its own and
+    // waits for nothing.
     Row {
         name: "plan-as-a-graph",
         steps: &[
@@ -124,7 +125,7 @@ static ROWS: [Row; 5] = [
             ),
         ],
     },
-    // The output `out` alone is not named. Standard output refuses each byte in turn.
+    // An edge with the output `out` alone names no output. Then standard output refuses a write.
     Row {
         name: "plan-as-a-graph-of-out",
         steps: &[
@@ -149,7 +150,7 @@ static ROWS: [Row; 5] = [
             ),
         ],
     },
-    // The faults of `realise`, in its order; a refused line is told.
+    // The faults are those of `realise`, in its order; a refused write is reported.
     Row {
         name: "plan-faults",
         steps: &[

@@ -7,8 +7,9 @@ use std::process;
 use std::process::Processes;
 use std::test::Fail;
 
-// What one worker writes of a diamond of which both sides fail: a line while each of the three
-// builders runs, and none behind it. Once the first side failed nothing waits but the other.
+// The line of progress of one worker over a diamond whose two sides fail: a line while each of the
+// three builders runs, and none after it. Once the first side has failed, only the other side
+// waits.
 const WRITTEN: &str = "\r\x1b[K\x1b[?7lnix_realise: 1 running, 0 built, 0 failed, 3 waiting, of 4\
     \x1b[?7h\r\x1b[K\r\x1b[K\x1b[?7lnix_realise: 1 running, 1 built, 0 failed, 2 waiting, of 4\
     \x1b[?7h\r\x1b[K\r\x1b[K\x1b[?7lnix_realise: 1 running, 1 built, 1 failed, 0 waiting, of 4\
@@ -54,7 +55,7 @@ fn steps() -> &'static [Step] {
     &STEPS
 }
 
-// Realises such a diamond by one worker. How many steps did as they say.
+// Realises such a diamond by one worker. Gives the number of steps that did as they say.
 fn realise_diamond<R: Host + Processes, M: Builders>(
     rt: &R,
     make: &M,

@@ -9,13 +9,13 @@ const FILE: &str = "<dir>/file";
 
 const JOURNAL: &str = "<dir>/realiser-journal";
 
-// The digest is SHA-256 of `hello` with a newline.
+// The digest is the SHA-256 digest of `hello` with a newline.
 const GREETED: &str = "realiser-journal 2\nD <greet>\nO <greet.out> \
     sha256:5891b5b522d5df086d0ff0b110fbd9d21bb4fc7163af34d08286a2e846f6be03\n";
 
 static BUILT: [Row; 9] = [
-    // A first run builds a derivation and registers its output. A second one, for another system,
-    // finds the output valid, and leaves all as it is.
+    // A first run builds a derivation and registers its output. A second run, for another system,
+    // finds the output valid, and changes nothing.
     Row {
         name: "greet-twice",
         steps: &[
@@ -88,7 +88,8 @@ static BUILT: [Row; 9] = [
             Step::Left(4),
         ],
     },
-    // The digest of a flat fixed output is kept under its own algorithm: MD5 of no bytes (RFC 1321).
+    // The digest of a flat fixed output is kept under its own algorithm: MD5 of no bytes (RFC
+    // 1321).
     Row {
         name: "md5-output",
         steps: &[
@@ -116,7 +117,7 @@ static BUILT: [Row; 9] = [
             Step::Left(4),
         ],
     },
-    // The same by SHA-1 of no bytes (FIPS 180-4); one byte more, and the hash is another.
+    // The same by SHA-1 of no bytes (FIPS 180-4). With one more byte the hash is another.
     Row {
         name: "sha1-output",
         steps: &[
@@ -150,7 +151,7 @@ static BUILT: [Row; 9] = [
             ),
         ],
     },
-    // The same by SHA-512 of no bytes (FIPS 180-4); one byte more, and the hash is another.
+    // The same by SHA-512 of no bytes (FIPS 180-4). With one more byte the hash is another.
     Row {
         name: "sha512-output",
         steps: &[
@@ -188,8 +189,8 @@ static BUILT: [Row; 9] = [
             ),
         ],
     },
-    // Two outputs, of which `dev` holds the path of `out`, are told in the order of the text,
-    // though the journal has them by path. Two that hold each other's paths are refused.
+    // Two outputs, of which `dev` holds the path of `out`, are reported in the order of the text,
+    // though the journal has them by path. Two outputs that hold each other's paths are refused.
     Row {
         name: "two-outputs",
         steps: &[
@@ -334,7 +335,7 @@ static FAILING: [Row; 3] = [
             Step::Left(9),
         ],
     },
-    // The journal is written where nothing was begun, too.
+    // The journal is written also where nothing was begun.
     Row {
         name: "own-cause",
         steps: &[
@@ -374,7 +375,7 @@ static FAILING: [Row; 3] = [
             Step::Left(5),
         ],
     },
-    // A source that is not registered.
+    // A source that is not valid.
     Row {
         name: "no-source",
         steps: &[
@@ -431,8 +432,8 @@ static DIAMONDS: [Row; 2] = [
             Step::Left(10),
         ],
     },
-    // The middle fails; another root is built all the same. The last is refused for the lesser path
-    // of the two that failed.
+    // The middle derivation fails; another root is built all the same. The last derivation is
+    // refused for the lesser path of the two that failed.
     Row {
         name: "failing-diamond",
         steps: &[

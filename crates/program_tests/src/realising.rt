@@ -1,4 +1,4 @@
-//! `realise`: what is refused before anything is run.
+//! `realise`: what is refused before any builder is run.
 use crate::scene::first_fault;
 use crate::steps::{Row, Step};
 use process_build::ByProcesses;
@@ -16,7 +16,7 @@ const DRAFT: &str = "Derive([(\"out\",\"\",\"\",\"\")],[],[],\"x86_64-linux\",\"
     \"exit 0\"],[(\"out\",\"\")])";
 
 static ROWS: [Row; 3] = [
-    // The folder is looked at before the words, each word before the file of the first.
+    // The store folder is tested before the words, and all words before the first file is opened.
     Row {
         name: "realise-no-words",
         steps: &[
@@ -49,7 +49,7 @@ static ROWS: [Row; 3] = [
             Step::Left(1),
         ],
     },
-    // A refused journal stays as it is.
+    // A refused journal is not changed.
     Row {
         name: "realise-no-journal",
         steps: &[
@@ -63,7 +63,7 @@ static ROWS: [Row; 3] = [
             Step::Left(3),
         ],
     },
-    // The journal, in whose place a folder stands, cannot be read, but the plan is looked at first.
+    // A folder in the journal's place cannot be read, but the plan is tested first.
     Row {
         name: "realise-folder-for-journal",
         steps: &[

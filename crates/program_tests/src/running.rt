@@ -1,4 +1,4 @@
-//! Runs of the program on command lines, and what a run needs.
+//! Running the program on command lines, and what a run needs.
 
 use process_build::Builders;
 use sched_core::{Answer, Job, Reason};
@@ -11,7 +11,7 @@ use std::{env, fs, io};
 use store_run::{Build, Watch};
 use subcommands::run;
 
-/// The derivation of which nothing is set.
+/// The empty derivation.
 pub const NOTHING: &[u8; 28] = b"Derive([],[],[],\"\",\"\",[],[])";
 
 /// A run's exit status, and what it wrote.
@@ -25,8 +25,8 @@ pub struct Outcome {
     pub err: Vec<u8>,
 }
 
-/// What a call of the system needs of its host. No bound here is one of threads: where a function
-/// asks for one, what it calls may be handed to a thread.
+/// What a system call needs of its host. None of the bounds is for threads, since a function with
+/// such a bound may hand what it calls to a thread.
 pub trait Plain: Files + AllocGlobal + Wait + Clone + Drop {}
 
 impl<R: Files + AllocGlobal + Wait + Clone + Drop> Plain for R {}
@@ -62,7 +62,7 @@ impl Builders for Idle {
     }
 }
 
-/// Runs the program on a command line, with the builders that are made so.
+/// Runs the program on a command line, with builders that `make` makes.
 pub fn run_by<'a, R, M>(rt: &R, make: &M, words: &'a [&'a str]) -> Outcome
 where
     R: Files + AllocGlobal + Threads + Wait + Sync,
@@ -86,10 +86,10 @@ pub fn new_folder<R: Env + Files + AllocGlobal>(
     Ok(folder)
 }
 
-/// A writer that holds so many bytes, and refuses the next one.
+/// A writer that takes `room` bytes, and refuses the next one.
 #[derive(Drop)]
 pub struct Narrow {
-    /// How many bytes it still holds.
+    /// How many bytes it still takes.
     pub room: usize,
 }
 

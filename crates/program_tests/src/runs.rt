@@ -167,7 +167,7 @@ static USAGE_FAULTS: [Row; 2] = [
 ];
 
 static JOBS: [Row; 2] = [
-    // The number of builders is from 1 to 64, and is looked at before anything else.
+    // The number of builders is from 1 to 64, and is tested before anything else.
     Row {
         name: "refused-jobs",
         steps: &[
@@ -205,7 +205,7 @@ static JOBS: [Row; 2] = [
             ),
         ],
     },
-    // The least and the greatest number of builders are taken; the folder is refused then.
+    // The least and the greatest number of builders are accepted; then the folder is refused.
     Row {
         name: "accepted-jobs",
         steps: &[

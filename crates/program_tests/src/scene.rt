@@ -10,17 +10,17 @@ use std::process::Processes;
 use std::rt::Env;
 use std::test::Fail;
 
-/// A store folder of its own, and what the words in angle brackets stand for.
+/// A store folder of its own, and the words in angle brackets with their texts.
 #[derive(Drop)]
 pub struct Scene {
     pub site: Site,
     pub names: Names,
-    /// What a step wanted, and what came instead.
+    /// What a step wanted, and what it found instead.
     pub stray: String,
 }
 
 impl Scene {
-    /// An empty store folder, which the word `<dir>` stands for.
+    /// An empty store folder, for which the word `<dir>` stands.
     pub fn new<R: Env + Host>(rt: &R, process: u32, name: &str) -> Result<Scene, Fail> {
         let folder = new_folder(rt, process, name)?;
         let names = Names::of(rt.alloc(), folder.as_str())?;
@@ -42,7 +42,8 @@ impl Scene {
         Ok(scene)
     }
 
-    /// Takes these steps, one after another, until one does not do as it says. How many did.
+    /// Takes these steps, one after another, until one does not do as it says. Gives the number of
+    /// those that did.
     pub fn take<R: Host + Processes, M: Builders>(
         &mut self,
         rt: &R,
@@ -79,7 +80,7 @@ impl Scene {
         }
     }
 
-    // The same of a step with a narrow writer, or one that names a path.
+    // The same for a step with a narrow writer, or a step that names a path.
     fn takes_narrow<R: Host, M: Builders>(
         &mut self,
         rt: &R,
@@ -100,7 +101,7 @@ impl Scene {
         }
     }
 
-    // The same of a step that changes a file.
+    // The same for a step that changes a file.
     fn changes<R: Host>(&mut self, rt: &R, step: &Step) -> Result<bool, Fail> {
         match step {
             Step::Write(file, text) => self.write(rt, file, text),
@@ -114,7 +115,7 @@ impl Scene {
         }
     }
 
-    // The same of a step that looks at a file.
+    // The same for a step that looks at a file.
     fn finds<R: Host>(&mut self, rt: &R, step: &Step) -> Result<bool, Fail> {
         match step {
             Step::Holds(file, text) => self.holds(rt, file, text),
@@ -127,13 +128,13 @@ impl Scene {
         }
     }
 
-    /// Keeps what a step wanted, and what came instead.
+    /// Keeps what a step wanted, and what it found instead.
     pub fn strays(&mut self, alloc: Global, wanted: &str, came: &str) -> Result<bool, Fail> {
         self.stray = format!(in alloc; "wanted {wanted}, came {came}")?;
         Ok(false)
     }
 
-    /// A text in which each word in angle brackets is what it stands for.
+    /// A text in which each word in angle brackets is replaced by its text.
     pub fn said(&self, alloc: Global, text: &str) -> Result<String, Fail> {
         Ok(self.names.said(alloc, text)?)
     }
@@ -144,7 +145,7 @@ impl Scene {
     }
 }
 
-/// What is wrong with the first of these rows of which a step does not do as it says.
+/// The fault of the first of these rows in which a step does not do as it says.
 pub fn first_fault<R: Env + Host + Processes, M: Builders>(
     rt: &R,
     make: &M,
@@ -171,7 +172,7 @@ pub fn first_fault_by<R: Env + Host + Processes, M: Builders>(
     Ok(None)
 }
 
-// What is wrong with a row of which a step does not do as it says. Its folder is removed.
+// The fault of a row in which a step does not do as it says. The row's folder is removed.
 fn play<R: Env + Host + Processes, M: Builders>(
     rt: &R,
     make: &M,
@@ -188,8 +189,8 @@ fn play<R: Env + Host + Processes, M: Builders>(
     Ok(fault)
 }
 
-// What is wrong with a row of which so many steps did as they say: the name of the row, and the
-// number of its next step, counted from 0.
+// The fault of a row of which `taken` steps did as they say: the name of the row, and the number of
+// its next step, counted from 0.
 fn fault_of(
     alloc: Global,
     scene: &Scene,

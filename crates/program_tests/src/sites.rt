@@ -16,8 +16,8 @@ use store_run::Build;
 /// The entry of an environment by which a script finds its programs.
 pub const PATH: (&[u8], &[u8]) = (b"PATH", b"/usr/bin:/bin");
 
-/// How a builder is called: its path, its arguments, the entries of its environment behind those
-/// of its outputs, and its outputs.
+/// How a builder is called: its path, its arguments, the entries of its environment after those of
+/// its outputs, and its outputs.
 pub struct Call {
     pub builder: &'static [u8],
     pub args: &'static [&'static [u8]],
@@ -25,21 +25,22 @@ pub struct Call {
     pub outputs: &'static [&'static str],
 }
 
-/// What comes of a builder.
+/// The outcome of a builder.
 pub enum Made {
     /// An answer, whatever it is.
     Answered,
-    /// It fails for this reason.
+    /// No answer, for this reason.
     Failed(Reason),
     /// An answer with this exit status, if it has one.
     Ended(Option<i32>),
-    /// An answer that has so many trees, of which so many are none.
+    /// An answer with this number of places for trees, of which the second number are without a
+    /// tree.
     Trees(usize, usize),
     /// A file that holds this text.
     File(&'static str),
     /// A file that holds a line for each number from 1 to this one.
     Lines(u32),
-    /// A file in pieces of so many bytes.
+    /// A file in pieces of these numbers of bytes.
     Pieces(&'static [usize]),
     /// A folder with members of these names, each followed by a slash.
     Folder(&'static str),
@@ -53,7 +54,7 @@ pub struct Site {
 }
 
 impl Site {
-    /// A job that is to make these outputs, with an entry for each in its environment.
+    /// A job for these outputs, with an entry for each in its environment.
     pub fn job(&self, alloc: Global, builder: &[u8], outputs: &[&str]) -> Result<Job, Fail> {
         let mut job = Job {
             derivation: 0,
@@ -80,14 +81,14 @@ impl Site {
         Ok(job.outputs.push(JobOutput { name, path })?)
     }
 
-    // Builds a job as the first one.
+    // Builds a job as the job of lease 0.
     fn run<R: Host + Processes>(&self, rt: &R, job: &Job) -> Result<Answer, Reason> {
         ProcessBuild::new(rt.alloc(), rt, rt, self.folder.as_str())?.run(0, job)
     }
 }
 
 impl Scene {
-    // Whether a call of a builder makes this.
+    // Whether a call of a builder has this outcome.
     pub(crate) fn starts<R: Host + Processes>(
         &self,
         rt: &R,
@@ -100,7 +101,7 @@ impl Scene {
         self.is_made(rt.alloc(), &self.site.run(rt, &job), made)
     }
 
-    // Bytes, in which words are what they stand for where they are a text.
+    // Bytes; if they are a text, each word in it is replaced by its text.
     fn bytes(&self, alloc: Global, bytes: &[u8]) -> Result<Vec<u8>, Fail> {
         match str::from_utf8(bytes) {
             Ok(text) => Ok(self.said(alloc, text)?.into_bytes()),
@@ -108,7 +109,7 @@ impl Scene {
         }
     }
 
-    // Whether a script, which finds the usual programs, makes this.
+    // Whether a script, which finds the usual programs, has this outcome.
     pub(crate) fn builds<R: Host + Processes>(
         &self,
         rt: &R,
@@ -122,7 +123,7 @@ impl Scene {
         self.is_made(rt.alloc(), &self.site.run(rt, &job), made)
     }
 
-    // Whether this came of a builder.
+    // Whether a builder's outcome is this one.
     fn is_made(
         &self,
         alloc: Global,
@@ -166,7 +167,7 @@ fn entry(alloc: Global, key: &[u8], value: &[u8]) -> Result<EnvEntry, AllocError
     })
 }
 
-// A line for each number up to this one.
+// A line for each number from 1 to this one.
 fn lines_to(alloc: Global, last: u32) -> Result<Vec<u8>, Fail> {
     let mut lines = Vec::new(alloc);
     for line in 1..=last {
@@ -200,7 +201,7 @@ fn is_answer(alloc: Global, answer: &Answer, made: &Made) -> Result<bool, Fail> 
     }
 }
 
-// Whether there are as many pieces as sizes, each of its size.
+// Whether the pieces have these sizes.
 fn have_sizes(pieces: &[Vec<u8>], sizes: &[usize]) -> bool {
     let found = pieces.iter().map(|piece| piece.len());
     pieces.len() == sizes.len() && found.zip(sizes.iter()).all(|(one, other)| one == *other)

@@ -21,8 +21,8 @@ const BUILD: &str = "<dir>/.build-0";
 const NO_START: Made = Made::Failed(Reason::NoStart);
 
 static RUNS: [Row; 5] = [
-    // The environment that a script finds, its job's entries among it: `HOME`, `TMP` and `k`, and
-    // no `PATH`.
+    // The environment that a script finds, with its job's entries: `HOME`, `TMP` and `k`, and no
+    // `PATH`.
     Row {
         name: "environment",
         steps: &[Step::Start(
@@ -38,8 +38,8 @@ static RUNS: [Row; 5] = [
             Made::File("/path-not-set|h|<dir>|<dir>/.build-0|<dir>/.build-0|v\n"),
         )],
     },
-    // A builder that runs in silence, however much it prints, and finds no input: none of its streams
-    // is one of the run.
+    // A builder whose output is shown nowhere, however much it prints, and that finds no input: it
+    // has none of the run's streams.
     Row {
         name: "streams",
         steps: &[
@@ -66,7 +66,7 @@ static RUNS: [Row; 5] = [
             Step::Script("kill -9 $$", &["out"], Made::Ended(None)),
         ],
     },
-    // The wait is for the builder alone, and not for a child that it leaves running.
+    // The run waits for the builder alone, and not for a child that the builder leaves running.
     Row {
         name: "child",
         steps: &[
@@ -98,7 +98,7 @@ static RUNS: [Row; 5] = [
 ];
 
 static BUILDERS: [Row; 1] = [
-    // No such program, no program, a name that is sought along no path, a text that names no
+    // No such program, no program, a name that is searched for in no `PATH`, a text that names no
     // interpreter, a folder, a byte that isn't UTF-8, a zero byte.
     Row {
         name: "no-start",
@@ -173,8 +173,8 @@ static BUILDERS: [Row; 1] = [
 ];
 
 static TEXTS: [Row; 1] = [
-    // Texts that no process can be given are found before anything is removed: an argument or an
-    // entry of the environment.
+    // Texts that can't be given to a process are found before anything is removed: an argument or
+    // an entry of the environment.
     Row {
         name: "texts",
         steps: &[
@@ -309,7 +309,7 @@ fn texts_that_no_process_takes(rt: HostRuntime) -> Result<(), Fail> {
     Ok(())
 }
 
-// Processes of which none can be started, for this cause.
+// A host on which no process can be started, for this cause.
 #[derive(Drop)]
 struct NoProcess {
     cause: io::ErrorKind,
@@ -329,7 +329,7 @@ impl Processes for NoProcess {
     }
 }
 
-// Processes that run, and of which none can be waited for.
+// A host on which processes run that can't be waited for.
 #[derive(Drop)]
 struct LostProcesses;
 
@@ -367,7 +367,7 @@ impl Processes for LostProcesses {
     }
 }
 
-// Why a job of which no process can be started fails, if the build folder is removed.
+// Why a job fails for which no process can be started, if the build folder is removed.
 fn refusal<R: Files + AllocGlobal>(
     rt: &R,
     site: &Site,
@@ -382,8 +382,8 @@ fn refusal<R: Files + AllocGlobal>(
     Ok(if stands { None } else { reason })
 }
 
-// Want of memory at the start is told as such, any other cause as a start that failed; a wait that
-// fails is none of these.
+// Want of memory at the start has its own reason, and every other cause the reason of a failed
+// start. A failed wait has another reason.
 #[test]
 fn refused_starts(rt: HostRuntime) -> Result<(), Fail> {
     let folder = new_folder(&rt, process::id(rt.process()), "refused-starts")?;

@@ -1,10 +1,10 @@
-//! The rows of tests of the program: what is done in a store folder, and what comes of it.
+//! The rows of tests of the program: what is done in a store folder, and with what result.
 //!
-//! A word in angle brackets stands for what differs from folder to folder: `<dir>` for the folder,
-//! and others for the paths that earlier steps name.
+//! A word in angle brackets stands for a text that differs from folder to folder: `<dir>` for the
+//! folder's path, and other words for the paths that earlier steps name.
 use crate::sites::{Call, Made};
 
-/// A row, whose steps are taken in a folder of that name.
+/// A row, whose steps are taken in a folder of the row's name.
 pub struct Row {
     pub name: &'static str,
     pub steps: &'static [Step],
@@ -13,25 +13,25 @@ pub struct Row {
 /// A step.
 pub enum Step {
     /// A command line is run. It writes these texts to standard output and standard error, and has
-    /// this status. Of a text that ends in `…` what is written may go on.
+    /// this status. Where a text ends in `…`, more may be written.
     Run(&'static str, &'static str, &'static str, u8),
-    /// A command line is run that writes these lines, by the paths in them, and the last text
-    /// behind them, and nothing to standard error. It has this status.
+    /// A command line is run. It writes these lines, ordered by the paths in them, and the last
+    /// text after them, and nothing to standard error. It has this status.
     Realise(&'static str, &'static [&'static str], &'static str, u8),
-    /// A command line is run, and standard output has room for so many bytes: it writes this to
-    /// standard error, and has this status.
+    /// A command line is run, and standard output has room for this number of bytes. The run writes
+    /// this text to standard error, and has this status.
     Room(&'static str, usize, &'static str, u8),
-    /// The same for each room that is less than a text.
+    /// The same with room for each number of bytes that is less than a text's.
     Rooms(&'static str, &'static str, &'static str, u8),
-    /// `add-drv` puts the derivation of a draft into the folder. Its name is a word for its path,
-    /// and its name with a dot and an output's is one for the output's path.
+    /// `add-drv` puts the derivation of a draft into the folder. Its name is a word for its path;
+    /// its name, a dot and an output's name are a word for the output's path.
     Put(&'static str, &'static str),
-    /// The same of two drafts under this name, each with its word. In both `<try>` stands for the
-    /// first number, from 0, with which the first path is the lesser.
+    /// The same for two drafts under this name, each with its word. In both drafts `<try>` stands
+    /// for the first number, from 0, with which the first path is the lesser.
     Twins(&'static str, (&'static str, &'static str), (&'static str, &'static str)),
-    /// A builder is called, and makes this.
+    /// A builder is called, and has this outcome.
     Start(Call, Made),
-    /// A script that is to make these outputs makes this.
+    /// A script runs as the builder of these outputs, and has this outcome.
     Script(&'static str, &'static [&'static str], Made),
     /// A word for the path that a text gets under a name.
     TextPath(&'static str, &'static str, &'static str),
@@ -41,9 +41,9 @@ pub enum Step {
     Order(&'static str, &'static str),
     /// A file is written with a text.
     Write(&'static str, &'static str),
-    /// A file is written with this byte, so many times.
+    /// A file is written with this byte, repeated this number of times.
     Fill(&'static str, u8, usize),
-    /// A folder is made, and those in which it stands.
+    /// A folder is made, and the folders above it.
     Folder(&'static str),
     /// A file or folder gets these permissions.
     Mode(&'static str, u32),
@@ -55,14 +55,14 @@ pub enum Step {
     Remove(&'static str),
     /// A file has this text.
     Holds(&'static str, &'static str),
-    /// A file's text ends so.
+    /// A file ends with this text.
     Ends(&'static str, &'static str),
     /// A file or folder has these permissions.
     HasMode(&'static str, u32),
-    /// A link stands at the path.
+    /// There is a link at the path.
     IsLink(&'static str),
-    /// Whether something lies at a path, be it a link that leads nowhere.
+    /// Whether something lies at a path, even a link that leads nowhere.
     Stands(&'static str, bool),
-    /// So many files and folders stand in the store folder.
+    /// The store folder has this number of files and folders.
     Left(usize),
 }

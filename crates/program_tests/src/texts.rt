@@ -1,4 +1,4 @@
-//! Words in angle brackets, and what they stand for.
+//! Words in angle brackets, and the texts for which they stand.
 use crate::scene::Scene;
 use nix_drv::text_path;
 use nix_names::{StoreDir, StorePath, make_path};
@@ -7,7 +7,7 @@ use std::alloc::{AllocError, Global};
 use std::str;
 use std::test::Fail;
 
-/// Words in angle brackets, and what they stand for.
+/// Words in angle brackets, and the texts for which they stand.
 #[derive(Drop)]
 pub struct Names {
     names: Vec<(String, String)>,
@@ -28,7 +28,7 @@ impl Names {
         Ok(self.names.push((word, text))?)
     }
 
-    /// A text in which each word is what it stands for.
+    /// A text in which each word is replaced by its text.
     pub fn said(&self, alloc: Global, text: &str) -> Result<String, AllocError> {
         let mut said = String::from_str(alloc, text)?;
         for (word, meant) in &self.names {
@@ -38,7 +38,7 @@ impl Names {
     }
 }
 
-/// A text with another in the place of each word.
+/// A text in which each `word` is replaced by `meant`.
 pub fn replaced(alloc: Global, text: &str, word: &str, meant: &str) -> Result<String, AllocError> {
     let parts: Vec<&str> = text.split(word).collect(alloc)?;
     parts.join(alloc, meant)
@@ -50,7 +50,7 @@ pub fn text_of(alloc: Global, bytes: &[u8]) -> Result<String, Fail> {
 }
 
 impl Scene {
-    // Names the path that a text gets under a name, by the rule alone.
+    // Names the path that a text gets under a name, by the rule of text paths.
     pub(crate) fn name_text(
         &mut self,
         alloc: Global,
@@ -64,7 +64,7 @@ impl Scene {
         self.name_path(alloc, word, &path)
     }
 
-    // Names the path of a draft's output, by the rule alone.
+    // Names the path of a draft's output, by the rule of output paths.
     pub(crate) fn name_output(
         &mut self,
         alloc: Global,

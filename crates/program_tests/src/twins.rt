@@ -10,11 +10,11 @@ use std::{fs, process};
 
 const JOURNAL: &str = "<dir>/realiser-journal";
 
-// How many numbers are tried at most. Of two paths each number makes others, so at each the first
-// is the lesser as often as not.
+// How many numbers are tried at most. Each number gives two other paths, of which the first is the
+// lesser in one of two cases.
 const MOST_TRIES: usize = 64;
 
-// The drafts of two makers of one file, which is empty. The first fails, or is for another system.
+// The drafts of twins whose output is an empty file. The first fails, or is for another system.
 const FAILING: &str = "Derive([(\"out\",\"\",\"sha256\",\
     \"e3b0c44298fc1c149afbf4c8996fb92427ae41e4649b934ca495991b7852b855\")],[],[],\
     \"x86_64-linux\",\"/bin/sh\",[\"-c\",\"exit 1 # <try>\"],[(\"out\",\"\")])";
@@ -37,13 +37,13 @@ const F_BEFORE_G: &str =
 const G_BEFORE_F: &str =
     "nix_realise realise --store-dir <dir> --system x86_64-linux --jobs <jobs> <g> <f>";
 
-// The digest is SHA-256 of no bytes.
+// The digest is the SHA-256 digest of no bytes.
 const MADE_BY_G: &str = "realiser-journal 2\nD <g>\nO <g.out> \
     sha256:e3b0c44298fc1c149afbf4c8996fb92427ae41e4649b934ca495991b7852b855\n";
 
 // In each command line `<jobs>` stands for the number of workers.
 static ROWS: [Row; 5] = [
-    // The second one is built where the first has failed.
+    // The second twin is built where the first has failed.
     Row {
         name: "failing-twin-first",
         steps: &[
@@ -73,7 +73,7 @@ static ROWS: [Row; 5] = [
             Step::Left(5),
         ],
     },
-    // A user of one that failed is refused, though the other made the same file.
+    // A user of the twin that failed is refused, though the other twin made the same file.
     Row {
         name: "user-of-both-twins",
         steps: &[
@@ -97,7 +97,7 @@ static ROWS: [Row; 5] = [
             Step::Left(6),
         ],
     },
-    // What is for another system is reused where it is the second one, and refused where it is the
+    // A twin for another system is reused where it is the second one, and refused where it is the
     // first.
     Row {
         name: "foreign-system-twin-second",
@@ -135,7 +135,7 @@ fn rows() -> &'static [Row] {
 
 impl Scene {
     // Puts the derivations of two drafts under one name, the first at the lesser path, and names
-    // their paths and their outputs'.
+    // their paths and their outputs' paths.
     pub(crate) fn put_twins<R: Host>(
         &mut self,
         rt: &R,
