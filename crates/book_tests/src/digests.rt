@@ -1,5 +1,5 @@
 //! Derivations with a fixed output by each other algorithm than SHA-256, and runs over them. Paths
-//! and digests were computed apart, with Python's hashlib.
+//! and digests were computed with Python's hashlib.
 use crate::builders::Script;
 use crate::files::File;
 use crate::rows::{BUILT, END, FAILED, OUTPUT, Row, VERSION};

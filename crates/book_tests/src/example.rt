@@ -21,7 +21,7 @@ use store_run::{Build, Ended, Watch, realise};
 use valid_table::{Journal, Outlet};
 use valid_view::{Name, Naming};
 
-// The paths were computed apart, with Python's hashlib.
+// The paths were computed with Python's hashlib.
 const LEFT: &[u8] = b"/nix/store/jbgzpvl5d32l046pn5l2g0zdhnnw9lvb-left.drv";
 
 const LEFT_TEXT: &[u8] =

@@ -1,4 +1,4 @@
-//! Files of the tests of books; their paths were computed apart, with Python's hashlib.
+//! Files of the tests of books. Their paths were computed with Python's hashlib.
 
 /// A file: its path and its bytes.
 pub(crate) struct File {
