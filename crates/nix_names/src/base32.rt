@@ -18,7 +18,7 @@ const ALPHABET: &[u8; 32] = b"0123456789abcdfghijklmnpqrsvwxyz";
 // The same characters as bits: bit c mod 32 of word c / 32 is set where c is one of them.
 const DIGIT_BITS: &[u32; 8] = &[0, 0x03ff_0000, 0, 0x07cf_7fde, 0, 0, 0, 0];
 
-/// The base-32 text of bytes: `ceil(8n / 5)` characters for n bytes, and none for none.
+/// The base-32 text of bytes: `ceil(8n / 5)` characters for n bytes.
 ///
 /// Fails with `NoMemory` alone. Costs one allocation of the text's length, and one step for each
 /// character.
@@ -48,7 +48,7 @@ pub fn base32_text(alloc: Global, bytes: &[u8]) -> Result<String, AllocError>
 /// Fails with the first of these that holds: `BadLength` where the text has not `ceil(8n / 5)`
 /// bytes, `BadChar` with the place of the first byte that is no digit, counted from 0, and
 /// `Overflow` where a bit that the `n` bytes leave spare is set. So each list of bytes has one
-/// text. `NoMemory` comes only where none of them does. Costs one allocation of `n` bytes, and a
+/// text. `NoMemory` comes only where no other fault does. Costs one allocation of `n` bytes, and a
 /// few steps for each character.
 pub fn from_base32(alloc: Global, text: &[u8], n: usize) -> Result<Vec<u8>, NameFault>
     ensures { Answers (base32_fault text.now n) result (λ bytes.
@@ -156,7 +156,7 @@ fn digit_from_end(text: &[u8], place: usize) -> u8
     }
 }
 
-// The digit of a character, or 32 where it is none of the alphabet. Costs a few comparisons.
+// The digit of a character, or 32 if it is not in the alphabet. Costs a few comparisons.
 #[tactic(auto, using(crate::proofs::Base32Runs::digits))]
 fn digit_of(character: u8) -> u8
     ensures { result ≡ digit_of character }

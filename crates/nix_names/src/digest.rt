@@ -88,8 +88,8 @@ impl Digest {
         }
     }
 
-    /// The digest of an algorithm with these lower-case hexadecimal digits, where the text is just
-    /// that many of them.
+    /// The digest of an algorithm with these lower-case hexadecimal digits; `None` if the text has
+    /// another length or another character.
     pub fn of_digits(algorithm: Algorithm, digits: &[u8]) -> Option<Digest>
         ensures { MatchOption result
             ((digest : ADigest) → IsDigest digest → algorithm_of digest ≡ algorithm
@@ -162,7 +162,7 @@ fn halves(text: &[u8]) -> Option<(&[u8], &[u8])>
     Some((&text[..colon], &text[colon + 1..]))
 }
 
-// The bytes with these lower-case hexadecimal digits, where the text is just that many of them.
+// The bytes with these lower-case hexadecimal digits; `None` if the text is something else.
 fn decoded<const N: usize>(digits: &[u8]) -> Option<[u8; N]>
     requires { N ≤ 64 }
     ensures { MatchOption result
@@ -183,8 +183,8 @@ fn decoded<const N: usize>(digits: &[u8]) -> Option<[u8; N]>
     }
 }
 
-// The bytes with these lower-case hexadecimal digits. Another text gives some bytes, too. The code
-// has no branch on a digit.
+// The bytes with these lower-case hexadecimal digits. For another text the bytes mean nothing. The
+// code has no branch on a digit.
 fn read_pairs<const N: usize>(digits: &[u8]) -> [u8; N]
     requires { length digits.now ≡ 2 * N }
     ensures { (bytes : List ℕ) → All (λ b. b < 256) bytes → digits.now ≡ encode_lower bytes
@@ -197,7 +197,7 @@ fn read_pairs<const N: usize>(digits: &[u8]) -> [u8; N]
     bytes
 }
 
-// The value of a lower-case hexadecimal digit. Another byte has some value, too.
+// The value of a lower-case hexadecimal digit. For another byte it means nothing.
 fn nibble(digit: u8) -> u8
     ensures below { result < 16 }
     ensures value { (value : ℕ) → value < 16 → digit ≡ slice_index lower_digits value

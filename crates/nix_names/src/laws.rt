@@ -12,7 +12,7 @@ pub fn base32_is_the_text()
         → (StandsFor text bytes ↔ (text ≡ base32 bytes)) }
 {}
 
-/// A text stands for at most one list of so many bytes.
+/// A text stands for at most one list of each length.
 pub fn text_stands_for_one()
     ensures { (text a b : List ℕ) → length a ≡ length b
         → All (λ x. x < 256) a → All (λ x. x < 256) b

@@ -25,7 +25,7 @@ pub fn fold20(digest: &[u8; 32]) -> [u8; 20]
 }
 
 /// The path of a folder whose hash part is the folded SHA-256 of the fingerprint
-/// `<kind>:sha256:<inner in hex>:<folder>:<name>`. `BadName` where the name is none.
+/// `<kind>:sha256:<inner in hex>:<folder>:<name>`. `BadName` if the name is not allowed.
 /// Costs one SHA-256 of the fingerprint and one copy of the folder and the name.
 pub fn make_path(
     alloc: Global,

@@ -103,7 +103,7 @@ impl StorePath {
         self.shared.key
     }
 
-    // All behind the last slash.
+    // The base name: the bytes after the last slash.
     fn base(&self) -> &[u8]
         ensures value { result.now ≡ base_of self.now }
         ensures is_path { IsStorePath self.now }

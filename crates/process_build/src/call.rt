@@ -27,7 +27,7 @@ impl<'a> Setting<'a> {
     }
 }
 
-/// A program, its arguments in order, and what its environment is to have by the derivation.
+/// A program, its arguments in order, and the entries that the derivation gives its environment.
 #[derive(Drop)]
 pub struct Call<'a> {
     pub builder: &'a str,
@@ -56,7 +56,7 @@ impl<'a> Call<'a> {
     }
 }
 
-// Some bytes as texts.
+// Lists of bytes as texts.
 fn texts_of(alloc: Global, all: &[Vec<u8>]) -> Result<Vec<&str>, Reason>
     ensures texts { IfOk result (λ texts.
         map (λ t. t.now) texts.items ≡ map (λ b. b.items) all.now) }

@@ -15,8 +15,8 @@ const NO_PATH: &str = "/path-not-set";
 // A home that isn't there.
 const NO_HOME: &str = "/homeless-shelter";
 
-/// The entries of a builder's environment, in the order in which they are set; a later one takes
-/// the place of an earlier one with the same key.
+/// The entries of a builder's environment, in the order in which they are set. A later one
+/// replaces an earlier one with the same key.
 pub fn settings<'a>(
     alloc: Global,
     store_dir: &'a str,
@@ -33,7 +33,7 @@ pub fn settings<'a>(
     Ok(settings)
 }
 
-// What the derivation's entries take the place of.
+// The entries that the derivation's entries replace.
 fn settings_before(store_dir: &str) -> [Setting<'_>; 3]
     ensures { map entry_of_setting result ≡ entries_before store_dir.now }
 {
@@ -44,7 +44,7 @@ fn settings_before(store_dir: &str) -> [Setting<'_>; 3]
     ]
 }
 
-// What takes the place of the derivation's entries.
+// The entries that replace the derivation's entries.
 fn settings_after(folder: &str) -> [Setting<'_>; 6]
     ensures { map entry_of_setting result ≡ entries_after folder.now }
 {

@@ -2,17 +2,18 @@
 //! nothing.
 ghost use Rattle.process_build.specs.Progress.{AllNeverFalls, NumbersAddUp, OrderIsNoMatter, UnsettledNeverRises};
 
-/// Where no more jobs ended than began, those that run and those that ended are those that began.
+/// If no more jobs ended than began, the jobs that run and those that ended are the jobs that
+/// began.
 pub fn numbers_add_up()
     ensures { NumbersAddUp }
 {}
 
-/// However many calls are heard behind others, the number of all never falls.
+/// The number of all derivations never falls, whichever calls are heard later.
 pub fn all_never_falls()
     ensures { AllNeverFalls }
 {}
 
-/// However many calls are heard behind others, the number of unsettled derivations never rises.
+/// The number of unsettled derivations never rises, whichever calls are heard later.
 pub fn unsettled_never_rises()
     ensures { UnsettledNeverRises }
 {}

@@ -12,7 +12,7 @@ use std::io::Write;
 use std::sync::{Mutex, Wait};
 use store_run::{Build, Watch};
 
-// A tally, and where it is told.
+// A tally, and the terminal to which its line is written.
 #[derive(Drop)]
 struct Shown<W> {
     tally: Tally,
@@ -21,7 +21,7 @@ struct Shown<W> {
 }
 
 impl<W: Write> Shown<W> {
-    // Tells the tally while a job runs, and else takes the line away.
+    // Writes the line while a job runs, and clears it otherwise.
     fn tell(&mut self, alloc: Global) -> io::Result<()>
         ensures tally { self.new.tally ≡ self.old.tally }
         ensures told { (calls : List Heard) → IsTallyOf calls self.old.tally → OnOk result
@@ -35,7 +35,7 @@ impl<W: Write> Shown<W> {
     }
 }
 
-// The line while a job runs, and else, or where there was no memory for it, what takes it away.
+// The line while a job runs. If no job runs, or there is no memory for the line, what clears it.
 fn text_of(running: usize, line: &Result<String, AllocError>) -> &str
     ensures { result.now ≡ shown_text running line.now }
 {
@@ -47,8 +47,8 @@ fn text_of(running: usize, line: &Result<String, AllocError>) -> &str
 
 /// The line of progress of a run: how many derivations are being built, how many were built and how
 /// many failed, how many wait, and how many were to be built when the first was begun. It is
-/// written anew when one begins or ends, and gone where none is being built or where there is no
-/// memory for it.
+/// written again when a build begins or ends. It is cleared while nothing is being built and if
+/// there is no memory for it.
 #[derive(Drop)]
 pub struct Progress<W> {
     shown: Mutex<Shown<W>>,
@@ -63,7 +63,7 @@ impl<W: Write> Progress<W> {
         }
     }
 
-    // A job begins, while so many derivations are unsettled.
+    // A job begins, while `unsettled` derivations are unsettled.
     fn begin<R: Wait + AllocGlobal>(&self, rt: &R, unsettled: usize) {
         let mut shown = self.shown.lock(rt);
         shown.tally.begin(unsettled);
@@ -71,7 +71,7 @@ impl<W: Write> Progress<W> {
         let _ = shown.tell(rt.alloc());
     }
 
-    // A job ended, well or not, and so many derivations are unsettled.
+    // A job ended, well or not, and `unsettled` derivations are unsettled.
     fn end<R: Wait + AllocGlobal>(&self, rt: &R, is_good: bool, unsettled: usize) {
         let mut shown = self.shown.lock(rt);
         shown.tally.end(is_good, unsettled);
@@ -120,7 +120,7 @@ pub struct Watching<'a, R, M, W> {
 }
 
 impl<'a, R, M, W> Watching<'a, R, M, W> {
-    /// Those that are made so, told by this line.
+    /// Makes these builders, and tells their builds by this line.
     pub fn new(rt: &'a R, make: &'a M, progress: &'a Progress<W>) -> Watching<'a, R, M, W> {
         Watching { rt, make, progress }
     }

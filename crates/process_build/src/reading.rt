@@ -19,7 +19,7 @@ const MAX_PIECE: usize = 65_536;
 // How many bytes of a folder's names are read at once; there is room for any name.
 const NAMES_AT_ONCE: usize = 4_096;
 
-/// What lies at the path of each output of a job, in the job's order, none where nothing does; or
+/// What lies at the path of each output of a job, in the job's order, `None` where nothing does; or
 /// the first fault. A folder's entries are read in the byte order of their names.
 pub fn read_outputs<R: Files + AllocGlobal>(rt: &R, job: &Job) -> Result<Vec<Option<Tree>>, Reason>
     ensures { IfOk result (λ trees. length trees.items ≡ length job.now.outputs.items) }
@@ -48,8 +48,7 @@ pub enum Node {
     Folder,
 }
 
-// What lies at a path, by what asking for it gave; a fault where that is neither a file nor a
-// folder.
+// What lies at a path, by the system's answer. A fault if it is neither a file nor a folder.
 fn node_of(asked: io::Result<Metadata>) -> Result<Option<Node>, Reason>
     ensures found { IfOk asked (λ found. IsNodeOf (file_type found) result) }
     ensures fault { IfErr asked (λ error. IsNoNode error result) }
@@ -93,7 +92,7 @@ impl<'a, R: Files + AllocGlobal> Reader<'a, R> {
         })
     }
 
-    // What lies at a path, where this was found, with at most so many levels below its own.
+    // What lies at a path, by what was found there, with at most `below` levels below its own.
     #[cycle(tree)]
     fn tree(&mut self, node: Node, path: &str, below: usize) -> Result<Tree, Reason> {
         match node {
@@ -186,7 +185,7 @@ impl<'a, R: Files + AllocGlobal> Reader<'a, R> {
     }
 }
 
-// Reads once, or anew where a signal came between.
+// Reads once, and again if a signal interrupted it.
 fn read_once<F: Read>(file: &mut F, buffer: &mut [u8]) -> io::Result<usize>
     ensures same { length buffer.new ≡ length buffer.old }
     ensures count { IfOk result (λ count. count ≤ length buffer.old) }

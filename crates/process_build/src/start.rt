@@ -17,7 +17,7 @@ use std::io::ErrorKind;
 use std::os::unix::process::CommandExt;
 use std::process::{Child, Command, Processes, Stdio};
 
-/// Runs a builder in its folder, and gives its exit status, none where a signal ended it. It waits
+/// Runs a builder in its folder, and gives its exit status, `None` if a signal ended it. It waits
 /// for the builder alone, and not for what that one has started. `NoStart` where it can't be
 /// started, `ReadFault` where it was and its end can't be waited for.
 pub fn run_builder<P: Processes>(
@@ -33,8 +33,8 @@ pub fn run_builder<P: Processes>(
     Ok(status.code())
 }
 
-// Starts a builder, or tries anew where a signal came between, as at the opening of its empty
-// input: then none was started.
+// Starts a builder, again if a signal interrupted the start, for example at the opening of its
+// empty input: then no process was started.
 fn start<P: Processes>(command: &mut Command, processes: &P) -> io::Result<Child<P::Started>> {
     for _ in 0..u64::MAX {
         match command.spawn(processes) {

@@ -4,11 +4,11 @@ ghost use Rattle.process_build.specs.Progress.{AreNumbersOf, Began, Ended, Heard
 
 use std::alloc::{AllocError, Global};
 
-/// What takes a terminal's line away: to its first column, and nothing from there on (ECMA-48, EL).
+/// What clears a terminal's line: back to the first column, then erase to the end (ECMA-48, EL).
 pub const NO_LINE: &str = "\r\x1b[K";
 
-// What has a terminal cut what follows at its last column, and begin a new line there again
-// (DECAWM).
+// What turns a terminal's line wrapping off, so that a long line is cut at the last column, and on
+// again (DECAWM).
 const CUT: &str = "\x1b[?7l";
 
 const WRAP: &str = "\x1b[?7h";
@@ -38,7 +38,7 @@ impl Tally {
         }
     }
 
-    /// A job begins, while so many derivations are unsettled.
+    /// A job begins, while `unsettled` derivations are unsettled.
     pub fn begin(&mut self, unsettled: usize)
         ensures { (calls : List Heard) → IsTallyOf calls self.old
             → IsTallyOf (calls ++ Began unsettled ∷ []) self.new }
@@ -47,7 +47,7 @@ impl Tally {
         self.learn(unsettled);
     }
 
-    /// A job ended, well or not, and so many derivations are unsettled.
+    /// A job ended, well or not, and `unsettled` derivations are unsettled.
     pub fn end(&mut self, is_good: bool, unsettled: usize)
         ensures { (calls : List Heard) → IsTallyOf calls self.old
             → IsTallyOf (calls ++ Ended is_good unsettled ∷ []) self.new }
@@ -60,8 +60,8 @@ impl Tally {
         self.learn(unsettled);
     }
 
-    // Learns how many derivations are unsettled. That number only falls, so of two that come in the
-    // wrong order the less is the newer.
+    // Notes how many derivations are unsettled. That number only falls, so of two that come in the
+    // wrong order the lesser is the newer.
     fn learn(&mut self, unsettled: usize)
         ensures { self.new ≡ record self.old {
           all = max self.old.all unsettled;
@@ -99,9 +99,9 @@ pub struct Numbers {
     pub built: usize,
     /// How many ended otherwise.
     pub failed: usize,
-    /// How many derivations have something before them, and don't run.
+    /// How many derivations are unsettled and do not run.
     pub waiting: usize,
-    /// How many had something before them at first.
+    /// How many were unsettled at first.
     pub all: usize,
 }
 
