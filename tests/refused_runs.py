@@ -128,6 +128,8 @@ class Realise(Runs):
             return {"print": "", "wait": "end", "thread": self.threads()}[call.kind]
         if path in self.drv.values():
             return "derivation"
+        if "/.nix_realise-left-" in path:
+            return "folder aside" if self.has_started(calls, at) else "name aside"
         made = [c.kind for c in calls[: at + 1]].count("create")
         if path == str(self.journal) and call.kind != "rename":
             looks = [c.path for c in calls[: at + 1] if c.kind == "look"].count(path)
@@ -202,7 +204,7 @@ class Realise(Runs):
             stray.append(JOURNAL)
         for name in SCRIPTS:
             held, new = self.names_of(found, name), self.names_of(last, name)
-            has_begun = stands in ("new", "outputs") or is_last or known[name]
+            has_begun = stands in ("new", "moved", "outputs") or is_last or known[name]
             if has_begun and held != new:
                 stray.append(self.out[name])
             if stands in ("old", "left") and held != self.names_of(self.laid, name):
@@ -216,7 +218,7 @@ class Realise(Runs):
         """The derivations that the journal has to know."""
         if stands in ("old", "left", "outputs"):
             return set()
-        if stands == "new" or is_last:
+        if stands in ("new", "moved") or is_last:
             return set(SCRIPTS)
         if stands == "less":
             lost = {"first", "second"} if self.failed == "first" else {self.failed}
@@ -230,7 +232,7 @@ class Realise(Runs):
             if name == JOURNAL or self.of_output(str(self.store / name)):
                 continue
             is_own = re.match(r"\.build-[012](/|$)|\.nix_realise-(left-)?[0-4](/|$)", name)
-            if is_own and stands in (None, "left"):
+            if is_own and stands in (None, "left", "moved"):
                 if name in found:
                     self.left.add(name)
                 continue

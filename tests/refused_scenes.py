@@ -29,7 +29,7 @@ READING = "look open read"
 # The scenes, the kinds of call, where the call was made; what is told, and what stands then: the
 # old files, the new ones, the new text beside the old journal (text), outputs that the old journal
 # does not know (outputs), all but what needs the derivation (less), the old files and a temporary
-# one that could not be removed (left).
+# one that could not be removed (left), the new ones and a folder that should be gone (moved).
 ROWS = [
     ("check", READING, "derivation", "bad", "old"),
     ("add-text", "open read", "file", "file", "old"),
@@ -49,11 +49,13 @@ ROWS = [
     ("realise", "thread", "only", "no thread", "old"),
     ("realise", "thread", "one of two", "ever", "new"),
     ("realise", "look", "free place", "NoStart", "less"),
-    ("realise", "look open-folder list remove", "taken place", "ever", "new"),
+    ("realise", "look remove", "taken place", "ever", "new"),
+    ("realise", "look rename", "name aside", "NoStart", "less"),
+    ("realise", "look rename open-folder list remove", "folder aside", "ever", "moved"),
     ("realise", "make-folder open spawn", "start", "NoStart", "less"),
     ("realise", "wait", "end", "ReadFault", "less"),
     ("realise", "look open read open-folder list", "output", "ReadFault", "less"),
-    ("realise", "look open-folder list remove", "build folder", "ever", "new"),
+    ("realise", "look remove", "build folder", "ever", "new"),
     ("realise", WRITING, "journal written", "unwritten", "outputs"),
     ("realise", "print", "", "unprinted", "new"),
     ("words", "open read", "file", "file", "old"),
@@ -184,7 +186,7 @@ class Scene:
         """What each own file may be, by its name."""
         if stands == "old" or stands == "left":
             return {name: (old,) for name, (old, _) in self.own.items()}
-        if stands == "new":
+        if stands in ("new", "moved"):
             return {name: (new,) for name, (_, new) in self.own.items()}
         return self.own
 
@@ -198,7 +200,7 @@ class Scene:
         for name in set(found) | set(self.laid):
             if name in self.own:
                 continue
-            if name not in self.laid and DOTTED.match(name) and stands in (None, "left"):
+            if name not in self.laid and DOTTED.match(name) and stands in (None, "left", "moved"):
                 self.left.add(name)
             elif found.get(name) != self.laid.get(name):
                 stray.append(name)
