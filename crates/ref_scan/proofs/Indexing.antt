@@ -1,7 +1,8 @@
 -- The index of hash parts: what its sieve and a search in it tell, and a mark set by it.
-use Rattle.std.proofs.Common.{◌≡◌, ◌≢◌, ◌∙◌, ℕ, ◌+◌, ◌<◌, Bool, true, false, List, [], ◌∷◌, ◌++◌, inl, inr, ⊎_elim, length, get_or, get_or-set_same, get_or-set_other, map, nat_eq, set, refl, sym, ap, subst, arith, Some}
+use Rattle.std.proofs.Common.{◌≡◌, ◌∙◌, ℕ, zero, suc, ◌+◌, ◌<◌, ◌≤◌, Bool, true, false, List, [], ◌∷◌, ◌++◌, inl, inr, ⊎_elim, length, get_or, get_or-set_same, get_or-set_other, map, nat_eq, set, take, refl, sym, ap, subst, arith, Some}
 use Rattle.std.specs.Prelude.{All, Contains, IsTrue, Result, Ok, Err, IsOk, OnOk}
 use Rattle.std.specs.Cmp.Lexicographic.{pointwise, slice_cmp, texts_ties}
+use Rattle.std.specs.Int.{to_be_bytes, w64}
 use Rattle.std.specs.List.{dedup}
 use Rattle.std.specs.List.Sorted.{IsBinarySearchResult, IsPermutation, IsSearchInRange, IsSorted}
 use Rattle.std.specs.Ordering.{is_eq, is_lt, nat_cmp, ordering_reverse}
@@ -9,10 +10,11 @@ use Rattle.std.specs.Result.{result_ok}
 use Rattle.std.specs.declared.cmp.Ordering.TheVariants.{Less, Equal, Greater}
 use Rattle.std.proofs.lemmas.Bool.{false≢true, cases_eq, cases_lt}
 use Rattle.std.proofs.lemmas.Cmp.{nat_list_cmp_total, tied_itself}
-use Rattle.std.proofs.lemmas.List.{length-set}
+use Rattle.std.proofs.lemmas.List.{length-set, length-take-le}
 use Rattle.std.proofs.lemmas.List.Elements.{All-push, Contains-get_or}
 use Rattle.std.proofs.lemmas.List.Sorted.{searchable_from_sorted}
 use Rattle.std.proofs.lemmas.Map.Keys.{Less-from_sorted}
+use Rattle.std.proofs.lemmas.Nat.{be_bytes_8}
 use Rattle.nix_names.specs.Rising.{IsRising}
 use Rattle.nix_names.specs.StorePaths.{hash_part_of, is_hash_part}
 use Rattle.nix_names.proofs.Lists.{Contains-map}
@@ -116,9 +118,13 @@ parts_sorted paths parts sorted value each moved ordered =
 
 -- ---- the sieve
 
--- a sieve of so many slots lets a key through
+-- a sieve of so many slots lets the parts through that begin with these eight characters
+abbrev pub Passes : ℕ → List ℕ → List ℕ → Type 0
+Passes slots sieve first = LetsThrough (get_or sieve (slot_of slots first) 0) (tag_of first)
+
+-- and those of a key
 abbrev pub Sieves : ℕ → List ℕ → ℕ → Type 0
-Sieves slots sieve key = LetsThrough (get_or sieve (slot_of slots key) 0) (tag_of key)
+Sieves slots sieve key = Passes slots sieve (to_be_bytes w64 key)
 
 -- the key of a part is one of the keys
 key_within : (parts : List (List ℕ)) (keys window : List ℕ) → keys ≡ map key_of_part parts
@@ -127,44 +133,59 @@ key_within parts keys window is has =
     subst (λ ks. Contains ks (key_of_part window)) (sym is)
     (Contains-map key_of_part parts window has)
 
+-- the first of some bytes are bytes
+front_small : (n : ℕ) (bytes : List ℕ) → ((i : ℕ) → get_or bytes i 0 < 256) → (i : ℕ)
+    → get_or (take n bytes) i 0 < 256
+front_small zero bytes small i = omega arith
+front_small (suc n) [] small i = omega arith
+front_small (suc n) (b ∷ bytes) small zero = small zero
+front_small (suc n) (b ∷ bytes) small (suc i) = front_small n bytes (λ j. small (suc j)) i
+
 pub stopped :
-    (parts : List (List ℕ)) (keys sieve window : List ℕ) (key : ℕ) →
+    (parts : List (List ℕ)) (keys sieve window first : List ℕ) →
     keys ≡ map key_of_part parts →
-    key ≡ key_of_part window →
+    first ≡ take 8 window →
+    8 ≤ length window →
+    ((i : ℕ) → get_or window i 0 < 256) →
     IsSieve keys sieve →
-    ¬ Sieves (length sieve) sieve key →
+    ¬ Passes (length sieve) sieve first →
     Contains parts window → ⊥
-stopped parts keys sieve window key is of_window sieved none has =
+stopped parts keys sieve window first is begins long small sieved none has =
+    let key = key_of_part window in
     let within = key_within parts keys window is has in
-    let here = within.2 ∙ sym of_window in
-    none (subst (Sieves (length sieve) sieve) here
-    (sieved.each within.0 (key_of_part window) within.1))
+    let chars : to_be_bytes w64 key ≡ take 8 window =
+    be_bytes_8 (take 8 window) key (length-take-le 8 window long) (front_small 8 window small) refl
+    in
+    none (subst (Passes (length sieve) sieve) (chars ∙ sym begins)
+    (subst (Sieves (length sieve) sieve) within.2 (sieved.each within.0 key within.1)))
 
 pub sieve_more :
-    (keys sieve : List ℕ) (key slots slot new : ℕ) →
-    slot ≡ slot_of slots key →
+    (keys sieve first : List ℕ) (key slots slot new : ℕ) →
+    first ≡ to_be_bytes w64 key →
+    slot ≡ slot_of slots first →
     slot < length sieve →
-    LetsThrough new (tag_of key) →
-    ((other : ℕ) → other ≢ 0 → LetsThrough (get_or sieve slot 0) other → LetsThrough new other) →
+    LetsThrough new (tag_of first) →
+    ((other : ℕ) → LetsThrough (get_or sieve slot 0) other → LetsThrough new other) →
     All (Sieves slots sieve) keys →
     All (Sieves slots (set sieve slot new)) (keys ++ key ∷ [])
-sieve_more keys sieve key slots slot new is fits here stays before =
+sieve_more keys sieve first key slots slot new of_key is fits here stays before =
     let set_here = get_or-set_same sieve slot new 0 fits in
     All-push (Sieves slots (set sieve slot new)) keys key
     (λ k d lt.
-    let q = get_or keys k d in
+    let q = to_be_bytes w64 (get_or keys k d) in
     ⊎_elim
     (λ (e : slot_of slots q ≡ slot).
     subst (λ n. LetsThrough (get_or (set sieve slot new) n 0) (tag_of q)) (sym e)
     (subst (λ v. LetsThrough v (tag_of q)) (sym set_here)
-    (stays (tag_of q) (λ zero. absurd (omega (arith, zero)))
+    (stays (tag_of q)
     (subst (λ n. LetsThrough (get_or sieve n 0) (tag_of q)) e (before k d lt)))))
     (λ (ne : slot_of slots q ≡ slot → ⊥).
     subst (λ v. LetsThrough v (tag_of q))
     (sym (get_or-set_other sieve slot (slot_of slots q) new 0 ne)) (before k d lt))
     (cases_eq (slot_of slots q) slot))
-    (subst (λ n. LetsThrough (get_or (set sieve slot new) n 0) (tag_of key)) is
-    (subst (λ v. LetsThrough v (tag_of key)) (sym set_here) here))
+    (subst (Passes slots (set sieve slot new)) of_key
+    (subst (λ n. LetsThrough (get_or (set sieve slot new) n 0) (tag_of first)) is
+    (subst (λ v. LetsThrough v (tag_of first)) (sym set_here) here)))
 
 -- ---- a mark
 

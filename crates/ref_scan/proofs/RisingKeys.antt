@@ -1,5 +1,5 @@
 -- Keys of paths that rise strictly: their hash parts do, and a search for a key tells a part.
-use Rattle.std.proofs.Common.{◌≡◌, ◌∙◌, ℕ, zero, suc, ◌+◌, ◌<◌, ◌≤◌, true, List, [], ◌∷◌, length, get_or, inl, inr, is_some, map, refl, sym, ap, subst, arith, None, Some}
+use Rattle.std.proofs.Common.{◌≡◌, ◌∙◌, ℕ, zero, suc, ◌+◌, ◌<◌, ◌≤◌, Bool, true, List, [], ◌∷◌, length, get_or, inl, inr, is_some, map, refl, sym, ap, subst, arith, None, Some}
 use Rattle.std.specs.Prelude.{All, Contains, IsTrue, Result, Ok, Err}
 use Rattle.std.specs.List.{AllByRecursion}
 use Rattle.std.specs.List.Sorted.{IsBinarySearchResult}
@@ -15,7 +15,7 @@ use Rattle.nix_names.specs.Rising.{IsRising}
 use Rattle.nix_names.specs.StorePaths.{IsStorePath, hash_part_of, is_hash_part}
 use Rattle.nix_names.proofs.Keys.{lesser_hash_part}
 use Rattle.nix_names.proofs.PathTexts.{hash_part_of_is}
-use Rattle.ref_scan.specs.Places.{ArePartsOf, NumbersRise, key_of_part, part_at}
+use Rattle.ref_scan.specs.Places.{ArePartsOf, Indexed, IsIndex, NumbersRise, key_of_part, part_at, parts_told}
 use Rattle.ref_scan.proofs.Indexing.{parts_as_paths}
 
 -- ---- numbers that rise
@@ -121,7 +121,7 @@ key_missing parts keys window key place is of_window rises apart has =
       | inr behind ↦ absurd (omega (arith, at.3, of_window, sides.2 at.0 behind at.1))
     ]
 
-pub other_part :
+other_part :
     (parts : List (List ℕ)) (keys window : List ℕ) (key place : ℕ) →
     keys ≡ map key_of_part parts →
     key ≡ key_of_part window →
@@ -150,7 +150,7 @@ none_found parts keys window key (Ok k) is of_window rises here none =
 none_found parts keys window key (Err place) is of_window rises apart none =
     key_missing parts keys window key place is of_window rises apart
 
-pub one_found :
+one_found :
     (keys : List ℕ) (key place : ℕ) (found : Result ℕ ℕ) →
     NumbersRise keys →
     IsBinarySearchResult (λ y. nat_cmp y key) keys found →
@@ -162,7 +162,7 @@ one_found keys key place (Ok k) rises here some =
 one_found keys key place (Err k) rises here some = absurd (false≢true (sym (ap is_some some)))
 
 -- the part at the place of a key is that of its path
-pub part_at_key :
+part_at_key :
     (paths parts : List (List ℕ)) (keys path : List ℕ) (place : ℕ) →
     map hash_part_of paths ≡ parts →
     keys ≡ map key_of_part parts →
@@ -179,4 +179,46 @@ part_at_key paths parts keys path place are is within here =
       inside,
       ap (λ ps. part_at ps place) (sym are) ∙ get_or-map hash_part_of paths place path [] below
           ∙ ap hash_part_of (sym here),
+    )
+
+-- ---- a search in an index by keys
+
+-- what a contract sees of an index
+abbrev pub seen : Bool → List (List ℕ) → List (List ℕ) → Indexed
+seen in_order paths apart = record {
+  permitted = paths;
+  parts = parts_told in_order paths apart;
+  in_order = in_order;
+}
+
+-- a search for a window's key that finds a place tells the part there, and that no part is the
+-- window where that one is not
+pub part_found :
+    {in_order : Bool} {paths apart : List (List ℕ)} {keys sieve slice : List ℕ} {now : Indexed}
+    (window path : List ℕ) (key place : ℕ) (found : Result ℕ ℕ) →
+    IsIndex in_order paths keys apart sieve →
+    seen in_order paths apart ≡ now →
+    IsTrue now.in_order →
+    key ≡ key_of_part window →
+    slice ≡ keys →
+    IsBinarySearchResult (λ y. nat_cmp y key) slice found →
+    Some place ≡ result_ok found →
+    path ≡ get_or paths place path →
+    (place < length now.parts) × (part_at now.parts place ≡ hash_part_of path)
+    × ((part_at now.parts place ≡ window → ⊥) → Contains now.parts window → ⊥)
+part_found {in_order} {paths} {apart} {keys} {now} window path key place found index view by_keys
+    of_window sliced searched_for some at =
+    let ordered : in_order ≡ true = ap (λ v. v.in_order) view ∙ by_keys in
+    let told : parts_told in_order paths apart ≡ now.parts = ap (λ v. v.parts) view in
+    let are : map hash_part_of paths ≡ now.parts =
+    ap (λ b. parts_told b paths apart) (sym ordered) ∙ told in
+    let of_parts : keys ≡ map key_of_part now.parts = index.of_parts ∙ ap (map key_of_part) told in
+    let rises = index.rising ordered in
+    let here = subst (λ ks. IsBinarySearchResult (λ y. nat_cmp y key) ks found) sliced searched_for
+    in
+    let one = one_found keys key place found rises here some in
+    let there = part_at_key paths now.parts keys path place are of_parts one.0 at in (
+      there.0,
+      there.1,
+      other_part now.parts keys window key place of_parts of_window rises one.0 one.1,
     )

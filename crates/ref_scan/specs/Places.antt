@@ -1,6 +1,6 @@
 -- The hash parts that are sought, their keys, and the sieve that tells most other windows apart.
-use Rattle.std.specs.Prelude.{◌≡◌, ℕ, ◌+◌, ◌-◌, ◌*◌, ◌/◌, ◌%◌, ◌^◌, ◌<◌, ◌⊎◌, Bool, false, List, [], length, map, take, bit_and, Option, Some, None, All, Contains, IsTrue, if◌then◌else◌}
-use Rattle.std.specs.Int.{from_be_bytes, w64}
+use Rattle.std.specs.Prelude.{◌≡◌, ℕ, ◌+◌, ◌-◌, ◌*◌, ◌/◌, ◌%◌, ◌^◌, ◌<◌, ◌⊎◌, ◌≢◌, Bool, false, List, [], length, map, take, drop, bit_and, slice_index, Option, Some, None, All, Contains, IsTrue, if◌then◌else◌}
+use Rattle.std.specs.Int.{from_be_bytes, from_le_bytes, to_be_bytes, w32, w64}
 use Rattle.std.specs.List.{slice_index_or}
 use Rattle.nix_names.specs.Bytes.{Bytes, Path}
 use Rattle.nix_names.specs.Rising.{IsRising}
@@ -19,21 +19,27 @@ IsPlaceOfPart parts window (Some k) = (k < length parts) × (part_at parts k ≡
 abbrev pub key_of_part : Bytes → ℕ
 key_of_part part = from_be_bytes w64 (take 8 part)
 
--- a key times a constant, modulo 2^64: each bit of the key counts in the high bits
+-- the word of a part's first eight characters: the last four as one little-endian number
+unfoldable pub word_of : (first : Bytes) → ℕ
+word_of first = from_le_bytes w32 (drop 4 first)
+
+-- a word times a constant, modulo 2^64: each bit of the word counts in the high bits
 abbrev pub mixed : ℕ → ℕ
-mixed key = key * 11400714819323198485 % 2 ^ 64
+mixed word = word * 11400714819323198485 % 2 ^ 64
 
--- the slot of a key in a sieve of `slots` slots, by the twenty high bits of the mixed key
-abbrev pub slot_of : (slots key : ℕ) → ℕ
-slot_of slots key = bit_and (mixed key / 2 ^ 44) (slots - 1)
+-- the slot of a part that begins with these characters in a sieve of `slots` slots, by the twenty
+-- high bits of the mixed word
+abbrev pub slot_of : (slots : ℕ) → (first : Bytes) → ℕ
+slot_of slots first = bit_and (mixed (word_of first) / 2 ^ 44) (slots - 1)
 
--- the tag of a key, 1 to 128, by seven other bits of the mixed key
-abbrev pub tag_of : ℕ → ℕ
-tag_of key = mixed key / 2 ^ 36 % 128 + 1
+-- the tag of a part that begins with these characters: the character before its word
+abbrev pub tag_of : (first : Bytes) → ℕ
+tag_of first = slice_index first 3
 
--- a slot lets keys with this tag through: it holds the tag, or 255, which lets every key through
+-- a slot lets parts with this tag through: it holds the tag, or 255, which lets every part through;
+-- 0 lets none through
 abbrev pub LetsThrough : (held tag : ℕ) → Type 0
-LetsThrough held tag = (held ≡ tag) ⊎ (held ≡ 255)
+LetsThrough held tag = ((held ≡ tag) × (held ≢ 0)) ⊎ (held ≡ 255)
 
 -- Hash parts that rise strictly.
 pub record AreHashParts (parts : List Bytes) : Type 0 where
@@ -43,8 +49,9 @@ pub record AreHashParts (parts : List Bytes) : Type 0 where
 -- A sieve has at least one slot, and lets each of the keys through.
 pub record IsSieve (keys sieve : List ℕ) : Type 0 where
   pub some : 0 < length sieve
-  pub each : All (λ key. LetsThrough (slice_index_or sieve (slot_of (length sieve) key) 0)
-      (tag_of key)) keys
+  pub each : All (λ key. LetsThrough
+      (slice_index_or sieve (slot_of (length sieve) (to_be_bytes w64 key)) 0)
+      (tag_of (to_be_bytes w64 key))) keys
 
 -- The hash part of each path is one of the parts. Parts that are in order are those of the paths,
 -- in the order of the paths.

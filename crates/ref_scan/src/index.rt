@@ -1,8 +1,8 @@
 //! Which hash part a window of 32 bytes is, told at once for any window.
-ghost use Rattle.std.specs.Prelude.{◌≡◌, ◌≢◌, ◌⊎◌, ◌<◌, [], ℕ, All, IfOk, IsTrue, false, length, map};
+ghost use Rattle.std.specs.Prelude.{◌≡◌, ◌≢◌, ◌⊎◌, ◌<◌, [], ℕ, All, IfOk, IsTrue, false, length, map, take};
 ghost use Rattle.nix_names.specs.Keys.{key_of};
 ghost use Rattle.nix_names.specs.StorePaths.{IsStorePath, hash_part_of, is_hash_part};
-ghost use Rattle.ref_scan.specs.Places.{ArePartsOf, IsPlaceOfPart, IsSieve, LetsThrough, NumbersRise, key_of_part, mixed, slot_of, tag_of};
+ghost use Rattle.ref_scan.specs.Places.{ArePartsOf, IsPlaceOfPart, IsSieve, LetsThrough, NumbersRise, key_of_part, mixed, slot_of, tag_of, word_of};
 
 use nix_names::StorePath;
 use std::alloc::{AllocError, Global};
@@ -124,32 +124,33 @@ impl Index {
     pub(crate) fn place_of(&self, window: &[u8; 32]) -> Option<usize>
         ensures { IsPlaceOfPart self.now.parts window.now result }
     {
-        let key = key_of(window);
-        let held = self.sieve[slot_of(self.sieve.len(), key)];
-        if held != tag_of(key) && held != ALL {
+        let first = first_of(window);
+        let held = self.sieve[slot_of(self.sieve.len(), first)];
+        if held != tag_of(first) && held != ALL {
             return None;
         }
-        self.place_behind(window, key)
+        self.place_behind(window)
     }
 
-    // The same of a window whose key passed the sieve.
-    fn place_behind(&self, window: &[u8; 32], key: u64) -> Option<usize>
-        requires { key ≡ key_of_part window.now }
+    // The same of a window that passed the sieve, as few do.
+    #[cold]
+    #[inline(never)]
+    fn place_behind(&self, window: &[u8; 32]) -> Option<usize>
         ensures { IsPlaceOfPart self.now.parts window.now result }
     {
         if self.in_order {
-            self.place_by_key(window, key)
+            self.place_by_key(window)
         } else {
             self.apart.binary_search(window).ok()
         }
     }
 
     // The same where the parts stand as the paths do.
-    fn place_by_key(&self, window: &[u8; 32], key: u64) -> Option<usize>
-        requires in_order { IsTrue self.now.in_order }
-        requires key { key ≡ key_of_part window.now }
+    fn place_by_key(&self, window: &[u8; 32]) -> Option<usize>
+        requires { IsTrue self.now.in_order }
         ensures { IsPlaceOfPart self.now.parts window.now result }
     {
+        let key = key_of(window);
         let place = self.keys.binary_search(&key).ok()?;
         if self.paths[place].hash_part() == window.as_slice() {
             Some(place)
@@ -235,8 +236,9 @@ fn sieve_of(alloc: Global, keys: &[u64]) -> Result<Vec<u8>, AllocError>
     let slots = slot_count(keys.len());
     let mut sieve = vec![in alloc; NONE; slots]?;
     for key in keys {
-        let slot = slot_of(slots, *key);
-        sieve[slot] = both(sieve[slot], tag_of(*key));
+        let first = key.to_be_bytes();
+        let slot = slot_of(slots, &first);
+        sieve[slot] = both(sieve[slot], tag_of(&first));
     }
     Ok(sieve)
 }
@@ -244,16 +246,16 @@ fn sieve_of(alloc: Global, keys: &[u64]) -> Result<Vec<u8>, AllocError>
 // What a slot holds that lets two tags through.
 fn both(held: u8, tag: u8) -> u8
     ensures new { LetsThrough result tag }
-    ensures old { (other : ℕ) → other ≢ 0 → LetsThrough held other → LetsThrough result other }
+    ensures old { (other : ℕ) → LetsThrough held other → LetsThrough result other }
 {
-    if held == NONE || held == tag {
+    if tag != NONE && (held == NONE || held == tag) {
         tag
     } else {
         ALL
     }
 }
 
-// The slots of a sieve for so many parts.
+// How many slots a sieve for this many parts has.
 fn slot_count(parts: usize) -> usize
     ensures { 0 < result }
 {
@@ -263,41 +265,60 @@ fn slot_count(parts: usize) -> usize
         .next_power_of_two()
 }
 
-// A key, mixed so that each of its bits counts in the high ones.
+// The last four of eight characters as one number.
 #[inline(always)]
-fn mixed(key: u64) -> u64
-    ensures { result ≡ mixed key }
+#[tactic(auto, unfolding(crate::specs::Places::word_of))]
+fn word_of(first: &[u8; 8]) -> u32
+    ensures { result ≡ word_of first.now }
 {
-    key.wrapping_mul(0x9e37_79b9_7f4a_7c15)
+    match first.last_chunk::<4>() {
+        Some(last) => u32::from_le_bytes(*last),
+        None => unreachable!(),
+    }
 }
 
-// The slot of a key in a sieve of so many.
+// A word, mixed so that each of its bits counts in the high ones.
 #[inline(always)]
-fn slot_of(slots: usize, key: u64) -> usize
+fn mixed(word: u32) -> u64
+    ensures { result ≡ mixed word }
+{
+    u64::from(word).wrapping_mul(0x9e37_79b9_7f4a_7c15)
+}
+
+// The slot of a part that begins with these characters, in a sieve of `slots` slots.
+#[inline(always)]
+fn slot_of(slots: usize, first: &[u8; 8]) -> usize
     requires { 0 < slots }
-    ensures value { result ≡ slot_of slots key }
+    ensures value { result ≡ slot_of slots first.now }
     ensures within { result < slots }
 {
-    (mixed(key) >> 44) as usize & (slots - 1)
+    (mixed(word_of(first)) >> 44) as usize & (slots - 1)
 }
 
-// What tells keys of one slot apart, mostly.
+// What tells parts of one slot apart, mostly.
 #[inline(always)]
-fn tag_of(key: u64) -> u8
-    ensures { result ≡ tag_of key }
+fn tag_of(first: &[u8; 8]) -> u8
+    ensures { result ≡ tag_of first.now }
 {
-    ((mixed(key) >> 36) % 128) as u8 + 1
+    first[3]
+}
+
+// The first eight characters of a window.
+#[inline(always)]
+fn first_of(window: &[u8; 32]) -> &[u8; 8]
+    ensures { result.now ≡ take 8 window.now }
+{
+    match window.first_chunk::<8>() {
+        Some(first) => first,
+        None => unreachable!(),
+    }
 }
 
 // The key of a window.
-#[inline(always)]
 fn key_of(window: &[u8; 32]) -> u64
     ensures { result ≡ key_of_part window.now }
 {
-    match window.first_chunk::<8>() {
-        Some(first) => u64::from_be_bytes(*first),
-        None => unreachable!(),
-    }
+    u64::from_be_bytes(*first_of(window))
 }
 
 // The hash part of a path.

@@ -4,7 +4,7 @@ ghost use Rattle.ref_scan.specs.Kept.{last_bytes};
 
 use arrayvec::ArrayVec;
 
-// A hash part that stands in two pieces has at most so many bytes in each.
+// The most bytes that a hash part across the end of a piece has on one side of it.
 pub(crate) const KEPT: usize = 31;
 
 const SEAM: usize = 62;

@@ -55,7 +55,7 @@ impl Tree {
         self.room_beside(MAX_DEPTH - 1, room).is_some()
     }
 
-    // What is left of the room beside the tree, if it fits in with so many levels below its root.
+    // What is left of the room beside the tree, if it fits in with `below` levels below its root.
     fn room_beside(&self, below: usize, room: Room) -> Option<Room>
         ensures { MatchOption result (¬ FitsIn below room self.now)
             (λ left. Fills below room self.now left) }
@@ -92,7 +92,7 @@ fn room_beside_file(bytes: &[u8], room: Room) -> Option<Room>
     })
 }
 
-// What is left of so many bytes beside a file in pieces.
+// What is left of `bytes` bytes beside a file in pieces.
 fn bytes_beside(pieces: &[Vec<u8>], bytes: usize) -> Option<usize>
     ensures { MatchOption result (bytes < length (joined pieces.now))
         (λ left. left + length (joined pieces.now) ≡ bytes) }

@@ -10,6 +10,7 @@ loop-key-preserved c =
     let keys = c.args.keys.now in
     let i = c.loop-key.key-index in
     let key = get_or keys i 0 in
+    let first = c.to_be_bytes-first.result in
     let sieve = c.loop-key.sieve.items in
     let slots = c.slot_count-slots.result in
     let slot = c.slot_of-slot.result in
@@ -23,8 +24,9 @@ loop-key-preserved c =
       each =
           subst (All (Sieves slots (set sieve slot new)))
           (sym (take_more keys i 0 c.loop-key-test.true))
-          (sieve_more (take i keys) sieve key slots slot new c.slot_of-slot.ensures.value fits
+          (sieve_more (take i keys) sieve first key slots slot new c.to_be_bytes-first.ensures
+          c.slot_of-slot.ensures.value fits
           (subst (LetsThrough new) c.tag_of.ensures c.both.ensures.new)
-          (λ other some old. c.both.ensures.old other some
+          (λ other old. c.both.ensures.old other
           (subst (λ h. LetsThrough h other) (sym read) old)) held.each);
     }
