@@ -1,5 +1,5 @@
 //! Which hash part a window of 32 bytes is, told at once for any window.
-ghost use Rattle.std.specs.Prelude.{◌≡◌, ◌≢◌, ◌⊎◌, ◌<◌, [], ℕ, All, IfOk, IsTrue, false, length, map, take};
+ghost use Rattle.std.specs.Prelude.{◌≡◌, ◌⊎◌, ◌<◌, [], ℕ, All, IfOk, IsTrue, false, length, map, take};
 ghost use Rattle.nix_names.specs.Keys.{key_of};
 ghost use Rattle.nix_names.specs.StorePaths.{IsStorePath, hash_part_of, is_hash_part};
 ghost use Rattle.ref_scan.specs.Places.{ArePartsOf, IsPlaceOfPart, IsSieve, LetsThrough, NumbersRise, key_of_part, mixed, slot_of, tag_of, word_of};
