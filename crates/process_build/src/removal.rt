@@ -37,6 +37,12 @@ impl<'a, R: Files + AllocGlobal> Clearing<'a, R> {
         }
         self.aside.reserve(1)?;
         let aside = move_aside(self.rt, self.store_dir, path)?;
+        self.note(aside)?;
+        Ok(())
+    }
+
+    // Notes the path of what was moved aside, in the room that there is for it.
+    fn note(&mut self, aside: String) -> Result<(), AllocError> {
         self.aside.push(aside)?;
         Ok(())
     }
