@@ -197,7 +197,7 @@ static RUN: [Row; 2] = [
         ],
         refusals: &[
             b"rrrrr", b"DDDMD", b"DDDMD", b"DDDMD", b"DDDMD", b"rRRMR", b"rJJMJ", b"JrJMJ",
-            b"JJJMJ", b"rNNON", b"NNNON", b"NrrOr", b"rNNON", b"NNNON", b"NNNON", b"NNNON",
+            b"JJJMJ", b"rNNON", b"NrrOr", b"NrrOr", b"rNNON", b"NNNON", b"NNNON", b"NNNON",
             b"XXXOX", b"0XXOX", b"XXXOX", b"XXXOX", b"XXXOX", b"rrrrr", b"rrrrr", b"rrrrr",
             b"rJJMJ", b"JrJMJ", b"JJJMJ", b"JJJMJ", b"JJJMJ",
         ],
