@@ -129,7 +129,8 @@ class Realise(Runs):
         if path in self.drv.values():
             return "derivation"
         if "/.nix_realise-left-" in path:
-            return "folder aside" if self.has_started(calls, at) else "name aside"
+            is_free = not self.has_started(calls, at) and not self.is_taken_by_another(calls, at)
+            return "name aside" if is_free else "folder aside"
         made = [c.kind for c in calls[: at + 1]].count("create")
         if path == str(self.journal) and call.kind != "rename":
             looks = [c.path for c in calls[: at + 1] if c.kind == "look"].count(path)
@@ -141,6 +142,13 @@ class Realise(Runs):
         if self.has_started(calls, at):
             return "output" if self.of_output(path) else "build folder"
         return "taken place" if self.is_taken(path) else "free place"
+
+    def is_taken_by_another(self, calls, at):
+        """Whether another worker moved something to the name of a refused rename, before the call's thread looked at it again."""
+        own, to = calls[at].thread, calls[at].path.split(" > ")[-1]
+        looks = (n for n in range(at + 1, len(calls)) if calls[n].thread == own and calls[n].kind == "look")
+        moves = [it for it in calls[: next(looks, at)] if it.kind == "rename" and it.thread != own]
+        return calls[at].kind == "rename" and any(it.path.split(" > ")[-1] == to for it in moves if not it.is_refused)
 
     def threads(self):
         return "only" if self.jobs == 1 else "one of two"
