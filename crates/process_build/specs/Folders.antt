@@ -13,7 +13,7 @@ use Rattle.sched_core.specs.declared.job.Job.{Job}
 abbrev pub build_folder_of : (store_dir : Dir) → (number : ℕ) → Bytes
 build_folder_of store_dir number = store_dir ++ codes "/.build-" ++ decimal number
 
--- the path to which something is moved that can't be removed
+-- the path to which something is moved that is not removed at once
 abbrev pub aside_of : (store_dir : Dir) → (number : ℕ) → Bytes
 aside_of store_dir number = store_dir ++ codes "/.nix_realise-left-" ++ decimal number
 

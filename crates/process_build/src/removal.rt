@@ -70,11 +70,18 @@ fn is_gone(removed: Result<(), Failure>) -> Result<bool, Failure>
 // Removes a file, a link or an empty folder.
 fn remove<R: Files + AllocGlobal>(rt: &R, path: &str) -> Result<(), Failure> {
     if fs::symlink_metadata(rt, path)?.is_dir() {
-        fs::remove_dir(rt, path)?;
+        remove_empty(rt, path)?;
     } else {
         fs::remove_file(rt, path)?;
     }
     Ok(())
+}
+
+// Removes an empty folder. It is kept open until then, if it can be opened: so the system frees it
+// when it is closed, and not in the removal, which locks the store folder for all workers.
+fn remove_empty<R: Files>(rt: &R, path: &str) -> io::Result<()> {
+    let _open = rt.open_dir(path);
+    fs::remove_dir(rt, path)
 }
 
 // Moves what lies at a path to the first name for such things that is free, and tells that path.

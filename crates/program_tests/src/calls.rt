@@ -166,14 +166,14 @@ static RUN: [Row; 2] = [
             OPENED,
             "lstat <any.out>\nlstat <dir>/.build-0\n",
             BUILT,
-            "lstat <dir>/.build-0\nrmdir <dir>/.build-0\n",
+            "lstat <dir>/.build-0\nlist <dir>/.build-0\nrmdir <dir>/.build-0\n",
             WRITTEN,
         ],
         refusals: &[
             b"rrrrr", b"DDDMD", b"DDDMD", b"DDDMD", b"DDDMD", b"rRRMR", b"rJJMJ", b"JrJMJ",
             b"JJJMJ", b"rNNON", b"rNNON", b"NNNON", b"NNNON", b"XXXOX", b"0XXOX", b"XXXOX",
-            b"XXXOX", b"XXXOX", b"rrrrr", b"rrrrr", b"rJJMJ", b"JrJMJ", b"JJJMJ", b"JJJMJ",
-            b"JJJMJ",
+            b"XXXOX", b"XXXOX", b"rrrrr", b"rrrrr", b"rrrrr", b"rJJMJ", b"JrJMJ", b"JJJMJ",
+            b"JJJMJ", b"JJJMJ",
         ],
         kept: &[NO_JOURNAL],
     },
@@ -189,17 +189,18 @@ static RUN: [Row; 2] = [
         line: "nix_realise realise --store-dir <dir> <any>",
         calls: &[
             OPENED,
-            "lstat <any.out>\nlstat <dir>/.build-0\nrmdir <dir>/.build-0\n\
+            "lstat <any.out>\nlstat <dir>/.build-0\nlist <dir>/.build-0\nrmdir <dir>/.build-0\n\
                 lstat <dir>/.nix_realise-left-0\nrename <dir>/.nix_realise-left-0\n",
             BUILT,
-            "lstat <dir>/.build-0\nrmdir <dir>/.build-0\nremove <dir>/.nix_realise-left-0\n",
+            "lstat <dir>/.build-0\nlist <dir>/.build-0\nrmdir <dir>/.build-0\n\
+                remove <dir>/.nix_realise-left-0\n",
             WRITTEN,
         ],
         refusals: &[
             b"rrrrr", b"DDDMD", b"DDDMD", b"DDDMD", b"DDDMD", b"rRRMR", b"rJJMJ", b"JrJMJ",
-            b"JJJMJ", b"rNNON", b"NrrOr", b"NrrOr", b"rNNON", b"NNNON", b"NNNON", b"NNNON",
-            b"XXXOX", b"0XXOX", b"XXXOX", b"XXXOX", b"XXXOX", b"rrrrr", b"rrrrr", b"rrrrr",
-            b"rJJMJ", b"JrJMJ", b"JJJMJ", b"JJJMJ", b"JJJMJ",
+            b"JJJMJ", b"rNNON", b"NrrOr", b"rrrrr", b"NrrOr", b"rNNON", b"NNNON", b"NNNON",
+            b"NNNON", b"XXXOX", b"0XXOX", b"XXXOX", b"XXXOX", b"XXXOX", b"rrrrr", b"rrrrr",
+            b"rrrrr", b"rrrrr", b"rJJMJ", b"JrJMJ", b"JJJMJ", b"JJJMJ", b"JJJMJ",
         ],
         kept: &[NO_JOURNAL],
     },

@@ -348,7 +348,7 @@ static LINKED: [Row; 5] = [
         name: "journal-linked",
         before: &[PUT, KEPT, KEPT_FILE],
         line: REALISE,
-        way: Way::Links(24, "<dir>/kept/file", JOURNAL),
+        way: Way::Links(25, "<dir>/kept/file", JOURNAL),
         told: BUILT,
         after: &[STILL_KEPT, Step::Holds(JOURNAL, WITH_OUTPUT)],
     },

@@ -5,10 +5,10 @@ use crate::scene::Scene;
 use crate::steps::Step;
 use crate::texts::replaced;
 use process_build::{ByProcesses, ProcessBuild};
+use sched_core::Build;
 use std::alloc::{AllocError, Global};
 use std::process;
 use std::test::Fail;
-use store_run::Build;
 
 // Three derivations without inputs, and their words.
 static PUTS: [Step; 3] = [
@@ -48,7 +48,7 @@ const LEASE: &str = "lstat <it.out>\nlstat <build>\nmkdir <build>\nspawn cd \"<b
     PATH=\"/path-not-set\" PWD=\"<build>\" TEMP=\"<build>\" TEMPDIR=\"<build>\" \
     TMP=\"<build>\" TMPDIR=\"<build>\" k=\"<it>\" out=\"<it.out>\" \"/bin/sh\" \"-c\" \
     \"echo made > $out\" Stdio { .. } Stdio { .. } Stdio { .. }\nlstat <it.out>\nopen <it.out>\n\
-    lstat <build>\nrmdir <build>\n";
+    lstat <build>\nlist <build>\nrmdir <build>\n";
 
 // The last calls of a run, which belong to no lease: the journal is written.
 const END: &str = "lstat <dir>/realiser-journal\ncreate <dir>/.nix_realise-0\nwrite \nsync \n\
