@@ -174,7 +174,9 @@ static JOBS: [Row; 2] = [
             Step::Run(
                 "nix_realise realise --store-dir x --jobs 0 x",
                 "",
-                "error: invalid value '0' for '--jobs <N>': 0 is not in 1..=64\n\
+                "error: invalid value '0' for '--jobs <N>': a number from 1 to 64 is expected\n\
+                    \n\
+                    Usage: nix_realise realise [OPTIONS] <DRV>...\n\
                     \n\
                     For more information, try '--help'.\n",
                 2,
@@ -182,7 +184,9 @@ static JOBS: [Row; 2] = [
             Step::Run(
                 "nix_realise realise --store-dir x --jobs 65 x",
                 "",
-                "error: invalid value '65' for '--jobs <N>': 65 is not in 1..=64\n\
+                "error: invalid value '65' for '--jobs <N>': a number from 1 to 64 is expected\n\
+                    \n\
+                    Usage: nix_realise realise [OPTIONS] <DRV>...\n\
                     \n\
                     For more information, try '--help'.\n",
                 2,
@@ -190,7 +194,9 @@ static JOBS: [Row; 2] = [
             Step::Run(
                 "nix_realise realise --store-dir x --jobs x x",
                 "",
-                "error: invalid value 'x' for '--jobs <N>': invalid digit found in string\n\
+                "error: invalid value 'x' for '--jobs <N>': a number from 1 to 64 is expected\n\
+                    \n\
+                    Usage: nix_realise realise [OPTIONS] <DRV>...\n\
                     \n\
                     For more information, try '--help'.\n",
                 2,
@@ -199,8 +205,11 @@ static JOBS: [Row; 2] = [
                 // The number is an empty word.
                 "nix_realise realise --store-dir x --jobs  x",
                 "",
-                "error: invalid value '' for '--jobs <N>': cannot parse integer from empty string\n\
-                    \nFor more information, try '--help'.\n",
+                "error: invalid value '' for '--jobs <N>': a number from 1 to 64 is expected\n\
+                    \n\
+                    Usage: nix_realise realise [OPTIONS] <DRV>...\n\
+                    \n\
+                    For more information, try '--help'.\n",
                 2,
             ),
         ],

@@ -3,9 +3,10 @@
 use Rattle.std.specs.Prelude.{◌≡◌, Bool, false, ℕ, List, [], Option, Some, None, codes, map, option_map}
 use Rattle.std.specs.Prelude.{unwrap_or}
 use Rattle.std.specs.Str.Parse.{IsNumeral, digits_value, without_leading_plus}
-use Rattle.clap.specs.Words.{Row, all_of, first_of, one_of, subcommand_of}
+use Rattle.clap.specs.Words.{Row, all_of, first_of, subcommand_of}
 use Rattle.nix_names.specs.Bytes.{Bytes, Dir, Name}
 use Rattle.nix_names.specs.Names.{same_bytes}
+use Rattle.store_run.specs.Realising.{AreWorkers}
 use Rattle.subcommands.specs.CommandLine.{command_line}
 use Rattle.subcommands.specs.declared.options.AddDrvRequest.{AddDrvRequest}
 use Rattle.subcommands.specs.declared.options.AddTextRequest.{AddTextRequest}
@@ -25,6 +26,10 @@ store_dir_in rows = unwrap_or (first_of (codes "store-dir") rows) (codes "/nix/s
 abbrev pub system_in : List Row → Bytes
 system_in rows = unwrap_or (first_of (codes "system") rows) (codes "x86_64-linux")
 
+-- the number of builders among them, as a text
+abbrev pub jobs_in : List Row → Bytes
+jobs_in rows = unwrap_or (first_of (codes "jobs") rows) (codes "1")
+
 -- the word with this name
 abbrev pub word_in : (name : Name) → List Row → Bytes
 word_in name rows = unwrap_or (first_of name rows) []
@@ -42,12 +47,15 @@ is_yes None = false
 abbrev pub dot_in : List Row → Bool
 dot_in rows = is_yes (first_of (codes "dot") rows)
 
--- the text is this number in decimal
-abbrev pub IsNumber : Option Bytes → ℕ → Type 0
-IsNumber None number = ⊥
-IsNumber (Some text) number =
+-- the text is this number in decimal, without a sign or behind a plus
+abbrev pub IsNumber : (text : Bytes) → ℕ → Type 0
+IsNumber text number =
     let digits : Bytes = without_leading_plus text in
     IsNumeral 10 digits × (number ≡ digits_value 10 digits)
+
+-- the text is this number of builders, from 1 to 64
+abbrev pub AreJobs : (text : Bytes) → ℕ → Type 0
+AreJobs text number = IsNumber text number × AreWorkers number
 
 -- what is asked of `check`
 pub record IsCheckRequest (rows : List Row) (request : CheckRequest) : Type 0 where
@@ -83,7 +91,7 @@ pub record IsPlanned (rows : List Row) (request : PlanRequest) : Type 0 where
 -- what is asked of `realise`
 pub record IsRealise (rows : List Row) (request : RealiseRequest) : Type 0 where
   pub run : IsRunRequest rows request.run
-  pub jobs : IsNumber (one_of (codes "jobs") rows) request.jobs
+  pub jobs : AreJobs (jobs_in rows) request.jobs
 
 -- what is asked by a subcommand with this name and these words and options
 abbrev pub IsAskedBy : (name : Name) → List Row → Request → Type 0

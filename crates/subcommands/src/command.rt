@@ -44,7 +44,7 @@ pub const DEFAULT_STORE_DIR: &str = "/nix/store";
 
 pub const DEFAULT_SYSTEM: &str = "x86_64-linux";
 
-const DEFAULT_JOBS: &str = "1";
+pub const DEFAULT_JOBS: &str = "1";
 
 /// The program's command line.
 pub fn command<'a>(alloc: Global) -> Result<Command<'a>, AllocError>
@@ -140,8 +140,8 @@ fn plan_command<'a>(alloc: Global) -> Result<Command<'a>, AllocError>
     .arg(wanted_drvs(alloc))
 }
 
-// The subcommand `realise`.
-fn realise_command<'a>(alloc: Global) -> Result<Command<'a>, AllocError>
+/// The subcommand `realise`.
+pub fn realise_command<'a>(alloc: Global) -> Result<Command<'a>, AllocError>
     ensures { IfOk result (λ command. app_of command ≡ realise_line) }
 {
     run_command(
@@ -214,7 +214,6 @@ fn jobs<'a>(alloc: Global) -> Arg<'a>
         .value_name("N")
         .help("How many builders run at a time, from 1 to 64")
         .default_value(DEFAULT_JOBS)
-        .value_parser(clap::value_parser!(u8).range(1..=64))
 }
 
 // The flag that asks for a graph.

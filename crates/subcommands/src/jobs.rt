@@ -1,6 +1,7 @@
 //! How many workers a command line asks for.
-ghost use Rattle.std.specs.Prelude.{◌≡◌, MatchOption};
+ghost use Rattle.std.specs.Prelude.{◌≡◌, MatchOption, ℕ};
 ghost use Rattle.store_run.specs.Realising.{AreWorkers};
+ghost use Rattle.subcommands.specs.Requests.{AreJobs};
 
 use std::marker::Model;
 
@@ -23,9 +24,22 @@ impl Model for Jobs {
 }
 
 impl Jobs {
-    /// The number of workers, if it is from 1 to 64.
-    pub fn new(count: u8) -> Option<Jobs>
-        ensures { MatchOption result (AreWorkers count → ⊥) (λ jobs. jobs ≡ count) }
+    /// The number of workers that a text names in decimal, if it is from 1 to 64. A plus may stand
+    /// before the digits.
+    pub fn from_text(text: &str) -> Option<Jobs>
+        ensures { MatchOption result ((count : ℕ) → ¬ (AreJobs text.now count))
+            (λ jobs. AreJobs text.now jobs) }
+    {
+        match text.parse::<u8>() {
+            Ok(count) => Jobs::new(count),
+            Err(_) => None,
+        }
+    }
+
+    // The number of workers, if it is from 1 to 64.
+    fn new(count: u8) -> Option<Jobs>
+        ensures { MatchOption result (AreWorkers count → ⊥)
+            (λ jobs. (jobs ≡ count) × AreWorkers count) }
     {
         if count == 0 || count > 64 {
             return None;

@@ -1,14 +1,14 @@
 //! The words of a command line, read by `clap`.
-ghost use Rattle.std.specs.Prelude.{◌≡◌, IfErr, IfOk, IfSome, codes, map, option_map};
-ghost use Rattle.clap.specs.Words.{first_of, found_of, kind_of, one_of, rows_of};
-ghost use Rattle.subcommands.specs.ProgramEndings.{IsAsked, IsOwnFault, IsUsageFault};
-ghost use Rattle.subcommands.specs.Requests.{IsAddDrv, IsAddText, IsAskedBy, IsCheckRequest, IsNumber};
-ghost use Rattle.subcommands.specs.Requests.{IsPlanned, IsRealise, IsRunRequest, dot_in, drvs_in, store_dir_in};
-ghost use Rattle.subcommands.specs.Requests.{system_in, word_in};
+ghost use Rattle.std.specs.Prelude.{◌≡◌, IfErr, IfOk, codes, map, option_map};
+ghost use Rattle.clap.specs.Words.{first_of, found_of, kind_of, rows_of};
+ghost use Rattle.subcommands.specs.ProgramEndings.{IsAsked, IsJobsFault, IsOwnFault, IsUsageFault};
+ghost use Rattle.subcommands.specs.Requests.{IsAddDrv, IsAddText, IsAskedBy, IsCheckRequest};
+ghost use Rattle.subcommands.specs.Requests.{IsPlanned, IsRealise, IsRunRequest, dot_in, drvs_in};
+ghost use Rattle.subcommands.specs.Requests.{jobs_in, store_dir_in, system_in, word_in};
 
 use crate::command::{
-    ADD_DRV, ADD_TEXT, CHECK, DEFAULT_STORE_DIR, DEFAULT_SYSTEM, DOT, DRVS, FILE, JOBS, JOURNAL,
-    NAME, PLAN, REALISE, STORE_DIR, SYSTEM, command,
+    ADD_DRV, ADD_TEXT, CHECK, DEFAULT_JOBS, DEFAULT_STORE_DIR, DEFAULT_SYSTEM, DOT, DRVS, FILE,
+    JOBS, JOURNAL, NAME, PLAN, REALISE, STORE_DIR, SYSTEM, command, realise_command,
 };
 use crate::jobs::Jobs;
 use crate::options::{
@@ -39,7 +39,8 @@ fn subcommand_request<'a>(
     found: &ArgMatches<'a>,
 ) -> Result<Request<'a>, Error>
     ensures ok { IfOk result (IsAskedBy name.now (rows_of (found_of found.now))) }
-    ensures err { IfErr result (λ e. IsOwnFault (kind_of e)) }
+    ensures err { IfErr result
+        (λ e. IsOwnFault name.now (rows_of (found_of found.now)) (kind_of e)) }
 {
     match name {
         CHECK => Ok(Request::Check(check_request(alloc, found)?)),
@@ -58,14 +59,16 @@ fn no_subcommand(alloc: Global) -> Result<Error, AllocError>
     command(alloc)?.error(ErrorKind::MissingSubcommand, "a subcommand is required")
 }
 
-// The usage fault of a command line whose number of builders is invalid.
-fn no_jobs(alloc: Global) -> Result<Error, AllocError>
+// The usage fault of `realise` for a text that is no number of builders.
+fn no_jobs(alloc: Global, text: &str) -> Result<Error, AllocError>
     ensures { IfOk result (λ e. kind_of e ≡ ErrorKind.ValueValidation) }
 {
-    command(alloc)?.error(
-        ErrorKind::ValueValidation,
-        "--jobs takes a number from 1 to 64",
-    )
+    let message = format!(in alloc;
+        "invalid value '{text}' for '--jobs <N>': a number from 1 to 64 is expected"
+    )?;
+    realise_command(alloc)?
+        .bin_name("nix_realise realise")?
+        .error(ErrorKind::ValueValidation, message.as_str())
 }
 
 /// The usage fault of a command line with a word that is not UTF-8.
@@ -124,10 +127,11 @@ fn plan_request<'a>(alloc: Global, found: &ArgMatches<'a>) -> Result<PlanRequest
 // The request of `realise`, by its matches.
 fn realise_request<'a>(alloc: Global, found: &ArgMatches<'a>) -> Result<RealiseRequest<'a>, Error>
     ensures ok { IfOk result (IsRealise (rows_of (found_of found.now))) }
-    ensures err { IfErr result (λ e. IsOwnFault (kind_of e)) }
+    ensures err { IfErr result (λ e. IsJobsFault (rows_of (found_of found.now)) (kind_of e)) }
 {
-    let Some(jobs) = jobs_of(found) else {
-        return Err(no_jobs(alloc)?);
+    let text = jobs_of(found);
+    let Some(jobs) = Jobs::from_text(text) else {
+        return Err(no_jobs(alloc, text)?);
     };
     let run = run_request(alloc, found)?;
     Ok(RealiseRequest { run, jobs })
@@ -159,6 +163,14 @@ fn system_of<'a>(found: &ArgMatches<'a>) -> &'a str
     ensures { result.now ≡ system_in (rows_of (found_of found.now)) }
 {
     found.get_str(SYSTEM).unwrap_or(DEFAULT_SYSTEM)
+}
+
+// The number of builders that the matches give, as a text, or the default one.
+#[tactic(auto, using(crate::proofs::Rows::first_row))]
+fn jobs_of<'a>(found: &ArgMatches<'a>) -> &'a str
+    ensures { result.now ≡ jobs_in (rows_of (found_of found.now)) }
+{
+    found.get_str(JOBS).unwrap_or(DEFAULT_JOBS)
 }
 
 // The path of the journal file, where the matches give one.
@@ -196,13 +208,4 @@ fn drvs_of<'a>(alloc: Global, found: &ArgMatches<'a>) -> Result<Vec<&'a str>, Al
         map (λ w. w.now) drvs.items ≡ drvs_in (rows_of (found_of found.now))) }
 {
     Vec::from_slice(alloc, found.get_strs(DRVS).unwrap_or(&[]))
-}
-
-// How many builders the matches ask for; none where that is no number from 1 to 64, which `clap`
-// has refused before.
-fn jobs_of(found: &ArgMatches<'_>) -> Option<Jobs>
-    ensures { IfSome result (λ jobs.
-        IsNumber (one_of (codes "jobs") (rows_of (found_of found.now))) jobs) }
-{
-    Jobs::new(found.get_one::<u8>(JOBS)?)
 }

@@ -1,12 +1,12 @@
-use Rattle.std.proofs.Common.{◌≡◌, ◌∙◌, ap, inl, map, refl, true, ℕ, List}
+use Rattle.std.proofs.Common.{◌≡◌, ◌∙◌, ap, map, refl, true, ℕ, List}
 use Rattle.std.proofs.lemmas.Result.{IfErr-weaker, IfOk-weaker, err_from_is_err_and}
 use Rattle.clap.specs.Faults.{is_simple_and_free}
-use Rattle.clap.specs.Words.{App, is_simple, subcommand_of}
+use Rattle.clap.specs.Words.{App, is_simple, kind_of, subcommand_of}
 use Rattle.clap.proofs.OnLiterals.{clap_on_literals}
 use Rattle.subcommands.proofs.Rows.{asked, met}
-use Rattle.subcommands.proofs.Usage.{fault_found, is_free, none_found}
+use Rattle.subcommands.proofs.Usage.{fault_found, is_free, none_found, own_fault}
 use Rattle.subcommands.specs.CommandLine.{command_line}
-use Rattle.subcommands.specs.ProgramEndings.{IsAsked}
+use Rattle.subcommands.specs.ProgramEndings.{IsAsked, IsUsageFault}
 use Rattle.subcommands.specs.Requests.{IsRequest}
 use Rattle.subcommands.proofs.words.request.Goals as goal
 
@@ -42,4 +42,14 @@ returns-in-Some-clause-ok c =
 
 pub returns-in-Some-clause-err : goal.returns-in-Some-clause-err
 returns-in-Some-clause-err c =
-    IfErr-weaker _ _ _ (λ error own. inl own) c.subcommand_request.ensures.err
+    let line = c.in_ok-command.ensures in
+    let words : List (List ℕ) = map (λ w. w.now) c.args.words.now in
+    let matches = c.in_ok-matches.ensures.matches (ap is_simple line ∙ is_read) in
+    let same = matches.1 ∙ ap (λ (app : App). subcommand_of app words) line in
+    let found = met c.in_ok-matches.matches _ _ c.in-Some.ensures.name c.in-Some.ensures.rows in
+    let none =
+    none_found words _ line
+    (c.in_ok-matches.ensures.kinds (ap is_simple_and_free line ∙ is_free)) in
+    IfErr-weaker c.subcommand_request.result _ (λ error. IsUsageFault words (kind_of error))
+    (λ error own. own_fault words c.in_ok-matches.matches _ (kind_of error) same found none own)
+    c.subcommand_request.ensures.err
