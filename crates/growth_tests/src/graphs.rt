@@ -1,0 +1,155 @@
+//! Calls on plans, drafts and modulo texts.
+
+use crate::calls::*;
+use crate::drvs::has_text;
+use crate::files::*;
+use drv_graph::*;
+use nix_drv::{Derivation, ListSource, read};
+use nix_names::{StoreDir, StorePath};
+use std::alloc::Global;
+use std::io::Print;
+use std::test::*;
+
+// Whether a plan's derivations have these paths, in its order.
+fn has_paths(plan: &Plan, texts: &[&[u8]]) -> bool {
+    let mut is_right = plan.len() == texts.len();
+    for number in 0..plan.len() {
+        is_right = is_right && texts.get(number) == Some(&plan.path(number).text());
+    }
+    is_right
+}
+
+// The paths of the plan of the diamond, in its order.
+const ORDER: [&[u8]; 4] = [BASE, RIGHT, LEFT, TOP];
+
+// The plan of the roots. Where memory was refused, it is loaded again from the same source. The
+// source's count of failures doesn't change.
+fn loaded<R: Print>(
+    rt: &R,
+    alloc: Global,
+    source: &mut ListSource,
+    roots: &[StorePath],
+) -> Result<Plan, Fail> {
+    let dir = store_dir(alloc)?;
+    begins(rt, "Plan::load");
+    let answer = Plan::load(alloc, source, &dir, roots);
+    ends(rt, "Plan::load");
+    if source.failures() != 0 {
+        return Err("no device failed".into());
+    }
+    match answer {
+        Err(GraphFault::NoMemory) => Ok(Plan::load(alloc, source, &dir, roots)?),
+        answer => Ok(answer?),
+    }
+}
+
+// The plan of `TOP`.
+fn loaded_top<R: Print>(rt: &R, alloc: Global) -> Result<Plan, Fail> {
+    let mut source = source(alloc)?;
+    let roots = paths(alloc, &[TOP])?;
+    loaded(rt, alloc, &mut source, &roots)
+}
+
+#[test]
+fn plans(rt: HostRuntime) -> Result<(), Fail> {
+    let alloc = rt.alloc();
+    let plan = loaded_top(&rt, alloc)?;
+    assert!(rt; has_paths(&plan, &ORDER));
+    begins(&rt, "Plan::copy");
+    let first = plan.copy(alloc);
+    ends(&rt, "Plan::copy");
+    let copy = granted(first, plan.copy(alloc))?;
+    assert!(rt; copy == plan);
+    Ok(())
+}
+
+// A draft, filled. Where memory was refused, it is filled again.
+fn filled<R: Print>(
+    rt: &R,
+    alloc: Global,
+    source: &mut ListSource,
+    draft: &Derivation,
+) -> Result<(Derivation, StorePath), Fail> {
+    let dir = store_dir(alloc)?;
+    begins(rt, "fill_outputs");
+    let answer = fill_outputs(alloc, source, &dir, b"left", draft);
+    ends(rt, "fill_outputs");
+    match answer {
+        Err(GraphFault::NoMemory) => Ok(fill_outputs(alloc, source, &dir, b"left", draft)?),
+        answer => Ok(answer?),
+    }
+}
+
+// The draft of `LEFT`, and the same draft filled.
+fn filled_left<R: Print>(
+    rt: &R,
+    alloc: Global,
+) -> Result<(Derivation, (Derivation, StorePath)), Fail> {
+    let mut source = source(alloc)?;
+    let draft = read(alloc, LEFT_DRAFT)?;
+    let filled = filled(rt, alloc, &mut source, &draft)?;
+    Ok((draft, filled))
+}
+
+#[test]
+fn drafts(rt: HostRuntime) -> Result<(), Fail> {
+    let (draft, (drv, path)) = filled_left(&rt, rt.alloc())?;
+    assert!(rt; has_text(rt.alloc(), &drv, LEFT_TEXT)? && path.text() == LEFT);
+    assert!(rt; has_text(rt.alloc(), &draft, LEFT_DRAFT)?);
+    Ok(())
+}
+
+// The masked text of `RIGHT`, with the hash of its input.
+const MASKED: &[u8] =
+    b"Derive([(\"out\",\"\",\"\",\"\")],[(\"aaaaaaaaaaaaaaaaaaaaaaaaaaaaaaaaaaaaaaaaaaaaaaaaaaaaaaaaaaaaaaaa\",[\"out\"])],[],\"x86_64-linux\",\"/bin/sh\",[],[])";
+
+// The masked modulo text of a derivation with one input.
+fn masked<R: Print>(rt: &R, alloc: Global, drv: &Derivation) -> Result<Vec<u8>, Fail> {
+    if drv.inputs().len() != 1 {
+        return Err("it has one input".into());
+    }
+    let hashes = [[0xaa; 32]];
+    begins(rt, "modulo_text");
+    let first = modulo_text(alloc, drv, &hashes, true);
+    ends(rt, "modulo_text");
+    Ok(granted(first, modulo_text(alloc, drv, &hashes, true))?)
+}
+
+#[test]
+fn modulo_texts(rt: HostRuntime) -> Result<(), Fail> {
+    let drv = read(rt.alloc(), RIGHT_TEXT)?;
+    let text = masked(&rt, rt.alloc(), &drv)?;
+    assert!(rt; text.as_slice() == MASKED);
+    Ok(())
+}
+
+// Whether a plan says of its last derivation what `TOP` has.
+fn is_top_told<R: Print>(rt: &R, plan: &Plan) -> bool {
+    let Some(number) = plan.len().checked_sub(1) else {
+        return false;
+    };
+    plan.drv(number).inputs().len() == 2
+        && plan.path(number).text() == TOP
+        && plan.inputs(number) == [1, 2].as_slice()
+        && plan.kind(number) == Kind::Addressed
+        && are_paths(rt, plan.output_paths(number), &[TOP_OUT])
+        && plan.first_twin(number) == number
+        && plan.sources(number).is_empty()
+        && plan.roots() == [number].as_slice()
+}
+
+#[test]
+fn without_memory(rt: HostRuntime) -> Result<(), Fail> {
+    let plan = plan(rt.alloc(), TOP)?;
+    begins(&rt, "drv_graph");
+    let is_told = is_top_told(&rt, &plan);
+    let numbers = [
+        GraphFault::NoMemory.number(),
+        NodeFault::Cycle.number(),
+        OutputFault::MixedOutputs.number(),
+    ];
+    ends(&rt, "drv_graph");
+    assert!(rt; is_told);
+    assert_eq!(rt; numbers, [9, 21, 24]);
+    Ok(())
+}
