@@ -130,7 +130,8 @@ impl Scene {
             let word = format!(in rt.alloc(); "{word}.{name}")?;
             self.names.bind(rt.alloc(), word.as_str(), output)?;
         }
-        Ok(self.names.bind(rt.alloc(), word, path).map(|()| true)?)
+        self.names.bind(rt.alloc(), word, path)?;
+        Ok(true)
     }
 }
 

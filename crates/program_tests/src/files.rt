@@ -11,7 +11,8 @@ impl Scene {
     pub(crate) fn write<R: Host>(&self, rt: &R, file: &str, text: &str) -> Result<bool, Fail> {
         let file = self.said(rt.alloc(), file)?;
         let text = self.said(rt.alloc(), text)?;
-        Ok(fs::write(rt, file.as_str(), text.as_bytes()).map(|()| true)?)
+        fs::write(rt, file.as_str(), text.as_bytes())?;
+        Ok(true)
     }
 
     pub(crate) fn fill<R: Host>(
@@ -23,32 +24,38 @@ impl Scene {
     ) -> Result<bool, Fail> {
         let file = self.said(rt.alloc(), file)?;
         let bytes = vec![in rt.alloc(); byte; length]?;
-        Ok(fs::write(rt, file.as_str(), bytes).map(|()| true)?)
+        fs::write(rt, file.as_str(), bytes)?;
+        Ok(true)
     }
 
     pub(crate) fn make_folder<R: Host>(&self, rt: &R, path: &str) -> Result<bool, Fail> {
         let path = self.said(rt.alloc(), path)?;
-        Ok(fs::create_dir_all(rt, path.as_str()).map(|()| true)?)
+        fs::create_dir_all(rt, path.as_str())?;
+        Ok(true)
     }
 
     pub(crate) fn set_mode<R: Host>(&self, rt: &R, path: &str, mode: u32) -> Result<bool, Fail> {
         let path = self.said(rt.alloc(), path)?;
-        Ok(fs::set_permissions(rt, path.as_str(), Permissions::from_mode(mode)).map(|()| true)?)
+        fs::set_permissions(rt, path.as_str(), Permissions::from_mode(mode))?;
+        Ok(true)
     }
 
     pub(crate) fn link<R: Host>(&self, rt: &R, to: &str, at: &str) -> Result<bool, Fail> {
         let (to, at) = (self.said(rt.alloc(), to)?, self.said(rt.alloc(), at)?);
-        Ok(rt.symlink(to.as_str(), at.as_str()).map(|()| true)?)
+        rt.symlink(to.as_str(), at.as_str())?;
+        Ok(true)
     }
 
     pub(crate) fn rename<R: Host>(&self, rt: &R, from: &str, to: &str) -> Result<bool, Fail> {
         let (from, to) = (self.said(rt.alloc(), from)?, self.said(rt.alloc(), to)?);
-        Ok(fs::rename(rt, from.as_str(), to.as_str()).map(|()| true)?)
+        fs::rename(rt, from.as_str(), to.as_str())?;
+        Ok(true)
     }
 
     pub(crate) fn remove<R: Host>(&self, rt: &R, file: &str) -> Result<bool, Fail> {
         let file = self.said(rt.alloc(), file)?;
-        Ok(fs::remove_file(rt, file.as_str()).map(|()| true)?)
+        fs::remove_file(rt, file.as_str())?;
+        Ok(true)
     }
 
     // Whether a file has this text.

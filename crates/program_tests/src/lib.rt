@@ -11,6 +11,7 @@
 //! | `drvs` | `add-drv` |
 //! | `planning` | `plan` |
 //! | `realising`, `realisations`, `many` | `realise`: its faults, its reports, many derivations |
+//! | `fixed` | `realise` of outputs with a declared digest |
 //! | `twins` | `realise` over derivations that share all their outputs |
 //! | `progress` | the line of progress |
 //! | `starts`, `folders`, `outputs` | a builder's start, its folder, the reading of its outputs |
@@ -37,6 +38,8 @@ mod double;
 mod drvs;
 #[cfg(test)]
 mod files;
+#[cfg(test)]
+mod fixed;
 #[cfg(test)]
 mod folders;
 #[cfg(test)]

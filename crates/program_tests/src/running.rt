@@ -1,14 +1,13 @@
 //! Running the program on command lines, and what a run needs.
 
 use process_build::Builders;
-use sched_core::{Answer, Job, Reason};
+use sched_core::{Answer, Build, Job, Reason, Watch};
 use std::alloc::{AllocError, Global};
 use std::io::Write;
 use std::rt::{Env, Files};
 use std::sync::Wait;
 use std::thread::Threads;
 use std::{env, fs, io};
-use store_run::{Build, Watch};
 use subcommands::run;
 
 /// The empty derivation.

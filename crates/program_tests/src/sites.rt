@@ -6,12 +6,11 @@ use nix_drv::EnvEntry;
 use nix_names::{StoreDir, parse_path};
 use process_build::ProcessBuild;
 use ref_scan::{Member, Tree};
-use sched_core::{Answer, Job, JobOutput, Reason};
+use sched_core::{Answer, Build, Job, JobOutput, Reason};
 use std::alloc::{AllocError, Global};
 use std::process::Processes;
 use std::str;
 use std::test::Fail;
-use store_run::Build;
 
 /// The entry of an environment by which a script finds its programs.
 pub const PATH: (&[u8], &[u8]) = (b"PATH", b"/usr/bin:/bin");

@@ -4,7 +4,7 @@ use crate::scene::first_fault;
 use crate::sites::{Call, Made, PATH, Site};
 use crate::steps::{Row, Step};
 use process_build::{ByProcesses, ProcessBuild};
-use sched_core::{Job, Reason};
+use sched_core::{Build, Job, Reason};
 use std::alloc::Allocator;
 use std::process::{
     Child, ChildStderr, ChildStdin, ChildStdout, Command, ExitStatus, OpenProcess, Processes, Stdio,
@@ -12,7 +12,6 @@ use std::process::{
 use std::rt::Files;
 use std::test::Fail;
 use std::{fs, io, process};
-use store_run::Build;
 
 const OUT: &str = "<dir>/cccccccccccccccccccccccccccccccc-out";
 

@@ -80,7 +80,8 @@ impl Scene {
 
     fn name_path(&mut self, alloc: Global, word: &str, path: &StorePath) -> Result<bool, Fail> {
         let path = text_of(alloc, path.text())?;
-        Ok(self.names.bind(alloc, word, path).map(|()| true)?)
+        self.names.bind(alloc, word, path)?;
+        Ok(true)
     }
 
     // Names the lesser and the greater of two paths.
@@ -92,6 +93,7 @@ impl Scene {
             (other, one)
         };
         self.names.bind(alloc, "lesser", lesser)?;
-        Ok(self.names.bind(alloc, "greater", greater).map(|()| true)?)
+        self.names.bind(alloc, "greater", greater)?;
+        Ok(true)
     }
 }
