@@ -10,14 +10,14 @@ use drv_graph::Plan;
 use nix_drv::{ListSource, ListedFile};
 use nix_names::{StoreDir, StorePath, parse_path};
 use ref_scan::Tree;
-use sched_core::{Answer, Book, Job, Reason};
+use sched_core::{Answer, Book, Build, Job, Reason, Watch};
 use std::alloc::{AllocError, Global};
 use std::marker::Brand;
 use std::sync::Wait;
 use std::test::*;
 use std::thread::Threads;
 use store_run::laws::{any_schedule, builds_may_overlap, outcomes_decide};
-use store_run::{Build, Ended, Watch, realise};
+use store_run::{Ended, realise};
 use valid_table::{Journal, Outlet};
 use valid_view::{Name, Naming};
 

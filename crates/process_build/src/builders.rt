@@ -1,7 +1,7 @@
 //! What makes the builders of a run.
 
+use sched_core::{Build, Watch};
 use std::alloc::{AllocError, Global};
-use store_run::{Build, Watch};
 
 /// What makes the builders of a run.
 pub trait Builders {

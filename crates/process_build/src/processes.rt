@@ -9,12 +9,11 @@ use crate::reading::read_outputs;
 use crate::reasons::{no_room, no_start};
 use crate::removal::Clearing;
 use crate::start::run_builder;
-use sched_core::{Answer, Job, Reason};
+use sched_core::{Answer, Build, Job, Reason, Watch};
 use std::alloc::{AllocError, Global};
 use std::fs;
 use std::process::Processes;
 use std::rt::Files;
-use store_run::{Build, Watch};
 
 /// Builds each job by a process of its own, in a folder of its own within the store folder.
 ///

@@ -5,12 +5,11 @@ ghost use Rattle.process_build.specs.Progress.{Heard, IsHeard, IsShown, IsTallyO
 
 use crate::builders::Builders;
 use crate::tally::{NO_LINE, Tally};
-use sched_core::{Answer, Job, Reason};
+use sched_core::{Answer, Build, Job, Reason, Watch};
 use std::alloc::{AllocError, Global};
 use std::io;
 use std::io::Write;
 use std::sync::{Mutex, Wait};
-use store_run::{Build, Watch};
 
 // A tally, and the terminal to which its line is written.
 #[derive(Drop)]

@@ -4,6 +4,7 @@
 //! | Module | What is in it |
 //! |---|---|
 //! | `job` | what a builder is given, and what it answers |
+//! | `build` | builders, which build jobs and hear of them |
 //! | `book`, `lease` | the book, and derivations that it gave out to be built |
 //! | `progress` | a run's history, and the states of its derivations |
 //! | `permitted`, `uniting` | to what outputs may refer |
@@ -24,13 +25,14 @@
 //! | `wanted`, `twins` | which derivations of a plan are wanted, and their nearest earlier twins |
 //! | `report` | the report of a run |
 //! | `listing`, `lines` | what a report and a forecast share: the derivations by path, and lines |
-//! | `words` | the words for why a derivation was not built |
+//! | `words`, `named` | the words for why a derivation was not built: a name, and its value |
 //! | `fault` | why a call of a book refuses |
 //! | `laws` | laws over the definitions that contracts cite |
 #![tactic(auto)]
 
 mod agenda;
 mod book;
+mod build;
 mod checked;
 mod course;
 mod cycle;
@@ -46,6 +48,7 @@ mod lease;
 mod lines;
 mod links;
 mod listing;
+mod named;
 mod permitted;
 mod progress;
 mod reason;
@@ -65,12 +68,14 @@ mod wanted;
 mod words;
 
 pub use book::Book;
+pub use build::{Build, Watch};
 pub use checked::Checked;
 pub use fault::BookFault;
 pub use job::{Answer, Job, JobOutput};
 pub use lease::Lease;
 pub use lines::{write_outputs, write_path_line, write_refused};
 pub use listing::{Listed, marked_by_path};
+pub use named::{write_name, write_with_number, write_with_string, write_with_value};
 pub use permitted::permitted_beside;
 pub use reason::{Event, Reason, Refusal, State};
 pub use standing::Standing;

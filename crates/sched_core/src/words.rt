@@ -1,14 +1,14 @@
 //! The words for why a derivation was not built: a name, and its value in parentheses.
-ghost use Rattle.std.specs.Prelude.{◌≡◌, ◌++◌, OnOk, codes, decimal};
-ghost use Rattle.nix_drv.specs.Strings.{string_text};
+ghost use Rattle.std.specs.Prelude.{◌≡◌, ◌++◌, OnOk, codes};
 ghost use Rattle.drv_graph.specs.Nodes.{paths_of};
 ghost use Rattle.drv_graph.specs.PlanNodes.{output_paths_of};
-ghost use Rattle.sched_core.specs.Words.{reason_words, refusal_words, spelled_names, with_text, with_value};
+ghost use Rattle.sched_core.specs.Words.{reason_words, refusal_words, spelled_names, with_text};
 
+use crate::named::{write_name, write_with_number, write_with_string, write_with_value};
 use crate::reason::{Reason, Refusal};
 use drv_graph::Plan;
 use itoa::Buffer;
-use nix_drv::{Derivation, write_string};
+use nix_drv::Derivation;
 use std::alloc::AllocError;
 
 // Adds why the building of a derivation failed.
@@ -105,39 +105,4 @@ fn write_valid_output(drv: &Derivation, output: usize, out: &mut Vec<u8>) -> Res
         Some(found) => write_with_value(b"PartlyValid", &found.path, out),
         None => write_with_number(b"PartlyValid", output, out),
     }
-}
-
-// Adds a name alone.
-fn write_name(name: &[u8], out: &mut Vec<u8>) -> Result<(), AllocError>
-    ensures { OnOk result (out.new.items ≡ out.old.items ++ name.now) }
-{
-    out.extend_from_slice(name)
-}
-
-// Adds a name, and a number in parentheses.
-fn write_with_number(name: &[u8], number: usize, out: &mut Vec<u8>) -> Result<(), AllocError>
-    ensures { OnOk result (out.new.items ≡ out.old.items ++ with_value name.now (decimal number)) }
-{
-    write_with_value(name, Buffer::new().format(number).as_bytes(), out)
-}
-
-// Adds a name, and a value in parentheses.
-fn write_with_value(name: &[u8], value: &[u8], out: &mut Vec<u8>) -> Result<(), AllocError>
-    ensures { OnOk result (out.new.items ≡ out.old.items ++ with_value name.now value.now) }
-{
-    out.extend_from_slice(name)?;
-    out.extend_from_slice(b"(")?;
-    out.extend_from_slice(value)?;
-    out.extend_from_slice(b")")
-}
-
-// Adds a name, and in parentheses a text as the derivations' language spells it.
-fn write_with_string(name: &[u8], text: &[u8], out: &mut Vec<u8>) -> Result<(), AllocError>
-    ensures { OnOk result (out.new.items ≡ out.old.items
-        ++ with_value name.now (string_text text.now)) }
-{
-    out.extend_from_slice(name)?;
-    out.extend_from_slice(b"(")?;
-    write_string(out, text)?;
-    out.extend_from_slice(b")")
 }

@@ -14,7 +14,7 @@ ghost use Rattle.store_run.specs.ScheduleExample.{Overlap, both, in_turn, left, 
 ghost use Rattle.store_run.specs.Scheduling.{AlikeReportTheSame, AnySchedule, HasOneThread, IsWholeRun, OneReport, RealisedIsEnded, RealisedIsWhole, SameReports, WholeRunsAreAlike};
 ghost use Rattle.store_run.specs.TwinExample.{first_twin, freed, may_leave_file, one_by_one, second_twin, three, three_files, tried_again, waiting};
 
-use crate::build::Build;
+use sched_core::Build;
 
 /// A whole run ends as one thread would: each derivation is in the same state, each path has the
 /// same record, and the report is the same. A run is whole where it had memory and its builders may

@@ -2,7 +2,6 @@
 //!
 //! | Module | What is in it |
 //! |---|---|
-//! | `build` | builders, which build jobs and hear of them |
 //! | `found` | what a worker finds of a job, and how a lease ends |
 //! | `shared` | what the workers of a run share: the book, and why the run stops |
 //! | `turn` | what a worker is to do next, and whom it wakes |
@@ -15,7 +14,6 @@
 //! | `laws` | laws of every run, over the definitions |
 #![tactic(auto)]
 
-mod build;
 mod fault;
 mod found;
 pub mod laws;
@@ -27,7 +25,6 @@ mod turn;
 mod verdict;
 mod worker;
 
-pub use build::{Build, Watch};
 pub use fault::RunFault;
 pub use locked::Locked;
 pub use run::{Ended, realise};

@@ -4,11 +4,10 @@ ghost use Rattle.store_run.specs.Builders.{IsAnswered};
 ghost use Rattle.store_run.specs.Finding.{IsToldOfSeeds, MayBeFound};
 ghost use Rattle.store_run.specs.Sharing.{IfGiven};
 
-use crate::build::Build;
 use crate::found::{Found, LeaseEnd};
 use crate::shared::Shared;
 use crate::turn::{Step, Turn, Wake};
-use sched_core::{Book, BookFault, Lease};
+use sched_core::{Book, BookFault, Build, Lease};
 use std::sync::{Condvar, Mutex, Wait};
 use valid_table::Outlet;
 use valid_view::{Naming, Tells, ViewReader};

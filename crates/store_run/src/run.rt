@@ -6,13 +6,12 @@ ghost use Rattle.store_run.specs.Builders.{IsAnswered};
 ghost use Rattle.store_run.specs.Realising.{AreWorkers, IsOverLent, IsRealised, IsRun, IsRunEnd, IsRunFault};
 ghost use Rattle.store_run.specs.declared.fault.RunFault.TheVariants.{NoMemory, NoView};
 
-use crate::build::{Build, Watch};
 use crate::fault::RunFault;
 use crate::lent::is_over;
 use crate::locked::Locked;
 use crate::worker::work;
 use drv_graph::{GraphFault, Plan};
-use sched_core::{Book, BookFault};
+use sched_core::{Book, BookFault, Build, Watch};
 use std::alloc::Global;
 use std::sync::Wait;
 use std::thread;

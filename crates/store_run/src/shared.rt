@@ -11,10 +11,9 @@ ghost use Rattle.store_run.specs.Finding.{HasCaughtUp, IsToldOfSeeds, MayBeFound
 ghost use Rattle.store_run.specs.Sharing.{IfGiven, IsEnding, IsNoting, IsNotingVerdict, IsLeaseRegistering, IsStep, IsStopping, IsWake};
 ghost use Rattle.store_run.specs.declared.found.LeaseEnd.TheVariants.{Stopped};
 
-use crate::build::Build;
 use crate::found::{Found, LeaseEnd};
 use crate::turn::{Step, Turn, Wake};
-use sched_core::{Book, BookFault, Checked, Job, Lease, Reason};
+use sched_core::{Book, BookFault, Build, Checked, Job, Lease, Reason};
 use std::marker::{Model, PhantomData};
 use valid_table::Outlet;
 use valid_view::{Naming, Tells, ViewFault, ViewReader};

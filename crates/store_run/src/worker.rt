@@ -2,12 +2,11 @@
 ghost use Rattle.std.specs.Prelude.{IfSome};
 ghost use Rattle.store_run.specs.Finding.{IsToldOfSeeds};
 
-use crate::build::{Build, Watch};
 use crate::found::LeaseEnd;
 use crate::locked::Locked;
 use crate::turn::{Step, Turn};
 use crate::verdict::{learn, verdict};
-use sched_core::Lease;
+use sched_core::{Build, Lease, Watch};
 use std::alloc::Global;
 use std::sync::Wait;
 use valid_view::{Naming, Tells, ViewReader};

@@ -1,19 +1,16 @@
 -- The words by which a line names a fault: its name, and its value in parentheses.
-use Rattle.std.specs.Prelude.{◌++◌, codes, decimal}
-use Rattle.nix_names.specs.Bytes.{Bytes, Name}
+use Rattle.std.specs.Prelude.{codes, decimal}
+use Rattle.nix_names.specs.Bytes.{Bytes}
 use Rattle.nix_names.specs.declared.fault.NameFault.{NameFault}
 use Rattle.nix_names.specs.declared.fault.NameFault.TheVariants as name
 use Rattle.nix_drv.specs.Strings.{string_text}
 use Rattle.nix_drv.specs.declared.fault.DrvFault.{DrvFault}
 use Rattle.nix_drv.specs.declared.fault.DrvFault.TheVariants as drv
+use Rattle.sched_core.specs.Words.{with_value}
 use Rattle.store_run.specs.declared.fault.RunFault.{RunFault}
 use Rattle.store_run.specs.declared.fault.RunFault.TheVariants as run
 use Rattle.valid_table.specs.declared.fault.TableFault.{TableFault}
 use Rattle.valid_table.specs.declared.fault.TableFault.TheVariants as table
-
--- the words of a fault with one value
-abbrev pub with_value : (name : Name) → (value : Bytes) → Bytes
-with_value name value = name ++ codes "(" ++ value ++ codes ")"
 
 -- the words of a fault of a name; places are counted from 0
 abbrev pub name_fault_words : NameFault → Bytes

@@ -6,7 +6,8 @@ use Rattle.drv_graph.specs.declared.fault.NodeFault.{NodeFault}
 use Rattle.drv_graph.specs.declared.fault.NodeFault.TheVariants as node
 use Rattle.drv_graph.specs.declared.fault.OutputFault.{OutputFault}
 use Rattle.drv_graph.specs.declared.fault.OutputFault.TheVariants as output
-use Rattle.subcommands.specs.FaultWords.{drv_fault_words, with_value}
+use Rattle.sched_core.specs.Words.{with_value}
+use Rattle.subcommands.specs.FaultWords.{drv_fault_words}
 
 -- the words of a fault with two values
 abbrev pub with_values : (name : Name) → (first second : Bytes) → Bytes

@@ -1,17 +1,16 @@
 //! The words by which a line names a fault: its name, and its value in parentheses.
 //!
 //! Each type of fault has one function here, which adds the words to a list of bytes.
-ghost use Rattle.std.specs.Prelude.{◌≡◌, ◌++◌, ◌∷◌, [], IfOk, OnOk, codes, decimal};
-ghost use Rattle.nix_drv.specs.Strings.{string_text};
+ghost use Rattle.std.specs.Prelude.{◌≡◌, ◌++◌, ◌∷◌, [], IfOk, OnOk, codes};
 ghost use Rattle.subcommands.specs.FaultWords.{drv_fault_words, name_fault_words};
-ghost use Rattle.subcommands.specs.FaultWords.{run_fault_words, table_fault_words, with_value};
+ghost use Rattle.subcommands.specs.FaultWords.{run_fault_words, table_fault_words};
 ghost use Rattle.subcommands.specs.Stops.{stop_fault_words, stop_line};
 
 use crate::graph_words::write_node_fault;
 use crate::stop::Stop;
-use itoa::Buffer;
-use nix_drv::{DrvFault, write_string};
+use nix_drv::DrvFault;
 use nix_names::NameFault;
+use sched_core::{write_name, write_with_number, write_with_string, write_with_value};
 use std::alloc::{AllocError, Global};
 use store_run::RunFault;
 use valid_table::TableFault;
@@ -121,39 +120,4 @@ fn write_why(stop: &Stop<'_>, out: &mut Vec<u8>) -> Result<(), AllocError>
     out.extend_from_slice(b": ")?;
     write_stop_fault(stop, out)?;
     out.extend_from_slice(b"\n")
-}
-
-/// Adds a fault's name without a value.
-pub fn write_name(name: &[u8], out: &mut Vec<u8>) -> Result<(), AllocError>
-    ensures { OnOk result (out.new.items ≡ out.old.items ++ name.now) }
-{
-    out.extend_from_slice(name)
-}
-
-// Adds a name, and a number in parentheses.
-fn write_with_number(name: &[u8], number: usize, out: &mut Vec<u8>) -> Result<(), AllocError>
-    ensures { OnOk result (out.new.items ≡ out.old.items ++ with_value name.now (decimal number)) }
-{
-    write_with_value(name, Buffer::new().format(number).as_bytes(), out)
-}
-
-/// Adds a name, and a value in parentheses.
-pub fn write_with_value(name: &[u8], value: &[u8], out: &mut Vec<u8>) -> Result<(), AllocError>
-    ensures { OnOk result (out.new.items ≡ out.old.items ++ with_value name.now value.now) }
-{
-    out.extend_from_slice(name)?;
-    out.extend_from_slice(b"(")?;
-    out.extend_from_slice(value)?;
-    out.extend_from_slice(b")")
-}
-
-/// Adds a name, and in parentheses a text as the derivations' language spells it.
-pub fn write_with_string(name: &[u8], text: &[u8], out: &mut Vec<u8>) -> Result<(), AllocError>
-    ensures { OnOk result
-        (out.new.items ≡ out.old.items ++ with_value name.now (string_text text.now)) }
-{
-    out.extend_from_slice(name)?;
-    out.extend_from_slice(b"(")?;
-    write_string(out, text)?;
-    out.extend_from_slice(b")")
 }

@@ -3,9 +3,10 @@ ghost use Rattle.std.specs.Prelude.{◌≡◌, ◌++◌, ◌∷◌, [], OnOk};
 ghost use Rattle.nix_drv.specs.Strings.{string_text};
 ghost use Rattle.subcommands.specs.GraphWords.{node_fault_words, output_fault_words, with_values};
 
-use crate::fault_words::{write_drv_fault, write_name, write_with_string, write_with_value};
+use crate::fault_words::write_drv_fault;
 use drv_graph::{NodeFault, OutputFault};
 use nix_drv::write_string;
+use sched_core::{write_name, write_with_string, write_with_value};
 use std::alloc::AllocError;
 
 /// Adds the words of a fault of one derivation.

@@ -13,13 +13,13 @@ use crate::stop::Stop;
 use crate::taken::taken;
 use crate::task::Task;
 use process_build::Builders;
-use sched_core::Book;
+use sched_core::{Book, Build, Watch};
 use std::io::Write;
 use std::marker::Brand;
 use std::rt::Files;
 use std::sync::Wait;
 use std::thread::Threads;
-use store_run::{Build, RunFault, Watch};
+use store_run::RunFault;
 use valid_table::Outlet;
 use valid_view::{Name, Naming};
 

@@ -2,11 +2,10 @@
 ghost use Rattle.std.specs.Prelude.{⊤};
 
 use crate::builders::{Script, answer, left, left_nothing};
-use sched_core::{Answer, Job, Reason};
+use sched_core::{Answer, Build, Job, Reason, Watch};
 use std::alloc::Global;
 use std::sync::atomic::{AtomicU64, Ordering};
 use std::thread;
-use store_run::{Build, Watch};
 
 /// A builder that follows these scripts.
 #[derive(Clone, Copy)]

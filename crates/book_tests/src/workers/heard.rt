@@ -7,13 +7,12 @@ use crate::books::plan;
 use crate::builders::{Script, answer};
 use crate::files::*;
 use drv_graph::Plan;
-use sched_core::{Answer, Event, Job, Reason};
+use sched_core::{Answer, Build, Event, Job, Reason, Watch};
 use std::alloc::Global;
 use std::sync::Wait;
 use std::sync::atomic::{AtomicU64, Ordering};
 use std::test::*;
 use std::thread::Threads;
-use store_run::{Build, Watch};
 use valid_table::Journal;
 
 // What was heard in a run over four derivations: which numbers of unsettled derivations were heard

@@ -6,14 +6,13 @@ use crate::books::plan;
 use crate::builders::{left, left_nothing};
 use crate::files::*;
 use drv_graph::Plan;
-use sched_core::{Answer, Job, Reason};
+use sched_core::{Answer, Build, Job, Reason, Watch};
 use std::alloc::Global;
 use std::sync::Wait;
 use std::sync::atomic::{AtomicU64, Ordering};
 use std::test::*;
 use std::thread;
 use std::thread::Threads;
-use store_run::{Build, Watch};
 use valid_table::{Entry, Journal, Registration};
 
 // What a builder leaves for a derivation, how many stages it adds, and the stage for which it

@@ -4,13 +4,12 @@ ghost use Rattle.std.specs.Prelude.{◌≡◌, ⊤};
 
 use crate::builders::{left, left_nothing};
 use crate::files::APART_OUT;
-use sched_core::{Answer, Job, Reason};
+use sched_core::{Answer, Build, Job, Reason, Watch};
 use std::alloc::Global;
 use std::sync::Wait;
 use std::sync::atomic::{AtomicU64, Ordering};
 use std::thread;
 use std::time::{Clock, Duration};
-use store_run::{Build, Watch};
 use valid_table::{Entry, Outlet, OutletFault};
 use valid_view::{Front, Naming, Tells, ViewWriter};
 

@@ -7,7 +7,7 @@ use super::refusing::{Lasting, Leaves, Refusing};
 use crate::books::{plan, system};
 use crate::files::*;
 use drv_graph::Plan;
-use sched_core::{Book, BookFault, Event};
+use sched_core::{Book, BookFault, Build, Event, Watch};
 use std::alloc::Global;
 use std::marker::Brand;
 use std::process::Abort;
@@ -17,7 +17,7 @@ use std::test::*;
 use std::thread;
 use std::thread::Threads;
 use std::time::{Clock, Duration};
-use store_run::{Build, Locked, Watch, work};
+use store_run::{Locked, work};
 use valid_table::{Entry, Journal, Outlet, OutletFault};
 use valid_view::{Name, Naming, Tells, ViewReader, open};
 

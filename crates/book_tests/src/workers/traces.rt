@@ -3,13 +3,13 @@ ghost use Rattle.std.specs.Prelude.{◌≡◌};
 
 use crate::books::SYSTEM;
 use drv_graph::Plan;
-use sched_core::{Book, Event};
+use sched_core::{Book, Build, Event, Watch};
 use std::alloc::Global;
 use std::marker::Brand;
 use std::sync::Wait;
 use std::test::Fail;
 use std::thread::Threads;
-use store_run::{Build, Ended, RunFault, Watch, realise};
+use store_run::{Ended, RunFault, realise};
 use valid_table::{Entry, Journal, Outlet, TableFault};
 use valid_view::{Name, Naming};
 

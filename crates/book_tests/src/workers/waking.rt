@@ -8,7 +8,7 @@ use crate::builders::{left, left_nothing};
 use crate::random_plans::{nothing, plan_of};
 use crate::rows::BUILT;
 use drv_graph::Plan;
-use sched_core::{Answer, Job, Reason};
+use sched_core::{Answer, Build, Job, Reason, Watch};
 use std::alloc::Global;
 use std::sync::Wait;
 use std::sync::atomic::{AtomicU64, Ordering};
@@ -16,7 +16,6 @@ use std::test::*;
 use std::thread;
 use std::thread::Threads;
 use std::time::{Clock, Duration};
-use store_run::{Build, Watch};
 
 // How many milliseconds the builder of the base takes, so that all other workers wait when it ends.
 const HEAD_START: u64 = 100;

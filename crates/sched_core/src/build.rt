@@ -5,7 +5,8 @@ ghost use Rattle.sched_core.specs.declared.job.Job.{Job};
 ghost use Rattle.sched_core.specs.declared.reason.Reason.{Reason};
 ghost use Rattle.sched_core.specs.declared.reason.Reason.TheVariants.{OutOfMemory};
 
-use sched_core::{Answer, Job, Reason};
+use crate::job::{Answer, Job};
+use crate::reason::Reason;
 
 /// Builds what a job asks for.
 pub trait Build {
