@@ -1,5 +1,5 @@
 -- *Realise*: how a run ends (this product's own).
-use Rattle.std.specs.Prelude.{◌≡◌, ◌≤◌, ℕ, Option, Some, None, List, Result, Ok, Err}
+use Rattle.std.specs.Prelude.{◌≡◌, ℕ, Option, Some, None, List, Result, Ok, Err}
 use Rattle.nix_names.specs.Bytes.{Bytes}
 use Rattle.drv_graph.specs.Plans.{Graph}
 use Rattle.valid_table.specs.declared.entry.Entry.{Entry}
@@ -7,6 +7,7 @@ use Rattle.valid_table.specs.declared.fault.OutletFault.{OutletFault}
 use Rattle.valid_table.specs.declared.fault.OutletFault.TheVariants as outlet
 use Rattle.sched_core.specs.Books.{IsRunSettled, Ledger}
 use Rattle.sched_core.specs.Legal.{IsLegal}
+use Rattle.sched_core.specs.Workers.{AreWorkers}
 use Rattle.sched_core.specs.declared.fault.BookFault.{BookFault}
 use Rattle.sched_core.specs.declared.fault.BookFault.TheVariants.{NoMemory as RefusedMemory}
 use Rattle.sched_core.specs.declared.job.Answer.{Answer}
@@ -22,10 +23,6 @@ pub record IsOverLent (plan : Graph) (system : Bytes) (opening : List Entry) (bo
   pub plan_is : book.run.graph ≡ plan
   pub system_is : book.run.system ≡ system
   pub opening_is : book.history.opening ≡ opening
-
--- the number of workers is from 1 to 64
-abbrev pub AreWorkers : ℕ → Type 0
-AreWorkers count = (1 ≤ count) × (count ≤ 64)
 
 -- What a run leaves behind: a book over the lent plan, system and entries. Its history is legal,
 -- and what became of each derivation is a verdict on what a builder may give.

@@ -5,7 +5,7 @@ use Rattle.subcommands.specs.AddedText.{FileBytes, IsAddingText}
 use Rattle.subcommands.specs.Endings.{EndsBy, IsPrintedAndWritten, IsWriteFault, path_line}
 use Rattle.subcommands.specs.StoreDirs.{IsStoreDirOf}
 use Rattle.subcommands.specs.declared.added_text.AddedText.{AddedText}
-use Rattle.subcommands.specs.declared.options.AddTextRequest.{AddTextRequest}
+use Rattle.command_line.specs.declared.options.AddTextRequest.{AddTextRequest}
 use Rattle.subcommands.specs.declared.status.Status.{Status}
 use Rattle.subcommands.specs.declared.stop.Stop.{Stop}
 use Rattle.subcommands.specs.declared.stop.Stop.TheVariants.{NotWritten, JournalNotWritten}

@@ -7,7 +7,7 @@ use Rattle.subcommands.specs.AddedText.{FileBytes}
 use Rattle.subcommands.specs.Endings.{path_line}
 use Rattle.subcommands.specs.Folders.{may_give}
 use Rattle.subcommands.specs.declared.added_drv.AddedDrv.{AddedDrv}
-use Rattle.subcommands.specs.declared.options.AddDrvRequest.{AddDrvRequest}
+use Rattle.command_line.specs.declared.options.AddDrvRequest.{AddDrvRequest}
 use Rattle.subcommands.specs.declared.status.Status.{Status}
 use Rattle.subcommands.specs.declared.status.Status.TheVariants.{Done}
 use Rattle.subcommands.specs.declared.stop.Stop.{Stop}

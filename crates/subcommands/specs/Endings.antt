@@ -5,7 +5,7 @@ use Rattle.nix_names.specs.Bytes.{Bytes, Path}
 use Rattle.nix_names.specs.Names.{IsStoreDir}
 use Rattle.subcommands.specs.AddedText.{FileBytes, IsAddingText}
 use Rattle.subcommands.specs.declared.added_text.AddedText.{AddedText}
-use Rattle.subcommands.specs.declared.options.AddTextRequest.{AddTextRequest}
+use Rattle.command_line.specs.declared.options.AddTextRequest.{AddTextRequest}
 use Rattle.subcommands.specs.declared.status.Status.{Status}
 use Rattle.subcommands.specs.declared.status.Status.TheVariants.{Done}
 use Rattle.subcommands.specs.declared.stop.Stop.{Stop}

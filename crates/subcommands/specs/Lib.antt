@@ -2,7 +2,6 @@
 pub mod AddedDrv
 pub mod AddedText
 pub mod CheckLines
-pub mod CommandLine
 pub mod DrvEndings
 pub mod Endings
 pub mod FaultWords
@@ -12,7 +11,6 @@ pub mod Planning
 pub mod ProgramEndings
 pub mod Realising
 pub mod Registering
-pub mod Requests
 pub mod Statuses
 pub mod Stops
 pub mod StoreDirs

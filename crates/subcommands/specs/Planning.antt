@@ -9,8 +9,8 @@ use Rattle.forecast.specs.Texts.{IsForecast, is_whole}
 use Rattle.subcommands.specs.AddedText.{FileBytes}
 use Rattle.subcommands.specs.Folders.{may_give}
 use Rattle.subcommands.specs.Tasks.{IsTaskTaken}
-use Rattle.subcommands.specs.declared.options.PlanRequest.{PlanRequest}
-use Rattle.subcommands.specs.declared.options.RunRequest.{RunRequest}
+use Rattle.command_line.specs.declared.options.PlanRequest.{PlanRequest}
+use Rattle.command_line.specs.declared.options.RunRequest.{RunRequest}
 use Rattle.subcommands.specs.declared.status.Status.{Status}
 use Rattle.subcommands.specs.declared.status.Status.TheVariants.{Done, Unrealised}
 use Rattle.subcommands.specs.declared.stop.Stop.{Stop}

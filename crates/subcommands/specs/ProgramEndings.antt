@@ -1,29 +1,23 @@
 -- How a run of the program ends, by the words of its command line: what was printed, and the
 -- status.
-use Rattle.std.specs.Prelude.{◌≡◌, ◌≢◌, ◌⊎◌, ℕ, List, [], Option, Some, None, Result, Ok, Err}
-use Rattle.std.specs.Prelude.{codes, map}
+use Rattle.std.specs.Prelude.{◌≡◌, ◌⊎◌, List, Option, Result, Ok, Err, map}
 use Rattle.std.specs.Io.KnownBytes.{Appends}
-use Rattle.clap.specs.Faults.{fault_of}
-use Rattle.clap.specs.Kinds.{IsAmong, Kinds}
-use Rattle.clap.specs.Words.{Row, subcommand_of}
 use Rattle.clap.specs.declared.error.kind.ErrorKind.{ErrorKind}
 use Rattle.clap.specs.declared.error.kind.ErrorKind.TheVariants.{DisplayHelp, DisplayVersion}
-use Rattle.clap.specs.declared.error.kind.ErrorKind.TheVariants.{MissingSubcommand, OutOfMemory}
-use Rattle.clap.specs.declared.error.kind.ErrorKind.TheVariants.{ValueValidation}
-use Rattle.nix_names.specs.Bytes.{Bytes, Name}
+use Rattle.clap.specs.declared.error.kind.ErrorKind.TheVariants.{OutOfMemory}
+use Rattle.nix_names.specs.Bytes.{Bytes}
 use Rattle.subcommands.specs.CheckLines.{IsCheckReport}
-use Rattle.subcommands.specs.CommandLine.{command_line}
 use Rattle.subcommands.specs.DrvEndings.{DrvEnds}
 use Rattle.subcommands.specs.Endings.{Ends}
 use Rattle.subcommands.specs.Folders.{may_give}
 use Rattle.subcommands.specs.Planning.{PlanEnds}
 use Rattle.subcommands.specs.Realising.{May, RealiseEnds}
-use Rattle.subcommands.specs.Requests.{AreJobs, IsRequest, jobs_in}
+use Rattle.command_line.specs.Usage.{IsAsked, IsUsageFault}
 use Rattle.subcommands.specs.Stops.{IsStopOf, IsTold}
-use Rattle.subcommands.specs.declared.options.CheckRequest.{CheckRequest}
-use Rattle.subcommands.specs.declared.options.Request.{Request}
-use Rattle.subcommands.specs.declared.options.Request.TheVariants.{Check, AddText, AddDrv, Plan}
-use Rattle.subcommands.specs.declared.options.Request.TheVariants.{Realise}
+use Rattle.command_line.specs.declared.options.CheckRequest.{CheckRequest}
+use Rattle.command_line.specs.declared.options.Request.{Request}
+use Rattle.command_line.specs.declared.options.Request.TheVariants.{Check, AddText, AddDrv, Plan}
+use Rattle.command_line.specs.declared.options.Request.TheVariants.{Realise}
 use Rattle.subcommands.specs.declared.status.Status.{Status}
 use Rattle.subcommands.specs.declared.status.Status.TheVariants.{Done, Refused, CutShort}
 use Rattle.subcommands.specs.declared.stop.Stop.{Stop}
@@ -67,47 +61,6 @@ abbrev pub RequestEnds : May → Request → (out err : Stream) → Status → T
 RequestEnds may request out err status =
     (outcome : Result Status Stop) × SubcommandEnds may request out outcome
     × IsToldEnd outcome err status
-
--- the faults that `clap` finds in the words; a call for help or the version is among them
-unfoldable pub faults_in : (words : List Bytes) → Kinds
-faults_in words = fault_of command_line words
-
--- The words ask for this, and have no fault.
-abbrev pub IsAsked : (words : List Bytes) → Request → Type 0
-IsAsked words request = IsRequest words request × (faults_in words ≡ [])
-
--- Why `realise` with these words and options is not taken: the text for the number of builders is
--- none, or memory is refused.
-abbrev pub IsJobsFault : List Row → ErrorKind → Type 0
-IsJobsFault rows kind =
-    (kind ≡ OutOfMemory)
-    ⊎ ((kind ≡ ValueValidation) × ((count : ℕ) → ¬ (AreJobs (jobs_in rows) count)))
-
--- no subcommand has this name
-abbrev pub IsNoSubcommand : Name → Type 0
-IsNoSubcommand name =
-    (name ≢ codes "check") × (name ≢ codes "add-text") × (name ≢ codes "add-drv")
-    × (name ≢ codes "plan") × (name ≢ codes "realise")
-
--- Why the subcommand with this name is not taken, though `clap` finds no fault in its words and
--- options: `realise` has no number of builders, no subcommand has the name, or memory is refused.
-abbrev pub IsOwnFault : (name : Name) → List Row → ErrorKind → Type 0
-IsOwnFault name rows kind =
-    ((name ≡ codes "realise") × IsJobsFault rows kind)
-    ⊎ ((kind ≡ OutOfMemory) ⊎ ((kind ≡ MissingSubcommand) × IsNoSubcommand name))
-
--- the same of the subcommand that was found, if there is one
-abbrev pub IsOwnFaultIn : Option (Name × List Row) → ErrorKind → Type 0
-IsOwnFaultIn None kind = (kind ≡ OutOfMemory) ⊎ (kind ≡ MissingSubcommand)
-IsOwnFaultIn (Some (name, rows)) kind = IsOwnFault name rows kind
-
--- Why the words are not taken: memory is refused, `clap` finds a fault in them, or it finds none
--- and the program does.
-abbrev pub IsUsageFault : (words : List Bytes) → ErrorKind → Type 0
-IsUsageFault words kind =
-    (kind ≡ OutOfMemory)
-    ⊎ (IsAmong kind (faults_in words)
-    ⊎ ((faults_in words ≡ []) × IsOwnFaultIn (subcommand_of command_line words) kind))
 
 -- How a run ends that shows the help or the version: the text is printed, or standard output
 -- refuses it.

@@ -15,7 +15,7 @@ use Rattle.store_run.specs.declared.fault.RunFault.{RunFault}
 use Rattle.subcommands.specs.AddedText.{FileBytes}
 use Rattle.subcommands.specs.Folders.{may_give}
 use Rattle.subcommands.specs.Tasks.{IsTaskTaken}
-use Rattle.subcommands.specs.declared.options.RealiseRequest.{RealiseRequest}
+use Rattle.command_line.specs.declared.options.RealiseRequest.{RealiseRequest}
 use Rattle.subcommands.specs.declared.status.Status.{Status}
 use Rattle.subcommands.specs.declared.status.Status.TheVariants.{Done, Unrealised}
 use Rattle.subcommands.specs.declared.stop.Stop.{Stop}

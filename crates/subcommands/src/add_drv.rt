@@ -8,10 +8,10 @@ use crate::add_text::{print_path, write_text};
 use crate::added_drv::{AddedDrv, added_drv};
 use crate::files::read_text;
 use crate::folder::FolderSource;
-use crate::options::AddDrvRequest;
 use crate::status::Status;
 use crate::stop::Stop;
 use crate::store_dir::store_dir;
+use command_line::AddDrvRequest;
 use std::io::Write;
 use std::rt::Files;
 

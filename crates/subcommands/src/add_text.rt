@@ -6,12 +6,12 @@ ghost use Rattle.subcommands.specs.Endings.{Ends, IsPrintedAndWritten, IsWriteFa
 use crate::added_text::{AddedText, added_text};
 use crate::files::read_text;
 use crate::journal_file::JournalFile;
-use crate::options::AddTextRequest;
 use crate::printing::print_bytes;
 use crate::status::Status;
 use crate::stop::Stop;
 use crate::store_dir::store_dir;
 use crate::whole_file::write_whole;
+use command_line::AddTextRequest;
 use nix_names::StorePath;
 use process_build::Failure;
 use std::io;

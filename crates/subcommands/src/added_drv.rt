@@ -7,9 +7,9 @@ ghost use Rattle.subcommands.specs.AddedDrv.{fill_stop};
 ghost use Rattle.subcommands.specs.AddedText.{file_bytes};
 
 use crate::files::FileFault;
-use crate::options::AddDrvRequest;
 use crate::stop::Stop;
 use crate::store_dir::store_dir;
+use command_line::AddDrvRequest;
 use drv_graph::{GraphFault, NodeFault, fill_outputs};
 use nix_drv::{Derivation, DrvFault, DrvSource, read, write};
 use nix_names::{StoreDir, StorePath};

@@ -8,9 +8,9 @@ ghost use Rattle.subcommands.specs.AddedText.{IsTextOf, file_bytes};
 ghost use Rattle.subcommands.specs.Registering.{IsTextRegistering};
 
 use crate::files::FileFault;
-use crate::options::AddTextRequest;
 use crate::stop::Stop;
 use crate::store_dir::store_dir;
+use command_line::AddTextRequest;
 use nix_drv::MAX_LEN;
 use nix_names::{Digest, NameFault, StoreDir, StorePath, make_path};
 use sha2::{Digest as _, Sha256};

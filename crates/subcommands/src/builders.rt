@@ -1,7 +1,7 @@
 //! The builders of a run.
 ghost use Rattle.std.specs.Prelude.{◌≡◌, IfOk, length};
 
-use crate::options::RealiseRequest;
+use command_line::RealiseRequest;
 use process_build::Builders;
 use std::alloc::{AllocError, Global};
 

@@ -1,10 +1,8 @@
-//! The subcommands of the program `nix_realise`, from a command line to the status of the run.
+//! The subcommands of the program `nix_realise`, from what a command line asks for to the status of
+//! the run.
 //!
 //! | Module | What is in it |
 //! |---|---|
-//! | `options`, `jobs` | what a command line asks for |
-//! | `command` | the command line that `clap` reads |
-//! | `words` | the words of a command line, read by `clap` |
 //! | `store_dir` | the store folder of a command line |
 //! | `files` | reading files |
 //! | `folder` | derivations read from the files of a folder |
@@ -29,14 +27,11 @@ mod added_drv;
 mod added_text;
 mod builders;
 mod check;
-mod command;
 mod fault_words;
 mod files;
 mod folder;
 mod graph_words;
-mod jobs;
 mod journal_file;
-mod options;
 mod plan;
 mod printing;
 mod program;
@@ -49,7 +44,6 @@ mod taken;
 mod task;
 mod verdict;
 mod whole_file;
-mod words;
 
 pub use check::check_lines;
 pub use folder::FolderSource;

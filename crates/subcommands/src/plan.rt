@@ -3,12 +3,12 @@ ghost use Rattle.std.specs.Prelude.{◌≡◌, IfErr, IfOk};
 ghost use Rattle.subcommands.specs.Planning.{ForecastEnds, IsForecastPrinted, PlanEnds, over, whole_status};
 ghost use Rattle.subcommands.specs.declared.stop.Stop.TheVariants.{NoMemory};
 
-use crate::options::{PlanRequest, RunRequest};
 use crate::printing::print_bytes;
 use crate::status::Status;
 use crate::stop::Stop;
 use crate::taken::taken;
 use crate::task::Task;
+use command_line::{PlanRequest, RunRequest};
 use forecast::Forecast;
 use sched_core::BookFault;
 use std::alloc::Global;

@@ -5,13 +5,13 @@ ghost use Rattle.subcommands.specs.Realising.{BookEnds, RealiseEnds, RunEnds};
 
 use crate::builders::make_all;
 use crate::journal_file::JournalFile;
-use crate::options::RealiseRequest;
 use crate::printing::print_bytes;
 use crate::settled::{journal_bytes, report_of, roots_status};
 use crate::status::Status;
 use crate::stop::Stop;
 use crate::taken::taken;
 use crate::task::Task;
+use command_line::RealiseRequest;
 use process_build::Builders;
 use sched_core::{Book, Build, Watch};
 use std::io::Write;

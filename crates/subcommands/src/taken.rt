@@ -7,9 +7,9 @@ ghost use Rattle.subcommands.specs.Tasks.{IsTaskTaken};
 use crate::added_text::journal_of;
 use crate::folder::FolderSource;
 use crate::journal_file::JournalFile;
-use crate::options::RunRequest;
 use crate::stop::Stop;
 use crate::task::{Task, planned};
+use command_line::RunRequest;
 use std::rt::Files;
 
 /// The journal file of a request, and the plan and journal of its run. The plan is loaded, then the

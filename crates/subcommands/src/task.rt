@@ -3,9 +3,9 @@
 ghost use Rattle.std.specs.Prelude.{◌≡◌, IfErr, IfOk, map};
 ghost use Rattle.subcommands.specs.Tasks.{ArePathsOf, HasPlan, IsNotPlanned, IsWordsPath, IsPlanOf};
 
-use crate::options::RunRequest;
 use crate::stop::Stop;
 use crate::store_dir::store_dir;
+use command_line::RunRequest;
 use drv_graph::{GraphFault, Plan};
 use nix_drv::DrvSource;
 use nix_names::{NameFault, StoreDir, StorePath, parse_path};

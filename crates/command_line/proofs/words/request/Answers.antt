@@ -3,12 +3,12 @@ use Rattle.std.proofs.lemmas.Result.{IfErr-weaker, IfOk-weaker, err_from_is_err_
 use Rattle.clap.specs.Faults.{is_simple_and_free}
 use Rattle.clap.specs.Words.{App, is_simple, kind_of, subcommand_of}
 use Rattle.clap.proofs.OnLiterals.{clap_on_literals}
-use Rattle.subcommands.proofs.Rows.{asked, met}
-use Rattle.subcommands.proofs.Usage.{fault_found, is_free, none_found, own_fault}
-use Rattle.subcommands.specs.CommandLine.{command_line}
-use Rattle.subcommands.specs.ProgramEndings.{IsAsked, IsUsageFault}
-use Rattle.subcommands.specs.Requests.{IsRequest}
-use Rattle.subcommands.proofs.words.request.Goals as goal
+use Rattle.command_line.proofs.Rows.{asked, met}
+use Rattle.command_line.proofs.Usage.{fault_found, is_free, none_found, own_fault}
+use Rattle.command_line.specs.CommandLine.{command_line}
+use Rattle.command_line.specs.Usage.{IsAsked, IsUsageFault}
+use Rattle.command_line.specs.Requests.{IsRequest}
+use Rattle.command_line.proofs.words.request.Goals as goal
 
 is_read : is_simple command_line ≡ true
 unfolding clap_on_literals

@@ -1,12 +1,12 @@
 //! The command line that `clap` reads: its subcommands, and the words and options of each.
 ghost use Rattle.std.specs.Prelude.{◌≡◌, IfOk, false};
 ghost use Rattle.clap.specs.Words.{app_of, new_app, rule_of, with_subcommand};
-ghost use Rattle.subcommands.specs.CommandLine.{add_drv_line, add_text_line, check_line};
-ghost use Rattle.subcommands.specs.CommandLine.{command_line, dot_flag, drv_words, jobs_option};
-ghost use Rattle.subcommands.specs.CommandLine.{journal_option, plan_line, realise_line, run_options};
-ghost use Rattle.subcommands.specs.CommandLine.{store_dir_option};
-ghost use Rattle.subcommands.specs.CommandLine.{system_option, top_line};
-ghost use Rattle.subcommands.specs.CommandLine.{required_word};
+ghost use Rattle.command_line.specs.CommandLine.{add_drv_line, add_text_line, check_line};
+ghost use Rattle.command_line.specs.CommandLine.{command_line, dot_flag, drv_words, jobs_option};
+ghost use Rattle.command_line.specs.CommandLine.{journal_option, plan_line, realise_line, run_options};
+ghost use Rattle.command_line.specs.CommandLine.{store_dir_option};
+ghost use Rattle.command_line.specs.CommandLine.{system_option, top_line};
+ghost use Rattle.command_line.specs.CommandLine.{required_word};
 
 use clap::{Arg, ArgAction, Command};
 use std::alloc::{AllocError, Global};

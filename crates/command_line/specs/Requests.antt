@@ -6,17 +6,17 @@ use Rattle.std.specs.Str.Parse.{IsNumeral, digits_value, without_leading_plus}
 use Rattle.clap.specs.Words.{Row, all_of, first_of, subcommand_of}
 use Rattle.nix_names.specs.Bytes.{Bytes, Dir, Name}
 use Rattle.nix_names.specs.Names.{same_bytes}
-use Rattle.store_run.specs.Realising.{AreWorkers}
-use Rattle.subcommands.specs.CommandLine.{command_line}
-use Rattle.subcommands.specs.declared.options.AddDrvRequest.{AddDrvRequest}
-use Rattle.subcommands.specs.declared.options.AddTextRequest.{AddTextRequest}
-use Rattle.subcommands.specs.declared.options.CheckRequest.{CheckRequest}
-use Rattle.subcommands.specs.declared.options.PlanRequest.{PlanRequest}
-use Rattle.subcommands.specs.declared.options.RealiseRequest.{RealiseRequest}
-use Rattle.subcommands.specs.declared.options.RunRequest.{RunRequest}
-use Rattle.subcommands.specs.declared.options.Request.{Request}
-use Rattle.subcommands.specs.declared.options.Request.TheVariants.{Check, AddText, AddDrv, Plan}
-use Rattle.subcommands.specs.declared.options.Request.TheVariants.{Realise}
+use Rattle.sched_core.specs.Workers.{AreWorkers}
+use Rattle.command_line.specs.CommandLine.{command_line}
+use Rattle.command_line.specs.declared.options.AddDrvRequest.{AddDrvRequest}
+use Rattle.command_line.specs.declared.options.AddTextRequest.{AddTextRequest}
+use Rattle.command_line.specs.declared.options.CheckRequest.{CheckRequest}
+use Rattle.command_line.specs.declared.options.PlanRequest.{PlanRequest}
+use Rattle.command_line.specs.declared.options.RealiseRequest.{RealiseRequest}
+use Rattle.command_line.specs.declared.options.RunRequest.{RunRequest}
+use Rattle.command_line.specs.declared.options.Request.{Request}
+use Rattle.command_line.specs.declared.options.Request.TheVariants.{Check, AddText, AddDrv, Plan}
+use Rattle.command_line.specs.declared.options.Request.TheVariants.{Realise}
 
 -- the store folder among the words and options that were found
 abbrev pub store_dir_in : List Row → Dir

@@ -1,10 +1,10 @@
 //! The words of a command line, read by `clap`.
 ghost use Rattle.std.specs.Prelude.{◌≡◌, IfErr, IfOk, codes, map, option_map};
 ghost use Rattle.clap.specs.Words.{first_of, found_of, kind_of, rows_of};
-ghost use Rattle.subcommands.specs.ProgramEndings.{IsAsked, IsJobsFault, IsOwnFault, IsUsageFault};
-ghost use Rattle.subcommands.specs.Requests.{IsAddDrv, IsAddText, IsAskedBy, IsCheckRequest};
-ghost use Rattle.subcommands.specs.Requests.{IsPlanned, IsRealise, IsRunRequest, dot_in, drvs_in};
-ghost use Rattle.subcommands.specs.Requests.{jobs_in, store_dir_in, system_in, word_in};
+ghost use Rattle.command_line.specs.Usage.{IsAsked, IsJobsFault, IsOwnFault, IsUsageFault};
+ghost use Rattle.command_line.specs.Requests.{IsAddDrv, IsAddText, IsAskedBy, IsCheckRequest};
+ghost use Rattle.command_line.specs.Requests.{IsPlanned, IsRealise, IsRunRequest, dot_in, drvs_in};
+ghost use Rattle.command_line.specs.Requests.{jobs_in, store_dir_in, system_in, word_in};
 
 use crate::command::{
     ADD_DRV, ADD_TEXT, CHECK, DEFAULT_JOBS, DEFAULT_STORE_DIR, DEFAULT_SYSTEM, DOT, DRVS, FILE,

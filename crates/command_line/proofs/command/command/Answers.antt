@@ -1,9 +1,9 @@
 use Rattle.std.proofs.Common.{◌∙◌, ap, refl}
 use Rattle.std.proofs.lemmas.Result.{IfOk-weaker}
 use Rattle.clap.specs.Words.{with_subcommand}
-use Rattle.subcommands.proofs.CommandLines.{grown_by_subcommand}
-use Rattle.subcommands.specs.CommandLine.{add_drv_line, add_text_line, plan_line, realise_line}
-use Rattle.subcommands.proofs.command.command.Goals as goal
+use Rattle.command_line.proofs.CommandLines.{grown_by_subcommand}
+use Rattle.command_line.specs.CommandLine.{add_drv_line, add_text_line, plan_line, realise_line}
+use Rattle.command_line.proofs.command.command.Goals as goal
 
 pub returns : goal.returns
 returns c =

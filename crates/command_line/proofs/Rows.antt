@@ -5,9 +5,9 @@ use Rattle.clap.specs.Words.{Row, all_of, first_of, first_value, found_of, match
 use Rattle.clap.specs.Words.{rows_of, subcommand_name_of, subcommand_of, subcommand_rows_of}
 use Rattle.clap.specs.declared.parser.matches.ArgMatches.{ArgMatches}
 use Rattle.clap.proofs.WalkLemmas.{first_value-rows, raw_values-rows}
-use Rattle.subcommands.specs.CommandLine.{command_line}
-use Rattle.subcommands.specs.Requests.{IsAskedBy, IsRequest}
-use Rattle.subcommands.specs.declared.options.Request.{Request}
+use Rattle.command_line.specs.CommandLine.{command_line}
+use Rattle.command_line.specs.Requests.{IsAskedBy, IsRequest}
+use Rattle.command_line.specs.declared.options.Request.{Request}
 
 pub first_row : (m : ArgMatches) (id : List ℕ)
     → first_value (found_of m) id ≡ first_of id (rows_of (found_of m))

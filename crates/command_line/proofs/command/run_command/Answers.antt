@@ -1,7 +1,7 @@
 use Rattle.clap.specs.Words.{App, new_app, with_rule}
-use Rattle.subcommands.proofs.CommandLines.{ended_by_arg, grown_by_arg}
-use Rattle.subcommands.specs.CommandLine.{journal_option, store_dir_option, system_option}
-use Rattle.subcommands.proofs.command.run_command.Goals as goal
+use Rattle.command_line.proofs.CommandLines.{ended_by_arg, grown_by_arg}
+use Rattle.command_line.specs.CommandLine.{journal_option, store_dir_option, system_option}
+use Rattle.command_line.proofs.command.run_command.Goals as goal
 
 pub returns : goal.returns
 returns c =

@@ -1,8 +1,8 @@
 use Rattle.std.proofs.Common.{codes}
 use Rattle.clap.specs.Words.{App, with_rule}
-use Rattle.subcommands.proofs.CommandLines.{ended_by_arg, grown_by_arg}
-use Rattle.subcommands.specs.CommandLine.{dot_flag, drv_words, run_options}
-use Rattle.subcommands.proofs.command.plan_command.Goals as goal
+use Rattle.command_line.proofs.CommandLines.{ended_by_arg, grown_by_arg}
+use Rattle.command_line.specs.CommandLine.{dot_flag, drv_words, run_options}
+use Rattle.command_line.proofs.command.plan_command.Goals as goal
 
 pub returns : goal.returns
 returns c =

@@ -7,8 +7,8 @@ use Rattle.clap.specs.declared.error.Error.{Error}
 use Rattle.clap.specs.declared.error.kind.ErrorKind.{ErrorKind}
 use Rattle.clap.specs.declared.parser.matches.ArgMatches.{ArgMatches}
 use Rattle.clap.proofs.OnLiterals.{clap_on_literals}
-use Rattle.subcommands.specs.CommandLine.{command_line}
-use Rattle.subcommands.specs.ProgramEndings.{IsOwnFaultIn, IsUsageFault, faults_in}
+use Rattle.command_line.specs.CommandLine.{command_line}
+use Rattle.command_line.specs.Usage.{IsOwnFaultIn, IsUsageFault, faults_in}
 
 -- `clap` says which faults it finds on this command line
 pub is_free : is_simple_and_free command_line ≡ true

@@ -1,7 +1,7 @@
 //! How many workers a command line asks for.
 ghost use Rattle.std.specs.Prelude.{◌≡◌, MatchOption, ℕ};
-ghost use Rattle.store_run.specs.Realising.{AreWorkers};
-ghost use Rattle.subcommands.specs.Requests.{AreJobs};
+ghost use Rattle.sched_core.specs.Workers.{AreWorkers};
+ghost use Rattle.command_line.specs.Requests.{AreJobs};
 
 use std::marker::Model;
 
@@ -18,7 +18,7 @@ impl Model for Jobs {
 
     ghost view = { λ jobs. jobs.count };
 
-    ghost use Rattle.store_run.specs.Realising.{AreWorkers};
+    ghost use Rattle.sched_core.specs.Workers.{AreWorkers};
 
     ghost invariant = { λ jobs. AreWorkers jobs.count };
 }

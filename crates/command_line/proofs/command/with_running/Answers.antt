@@ -1,6 +1,6 @@
 use Rattle.std.proofs.Common.{refl}
-use Rattle.subcommands.proofs.CommandLines.{ended_by_subcommand, grown_by_subcommand}
-use Rattle.subcommands.proofs.command.with_running.Goals as goal
+use Rattle.command_line.proofs.CommandLines.{ended_by_subcommand, grown_by_subcommand}
+use Rattle.command_line.proofs.command.with_running.Goals as goal
 
 pub returns : goal.returns
 returns c =

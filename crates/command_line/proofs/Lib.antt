@@ -1,0 +1,3 @@
+pub mod CommandLines
+pub mod Rows
+pub mod Usage

@@ -1,0 +1,4 @@
+-- What public contracts cite, and what that rests on.
+pub mod CommandLine
+pub mod Requests
+pub mod Usage

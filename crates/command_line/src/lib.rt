@@ -1,0 +1,20 @@
+//! The command line of the program `nix_realise`: its words and options, read by `clap`, and what
+//! they ask for. No file is touched.
+//!
+//! | Module | What is in it |
+//! |---|---|
+//! | `options`, `jobs` | what a command line asks for |
+//! | `command` | the command line that `clap` reads |
+//! | `words` | the words of a command line, read by `clap` |
+#![tactic(auto)]
+
+mod command;
+mod jobs;
+mod options;
+mod words;
+
+pub use jobs::Jobs;
+pub use options::{
+    AddDrvRequest, AddTextRequest, CheckRequest, PlanRequest, RealiseRequest, Request, RunRequest,
+};
+pub use words::{not_text, request};
