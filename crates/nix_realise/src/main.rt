@@ -1,28 +1,21 @@
-//! The program `nix_realise`: the arguments, the standard streams and the builders of a run.
+//! The program `nix_realise`: its terminal, and the builders of a run.
 #![tactic(auto)]
 
-ghost use Rattle.std.specs.Prelude.{◌≡◌, ◌⊎◌, IfOk, map, string_bytes};
-ghost use Rattle.std.specs.Io.Buffered.{writer_inner};
-ghost use Rattle.subcommands.specs.ProgramEndings.{ProgramEnds};
-
-use process_build::{Builders, ByProcesses, Progress, Watching};
-use std::alloc::{AllocError, Global};
-use std::io::{BufWriter, ErrorKind, IsTerminal, Write};
+use process_build::{ByProcesses, Progress, Watching};
+use std::env;
+use std::io::IsTerminal;
 use std::process::ExitCode;
-use std::rt::{Env, Files};
-use std::sync::Wait;
-use std::thread::Threads;
-use std::{env, io};
-use subcommands::{Status, print_no_memory, refuse_words, run};
+use std::rt::Env;
+use subcommands::run_process;
 
 fn main(rt: HostRuntime) -> ExitCode {
     let make = ByProcesses::new(&rt, &rt);
     let mut err = rt.stderr();
     let status = if err.is_terminal() && !is_dumb(&rt) {
         let progress = Progress::new(err);
-        run_streams(&rt, &Watching::new(&rt, &make, &progress), &mut err)
+        run_process(&rt, &Watching::new(&rt, &make, &progress), &mut err)
     } else {
-        run_streams(&rt, &make, &mut err)
+        run_process(&rt, &make, &mut err)
     };
     ExitCode::from(status.code())
 }
@@ -33,79 +26,4 @@ fn is_dumb<R: Env + AllocGlobal>(rt: &R) -> bool {
         Ok(term) => term.as_str() == "dumb",
         Err(_) => false,
     }
-}
-
-// Runs the program on the arguments and the standard output of the process.
-fn run_streams<R, M, E>(rt: &R, make: &M, err: &mut E) -> Status
-where
-    R: Env + Files + Print + Threads + Wait + Sync + AllocGlobal,
-    M: Builders,
-    E: Write,
-{
-    match BufWriter::new(rt.alloc(), io::writer(rt)) {
-        Ok(mut out) => {
-            let status = run_arguments(rt, make, &mut out, err);
-            let_go(out);
-            status
-        }
-        Err(_) => print_no_memory(err),
-    }
-}
-
-// Gives the writer of a buffer, without flushing the buffer. The bytes that are still in it were
-// refused, and are not written again.
-fn let_go<W: Write + Drop>(buffer: BufWriter<W>) -> W
-    ensures { result ≡ writer_inner buffer }
-{
-    let (to, _refused) = buffer.into_parts();
-    to
-}
-
-// Runs the program on the arguments of the process.
-fn run_arguments<R, M, O, E>(rt: &R, make: &M, out: &mut O, err: &mut E) -> Status
-where
-    R: Env + Files + Threads + Wait + Sync + AllocGlobal,
-    M: Builders,
-    O: Write,
-    E: Write,
-{
-    match arguments(rt) {
-        Ok(arguments) => run_texts(rt, make, &arguments, out, err),
-        Err(error) if error.kind() == ErrorKind::InvalidData => refuse_words(rt.alloc(), out, err),
-        Err(_) => print_no_memory(err),
-    }
-}
-
-// Runs the program on these arguments.
-fn run_texts<R, M, O, E>(rt: &R, make: &M, arguments: &[String], out: &mut O, err: &mut E) -> Status
-where
-    R: Files + Threads + Wait + Sync + AllocGlobal,
-    M: Builders,
-    O: Write,
-    E: Write,
-    ensures { ProgramEnds M.Builder.may (map string_bytes arguments.now)
-        (O.contents out.old, O.contents out.new) (E.contents err.old, E.contents err.new) result
-        ⊎ ((O.contents out.new ≡ O.contents out.old) × (result ≡ Status.CutShort)) }
-{
-    match texts(rt.alloc(), arguments) {
-        Ok(words) => run(rt, make, &words, out, err),
-        Err(_) => print_no_memory(err),
-    }
-}
-
-// The arguments of the process.
-fn arguments<R: Env + AllocGlobal>(rt: &R) -> io::Result<Vec<String>> {
-    Ok(env::args(rt)?.collect(rt.alloc())?)
-}
-
-// The texts of the arguments.
-fn texts(alloc: Global, arguments: &[String]) -> Result<Vec<&str>, AllocError>
-    ensures { IfOk result (λ words.
-        map (λ w. w.now) words.items ≡ map string_bytes arguments.now) }
-{
-    let mut words = Vec::new(alloc);
-    for argument in arguments {
-        words.push(argument.as_str())?;
-    }
-    Ok(words)
 }

@@ -19,6 +19,7 @@
 //! | `settled` | the status, the journal and the report of a run, by its book |
 //! | `builders`, `realise` | the builders of a run; the subcommand `realise` |
 //! | `printing`, `program` | printing; one run of the program |
+//! | `process` | that run in a process: its arguments and its standard output |
 #![tactic(auto)]
 
 mod add_drv;
@@ -34,6 +35,7 @@ mod graph_words;
 mod journal_file;
 mod plan;
 mod printing;
+mod process;
 mod program;
 mod realise;
 mod settled;
@@ -47,5 +49,6 @@ mod whole_file;
 
 pub use check::check_lines;
 pub use folder::FolderSource;
+pub use process::run_process;
 pub use program::{print_no_memory, refuse_words, run};
 pub use status::Status;

@@ -1,5 +1,5 @@
 use Rattle.std.proofs.Common.{◌≡◌, map, take, string_bytes}
-use Rattle.nix_realise.proofs.texts.Given as goal
+use Rattle.subcommands.proofs.process.texts.Given as goal
 
 -- the arguments so far
 abbrev pub invariant-loop-argument : goal.invariant-loop-argument
