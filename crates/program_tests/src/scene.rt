@@ -75,6 +75,8 @@ impl Scene {
             Step::Put(name, draft) => self.put(rt, name, draft),
             Step::Twins(name, first, second) => self.put_twins(rt, name, *first, *second),
             Step::Start(call, made) => self.starts(rt, call, made),
+            Step::NoStart(builder) => self.starts_none(rt, builder),
+            Step::NoProcess(args, env) => self.refuses(rt, args, env),
             Step::Script(script, outputs, made) => self.builds(rt, script, outputs, made),
             other => self.takes_narrow(rt, make, other),
         }

@@ -17,12 +17,23 @@ pub const PATH: (&[u8], &[u8]) = (b"PATH", b"/usr/bin:/bin");
 
 /// How a builder is called: its path, its arguments, the entries of its environment after those of
 /// its outputs, and its outputs.
+#[derive(Drop)]
 pub struct Call {
     pub builder: &'static [u8],
     pub args: &'static [&'static [u8]],
     pub env: &'static [(&'static [u8], &'static [u8])],
     pub outputs: &'static [&'static str],
 }
+
+const NO_ARGS: &[&[u8]] = &[];
+
+const WITH_PATH: &[(&[u8], &[u8])] = &[PATH];
+
+const ONE_OUTPUT: &[&str] = &["out"];
+
+const OUT: &str = "<dir>/cccccccccccccccccccccccccccccccc-out";
+
+const BUILD: &str = "<dir>/.build-0";
 
 /// The outcome of a builder.
 pub enum Made {
@@ -98,6 +109,46 @@ impl Scene {
         let mut job = self.site.job(rt.alloc(), &builder, call.outputs)?;
         add_call(rt.alloc(), &mut job, call.args, call.env)?;
         self.is_made(rt.alloc(), &self.site.run(rt, &job), made)
+    }
+
+    // Whether no process is started for the builder at this path.
+    pub(crate) fn starts_none<R: Host + Processes>(
+        &self,
+        rt: &R,
+        builder: &'static [u8],
+    ) -> Result<bool, Fail> {
+        let call = Call {
+            builder,
+            args: NO_ARGS,
+            env: WITH_PATH,
+            outputs: ONE_OUTPUT,
+        };
+        self.starts(rt, &call, &Made::Failed(Reason::NoStart))
+    }
+
+    // Whether no process takes these arguments and entries, and what lies at the output and at the
+    // build folder stays.
+    pub(crate) fn refuses<R: Host + Processes>(
+        &mut self,
+        rt: &R,
+        args: &'static [&'static [u8]],
+        env: &'static [(&'static [u8], &'static [u8])],
+    ) -> Result<bool, Fail> {
+        let call = Call {
+            builder: b"/bin/sh",
+            args,
+            env,
+            outputs: ONE_OUTPUT,
+        };
+        self.write(rt, OUT, "kept")?;
+        self.write(rt, BUILD, "kept")?;
+        let is_refused = self.starts(rt, &call, &Made::Failed(Reason::NoStart))?;
+        Ok(is_refused && self.keeps(rt)?)
+    }
+
+    // Whether what was written to the output and to the build folder stays.
+    fn keeps<R: Host>(&mut self, rt: &R) -> Result<bool, Fail> {
+        Ok(self.holds(rt, OUT, "kept")? && self.holds(rt, BUILD, "kept")?)
     }
 
     // Bytes; if they are a text, each word in it is replaced by its text.

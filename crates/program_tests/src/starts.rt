@@ -13,12 +13,6 @@ use std::rt::Files;
 use std::test::Fail;
 use std::{fs, io, process};
 
-const OUT: &str = "<dir>/cccccccccccccccccccccccccccccccc-out";
-
-const BUILD: &str = "<dir>/.build-0";
-
-const NO_START: Made = Made::Failed(Reason::NoStart);
-
 static RUNS: [Row; 5] = [
     // The environment that a script finds, with its job's entries: `HOME`, `TMP` and `k`, and no
     // `PATH`.
@@ -104,69 +98,13 @@ static BUILDERS: [Row; 1] = [
         steps: &[
             Step::Write("<dir>/text", "echo made > $out\n"),
             Step::Mode("<dir>/text", 0o755),
-            Step::Start(
-                Call {
-                    builder: b"/no/such/program",
-                    args: &[],
-                    env: &[PATH],
-                    outputs: &["out"],
-                },
-                NO_START,
-            ),
-            Step::Start(
-                Call {
-                    builder: b"",
-                    args: &[],
-                    env: &[PATH],
-                    outputs: &["out"],
-                },
-                NO_START,
-            ),
-            Step::Start(
-                Call {
-                    builder: b"sh",
-                    args: &[],
-                    env: &[PATH],
-                    outputs: &["out"],
-                },
-                NO_START,
-            ),
-            Step::Start(
-                Call {
-                    builder: b"<dir>/text",
-                    args: &[],
-                    env: &[PATH],
-                    outputs: &["out"],
-                },
-                NO_START,
-            ),
-            Step::Start(
-                Call {
-                    builder: b"/bin",
-                    args: &[],
-                    env: &[PATH],
-                    outputs: &["out"],
-                },
-                NO_START,
-            ),
-            Step::Start(
-                Call {
-                    builder: b"/bin/sh\xff",
-                    args: &[],
-                    env: &[PATH],
-                    outputs: &["out"],
-                },
-                NO_START,
-            ),
-            Step::Start(
-                Call {
-                    builder: b"/bin/sh\0",
-                    args: &[],
-                    env: &[PATH],
-                    outputs: &["out"],
-                },
-                NO_START,
-            ),
+            Step::NoStart(b"/no/such/program"),
+            Step::NoStart(b""),
+            Step::NoStart(b"sh"),
+            Step::NoStart(b"<dir>/text"),
+            Step::NoStart(b"/bin"),
+            Step::NoStart(b"/bin/sh\xff"),
+            Step::NoStart(b"/bin/sh\0"),
         ],
     },
 ];
@@ -177,97 +115,22 @@ static TEXTS: [Row; 1] = [
     Row {
         name: "texts",
         steps: &[
-            Step::Write(OUT, "kept"),
-            Step::Write(BUILD, "kept"),
-            Step::Start(
-                Call {
-                    builder: b"/bin/sh",
-                    args: &[b"-c", b"echo made > $out", b"a\0"],
-                    env: &[PATH, (b"k", b"v")],
-                    outputs: &["out"],
-                },
-                NO_START,
+            Step::NoProcess(&[b"-c", b"echo made > $out", b"a\0"], &[PATH, (b"k", b"v")]),
+            Step::NoProcess(
+                &[b"-c", b"echo made > $out", b"\xff"],
+                &[PATH, (b"k", b"v")],
             ),
-            Step::Holds(OUT, "kept"),
-            Step::Holds(BUILD, "kept"),
-            Step::Write(OUT, "kept"),
-            Step::Write(BUILD, "kept"),
-            Step::Start(
-                Call {
-                    builder: b"/bin/sh",
-                    args: &[b"-c", b"echo made > $out", b"\xff"],
-                    env: &[PATH, (b"k", b"v")],
-                    outputs: &["out"],
-                },
-                NO_START,
+            Step::NoProcess(&[b"-c", b"echo made > $out", b"a"], &[PATH, (b"", b"v")]),
+            Step::NoProcess(&[b"-c", b"echo made > $out", b"a"], &[PATH, (b"k=", b"v")]),
+            Step::NoProcess(&[b"-c", b"echo made > $out", b"a"], &[PATH, (b"k\0", b"v")]),
+            Step::NoProcess(
+                &[b"-c", b"echo made > $out", b"a"],
+                &[PATH, (b"\xff", b"v")],
             ),
-            Step::Holds(OUT, "kept"),
-            Step::Holds(BUILD, "kept"),
-            Step::Write(OUT, "kept"),
-            Step::Write(BUILD, "kept"),
-            Step::Start(
-                Call {
-                    builder: b"/bin/sh",
-                    args: &[b"-c", b"echo made > $out", b"a"],
-                    env: &[PATH, (b"", b"v")],
-                    outputs: &["out"],
-                },
-                NO_START,
+            Step::NoProcess(
+                &[b"-c", b"echo made > $out", b"a"],
+                &[PATH, (b"k", b"\xff")],
             ),
-            Step::Holds(OUT, "kept"),
-            Step::Holds(BUILD, "kept"),
-            Step::Write(OUT, "kept"),
-            Step::Write(BUILD, "kept"),
-            Step::Start(
-                Call {
-                    builder: b"/bin/sh",
-                    args: &[b"-c", b"echo made > $out", b"a"],
-                    env: &[PATH, (b"k=", b"v")],
-                    outputs: &["out"],
-                },
-                NO_START,
-            ),
-            Step::Holds(OUT, "kept"),
-            Step::Holds(BUILD, "kept"),
-            Step::Write(OUT, "kept"),
-            Step::Write(BUILD, "kept"),
-            Step::Start(
-                Call {
-                    builder: b"/bin/sh",
-                    args: &[b"-c", b"echo made > $out", b"a"],
-                    env: &[PATH, (b"k\0", b"v")],
-                    outputs: &["out"],
-                },
-                NO_START,
-            ),
-            Step::Holds(OUT, "kept"),
-            Step::Holds(BUILD, "kept"),
-            Step::Write(OUT, "kept"),
-            Step::Write(BUILD, "kept"),
-            Step::Start(
-                Call {
-                    builder: b"/bin/sh",
-                    args: &[b"-c", b"echo made > $out", b"a"],
-                    env: &[PATH, (b"\xff", b"v")],
-                    outputs: &["out"],
-                },
-                NO_START,
-            ),
-            Step::Holds(OUT, "kept"),
-            Step::Holds(BUILD, "kept"),
-            Step::Write(OUT, "kept"),
-            Step::Write(BUILD, "kept"),
-            Step::Start(
-                Call {
-                    builder: b"/bin/sh",
-                    args: &[b"-c", b"echo made > $out", b"a"],
-                    env: &[PATH, (b"k", b"\xff")],
-                    outputs: &["out"],
-                },
-                NO_START,
-            ),
-            Step::Holds(OUT, "kept"),
-            Step::Holds(BUILD, "kept"),
         ],
     },
 ];

@@ -31,6 +31,11 @@ pub enum Step {
     Twins(&'static str, (&'static str, &'static str), (&'static str, &'static str)),
     /// A builder is called, and has this outcome.
     Start(Call, Made),
+    /// No process is started for the builder at this path.
+    NoStart(&'static [u8]),
+    /// No process takes these arguments and entries of its environment. What lies at the output and
+    /// at the build folder stays.
+    NoProcess(&'static [&'static [u8]], &'static [(&'static [u8], &'static [u8])]),
     /// A script runs as the builder of these outputs, and has this outcome.
     Script(&'static str, &'static [&'static str], Made),
     /// A word for the path that a text gets under a name.
