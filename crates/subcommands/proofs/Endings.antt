@@ -1,11 +1,11 @@
 -- How a run of `add-text` ends where its text is refused, or where a file is not written.
 use Rattle.std.proofs.Common.{refl, ℕ, List, Option, Result, Ok, Err}
 use Rattle.std.specs.Io.KnownBytes.{Appends}
+use Rattle.command_line.specs.declared.options.AddTextRequest.{AddTextRequest}
 use Rattle.subcommands.specs.AddedText.{FileBytes, IsAddingText}
 use Rattle.subcommands.specs.Endings.{EndsBy, IsPrintedAndWritten, IsWriteFault, path_line}
 use Rattle.subcommands.specs.StoreDirs.{IsStoreDirOf}
 use Rattle.subcommands.specs.declared.added_text.AddedText.{AddedText}
-use Rattle.command_line.specs.declared.options.AddTextRequest.{AddTextRequest}
 use Rattle.subcommands.specs.declared.status.Status.{Status}
 use Rattle.subcommands.specs.declared.stop.Stop.{Stop}
 use Rattle.subcommands.specs.declared.stop.Stop.TheVariants.{NotWritten, JournalNotWritten}

@@ -13,11 +13,11 @@ use Rattle.drv_graph.specs.Filling.{IsFilling}
 use Rattle.drv_graph.specs.declared.fault.GraphFault.{GraphFault}
 use Rattle.drv_graph.specs.declared.fault.GraphFault.TheVariants as graph
 use Rattle.drv_graph.specs.declared.fault.NodeFault.TheVariants as node
+use Rattle.command_line.specs.declared.options.AddDrvRequest.{AddDrvRequest}
 use Rattle.subcommands.specs.AddedText.{FileBytes}
 use Rattle.subcommands.specs.StoreDirs.{IsStoreDirOf}
 use Rattle.subcommands.specs.declared.added_drv.AddedDrv.{AddedDrv}
 use Rattle.subcommands.specs.declared.files.FileFault.TheVariants as file
-use Rattle.command_line.specs.declared.options.AddDrvRequest.{AddDrvRequest}
 use Rattle.subcommands.specs.declared.stop.Stop.{Stop}
 use Rattle.subcommands.specs.declared.stop.Stop.TheVariants.{BadDraft, BadDrv, BadName}
 use Rattle.subcommands.specs.declared.stop.Stop.TheVariants.{NoMemory, Unreadable}

@@ -6,11 +6,11 @@ use Rattle.valid_table.specs.declared.entry.Entry.{Entry}
 use Rattle.sched_core.specs.Runs.{Run as RunOver}
 use Rattle.forecast.specs.Pictures.{IsPicture}
 use Rattle.forecast.specs.Texts.{IsForecast, is_whole}
+use Rattle.command_line.specs.declared.options.PlanRequest.{PlanRequest}
+use Rattle.command_line.specs.declared.options.RunRequest.{RunRequest}
 use Rattle.subcommands.specs.AddedText.{FileBytes}
 use Rattle.subcommands.specs.Folders.{may_give}
 use Rattle.subcommands.specs.Tasks.{IsTaskTaken}
-use Rattle.command_line.specs.declared.options.PlanRequest.{PlanRequest}
-use Rattle.command_line.specs.declared.options.RunRequest.{RunRequest}
 use Rattle.subcommands.specs.declared.status.Status.{Status}
 use Rattle.subcommands.specs.declared.status.Status.TheVariants.{Done, Unrealised}
 use Rattle.subcommands.specs.declared.stop.Stop.{Stop}

@@ -6,18 +6,18 @@ use Rattle.clap.specs.declared.error.kind.ErrorKind.{ErrorKind}
 use Rattle.clap.specs.declared.error.kind.ErrorKind.TheVariants.{DisplayHelp, DisplayVersion}
 use Rattle.clap.specs.declared.error.kind.ErrorKind.TheVariants.{OutOfMemory}
 use Rattle.nix_names.specs.Bytes.{Bytes}
+use Rattle.command_line.specs.Usage.{IsAsked, IsUsageFault}
+use Rattle.command_line.specs.declared.options.CheckRequest.{CheckRequest}
+use Rattle.command_line.specs.declared.options.Request.{Request}
+use Rattle.command_line.specs.declared.options.Request.TheVariants.{Check, AddText, AddDrv, Plan}
+use Rattle.command_line.specs.declared.options.Request.TheVariants.{Realise}
 use Rattle.subcommands.specs.CheckLines.{IsCheckReport}
 use Rattle.subcommands.specs.DrvEndings.{DrvEnds}
 use Rattle.subcommands.specs.Endings.{Ends}
 use Rattle.subcommands.specs.Folders.{may_give}
 use Rattle.subcommands.specs.Planning.{PlanEnds}
 use Rattle.subcommands.specs.Realising.{May, RealiseEnds}
-use Rattle.command_line.specs.Usage.{IsAsked, IsUsageFault}
 use Rattle.subcommands.specs.Stops.{IsStopOf, IsTold}
-use Rattle.command_line.specs.declared.options.CheckRequest.{CheckRequest}
-use Rattle.command_line.specs.declared.options.Request.{Request}
-use Rattle.command_line.specs.declared.options.Request.TheVariants.{Check, AddText, AddDrv, Plan}
-use Rattle.command_line.specs.declared.options.Request.TheVariants.{Realise}
 use Rattle.subcommands.specs.declared.status.Status.{Status}
 use Rattle.subcommands.specs.declared.status.Status.TheVariants.{Done, Refused, CutShort}
 use Rattle.subcommands.specs.declared.stop.Stop.{Stop}

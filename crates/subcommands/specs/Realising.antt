@@ -12,10 +12,10 @@ use Rattle.sched_core.specs.declared.job.Job.{Job}
 use Rattle.sched_core.specs.declared.reason.Reason.{Reason}
 use Rattle.store_run.specs.Realising.{IsRealised, IsRunFault}
 use Rattle.store_run.specs.declared.fault.RunFault.{RunFault}
+use Rattle.command_line.specs.declared.options.RealiseRequest.{RealiseRequest}
 use Rattle.subcommands.specs.AddedText.{FileBytes}
 use Rattle.subcommands.specs.Folders.{may_give}
 use Rattle.subcommands.specs.Tasks.{IsTaskTaken}
-use Rattle.command_line.specs.declared.options.RealiseRequest.{RealiseRequest}
 use Rattle.subcommands.specs.declared.status.Status.{Status}
 use Rattle.subcommands.specs.declared.status.Status.TheVariants.{Done, Unrealised}
 use Rattle.subcommands.specs.declared.stop.Stop.{Stop}
