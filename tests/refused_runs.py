@@ -129,8 +129,8 @@ class Realise(Runs):
         if path in self.drv.values():
             return "derivation"
         if "/.nix_realise-left-" in path:
-            is_free = not self.has_started(calls, at) and not self.is_taken_by_another(calls, at)
-            return "name aside" if is_free else "folder aside"
+            is_taken = self.is_taken_by_another(calls, at) != self.is_raced
+            return "folder aside" if is_taken or self.has_started(calls, at) else "name aside"
         made = [c.kind for c in calls[: at + 1]].count("create")
         if path == str(self.journal) and call.kind != "rename":
             looks = [c.path for c in calls[: at + 1] if c.kind == "look"].count(path)
@@ -149,6 +149,14 @@ class Realise(Runs):
         looks = (n for n in range(at + 1, len(calls)) if calls[n].thread == own and calls[n].kind == "look")
         moves = [it for it in calls[: next(looks, at)] if it.kind == "rename" and it.thread != own]
         return calls[at].kind == "rename" and any(it.path.split(" > ")[-1] == to for it in moves if not it.is_refused)
+
+    def races(self, calls, at):
+        # A call is logged before it is made. So where two workers move something to one name, the
+        # log does not tell whether the look behind a refused rename saw what the other one moved.
+        own, to = calls[at].thread, calls[at].path.split(" > ")[-1]
+        moves = [it for it in calls if it.kind == "rename" and it.thread != own]
+        is_shared = any(it.path.split(" > ")[-1] == to for it in moves if not it.is_refused)
+        return [False, True] if calls[at].kind == "rename" and is_shared else [False]
 
     def threads(self):
         return "only" if self.jobs == 1 else "one of two"

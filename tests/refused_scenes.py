@@ -156,6 +156,13 @@ class Scene:
         """What an undisturbed run tells."""
         return 0, self.path + "\n", ""
 
+    # Whether two workers' calls were made in another order than they were logged.
+    is_raced = False
+
+    def races(self, calls, at):
+        """The orders that are possible of the refused call and those of other workers."""
+        return [False]
+
     def outcome(self, at, calls):
         """What is told where the call at this place is refused, and what stands then."""
         if at is None:
