@@ -1,63 +1,68 @@
-use Rattle.std.proofs.Common.{◌∙◌, ap, refl, subst, sym}
+use Rattle.std.proofs.Common.{◌≡◌, ◌∙◌, ℕ, List, ap, refl, subst, sym}
 use Rattle.std.proofs.lemmas.Result.{err_from_is_err_and}
+use Rattle.valid_table.specs.PathInfos.{PathInfo}
+use Rattle.valid_table.specs.declared.entry.Entry.{Entry}
 use Rattle.sched_core.specs.Books.{IsBooksLease, IsDone, Ledger, MayAllRefer, fault_of}
+use Rattle.sched_core.specs.Dones.{IsDoneEntry}
+use Rattle.sched_core.specs.Runs.{History, Run}
 use Rattle.sched_core.specs.declared.job.Job.{Job}
 use Rattle.sched_core.proofs.Building.{builds_behind_done, builds_still}
 use Rattle.sched_core.proofs.Ending.{append_fault, done_under_lease, entry_fault, finishing, holding, journal_behind, may_append}
 use Rattle.sched_core.proofs.book.Book.register.Goals as goal
 
+-- a lease whose job and number were read is the book's
+owned : {run : Run} {history : History} {read job : Job} {n number : ℕ}
+    → IsBooksLease run history read n → read ≡ job → n ≡ number
+    → IsBooksLease run history job number
+owned {run = run} {history = history} {job = job} {n = n} lease same_job same_number =
+    subst (IsBooksLease run history job) same_number
+    (subst (λ (j : Job). IsBooksLease run history j n) same_job lease)
+
+-- its entry is that of a Done
+done_here : {run : Run} {history : History} {shown pending : List Entry} {ledger : Ledger}
+    {read job : Job} {number : ℕ} (infos : List PathInfo) (entry : Entry)
+    → record { run = run; history = history; shown = shown; pending = pending } ≡ ledger
+    → IsBooksLease run history job number
+    → (IsBooksLease ledger.run ledger.history job number
+    → MayAllRefer ledger.history.entries job infos)
+    → read ≡ job → IsDoneEntry run.graph read.derivation history.entries infos entry
+    → IsDone run history.entries job.derivation infos entry
+done_here {job = job} {number = number} infos entry view lease may same told =
+    done_under_lease _ _ _ _ infos entry lease
+    (subst (λ (l : Ledger). IsBooksLease l.run l.history job number
+    → MayAllRefer l.history.entries job infos) (sym view) may lease)
+    (rw (← same) told)
+
 pub append-requires-clause-new : goal.append-requires-clause-new
 append-requires-clause-new g c =
-    let asked = subst (λ (l : Ledger). IsBooksLease l.run l.history c.args.lease.now.job
-    c.args.lease.now.number → MayAllRefer l.history.entries c.args.lease.now.job
-    c.args.checked.now)
-    (sym c.self.view_is) c.requires in
-    let lease : IsBooksLease c.self.inside.progress.run c.self.inside.progress.history
-    c.args.lease.now.job c.args.lease.now.number =
-    rw (← c.job-job.ensures, ← c.number.ensures) (c.has_given.ensures.0 c.if-not-has_given.false) in
-    let done : IsDone c.self.inside.progress.run c.self.inside.progress.history.entries
-    c.args.lease.now.job.derivation c.args.checked.now c.in_ok-entry.field-0.entry =
-    done_under_lease _ _ _ _ _ _ lease (asked lease)
-    (rw (← c.job-job.ensures) c.in_ok-entry.ensures.entry) in
+    let lease = owned (c.has_given.ensures.0 c.if-not-has_given.false) c.job-job.ensures
+    c.number.ensures in
+    let done = done_here c.args.checked.now c.in_ok-entry.field-0.entry c.self.view_is lease
+    c.requires c.job-job.ensures c.in_ok-entry.ensures.entry in
     (may_append _ _ _ _ _ _ _ done c.self.invariant.0 c.in_ok-entry.ensures.shown).0
 
 pub append-requires-clause-closed : goal.append-requires-clause-closed
 append-requires-clause-closed g c =
-    let asked = subst (λ (l : Ledger). IsBooksLease l.run l.history c.args.lease.now.job
-    c.args.lease.now.number → MayAllRefer l.history.entries c.args.lease.now.job
-    c.args.checked.now)
-    (sym c.self.view_is) c.requires in
-    let lease : IsBooksLease c.self.inside.progress.run c.self.inside.progress.history
-    c.args.lease.now.job c.args.lease.now.number =
-    rw (← c.job-job.ensures, ← c.number.ensures) (c.has_given.ensures.0 c.if-not-has_given.false) in
-    let done : IsDone c.self.inside.progress.run c.self.inside.progress.history.entries
-    c.args.lease.now.job.derivation c.args.checked.now c.in_ok-entry.field-0.entry =
-    done_under_lease _ _ _ _ _ _ lease (asked lease)
-    (rw (← c.job-job.ensures) c.in_ok-entry.ensures.entry) in
+    let lease = owned (c.has_given.ensures.0 c.if-not-has_given.false) c.job-job.ensures
+    c.number.ensures in
+    let done = done_here c.args.checked.now c.in_ok-entry.field-0.entry c.self.view_is lease
+    c.requires c.job-job.ensures c.in_ok-entry.ensures.entry in
     (may_append _ _ _ _ _ _ _ done c.self.invariant.0 c.in_ok-entry.ensures.shown).1
 
 pub finish-requires-clause-done : goal.finish-requires-clause-done
 finish-requires-clause-done g c =
-    let asked = subst (λ (l : Ledger). IsBooksLease l.run l.history c.args.lease.now.job
-    c.args.lease.now.number → MayAllRefer l.history.entries c.args.lease.now.job
-    c.args.checked.now)
-    (sym c.self.view_is) c.requires in
-    let lease : IsBooksLease c.self.inside.progress.run c.self.inside.progress.history
-    c.args.lease.now.job c.args.lease.now.number =
-    rw (← c.job-job.ensures, ← c.number.ensures) (c.has_given.ensures.0 c.if-not-has_given.false) in
-    let done : IsDone c.self.inside.progress.run c.self.inside.progress.history.entries
-    c.args.lease.now.job.derivation c.args.checked.now c.in_ok-entry.field-0.entry =
-    done_under_lease _ _ _ _ _ _ lease (asked lease)
-    (rw (← c.job-job.ensures) c.in_ok-entry.ensures.entry) in (
+    let lease = owned (c.has_given.ensures.0 c.if-not-has_given.false) c.job-job.ensures
+    c.number.ensures in
+    let done = done_here c.args.checked.now c.in_ok-entry.field-0.entry c.self.view_is lease
+    c.requires c.job-job.ensures c.in_ok-entry.ensures.entry in (
       c.args.checked.now,
       rw (c.in_ok-entry.ensures.run, c.in_ok-entry.ensures.history, c.job-job.ensures) done,
     )
 
 pub returns-in_err-entry-clause-fault : goal.returns-in_err-entry-clause-fault
 returns-in_err-entry-clause-fault g c =
-    let lease : IsBooksLease c.self.inside.progress.run c.self.inside.progress.history
-    c.args.lease.now.job c.args.lease.now.number =
-    rw (← c.job-job.ensures, ← c.number.ensures) (c.has_given.ensures.0 c.if-not-has_given.false) in
+    let lease = owned (c.has_given.ensures.0 c.if-not-has_given.false) c.job-job.ensures
+    c.number.ensures in
     let p = err_from_is_err_and c.from_residual.result c.from_residual.ensures.1 in
     rw (p.1, p.2)
     (entry_fault c.args.self.now _ _ _ _ c.args.lease.now.job c.args.lease.now.number _
@@ -66,9 +71,8 @@ returns-in_err-entry-clause-fault g c =
 
 pub returns-in_err-append-clause-fault : goal.returns-in_err-append-clause-fault
 returns-in_err-append-clause-fault g c =
-    let lease : IsBooksLease c.self.inside.progress.run c.self.inside.progress.history
-    c.args.lease.now.job c.args.lease.now.number =
-    rw (← c.job-job.ensures, ← c.number.ensures) (c.has_given.ensures.0 c.if-not-has_given.false) in
+    let lease = owned (c.has_given.ensures.0 c.if-not-has_given.false) c.job-job.ensures
+    c.number.ensures in
     let p = err_from_is_err_and c.from_residual-in_err-append.result
     c.from_residual-in_err-append.ensures.1 in
     rw p.1
@@ -79,17 +83,10 @@ returns-in_err-append-clause-fault g c =
 
 pub returns-clause-ok : goal.returns-clause-ok
 returns-clause-ok g c =
-    let asked = subst (λ (l : Ledger). IsBooksLease l.run l.history c.args.lease.now.job
-    c.args.lease.now.number → MayAllRefer l.history.entries c.args.lease.now.job
-    c.args.checked.now)
-    (sym c.self.view_is) c.requires in
-    let lease : IsBooksLease c.self.inside.progress.run c.self.inside.progress.history
-    c.args.lease.now.job c.args.lease.now.number =
-    rw (← c.job-job.ensures, ← c.number.ensures) (c.has_given.ensures.0 c.if-not-has_given.false) in
-    let done : IsDone c.self.inside.progress.run c.self.inside.progress.history.entries
-    c.args.lease.now.job.derivation c.args.checked.now c.in_ok-entry.field-0.entry =
-    done_under_lease _ _ _ _ _ _ lease (asked lease)
-    (rw (← c.job-job.ensures) c.in_ok-entry.ensures.entry) in
+    let lease = owned (c.has_given.ensures.0 c.if-not-has_given.false) c.job-job.ensures
+    c.number.ensures in
+    let done = done_here c.args.checked.now c.in_ok-entry.field-0.entry c.self.view_is lease
+    c.requires c.job-job.ensures c.in_ok-entry.ensures.entry in
     finishing c.args.self.now _ _ _ _ _ _ _ _ _ c.args.lease.now.job c.args.lease.now.number _ _
     c.args.checked.now c.in_ok-entry.field-0.entry c.in_ok-entry.field-0.shown
     c.self.view_is lease done (c.finish.ensures.run ∙ c.in_ok-entry.ensures.run)
@@ -118,17 +115,10 @@ invariant_of-self-in_err-append g c = (
 
 pub invariant_of-self-2 : goal.invariant_of-self-2
 invariant_of-self-2 g c =
-    let asked = subst (λ (l : Ledger). IsBooksLease l.run l.history c.args.lease.now.job
-    c.args.lease.now.number → MayAllRefer l.history.entries c.args.lease.now.job
-    c.args.checked.now)
-    (sym c.self.view_is) c.requires in
-    let lease : IsBooksLease c.self.inside.progress.run c.self.inside.progress.history
-    c.args.lease.now.job c.args.lease.now.number =
-    rw (← c.job-job.ensures, ← c.number.ensures) (c.has_given.ensures.0 c.if-not-has_given.false) in
-    let done : IsDone c.self.inside.progress.run c.self.inside.progress.history.entries
-    c.args.lease.now.job.derivation c.args.checked.now c.in_ok-entry.field-0.entry =
-    done_under_lease _ _ _ _ _ _ lease (asked lease)
-    (rw (← c.job-job.ensures) c.in_ok-entry.ensures.entry) in (
+    let lease = owned (c.has_given.ensures.0 c.if-not-has_given.false) c.job-job.ensures
+    c.number.ensures in
+    let done = done_here c.args.checked.now c.in_ok-entry.field-0.entry c.self.view_is lease
+    c.requires c.job-job.ensures c.in_ok-entry.ensures.entry in (
       holding _ _ _ _ _ _ _ _ c.self.invariant.0
           (rw (c.finish.ensures.history, c.in_ok-entry.ensures.history) refl)
           c.in_ok-append.ensures.same c.in_ok-append.ensures.ok c.in_ok-entry.ensures.shown,
