@@ -1,46 +1,32 @@
 use Rattle.std.proofs.Common.{◌∙◌, ap, length, subst, arith}
 use Rattle.valid_table.specs.Valid.{IsJournal}
-use Rattle.sched_core.specs.Courses.{AreStandings}
-use Rattle.sched_core.specs.Runs.{Run}
 use Rattle.sched_core.proofs.Keeping.{opening_kept, wanted_count}
 use Rattle.sched_core.proofs.progress.Progress.open.Goals as goal
 
 pub nearest_twins-requires : goal.nearest_twins-requires
 nearest_twins-requires c =
-    let run : Run = record { graph = c.args.plan; system = c.args.system.items } in
-    let own : AreStandings c.args.system.items c.args.journal.entries c.args.plan.nodes
-    c.in_ok-standings.standings.items =
-    subst (λ s. AreStandings s c.args.journal.entries c.args.plan.nodes
-    c.in_ok-standings.standings.items) c.deref.ensures.value c.in_ok-standings.ensures.ok in
     ap length c.deref-3.ensures.value
-    ∙ wanted_count run c.args.journal.entries c.in_ok-standings.standings.items
-    c.in_ok-wanted.wanted.items own (λ other first is stand.
+    ∙ wanted_count (record { graph = c.args.plan; system = c.args.system.items })
+    c.args.journal.entries c.in_ok-standings.standings.items c.in_ok-wanted.wanted.items
+    (rw (← c.deref.ensures.value) c.in_ok-standings.ensures.ok) (λ other first is stand.
     c.in_ok-wanted.ensures.ok other first is (rw c.deref-2.ensures.value stand))
 
 pub open-requires-clause-wanted : goal.open-requires-clause-wanted
 open-requires-clause-wanted c =
-    let run : Run = record { graph = c.args.plan; system = c.args.system.items } in
-    let own : AreStandings c.args.system.items c.args.journal.entries c.args.plan.nodes
-    c.in_ok-standings.standings.items =
-    subst (λ s. AreStandings s c.args.journal.entries c.args.plan.nodes
-    c.in_ok-standings.standings.items) c.deref.ensures.value c.in_ok-standings.ensures.ok in
-    wanted_count run c.args.journal.entries c.in_ok-standings.standings.items
-    c.in_ok-wanted.wanted.items own (λ other first is stand.
+    wanted_count (record { graph = c.args.plan; system = c.args.system.items })
+    c.args.journal.entries c.in_ok-standings.standings.items c.in_ok-wanted.wanted.items
+    (rw (← c.deref.ensures.value) c.in_ok-standings.ensures.ok) (λ other first is stand.
     c.in_ok-wanted.ensures.ok other first is (rw c.deref-2.ensures.value stand))
 
 pub invariant_of-result : goal.invariant_of-result
 invariant_of-result c =
-    let own : AreStandings c.args.system.items c.args.journal.entries c.args.plan.nodes
-    c.in_ok-standings.standings.items =
-    subst (λ s. AreStandings s c.args.journal.entries c.args.plan.nodes
-    c.in_ok-standings.standings.items) c.deref.ensures.value c.in_ok-standings.ensures.ok in
     let same = c.entries-opening.ensures.value in (
       opening_kept _ _ _ c.args.journal.entries _ c.in_ok-course.course c.args.plan
           c.in_ok-standings.standings.items c.in_ok-wanted.wanted.items
           c.in_ok-twins.twins.items
           (rw (← same) c.entries-opening.ensures.is_journal) (ap length same)
           c.in_ok-events.ensures.items
-          own
+          (rw (← c.deref.ensures.value) c.in_ok-standings.ensures.ok)
           (λ run first is stand. c.in_ok-wanted.ensures.ok run first is
           (rw c.deref-2.ensures.value stand))
           (λ run first is want. c.in_ok-twins.ensures.ok run first is
