@@ -1,6 +1,7 @@
 use Rattle.std.proofs.Common.{◌≡◌, ◌∙◌, ◌<◌, ◌+◌, ◌++◌, ◌-◌, ℕ, List, None, ap, arith, get_or, length, subst, sum, sym, ◌^◌}
 use Rattle.std.proofs.lemmas.List.{take_at}
 use Rattle.std.proofs.lemmas.List.Elements.{All-append}
+use Rattle.std.specs.Global.{Vec}
 use Rattle.sched_core.specs.Courses.{all_of, awaited_at, listed}
 use Rattle.sched_core.specs.Steps.{total}
 use Rattle.sched_core.specs.ToldEdges.{sizes}
@@ -13,28 +14,17 @@ use Rattle.sched_core.proofs.UserSpans.{AreOfFirst, first_more, first_none, part
 use Rattle.sched_core.proofs.users.Users.open.Goals as goal
 
 -- the edges stand in one list, so there are few
+few : (edges : Vec Edge) (n : ℕ) → edges.len ≡ n → n < 2 ^ 63
+few edges n size = omega (arith, size, edges.ok.0, edges.ok.1, edges.small)
+
 pub counts_of-requires : goal.counts_of-requires
 counts_of-requires c =
-    let long : c.pairs_in.result < 2 ^ 63 =
-    omega (
-      arith,
-      c.in_ok-edges.ensures.len,
-      c.in_ok-edges.edges.ok.0,
-      c.in_ok-edges.edges.ok.1,
-      c.in_ok-edges.edges.small,
-    ) in
+    let long = few c.in_ok-edges.edges c.pairs_in.result c.in_ok-edges.ensures.len in
     omega (arith, c.pairs_in.ensures long, long)
 
 pub empty_spans-requires : goal.empty_spans-requires
 empty_spans-requires c =
-    let long : c.pairs_in.result < 2 ^ 63 =
-    omega (
-      arith,
-      c.in_ok-edges.ensures.len,
-      c.in_ok-edges.edges.ok.0,
-      c.in_ok-edges.edges.ok.1,
-      c.in_ok-edges.edges.small,
-    ) in
+    let long = few c.in_ok-edges.edges c.pairs_in.result c.in_ok-edges.ensures.len in
     omega (
       arith,
       c.pairs_in.ensures long,
@@ -52,14 +42,7 @@ loop-d-init c =
     let counts = c.in_ok-counts.counts.items in
     let count : length spans ≡ length nodes = c.in_ok-spans.ensures.size
     ∙ ap length c.deref.ensures.value ∙ c.in_ok-counts.ensures.size in
-    let long : c.pairs_in.result < 2 ^ 63 =
-    omega (
-      arith,
-      c.in_ok-edges.ensures.len,
-      c.in_ok-edges.edges.ok.0,
-      c.in_ok-edges.edges.ok.1,
-      c.in_ok-edges.edges.small,
-    ) in
+    let long = few c.in_ok-edges.edges c.pairs_in.result c.in_ok-edges.ensures.len in
     let places : sum c.deref.result.now ≡ length edges =
     omega (
       arith,
@@ -191,14 +174,7 @@ returns-clause-few c =
     let counts = c.in_ok-counts.counts.items in
     let all : c.loop-d.d ≡ length nodes =
     omega (arith, c.loop-d-test.false, c.loop-d.auto.d-end, c.len-d-end.ensures.value) in
-    let long : c.pairs_in.result < 2 ^ 63 =
-    omega (
-      arith,
-      c.in_ok-edges.ensures.len,
-      c.in_ok-edges.edges.ok.0,
-      c.in_ok-edges.edges.ok.1,
-      c.in_ok-edges.edges.small,
-    ) in
+    let long = few c.in_ok-edges.edges c.pairs_in.result c.in_ok-edges.ensures.len in
     omega (
       arith,
       total_below (sizes (parts c.loop-d.spans.items c.loop-d.edges.items))
