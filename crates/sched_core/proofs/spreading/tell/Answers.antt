@@ -34,35 +34,35 @@ tally_at tallies d = get_or tallies d no_tally
 
 pub told-after-requires : goal.told-after-requires
 told-after-requires c =
-    can_tell c.requires.told.0 c.args.users.now c.loop-edge.tallies c.loop-edge.agenda c.args.ended
-    c.loop-edge.edge-index no_edge no_tally c.of-edges.result.now
-    (subst (λ n. c.args.ended < n) (sym c.loop-edge.invariant.count) c.requires.within)
+    can_tell _ _ c.loop-edge.tallies _ c.args.ended c.loop-edge.edge-index no_edge no_tally
+    c.of-edges.result.now
+    (rw c.loop-edge.invariant.count c.requires.within)
     c.of-edges.ensures c.loop-edge-test.true
     (c.loop-edge.invariant.told c.requires.told.0 c.requires.told.1)
 
 pub note-requires-clause-room : goal.note-requires-clause-room
 note-requires-clause-room c =
-    told_room c.requires.told.0 c.args.users.now c.loop-edge.tallies c.loop-edge.agenda
-    c.args.ended c.loop-edge.edge-index no_edge no_tally c.of-edges.result.now
-    (subst (λ n. c.args.ended < n) (sym c.loop-edge.invariant.count) c.requires.within)
+    told_room _ _ c.loop-edge.tallies _ c.args.ended c.loop-edge.edge-index no_edge no_tally
+    c.of-edges.result.now
+    (rw c.loop-edge.invariant.count c.requires.within)
     c.of-edges.ensures c.loop-edge-test.true
     (c.loop-edge.invariant.told c.requires.told.0 c.requires.told.1) c.told-after.result
     c.told-after.ensures.turns c.told-after.ensures.same
 
 pub note-requires-clause-space : goal.note-requires-clause-space
 note-requires-clause-space c =
-    told_space c.requires.told.0 c.args.users.now c.loop-edge.tallies c.loop-edge.agenda
-    c.args.ended c.loop-edge.edge-index no_edge no_tally c.of-edges.result.now
-    (subst (λ n. c.args.ended < n) (sym c.loop-edge.invariant.count) c.requires.within)
+    told_space _ _ c.loop-edge.tallies _ c.args.ended c.loop-edge.edge-index no_edge no_tally
+    c.of-edges.result.now
+    (rw c.loop-edge.invariant.count c.requires.within)
     c.of-edges.ensures c.loop-edge-test.true
     (c.loop-edge.invariant.told c.requires.told.0 c.requires.told.1) c.told-after.result
     c.told-after.ensures.turns c.told-after.ensures.same
 
 pub note-requires-clause-unsettled : goal.note-requires-clause-unsettled
 note-requires-clause-unsettled c =
-    told_settles c.requires.told.0 c.args.users.now c.loop-edge.tallies c.loop-edge.agenda
-    c.args.ended c.loop-edge.edge-index no_edge no_tally c.of-edges.result.now
-    (subst (λ n. c.args.ended < n) (sym c.loop-edge.invariant.count) c.requires.within)
+    told_settles _ _ c.loop-edge.tallies _ c.args.ended c.loop-edge.edge-index no_edge no_tally
+    c.of-edges.result.now
+    (rw c.loop-edge.invariant.count c.requires.within)
     c.of-edges.ensures c.loop-edge-test.true
     (c.loop-edge.invariant.told c.requires.told.0 c.requires.told.1) c.told-after.result
     c.told-after.ensures.turns c.told-after.ensures.same
@@ -80,31 +80,26 @@ loop-edge-preserved c =
       items = c.of-edges.ensures;
       count = length-set c.loop-edge.tallies edge.user after ∙ c.loop-edge.invariant.count;
       good = c.loop-edge.invariant.good
-          ∙ ap is_good (sym (told_good c.requires.told.0 c.args.users.now c.loop-edge.tallies
-          c.loop-edge.agenda c.args.ended c.loop-edge.edge-index no_edge no_tally
-          c.of-edges.result.now low c.of-edges.ensures c.loop-edge-test.true is after
+          ∙ ap is_good (sym (told_good _ _ c.loop-edge.tallies _ c.args.ended c.loop-edge.edge-index no_edge
+          no_tally c.of-edges.result.now low c.of-edges.ensures c.loop-edge-test.true is after
           c.told-after.ensures.turns c.told-after.ensures.same));
       told = λ awaited start. rw now
-          (told_user awaited c.args.users.now c.loop-edge.tallies
-          c.loop-edge.agenda c.args.ended c.loop-edge.edge-index no_edge no_tally
-          c.of-edges.result.now low c.of-edges.ensures c.loop-edge-test.true
+          (told_user _ _ c.loop-edge.tallies _ c.args.ended c.loop-edge.edge-index no_edge
+          no_tally c.of-edges.result.now low c.of-edges.ensures c.loop-edge-test.true
           (c.loop-edge.invariant.told awaited start) after c.told-after.ensures.turns
           c.told-after.ensures.same c.serves-good.result c.loop-edge.invariant.good
           c.told-after.ensures.is);
       same = same_then c.args.tallies.now c.loop-edge.tallies _ c.loop-edge.invariant.same
-          (told_same c.requires.told.0 c.args.users.now c.loop-edge.tallies
-          c.loop-edge.agenda c.args.ended c.loop-edge.edge-index no_edge no_tally
-          c.of-edges.result.now low c.of-edges.ensures c.loop-edge-test.true is after
+          (told_same _ _ c.loop-edge.tallies _ c.args.ended c.loop-edge.edge-index no_edge
+          no_tally c.of-edges.result.now low c.of-edges.ensures c.loop-edge-test.true is after
           c.told-after.ensures.turns c.told-after.ensures.same);
       measure = rw now
-          (told_measure c.requires.told.0 c.args.users.now c.loop-edge.tallies
-          c.loop-edge.agenda c.args.ended c.loop-edge.edge-index no_edge no_tally
-          c.of-edges.result.now low c.of-edges.ensures c.loop-edge-test.true is after
+          (told_measure _ _ c.loop-edge.tallies _ c.args.ended c.loop-edge.edge-index no_edge
+          no_tally c.of-edges.result.now low c.of-edges.ensures c.loop-edge-test.true is after
           c.told-after.ensures.turns c.told-after.ensures.same ∙ c.loop-edge.invariant.measure);
       ahead = rw now
-          (told_edges c.requires.told.0 c.args.users.now c.loop-edge.tallies
-          c.loop-edge.agenda c.args.ended c.loop-edge.edge-index no_edge no_tally
-          c.of-edges.result.now low c.of-edges.ensures c.loop-edge-test.true is after
+          (told_edges _ _ c.loop-edge.tallies _ c.args.ended c.loop-edge.edge-index no_edge
+          no_tally c.of-edges.result.now low c.of-edges.ensures c.loop-edge-test.true is after
           c.told-after.ensures.turns c.told-after.ensures.same ∙ c.loop-edge.invariant.ahead);
     }
 

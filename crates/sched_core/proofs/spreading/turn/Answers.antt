@@ -1,11 +1,9 @@
-use Rattle.std.proofs.Common.{◌≡◌, ◌+◌, ◌∙◌, ℕ, List, [], false, None, ap, arith, length, sym, subst, get_or, set}
-use Rattle.sched_core.specs.Agendas.{Agenda, IsSpreading}
-use Rattle.sched_core.specs.declared.reason.State.{State}
+use Rattle.std.proofs.Common.{◌∙◌, false, None, ap, arith, length}
+use Rattle.sched_core.specs.Agendas.{Agenda}
 use Rattle.sched_core.specs.declared.reason.State.TheVariants.{Done}
 use Rattle.sched_core.specs.declared.standing.Standing.TheVariants.{AllValid}
 use Rattle.sched_core.specs.Users.{users_of_all}
 use Rattle.sched_core.specs.declared.tally.Tally.{Tally}
-use Rattle.sched_core.specs.declared.users.Edge.{Edge}
 use Rattle.sched_core.proofs.Telling.{steady_after, turned_edges, turned_phases, turned_room, turned_settles, turned_space, turned_spreading, turned_standings, turned_twins, turned_wanted}
 use Rattle.sched_core.proofs.spreading.turn.Goals as goal
 
@@ -23,53 +21,37 @@ no_tally = record {
   held = false;
 }
 
-abbrev old : List Tally → ℕ → Tally
-old tallies d = get_or tallies d no_tally
-
-abbrev now : List Tally → ℕ → State → Tally
-now tallies d state = record (old tallies d) { state = state }
-
 pub note-requires-clause-room : goal.note-requires-clause-room
 note-requires-clause-room c =
-    turned_room c.args.tallies.now c.args.agenda.now c.args.d no_tally c.args.state
+    turned_room _ _ c.args.d no_tally c.args.state
     c.requires.within c.requires.turns c.requires.steady.1.told.listed
 
 pub note-requires-clause-space : goal.note-requires-clause-space
 note-requires-clause-space c =
-    turned_space c.args.tallies.now c.args.agenda.now c.args.d no_tally c.args.state
+    turned_space _ _ c.args.d no_tally c.args.state
     c.requires.within c.requires.turns c.requires.steady.1.told.listed
 
 pub note-requires-clause-unsettled : goal.note-requires-clause-unsettled
 note-requires-clause-unsettled c =
-    turned_settles c.args.tallies.now c.args.agenda.now c.args.d no_tally c.args.state
+    turned_settles _ _ c.args.d no_tally c.args.state
     c.requires.within c.requires.turns c.requires.steady.1.told.listed
 
 pub spread-told-requires-clause-told : goal.spread-told-requires-clause-told
 spread-told-requires-clause-told c = (
   c.requires.steady.0,
-  subst (λ (a : Agenda). IsSpreading c.requires.steady.0 c.args.users.now
-      (set c.args.tallies.now c.args.d (now c.args.tallies.now c.args.d c.args.state)) a [])
-      (sym c.note.ensures)
+  rw c.note.ensures
       (turned_spreading c.args.tallies.now c.args.agenda.now c.args.d no_tally c.args.state
       c.requires.within c.requires.turns c.requires.steady.0 c.args.users.now c.requires.begun
       c.requires.steady.1.told),
 )
 
--- the edges that are ahead once the tally was noted
-ahead : (users : List (List Edge)) (a noted_a : Agenda) (open_now before : ℕ) → a ≡ noted_a
-    → open_now + length (users_of_all users noted_a.work) ≡ before
-    → open_now + length (users_of_all users a.work) ≡ before
-ahead users a noted_a open_now before same is =
-    subst (λ (b : Agenda). open_now + length (users_of_all users b.work) ≡ before) (sym same) is
-
 pub spread-told-requires-clause-few : goal.spread-told-requires-clause-few
 spread-told-requires-clause-few c =
-    let now_is = ahead c.args.users.now _ _ _ _ c.note.ensures
-    (turned_edges c.args.tallies.now c.args.agenda.now c.args.d no_tally c.args.state
-    c.requires.within c.requires.turns c.args.users.now) in
     omega (
       arith,
-      now_is,
+      turned_edges c.args.tallies.now c.args.agenda.now c.args.d no_tally c.args.state
+          c.requires.within c.requires.turns c.args.users.now,
+      ap (λ (a : Agenda). length (users_of_all c.args.users.now a.work)) c.note.ensures,
       c.requires.few,
       ap (λ l. length (users_of_all c.args.users.now l)) c.requires.steady.1.none,
     )
@@ -77,9 +59,7 @@ spread-told-requires-clause-few c =
 pub freshen-requires : goal.freshen-requires
 freshen-requires c =
     (c.spread-told.ensures.told c.requires.steady.0
-    (subst (λ (a : Agenda). IsSpreading c.requires.steady.0 c.args.users.now
-    (set c.args.tallies.now c.args.d (now c.args.tallies.now c.args.d c.args.state)) a [])
-    (sym c.note.ensures)
+    (rw c.note.ensures
     (turned_spreading c.args.tallies.now c.args.agenda.now c.args.d no_tally c.args.state
     c.requires.within c.requires.turns c.requires.steady.0 c.args.users.now c.requires.begun
     c.requires.steady.1.told))).listed
@@ -89,9 +69,7 @@ returns-clause-steady c awaited steady =
     steady_after awaited c.args.users.now c.spread-told.new.tallies c.spread-told.new.agenda
     c.freshen.new.self
     (c.spread-told.ensures.told awaited
-    (subst (λ (a : Agenda). IsSpreading awaited c.args.users.now
-    (set c.args.tallies.now c.args.d (now c.args.tallies.now c.args.d c.args.state)) a [])
-    (sym c.note.ensures)
+    (rw c.note.ensures
     (turned_spreading c.args.tallies.now c.args.agenda.now c.args.d no_tally c.args.state
     c.requires.within c.requires.turns awaited c.args.users.now c.requires.begun steady.told)))
     c.spread-told.ensures.none c.freshen.ensures.is c.freshen.ensures.fresh c.freshen.ensures.work
@@ -118,12 +96,11 @@ returns-clause-phases c = c.spread-told.ensures.same.phases
 
 pub returns-clause-told : goal.returns-clause-told
 returns-clause-told c =
-    let now_is = ahead c.args.users.now _ _ _ _ c.note.ensures
-    (turned_edges c.args.tallies.now c.args.agenda.now c.args.d no_tally c.args.state
-    c.requires.within c.requires.turns c.args.users.now) in
     omega (
       arith,
-      now_is,
+      turned_edges c.args.tallies.now c.args.agenda.now c.args.d no_tally c.args.state
+          c.requires.within c.requires.turns c.args.users.now,
+      ap (λ (a : Agenda). length (users_of_all c.args.users.now a.work)) c.note.ensures,
       c.spread-told.ensures.edges,
       ap (λ l. length (users_of_all c.args.users.now l)) c.requires.steady.1.none,
     )
