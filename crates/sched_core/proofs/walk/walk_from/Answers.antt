@@ -1,13 +1,23 @@
-use Rattle.std.proofs.Common.{◌≡◌, ◌∙◌, ◌-◌, Some, ap, length, sym, take, vec_len}
+use Rattle.std.proofs.Common.{◌≡◌, ◌∙◌, ◌-◌, ℕ, List, Some, ap, length, subst, sym, take}
 use Rattle.std.specs.List.{slice_get}
 use Rattle.sched_core.proofs.Walks.{stepped_enter, stepped_leave, stepped_pass, stepped_return}
 use Rattle.sched_core.proofs.walk.walk_from.Goals as goal
 
+-- the last of a list that was lent
+at_last : {lent trail : List ℕ} {top : ℕ} → lent ≡ trail
+    → Some top ≡ slice_get lent (length lent - 1) → slice_get trail (length trail - 1) ≡ Some top
+at_last {top = top} same is = subst (λ l. slice_get l (length l - 1) ≡ Some top) same (sym is)
+
+-- all but its last
+but_last : {lent trail later : List ℕ} {n : ℕ} → lent ≡ trail → length lent ≡ n
+    → later ≡ take (n - 1) trail → later ≡ take (length trail - 1) trail
+but_last {trail = trail} same long is =
+    is ∙ ap (λ k. take (k - 1) trail) (sym long ∙ ap length same)
+
 pub loop-top-smaller-in_ok-push-in-Enter : goal.loop-top-smaller-in_ok-push-in-Enter
 loop-top-smaller-in_ok-push-in-Enter c =
     let trail = c.loop-top.trail.items in
-    let at : slice_get trail (length trail - 1) ≡ Some c.in-Some.field-0.now =
-    sym (rw c.deref.ensures.value at c.in-Some.ensures.value) in
+    let at = at_last c.deref.ensures.value c.in-Some.ensures.value in
     (stepped_enter c.args.links.now c.args.start c.args.nodes.now c.loop-top.nodes
     c.advance.new.nodes trail c.push.new.self.items c.in-Some.field-0.now c.in-Enter.to
     c.loop-top.invariant.walk c.loop-top.invariant.keeps c.loop-top.invariant.met at
@@ -16,8 +26,7 @@ loop-top-smaller-in_ok-push-in-Enter c =
 pub loop-top-preserved-in_ok-push-in-Enter : goal.loop-top-preserved-in_ok-push-in-Enter
 loop-top-preserved-in_ok-push-in-Enter c =
     let trail = c.loop-top.trail.items in
-    let at : slice_get trail (length trail - 1) ≡ Some c.in-Some.field-0.now =
-    sym (rw c.deref.ensures.value at c.in-Some.ensures.value) in
+    let at = at_last c.deref.ensures.value c.in-Some.ensures.value in
     let done =
     stepped_enter c.args.links.now c.args.start c.args.nodes.now c.loop-top.nodes
     c.advance.new.nodes trail c.push.new.self.items c.in-Some.field-0.now c.in-Enter.to
@@ -28,12 +37,8 @@ loop-top-preserved-in_ok-push-in-Enter c =
 pub loop-top-smaller-in-Leave : goal.loop-top-smaller-in-Leave
 loop-top-smaller-in-Leave c =
     let trail = c.loop-top.trail.items in
-    let at : slice_get trail (length trail - 1) ≡ Some c.in-Some.field-0.now =
-    sym (rw c.deref.ensures.value at c.in-Some.ensures.value) in
-    let long : length trail ≡ vec_len c.loop-top.trail = ap length (sym c.deref.ensures.value)
-    ∙ c.deref.ensures.len in
-    let rest : c.pop.new.self.items ≡ take (length trail - 1) trail = c.pop.ensures.rest
-    ∙ ap (λ n. take (n - 1) trail) (sym long) in
+    let at = at_last c.deref.ensures.value c.in-Some.ensures.value in
+    let rest = but_last c.deref.ensures.value c.deref.ensures.len c.pop.ensures.rest in
     (stepped_leave c.args.links.now c.args.start c.args.nodes.now c.loop-top.nodes
     c.advance.new.nodes trail c.pop.new.self.items c.in-Some.field-0.now
     c.loop-top.invariant.walk c.loop-top.invariant.keeps c.loop-top.invariant.met at
@@ -42,12 +47,8 @@ loop-top-smaller-in-Leave c =
 pub loop-top-preserved-in-Leave : goal.loop-top-preserved-in-Leave
 loop-top-preserved-in-Leave c =
     let trail = c.loop-top.trail.items in
-    let at : slice_get trail (length trail - 1) ≡ Some c.in-Some.field-0.now =
-    sym (rw c.deref.ensures.value at c.in-Some.ensures.value) in
-    let long : length trail ≡ vec_len c.loop-top.trail = ap length (sym c.deref.ensures.value)
-    ∙ c.deref.ensures.len in
-    let rest : c.pop.new.self.items ≡ take (length trail - 1) trail = c.pop.ensures.rest
-    ∙ ap (λ n. take (n - 1) trail) (sym long) in
+    let at = at_last c.deref.ensures.value c.in-Some.ensures.value in
+    let rest = but_last c.deref.ensures.value c.deref.ensures.len c.pop.ensures.rest in
     let done =
     stepped_leave c.args.links.now c.args.start c.args.nodes.now c.loop-top.nodes
     c.advance.new.nodes trail c.pop.new.self.items c.in-Some.field-0.now
@@ -74,7 +75,6 @@ loop-top-preserved c =
 pub returns-in-Return : goal.returns-in-Return
 returns-in-Return c =
     let trail = c.loop-top.trail.items in
-    let at : slice_get trail (length trail - 1) ≡ Some c.in-Some.field-0.now =
-    sym (rw c.deref.ensures.value at c.in-Some.ensures.value) in
+    let at = at_last c.deref.ensures.value c.in-Some.ensures.value in
     stepped_return c.args.links.now c.loop-top.nodes c.advance.new.nodes trail c.in-Some.field-0.now
     c.loop-top.invariant.walk at c.in-Return.ensures
