@@ -88,14 +88,10 @@ add_user-requires-clause-room c =
     let awaited = λ (d : ℕ). all_of (awaited_at c.args.plan.now c.args.twins.now d) in
     let d = c.loop-d.d in
     let twins = listed (get_or c.args.twins.now d None) in
-    let numbers = c.inputs_of.result.now ++ twins in
     let low : d < length nodes = omega (arith, c.loop-d-test.true, c.len-d-end.ensures.value) in
-    subst (λ l. HaveRoom l (length c.deref_mut-in-loop-d.result.now) (λ n. often n numbers))
-    (sym c.deref_mut.ensures.value)
-    (subst (λ l. HaveRoom c.loop-d.spans.items (length l) (λ n. often n numbers))
-    (sym c.deref_mut-in-loop-d.ensures.value)
-    (room_own awaited (length nodes) d c.loop-d.spans.items (length c.loop-d.edges.items) low
-    c.loop-d.invariant.room numbers (ap (λ l. l ++ twins) c.inputs_of.ensures.numbers)))
+    rw (c.deref_mut.ensures.value, c.deref_mut-in-loop-d.ensures.value)
+    (room_own awaited (length nodes) d _ _ low c.loop-d.invariant.room _
+    (ap (λ l. l ++ twins) c.inputs_of.ensures.numbers))
 
 -- what is so of spans and edges is so of the same written back
 both : (P : List Span → List Edge → Type 0) (spans there : List Span) (edges others : List Edge)
@@ -127,14 +123,11 @@ loop-d-preserved c =
     let size : length spans ≡ length nodes = ap length spans_lent ∙ c.loop-d.invariant.count in
     let room : HaveRoom spans (length edges) (λ n. often n numbers
     + (uses awaited (length nodes) n - uses awaited (d + 1) n)) =
-    both (λ l es. HaveRoom l (length es) (λ n. often n numbers
-    + (uses awaited (length nodes) n - uses awaited (d + 1) n)))
-    _ spans _ edges (sym spans_lent) (sym edges_lent)
+    rw (spans_lent, edges_lent)
     (room_others awaited (length nodes) d c.loop-d.spans.items (length c.loop-d.edges.items) low
     c.loop-d.invariant.room numbers own) in
     let first : AreOfFirst awaited (length nodes) d (users_of (parts spans edges)) =
-    both (λ l es. AreOfFirst awaited (length nodes) d (users_of (parts l es)))
-    _ spans _ edges (sym spans_lent) (sym edges_lent) c.loop-d.invariant.first in
+    rw (spans_lent, edges_lent) c.loop-d.invariant.first in
     let adds : AddsUser d (awaited d) (length nodes) (users_of (parts spans edges))
     (users_of (parts new_spans new_edges)) =
     subst (λ l. AddsUser d l (length nodes) (users_of (parts spans edges))
