@@ -28,19 +28,19 @@ loop-place-preserved c =
     elim c.if-serves.branch [
       | then-serves w ↦
           rw (w.waits-is, w.first-is)
-          (good_counted heard l.place l.waits l.first low l.invariant
+          (good_counted _ _ _ _ low l.invariant
           (good_read tallies inputs l.place _ c.loop-place-test.true below c.serves.result true
           c.serves.ensures w.if-serves.true)).1
       | else-serves+then-place-first+then-fails w ↦
           rw (w.waits-is, w.first-is)
-          (bad_counted heard l.place l.waits l.first low l.invariant
+          (bad_counted _ _ _ _ low l.invariant
           (good_read tallies inputs l.place _ c.loop-place-test.true below c.serves.result false
           c.serves.ensures w.if-serves.false)
           (bad_read tallies inputs l.place _ c.loop-place-test.true below w.fails.result true
           w.fails.ensures w.if-fails.true) w.if-place-first.true)
       | else-serves+else-place-first w ↦
           rw (w.waits-is, w.first-is)
-          (other_counted heard l.place l.waits l.first low l.invariant
+          (other_counted _ _ _ _ low l.invariant
           (good_read tallies inputs l.place _ c.loop-place-test.true below c.serves.result false
           c.serves.ensures w.if-serves.false)
           (λ sooner. elim w.else-place-first.branch [

@@ -5,9 +5,8 @@ use Rattle.sched_core.proofs.ToldStates.{is_input, told_bad, told_before, told_g
 use Rattle.sched_core.proofs.tally.told.Goals as goal
 
 pub overflow_sub-waits : goal.overflow_sub-waits
-overflow_sub-waits c = let (awaited, heard, can) = c.requires in
-    told_waits c.args.tally awaited heard c.args.place c.args.one can
-    (is_input c.args.tally awaited heard c.args.place c.args.one can c.if-place-tally.false)
+overflow_sub-waits c =
+    told_waits _ _ _ _ _ c.requires.2 (is_input _ _ _ _ _ c.requires.2 c.if-place-tally.false)
 
 pub returns-then-place-tally-clause-is : goal.returns-then-place-tally-clause-is
 returns-then-place-tally-clause-is c = λ awaited heard can.
@@ -18,30 +17,28 @@ returns-then-place-tally-clause-is c = λ awaited heard can.
 
 pub returns-then-good-clause-is : goal.returns-then-good-clause-is
 returns-then-good-clause-is c = λ awaited heard can.
-    let low = is_input c.args.tally awaited heard c.args.place c.args.one can
-    c.if-place-tally.false in
-    told_good c.args.tally awaited heard c.args.place c.args.one can low c.args.good c.if-good.true
+    let low = is_input _ _ _ _ _ can c.if-place-tally.false in
+    told_good _ _ _ _ _ can low c.args.good c.if-good.true
     c.freed-state.result
     (c.freed-state.ensures.is c.args.tally.standing (of_twins awaited heard)
     (slice_get awaited.inputs c.args.tally.first)
-    (told_held c.args.tally awaited heard c.args.place c.args.one can low)
-    (told_before c.args.tally awaited heard c.args.place c.args.one can low))
+    (told_held _ _ _ _ _ can low)
+    (told_before _ _ _ _ _ can low))
 
 pub returns-then-place-tally-2-clause-is : goal.returns-then-place-tally-2-clause-is
 returns-then-place-tally-2-clause-is c = λ awaited heard can.
-    let low = is_input c.args.tally awaited heard c.args.place c.args.one can
-    c.if-place-tally.false in
-    told_bad c.args.tally awaited heard c.args.place c.args.one can low c.args.good c.if-good.false
+    let low = is_input _ _ _ _ _ can c.if-place-tally.false in
+    told_bad _ _ _ _ _ can low c.args.good c.if-good.false
     c.if-place-tally-2.true c.refused-state.result
     (c.refused-state.ensures.is (of_twins awaited heard)
     (slice_get awaited.inputs c.args.tally.first)
-    (told_held c.args.tally awaited heard c.args.place c.args.one can low)
-    (told_before c.args.tally awaited heard c.args.place c.args.one can low))
+    (told_held _ _ _ _ _ can low)
+    (told_before _ _ _ _ _ can low))
 
 pub returns-else-place-tally-2-clause-is : goal.returns-else-place-tally-2-clause-is
 returns-else-place-tally-2-clause-is c = λ awaited heard can.
-    told_later c.args.tally awaited heard c.args.place c.args.one can
-    (is_input c.args.tally awaited heard c.args.place c.args.one can c.if-place-tally.false)
+    told_later _ _ _ _ _ can
+    (is_input _ _ _ _ _ can c.if-place-tally.false)
     c.args.good c.if-good.false c.if-place-tally-2.false
 
 pub returns-else-place-tally-2-clause-turns : goal.returns-else-place-tally-2-clause-turns
