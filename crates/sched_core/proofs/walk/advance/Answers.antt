@@ -11,39 +11,34 @@ unknown = record { mark = New; left = 0 }
 
 pub offset_bounds-nodes-to : goal.offset_bounds-nodes-to
 offset_bounds-nodes-to c =
-    let next = next_of c.args.links.now c.args.nodes.now c.args.top c.index-to.result.now
-    c.index-links-top.result unknown c.requires.inner c.requires.after c.requires.within
-    c.index-links-top.is c.if-left-eq0.false c.index-to.ensures in
+    let next = next_of _ _ c.args.top _ _ unknown c.requires.inner c.requires.after
+    c.requires.within c.index-links-top.is c.if-left-eq0.false c.index-to.ensures in
     let below = next_within _ _ _ _ _ _ next in
     omega (arith, c.element_fits.fits)
 
 pub bounds : goal.bounds
 bounds c =
     next_within _ _ _ _ _ _
-    (next_of c.args.links.now c.args.nodes.now c.args.top c.index-to.result.now
-    c.index-links-top.result unknown c.requires.inner c.requires.after c.requires.within
-    c.index-links-top.is c.if-left-eq0.false c.index-to.ensures)
+    (next_of _ _ c.args.top _ _ unknown c.requires.inner c.requires.after
+    c.requires.within c.index-links-top.is c.if-left-eq0.false c.index-to.ensures)
 
 pub offset_bounds-nodes-to-in-New : goal.offset_bounds-nodes-to-in-New
 offset_bounds-nodes-to-in-New c =
-    let next = next_of c.args.links.now c.args.nodes.now c.args.top c.index-to.result.now
-    c.index-links-top.result unknown c.requires.inner c.requires.after c.requires.within
-    c.index-links-top.is c.if-left-eq0.false c.index-to.ensures in
+    let next = next_of _ _ c.args.top _ _ unknown c.requires.inner c.requires.after
+    c.requires.within c.index-links-top.is c.if-left-eq0.false c.index-to.ensures in
     let below = next_within _ _ _ _ _ _ next in
     omega (arith, c.element_fits.fits)
 
 pub bounds-nodes-to : goal.bounds-nodes-to
 bounds-nodes-to c =
     next_within _ _ _ _ _ _
-    (next_of c.args.links.now c.args.nodes.now c.args.top c.index-to.result.now
-    c.index-links-top.result unknown c.requires.inner c.requires.after c.requires.within
-    c.index-links-top.is c.if-left-eq0.false c.index-to.ensures)
+    (next_of _ _ c.args.top _ _ unknown c.requires.inner c.requires.after
+    c.requires.within c.index-links-top.is c.if-left-eq0.false c.index-to.ensures)
 
 pub returns-in-New : goal.returns-in-New
 returns-in-New c =
-    let next = next_of c.args.links.now c.args.nodes.now c.args.top c.index-to.result.now
-    c.index-links-top.result unknown c.requires.inner c.requires.after c.requires.within
-    c.index-links-top.is c.if-left-eq0.false c.index-to.ensures in (
+    let next = next_of _ _ c.args.top _ _ unknown c.requires.inner c.requires.after
+    c.requires.within c.index-links-top.is c.if-left-eq0.false c.index-to.ensures in (
       get_or c.args.nodes.now c.args.top unknown,
       get_or c.args.nodes.now c.index-to.result.now unknown,
       next,
@@ -53,9 +48,8 @@ returns-in-New c =
 
 pub returns-in-Open : goal.returns-in-Open
 returns-in-Open c =
-    let next = next_of c.args.links.now c.args.nodes.now c.args.top c.index-to.result.now
-    c.index-links-top.result unknown c.requires.inner c.requires.after c.requires.within
-    c.index-links-top.is c.if-left-eq0.false c.index-to.ensures in (
+    let next = next_of _ _ c.args.top _ _ unknown c.requires.inner c.requires.after
+    c.requires.within c.index-links-top.is c.if-left-eq0.false c.index-to.ensures in (
       get_or c.args.nodes.now c.args.top unknown,
       c.index-to.result.now,
       get_or c.args.nodes.now c.index-to.result.now unknown,
@@ -68,9 +62,8 @@ pub returns : goal.returns
 returns c =
     let node = get_or c.args.nodes.now c.args.top unknown in
     let some = c.if-left-eq0.false in
-    let next = next_of c.args.links.now c.args.nodes.now c.args.top c.index-to.result.now
-    c.index-links-top.result unknown c.requires.inner c.requires.after c.requires.within
-    c.index-links-top.is some c.index-to.ensures in (
+    let next = next_of _ _ c.args.top _ _ unknown c.requires.inner c.requires.after
+    c.requires.within c.index-links-top.is some c.index-to.ensures in (
       node,
       c.index-to.result.now,
       get_or c.args.nodes.now c.index-to.result.now unknown,

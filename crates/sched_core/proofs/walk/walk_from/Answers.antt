@@ -16,65 +16,53 @@ but_last {trail = trail} same long is =
 
 pub loop-top-smaller-in_ok-push-in-Enter : goal.loop-top-smaller-in_ok-push-in-Enter
 loop-top-smaller-in_ok-push-in-Enter c =
-    let trail = c.loop-top.trail.items in
     let at = at_last c.deref.ensures.value c.in-Some.ensures.value in
-    (stepped_enter c.args.links.now c.args.start c.args.nodes.now c.loop-top.nodes
-    c.advance.new.nodes trail c.push.new.self.items c.in-Some.field-0.now c.in-Enter.to
+    (stepped_enter _ c.args.start c.args.nodes.now _ c.advance.new.nodes _ _ _ c.in-Enter.to
     c.loop-top.invariant.walk c.loop-top.invariant.keeps c.loop-top.invariant.met at
     c.in-Enter.ensures c.in_ok-push-in-Enter.ensures.items).less
 
 pub loop-top-preserved-in_ok-push-in-Enter : goal.loop-top-preserved-in_ok-push-in-Enter
 loop-top-preserved-in_ok-push-in-Enter c =
-    let trail = c.loop-top.trail.items in
     let at = at_last c.deref.ensures.value c.in-Some.ensures.value in
     let done =
-    stepped_enter c.args.links.now c.args.start c.args.nodes.now c.loop-top.nodes
-    c.advance.new.nodes trail c.push.new.self.items c.in-Some.field-0.now c.in-Enter.to
+    stepped_enter _ c.args.start c.args.nodes.now _ c.advance.new.nodes _ _ _ c.in-Enter.to
     c.loop-top.invariant.walk c.loop-top.invariant.keeps c.loop-top.invariant.met at
     c.in-Enter.ensures c.in_ok-push-in-Enter.ensures.items in
     record { walk = done.walk; keeps = done.keeps; met = done.met }
 
 pub loop-top-smaller-in-Leave : goal.loop-top-smaller-in-Leave
 loop-top-smaller-in-Leave c =
-    let trail = c.loop-top.trail.items in
     let at = at_last c.deref.ensures.value c.in-Some.ensures.value in
     let rest = but_last c.deref.ensures.value c.deref.ensures.len c.pop.ensures.rest in
-    (stepped_leave c.args.links.now c.args.start c.args.nodes.now c.loop-top.nodes
-    c.advance.new.nodes trail c.pop.new.self.items c.in-Some.field-0.now
+    (stepped_leave _ c.args.start c.args.nodes.now _ c.advance.new.nodes _ _ _
     c.loop-top.invariant.walk c.loop-top.invariant.keeps c.loop-top.invariant.met at
     c.in-Leave.ensures rest).less
 
 pub loop-top-preserved-in-Leave : goal.loop-top-preserved-in-Leave
 loop-top-preserved-in-Leave c =
-    let trail = c.loop-top.trail.items in
     let at = at_last c.deref.ensures.value c.in-Some.ensures.value in
     let rest = but_last c.deref.ensures.value c.deref.ensures.len c.pop.ensures.rest in
     let done =
-    stepped_leave c.args.links.now c.args.start c.args.nodes.now c.loop-top.nodes
-    c.advance.new.nodes trail c.pop.new.self.items c.in-Some.field-0.now
+    stepped_leave _ c.args.start c.args.nodes.now _ c.advance.new.nodes _ _ _
     c.loop-top.invariant.walk c.loop-top.invariant.keeps c.loop-top.invariant.met at
     c.in-Leave.ensures rest in
     record { walk = done.walk; keeps = done.keeps; met = done.met }
 
 pub loop-top-smaller : goal.loop-top-smaller
 loop-top-smaller c =
-    (stepped_pass c.args.links.now c.args.start c.args.nodes.now c.loop-top.nodes
-    c.advance.new.nodes c.loop-top.trail.items c.in-Some.field-0.now
+    (stepped_pass _ c.args.start c.args.nodes.now _ c.advance.new.nodes _ c.in-Some.field-0.now
     c.loop-top.invariant.walk c.loop-top.invariant.keeps c.loop-top.invariant.met
     c.in-Pass.ensures).less
 
 pub loop-top-preserved : goal.loop-top-preserved
 loop-top-preserved c =
     let done =
-    stepped_pass c.args.links.now c.args.start c.args.nodes.now c.loop-top.nodes c.advance.new.nodes
-    c.loop-top.trail.items c.in-Some.field-0.now
+    stepped_pass _ c.args.start c.args.nodes.now _ c.advance.new.nodes _ c.in-Some.field-0.now
     c.loop-top.invariant.walk c.loop-top.invariant.keeps c.loop-top.invariant.met c.in-Pass.ensures
     in
     record { walk = done.walk; keeps = done.keeps; met = done.met }
 
 pub returns-in-Return : goal.returns-in-Return
 returns-in-Return c =
-    let trail = c.loop-top.trail.items in
     let at = at_last c.deref.ensures.value c.in-Some.ensures.value in
-    stepped_return c.args.links.now c.loop-top.nodes c.advance.new.nodes trail c.in-Some.field-0.now
-    c.loop-top.invariant.walk at c.in-Return.ensures
+    stepped_return _ _ c.advance.new.nodes _ _ c.loop-top.invariant.walk at c.in-Return.ensures
