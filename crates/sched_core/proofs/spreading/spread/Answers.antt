@@ -1,33 +1,25 @@
-use Rattle.std.proofs.Common.{◌≡◌, ◌∙◌, Some, ap, arith, length, sym, subst}
-use Rattle.std.specs.Prelude.{slice_get}
-use Rattle.sched_core.specs.Agendas.{Agenda, IsSpreading}
-use Rattle.sched_core.specs.Users.{users_of, users_of_all}
+use Rattle.std.proofs.Common.{◌∙◌, ap, arith, length, sym}
+use Rattle.sched_core.specs.Agendas.{Agenda}
+use Rattle.sched_core.specs.Users.{users_of_all}
 use Rattle.sched_core.proofs.Telling.{same_then, work_edges, work_taken}
 use Rattle.sched_core.proofs.spreading.spread.Goals as goal
 
 pub tell-edges-requires-clause-told : goal.tell-edges-requires-clause-told
 tell-edges-requires-clause-told c =
-    let first : slice_get c.loop-ended.agenda.work 0 ≡ Some c.in-Some.ended =
-    sym c.take.ensures.value ∙ c.in-Some.is in (
+    let first = sym c.take.ensures.value ∙ c.in-Some.is in (
       c.requires.told.0,
-      subst (λ (a : Agenda). IsSpreading c.requires.told.0 c.args.users.now
-          c.loop-ended.tallies a (users_of c.args.users.now c.in-Some.ended))
-          (sym c.take.ensures.rest)
-          (work_taken c.requires.told.0 c.args.users.now c.loop-ended.tallies c.loop-ended.agenda
-          c.in-Some.ended first (c.loop-ended.invariant.told c.requires.told.0 c.requires.told.1)),
+      rw c.take.ensures.rest
+          (work_taken _ _ _ _ c.in-Some.ended first
+          (c.loop-ended.invariant.told c.requires.told.0 c.requires.told.1)),
     )
 
 pub loop-ended-preserved : goal.loop-ended-preserved
 loop-ended-preserved c =
-    let first : slice_get c.loop-ended.agenda.work 0 ≡ Some c.in-Some.ended =
-    sym c.take.ensures.value ∙ c.in-Some.is in
+    let first = sym c.take.ensures.value ∙ c.in-Some.is in
     record {
       told = λ awaited start. c.tell-edges.ensures.told awaited
-          (subst (λ (a : Agenda). IsSpreading awaited c.args.users.now
-          c.loop-ended.tallies a (users_of c.args.users.now c.in-Some.ended))
-          (sym c.take.ensures.rest)
-          (work_taken awaited c.args.users.now c.loop-ended.tallies c.loop-ended.agenda
-          c.in-Some.ended first (c.loop-ended.invariant.told awaited start)));
+          (rw c.take.ensures.rest
+          (work_taken _ _ _ _ c.in-Some.ended first (c.loop-ended.invariant.told awaited start)));
       same = same_then c.args.tallies.now c.loop-ended.tallies c.tell-edges.new.tallies
           c.loop-ended.invariant.same c.tell-edges.ensures.same;
       edges = omega (
@@ -42,8 +34,7 @@ loop-ended-preserved c =
 
 pub overflow_add-edges : goal.overflow_add-edges
 overflow_add-edges c =
-    let first : slice_get c.loop-ended.agenda.work 0 ≡ Some c.in-Some.ended =
-    sym c.take.ensures.value ∙ c.in-Some.is in
+    let first = sym c.take.ensures.value ∙ c.in-Some.is in
     omega (
       arith,
       c.loop-ended.invariant.edges,

@@ -1,4 +1,4 @@
-use Rattle.std.proofs.Common.{◌≡◌, ◌∙◌, ◌<◌, ℕ, List, None, ap, sym, subst, length, false, get_or}
+use Rattle.std.proofs.Common.{◌≡◌, ◌∙◌, ◌<◌, ℕ, List, None, ap, sym, subst, false, get_or}
 use Rattle.std.proofs.lemmas.List.{length-set}
 use Rattle.sched_core.specs.Agendas.{noted}
 use Rattle.sched_core.specs.States.{is_good}
@@ -80,9 +80,9 @@ loop-edge-preserved c =
       items = c.of-edges.ensures;
       count = length-set c.loop-edge.tallies edge.user after ∙ c.loop-edge.invariant.count;
       good = c.loop-edge.invariant.good
-          ∙ ap is_good (sym (told_good _ _ c.loop-edge.tallies _ c.args.ended c.loop-edge.edge-index no_edge
-          no_tally c.of-edges.result.now low c.of-edges.ensures c.loop-edge-test.true is after
-          c.told-after.ensures.turns c.told-after.ensures.same));
+          ∙ ap is_good (sym (told_good _ _ c.loop-edge.tallies _ c.args.ended c.loop-edge.edge-index
+          no_edge no_tally c.of-edges.result.now low c.of-edges.ensures c.loop-edge-test.true
+          is after c.told-after.ensures.turns c.told-after.ensures.same));
       told = λ awaited start. rw now
           (told_user _ _ c.loop-edge.tallies _ c.args.ended c.loop-edge.edge-index no_edge
           no_tally c.of-edges.result.now low c.of-edges.ensures c.loop-edge-test.true
@@ -102,6 +102,3 @@ loop-edge-preserved c =
           no_tally c.of-edges.result.now low c.of-edges.ensures c.loop-edge-test.true is after
           c.told-after.ensures.turns c.told-after.ensures.same ∙ c.loop-edge.invariant.ahead);
     }
-
-pub returns-clause-edges : goal.returns-clause-edges
-returns-clause-edges c = ap length c.of-edges.ensures
