@@ -7,8 +7,7 @@ use Rattle.sched_core.proofs.done_entry.done_entry.Goals as goal
 pub returns-then-not-are_fitting-clause-err : goal.returns-then-not-are_fitting-clause-err
 returns-then-not-are_fitting-clause-err c =
     let told = rw c.records-records.ensures at c.are_fitting.ensures in
-    not_fitting c.args.plan.now c.args.d c.args.journal.now.entries c.kind.result
-    c.output_paths-paths.result.now c.args.checked.now
+    not_fitting c.args.plan.now c.args.d c.args.journal.now.entries _ _ c.args.checked.now
     (record { has_kind = c.kind.ensures; outputs = c.output_paths-paths.ensures.value })
     (λ fitting. false≢true (sym c.if-not-are_fitting.true ∙ told.1 fitting))
 
@@ -17,8 +16,7 @@ returns-in_err-is_cyclic-clause-err c =
     let told = rw c.records-records.ensures at c.are_fitting.ensures in
     let p = err_from_is_err_and c.from_residual.result c.from_residual.ensures.1 in
     rw (p.1, p.2)
-    (fitting_new c.args.plan.now c.args.d c.args.journal.now.entries c.kind.result
-    c.output_paths-paths.result.now c.args.checked.now
+    (fitting_new c.args.plan.now c.args.d c.args.journal.now.entries _ _ c.args.checked.now
     (record { has_kind = c.kind.ensures; outputs = c.output_paths-paths.ensures.value })
     (told.0 c.if-not-are_fitting.false))
 
@@ -36,8 +34,7 @@ returns-in_err-registrations-clause-err c =
     let p = err_from_is_err_and c.from_residual-in_err-registrations.result
     c.from_residual-in_err-registrations.ensures.1 in
     rw (p.1, p.2)
-    (fitting_new c.args.plan.now c.args.d c.args.journal.now.entries c.kind.result
-    c.output_paths-paths.result.now c.args.checked.now
+    (fitting_new c.args.plan.now c.args.d c.args.journal.now.entries _ _ c.args.checked.now
     (record { has_kind = c.kind.ensures; outputs = c.output_paths-paths.ensures.value })
     (told.0 c.if-not-are_fitting.false))
 
@@ -47,8 +44,7 @@ returns-in_err-copy-clause-err c =
     let p = err_from_is_err_and c.from_residual-in_err-copy.result
     c.from_residual-in_err-copy.ensures.1 in
     rw (p.1, p.2)
-    (fitting_new c.args.plan.now c.args.d c.args.journal.now.entries c.kind.result
-    c.output_paths-paths.result.now c.args.checked.now
+    (fitting_new c.args.plan.now c.args.d c.args.journal.now.entries _ _ c.args.checked.now
     (record { has_kind = c.kind.ensures; outputs = c.output_paths-paths.ensures.value })
     (told.0 c.if-not-are_fitting.false))
 
@@ -64,8 +60,7 @@ pub returns-clause-ok : goal.returns-clause-ok
 returns-clause-ok c =
     let told = rw c.records-records.ensures at c.are_fitting.ensures in
     let cyclic = rw c.records-records.ensures at c.in_ok-is_cyclic.ensures in
-    done_is c.args.plan.now c.args.d c.args.journal.now.entries c.kind.result
-    c.output_paths-paths.result.now c.args.checked.now
+    done_is c.args.plan.now c.args.d c.args.journal.now.entries _ _ c.args.checked.now
     c.in_ok-registrations.registrations.items c.in-Some.outputs
     c.in_ok-copy.field-0
     (record { has_kind = c.kind.ensures; outputs = c.output_paths-paths.ensures.value })
@@ -73,6 +68,3 @@ returns-clause-ok c =
     (λ round. false≢true (sym c.if-branch.false ∙ cyclic.1 round))
     c.in_ok-registrations.ensures.paths (c.in_ok-registrations.ensures.infos
     ∙ c.records-records.ensures) c.in-Some.ensures
-
-pub returns-clause-derived : goal.returns-clause-derived
-returns-clause-derived c = rw c.in_ok-copy.ensures.same c.path.ensures.sound

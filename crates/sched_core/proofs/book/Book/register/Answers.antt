@@ -65,8 +65,7 @@ returns-in_err-entry-clause-fault g c =
     c.number.ensures in
     let p = err_from_is_err_and c.from_residual.result c.from_residual.ensures.1 in
     rw (p.1, p.2)
-    (entry_fault c.args.self.now _ _ _ _ c.args.lease.now.job c.args.lease.now.number _
-    c.args.checked.now c.in_err-entry.field-0.0 c.self.view_is lease
+    (entry_fault _ _ _ _ _ _ _ _ c.args.checked.now c.in_err-entry.field-0.0 c.self.view_is lease
     (ap (λ (j : Job). j.derivation) c.job-job.ensures) c.in_err-entry.ensures.err)
 
 pub returns-in_err-append-clause-fault : goal.returns-in_err-append-clause-fault
@@ -76,8 +75,8 @@ returns-in_err-append-clause-fault g c =
     let p = err_from_is_err_and c.from_residual-in_err-append.result
     c.from_residual-in_err-append.ensures.1 in
     rw p.1
-    (append_fault c.args.self.now _ _ _ _ c.args.lease.now.job c.args.lease.now.number _
-    c.args.checked.now c.in_ok-entry.field-0.entry p.0 c.self.view_is lease
+    (append_fault _ _ _ _ _ _ _ _ c.args.checked.now c.in_ok-entry.field-0.entry p.0
+    c.self.view_is lease
     (ap (λ (j : Job). j.derivation) c.job-job.ensures) c.in_ok-entry.ensures.entry
     (p.2 ∙ ap fault_of c.in_err-append.ensures.memory))
 
@@ -87,8 +86,8 @@ returns-clause-ok g c =
     c.number.ensures in
     let done = done_here c.args.checked.now c.in_ok-entry.field-0.entry c.self.view_is lease
     c.requires c.job-job.ensures c.in_ok-entry.ensures.entry in
-    finishing c.args.self.now _ _ _ _ _ _ _ _ _ c.args.lease.now.job c.args.lease.now.number _ _
-    c.args.checked.now c.in_ok-entry.field-0.entry c.in_ok-entry.field-0.shown
+    finishing _ _ _ _ _ _ _ _ _ _ _ _ _ _ c.args.checked.now c.in_ok-entry.field-0.entry
+    c.in_ok-entry.field-0.shown
     c.self.view_is lease done (c.finish.ensures.run ∙ c.in_ok-entry.ensures.run)
     c.in_ok-entry.ensures.history (ap (λ (j : Job). j.derivation) c.job-job.ensures)
     c.number-2.ensures

@@ -1,5 +1,4 @@
-use Rattle.std.proofs.Common.{◌∙◌, ap, length, subst, arith}
-use Rattle.valid_table.specs.Valid.{IsJournal}
+use Rattle.std.proofs.Common.{◌∙◌, ap, length, arith}
 use Rattle.sched_core.proofs.Keeping.{opening_kept, wanted_count}
 use Rattle.sched_core.proofs.progress.Progress.open.Goals as goal
 
@@ -38,7 +37,3 @@ invariant_of-result c =
           (omega (arith, c.in_ok-events.ensures.capacity, c.len.ensures)),
       omega (arith, ap length same),
     )
-
-pub returns-clause-is_journal : goal.returns-clause-is_journal
-returns-clause-is_journal c =
-    subst IsJournal c.entries-opening.ensures.value c.entries-opening.ensures.is_journal
