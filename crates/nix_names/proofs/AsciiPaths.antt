@@ -1,5 +1,5 @@
 -- The bytes of a store path are ASCII, so it is text.
-use Rattle.std.proofs.Common.{◌≡◌, ◌<◌, ◌==◌, ℕ, Bool, true, List, [], ◌∷◌, ◌++◌, All, arith}
+use Rattle.std.proofs.Common.{◌≡◌, ◌<◌, ◌==◌, ℕ, Bool, true, List, [], ◌∷◌, ◌++◌, All, arith, rules}
 use Rattle.std.proofs.Common.{nat_lt, refl, sym, subst, IsTrue, codes, inl, inr}
 use Rattle.std.specs.Char.{is_ascii_alphanumeric}
 use Rattle.std.specs.List.{list_all, list_any, flat_map}
@@ -46,12 +46,7 @@ letter_is_ascii b h = grind (arith, nat_tests)
 -- a byte of a name is ASCII
 name_char_is_ascii : (b : ℕ) → is_name_char b ≡ true → b < 128
 unfolding is_name_char
-name_char_is_ascii b h =
-    let others = list_any (λ c. c == b) (codes "+-._?=") in
-    elim (or_cases (is_ascii_alphanumeric b) others h) [
-      | inl letter ↦ letter_is_ascii b letter
-      | inr other ↦ among (codes "+-._?=") b refl other
-    ]
+name_char_is_ascii b h = search (rules, codes, or_cases, letter_is_ascii, among)
 
 -- bytes that pass a test that only ASCII bytes pass
 all_ascii : (test : ℕ → Bool) → ((b : ℕ) → test b ≡ true → b < 128)
@@ -73,7 +68,7 @@ name_passes name h = (and_parts _ _ (and_parts _ _ h).0).1
 component_passes : (part : List ℕ) → is_component part ≡ true
     → list_all is_name_char part ≡ true
 unfolding is_component
-component_passes part h = (and_parts _ _ (and_parts _ _ (and_parts _ _ h).0).0).1
+component_passes part h = search (rules, and_parts)
 
 -- components, each behind a slash, are ASCII
 components_are_ascii : (parts : List (List ℕ)) → All (λ part. IsTrue (is_component part)) parts
@@ -88,8 +83,7 @@ components_are_ascii (part ∷ parts) each =
 
 -- a store folder is ASCII
 dir_is_ascii : (dir : List ℕ) → IsStoreDir dir → All IsAsciiByte dir
-dir_is_ascii dir is_dir =
-    subst (All IsAsciiByte) (sym is_dir.parts) (components_are_ascii is_dir.components is_dir.each)
+dir_is_ascii dir is_dir = search (rules, components_are_ascii)
 
 -- a store path is text
 pub path_is_text : (path : List ℕ) → IsStorePath path → IsUtf8 path

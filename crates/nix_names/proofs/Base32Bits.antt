@@ -1,5 +1,5 @@
 -- Bytes and digits share their bits: eight digits are five bytes.
-use Rattle.std.proofs.Common.{◌≡◌, ◌+◌, ◌*◌, ◌/◌, ◌%◌, ◌^◌, ◌<◌, ◌≤◌, ℕ, zero, suc, List, length, drop, get_or, sym, ap, ◌∙◌, inl, inr, Fits, w8, arith}
+use Rattle.std.proofs.Common.{◌≡◌, ◌+◌, ◌*◌, ◌/◌, ◌%◌, ◌^◌, ◌<◌, ◌≤◌, ℕ, zero, suc, List, length, drop, get_or, sym, ap, ◌∙◌, Fits, w8, arith, rules}
 use Rattle.std.proofs.Math.Nat.{pow-zero, pow-suc, div-div-eq-div-mul, pow-le-pow_right, one-le-pow}
 use Rattle.std.proofs.lemmas.Nat.{pow-add, div_below}
 use Rattle.std.proofs.lemmas.List.{get_or_past, drop_all, drop_more}
@@ -11,21 +11,13 @@ use Rattle.nix_names.proofs.Base32Digits.{number_div, number_below}
 
 -- a power of a power of two
 pub pow_of_pow : (a n : ℕ) → (2 ^ a) ^ n ≡ 2 ^ (a * n)
-pow_of_pow a zero = rw (pow-zero (2 ^ a)) (let e : a * 0 ≡ 0 = omega arith in rw (e, pow-zero 2))
-pow_of_pow a (suc n) =
-    let e : a * suc n ≡ a * n + a = omega arith in
-    rw (pow-suc (2 ^ a) n, pow_of_pow a n, e, pow-add 2 (a * n) a)
+pow_of_pow a zero = search (rules, pow-zero)
+pow_of_pow a (suc n) = search (rules, pow-suc, pow-add, pow_of_pow a n)
 
 -- the first digit, and the number of the rest, where a list may have ended
 pub number_drop : (base : ℕ) (ds : List ℕ) (i : ℕ) → number base (drop i ds) ≡ get_or ds i 0
     + base * number base (drop (i + 1) ds)
-number_drop base ds i =
-    elim (cases_lt i (length ds)) [
-      | inl more ↦ rw (drop_more ds i 0 more)
-      | inr end ↦ rw
-          (drop_all i ds end, drop_all (i + 1) ds (omega arith), get_or_past ds i 0 end)
-          (omega arith)
-    ]
+number_drop base ds i = search (rules, cases_lt, drop_more, drop_all, get_or_past)
 
 -- the five bits that begin at a bit of a byte lie in that byte and the next
 pub bits_in_two : (low high more s : ℕ) → s < 8 → (low + 256 * (high + 256 * more)) / 2 ^ s % 32

@@ -1,5 +1,5 @@
 -- The characters of digits.
-use Rattle.std.proofs.Common.{◌≡◌, ◌+◌, ◌<◌, ◌==◌, ℕ, suc, Bool, true, false, List, [], ◌∷◌, ◌||◌, length, refl, arith}
+use Rattle.std.proofs.Common.{◌≡◌, ◌+◌, ◌<◌, ◌==◌, ℕ, suc, Bool, true, false, List, [], ◌∷◌, ◌||◌, length, refl, arith, rules}
 use Rattle.std.specs.Prelude.{◌/◌, ◌%◌, ◌^◌, nat_lt, map, cond, not, slice_index}
 use Rattle.std.specs.List.{list_all, list_any, range_with_len, position_or_len, All}
 use Rattle.std.proofs.lemmas.Bool.{eqb-true, ltb-true}
@@ -35,8 +35,7 @@ first_after false any first len rest some = omega (arith, rest some)
 first_of_any : {X : Type 0} (p : X → Bool) (xs : List X) → list_any p xs ≡ true
     → position_or_len p xs < length xs
 first_of_any p [] any = absurd (cc)
-first_of_any p (x ∷ xs) any = first_after (p x) (list_any p xs) (position_or_len p xs) (length xs)
-    (first_of_any p xs) any
+first_of_any p (x ∷ xs) any = search (rules, first_after, first_of_any p xs)
 
 pub digit_of_below : (c : ℕ) → is_digit c ≡ true → digit_of c < 32
 unfolding digit_of

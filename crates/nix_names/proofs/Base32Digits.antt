@@ -1,5 +1,5 @@
 -- Numbers and their digits to a base.
-use Rattle.std.proofs.Common.{◌≡◌, ◌+◌, ◌*◌, ◌/◌, ◌%◌, ◌^◌, ◌<◌, ◌≤◌, ℕ, zero, suc, List, [], ◌∷◌, ◌++◌, length, take, drop, get_or, refl, sym, ap, ◌∙◌, arith}
+use Rattle.std.proofs.Common.{◌≡◌, ◌+◌, ◌*◌, ◌/◌, ◌%◌, ◌^◌, ◌<◌, ◌≤◌, ℕ, zero, suc, List, [], ◌∷◌, ◌++◌, length, take, drop, get_or, refl, sym, ap, ◌∙◌, arith, rules}
 use Rattle.std.proofs.Math.Nat.{pow-zero, pow-suc, pow-succ', div-one, zero-div, div-div-eq-div-mul, mod-add-div, mul-le-mul_left}
 use Rattle.std.proofs.lemmas.Nat.{div-mul-add, mod-mul-add, div_below, mod_below}
 use Rattle.std.proofs.lemmas.List.Elements.{All-nil, All-cons, All-head, All-tail}
@@ -9,9 +9,7 @@ use Rattle.nix_names.specs.Base32.{number, digits_of}
 
 -- a number without its least significant digit
 pub rest_of_number : (base d n : ℕ) → d < base → (d + base * n) / base ≡ n
-rest_of_number base d n h =
-    let e : d + base * n ≡ n * base + d = omega arith in
-    rw e (div-mul-add n base d h)
+rest_of_number base d n h = search (rules, div-mul-add)
 
 -- the least significant digit of a number
 pub digit_of_number : (base d n : ℕ) → d < base → (d + base * n) % base ≡ d
@@ -35,7 +33,7 @@ number_div base (d ∷ ds) (suc i) below =
 -- a number below the power is that of its digits
 pub number_digits_of : (base k n : ℕ) → 0 < base → n < base ^ k → number base (digits_of base k n)
     ≡ n
-number_digits_of base zero n some small = let h : n < 1 = rw (pow-zero base) at small in omega arith
+number_digits_of base zero n some small = search (rules, pow-zero)
 number_digits_of base (suc k) n some small =
     let h : n < base ^ k * base = rw (pow-suc base k) at small in
     rw (number_digits_of base k (n / base) some (div_below n base (base ^ k) some h))
@@ -57,8 +55,7 @@ length_digits_of base (suc k) n = ap suc (length_digits_of base k (n / base))
 pub digits_of_below : (base k n : ℕ) → 0 < base → All (λ d. d < base) (digits_of base k n)
 digits_of_below base zero n some = All-nil (λ d. d < base)
 digits_of_below base (suc k) n some =
-    All-cons (λ d. d < base) (n % base) (digits_of base k (n / base)) (mod_below n base some)
-    (digits_of_below base k (n / base) some)
+    search (rules, All-cons, mod_below, digits_of_below base k (n / base) some)
 
 -- the digit at a place
 pub digits_of_at : (base k n i : ℕ) → i < k → get_or (digits_of base k n) i 0 ≡ n / base ^ i % base

@@ -1,5 +1,5 @@
 -- The laws of base-32: one text for the bytes, one list of so many bytes for a text.
-use Rattle.std.proofs.Common.{◌≡◌, ◌<◌, ℕ, true, List, None, length, sym, ap, subst, ◌∙◌, arith}
+use Rattle.std.proofs.Common.{◌≡◌, ◌<◌, ℕ, true, List, None, length, sym, ap, subst, ◌∙◌, arith, rules}
 use Rattle.std.specs.Prelude.{◌↔◌, map, reverse}
 use Rattle.std.specs.List.{All}
 use Rattle.std.proofs.lemmas.List.{length-map, length-reverse, reverse-reverse}
@@ -13,15 +13,11 @@ use Rattle.nix_names.proofs.Base32Reading.{digits_in, All-reverse, IsText, text_
 -- a text that stands for bytes is their base-32 text
 pub base32_of_stood : (text bytes : List ℕ) → StandsFor text bytes → text ≡ base32 bytes
 unfolding base32
-base32_of_stood text bytes stands =
-    let same : digits_of 32 (text_len (length bytes)) (number 256 bytes) ≡ stands.digits =
-    rw (← stands.count, ← stands.same) (digits_of_number 32 stands.digits stands.below) in
-    stands.spelled ∙ ap (λ ds. map digit_char (reverse ds)) (sym same)
+base32_of_stood text bytes stands = search (rules, digits_of_number)
 
 pub stood_of_base32 : (text bytes : List ℕ) → All (λ b. b < 256) bytes → text ≡ base32 bytes
     → StandsFor text bytes
-stood_of_base32 text bytes below is = subst (λ t. StandsFor t bytes) (sym is)
-    (base32_stands bytes below)
+stood_of_base32 text bytes below is = search (rules, base32_stands)
 
 -- the digits that stand for bytes are those in the text
 digits_stood : (text bytes : List ℕ) → (stands : StandsFor text bytes) → digits_in text

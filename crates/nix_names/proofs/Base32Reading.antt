@@ -1,5 +1,5 @@
 -- What a text stands for, and what is wrong with one that stands for nothing.
-use Rattle.std.proofs.Common.{◌≡◌, ◌+◌, ◌-◌, ◌*◌, ◌/◌, ◌%◌, ◌^◌, ◌<◌, ◌≤◌, ◌==◌, ℕ, Bool, true, false, List, Option, Some, None, length, get_or, refl, sym, ap, subst, ◌∙◌, arith}
+use Rattle.std.proofs.Common.{◌≡◌, ◌-◌, ◌/◌, ◌%◌, ◌^◌, ◌<◌, ◌==◌, ℕ, Bool, true, false, List, Option, Some, None, length, get_or, refl, sym, ap, subst, ◌∙◌, arith, rules}
 use Rattle.std.specs.Prelude.{map, reverse, not, nat_lt, cond, if◌then◌else◌}
 use Rattle.std.specs.List.{All, AllPass, position, position_or_len}
 use Rattle.std.proofs.Math.Nat.{one-le-pow, mod-add-div}
@@ -24,10 +24,7 @@ length_digits_in text = length-reverse (map digit_of text) ∙ length-map text d
 -- the digit at a place from the end
 pub digit_in : (text : List ℕ) (place : ℕ) → place < length text → get_or (digits_in text) place 0
     ≡ digit_of (get_or text (length text - 1 - place) 0)
-digit_in text place h =
-    get_or-reverse (map digit_of text) place 0 (omega (arith, length-map text digit_of))
-    ∙ ap (λ n. get_or (map digit_of text) (n - 1 - place) 0) (length-map text digit_of)
-    ∙ get_or-map digit_of text (length text - 1 - place) 0 0 (omega arith)
+digit_in text place h = search (rules, get_or-reverse, length-map, get_or-map)
 
 pub digits_in_below : (text : List ℕ) → AllPass is_digit text → All (λ d. d < 32) (digits_in text)
 digits_in_below text are =
@@ -40,11 +37,7 @@ digits_in_below text are =
 
 -- the same of a list from its end
 pub All-reverse : (P : ℕ → Type 0) (xs : List ℕ) → All P xs → All P (reverse xs)
-All-reverse P xs all =
-    All-from_get_or P (reverse xs) 0
-    (λ k h.
-    let within : k < length xs = omega (arith, length-reverse xs) in
-    subst P (sym (get_or-reverse xs k 0 within)) (all (length xs - 1 - k) 0 (omega arith)))
+All-reverse P xs all = search (rules, All-from_get_or, length-reverse, get_or-reverse)
 
 cond_none : (b : Bool) (place : ℕ) → cond b (Some place) None ≡ None → b ≡ false
 cond_none true place none = cc
@@ -54,10 +47,7 @@ cond_none false place none = refl
 pub pass_where_none_fails : (p : ℕ → Bool) (xs : List ℕ) → position (λ x. not (p x)) xs ≡ None
     → AllPass p xs
 pass_where_none_fails p xs none k d h =
-    let first = position_or_len (λ x. not (p x)) xs in
-    let past : length xs ≤ first = ltb-false first (length xs)
-    (cond_none (nat_lt first (length xs)) first none) in
-    not-false (p (get_or xs k d)) (fails_before_first (λ x. not (p x)) xs k d (omega arith))
+    search (rules, ltb-false, cond_none, not-false, fails_before_first)
 
 pub none_fails_where_all_pass : (p : ℕ → Bool) (xs : List ℕ) → AllPass p xs
     → position (λ x. not (p x)) xs ≡ None
@@ -106,10 +96,7 @@ no_fault_in_text text n is =
     )
 
 below_where_none : (n k : ℕ) → 0 < k → n / k ≡ 0 → n < k
-below_where_none n k some none =
-    let e : n % k + k * 0 ≡ n = rw none at (mod-add-div n k) in
-    let h = mod_below n k some in
-    omega arith
+below_where_none n k some none = search (rules, mod-add-div, mod_below)
 
 -- a text whose byte after the n is 0
 pub small_text : (text : List ℕ) (n : ℕ) → length text ≡ text_len n → AllPass is_digit text

@@ -1,6 +1,6 @@
 -- The runs of the alphabet, whose digits follow one another, and the gaps between them, which have
 -- none.
-use Rattle.std.proofs.Common.{◌≡◌, ◌+◌, ◌-◌, ◌<◌, ◌≤◌, ◌==◌, ℕ, Bool, true, get_or, refl, subst, ◌∙◌, arith}
+use Rattle.std.proofs.Common.{◌≡◌, ◌+◌, ◌-◌, ◌<◌, ◌≤◌, ◌==◌, ℕ, Bool, true, get_or, refl, subst, ◌∙◌, arith, rules}
 use Rattle.std.specs.List.{list_all, range_with_len}
 use Rattle.std.proofs.lemmas.Bool.{eqb-true}
 use Rattle.std.proofs.lemmas.List.Elements.{All-get_or}
@@ -54,7 +54,7 @@ from_v_to_z c above below = run 118 5 27 refl c above (omega arith)
 
 pub gap_before_0 : (c : ℕ) → c ≤ 47 → digit_of c ≡ 32
 unfolding digit_of
-gap_before_0 c below = gap 0 48 refl c (omega arith) (omega arith)
+gap_before_0 c below = search (rules, gap)
 
 pub gap_colon_to_grave : (c : ℕ) → 58 ≤ c → c ≤ 96 → digit_of c ≡ 32
 unfolding digit_of

@@ -1,5 +1,5 @@
 -- The base-32 text of bytes, character by character.
-use Rattle.std.proofs.Common.{◌≡◌, ◌+◌, ◌-◌, ◌/◌, ◌%◌, ◌^◌, ◌<◌, ℕ, List, [], ◌∷◌, ◌++◌, length, get_or, take, refl, sym, ap, ◌∙◌, arith}
+use Rattle.std.proofs.Common.{◌≡◌, ◌+◌, ◌-◌, ◌/◌, ◌%◌, ◌^◌, ◌<◌, ℕ, List, [], ◌∷◌, ◌++◌, length, get_or, take, ap, ◌∙◌, arith, rules}
 use Rattle.std.specs.Prelude.{reverse}
 use lib.Utf8.{encode}
 use Rattle.std.specs.List.{All}
@@ -12,10 +12,7 @@ use Rattle.nix_names.proofs.Base32Chars.{digit_char_ascii}
 
 pub length_base32 : (bytes : List ℕ) → length (base32 bytes) ≡ text_len (length bytes)
 unfolding base32
-length_base32 bytes =
-    let digits = digits_of 32 (text_len (length bytes)) (number 256 bytes) in
-    length-map (reverse digits) digit_char ∙ length-reverse digits
-    ∙ length_digits_of 32 (text_len (length bytes)) (number 256 bytes)
+length_base32 bytes = search (rules, length-map, length-reverse, length_digits_of)
 
 -- the character at a place
 base32_at : (bytes : List ℕ) (i : ℕ) → i < text_len (length bytes) → get_or (base32 bytes) i 0
@@ -45,25 +42,10 @@ pub base32_push : (bytes before after : List ℕ) (i len digit ch : ℕ) → i <
     ≡ number 256 bytes / 32 ^ (len - 1 - i) % 32 → ch ≡ digit_char digit → after ≡ before
     ++ encode ch → after ≡ take (i + 1) (base32 bytes)
 base32_push bytes before after i len digit ch h long first is_digit is_ch pushed =
-    let small : digit < 32 = omega arith in
-    let ascii : ch < 128 = omega (arith, digit_char_ascii digit small) in
-    let more = base32_more bytes i (omega arith) in
-    let one = encode_ascii ch ascii in
-    let at : number 256 bytes / 32 ^ (text_len (length bytes) - 1 - i) % 32
-    ≡ digit = rw (← long) (sym is_digit) in
-    pushed ∙ rw (one, first, is_ch, ← at) (sym more)
+    search (rules, digit_char_ascii, base32_more, encode_ascii)
 
 -- the base-32 text of bytes stands for them
 pub base32_stands : (bytes : List ℕ) → All (λ b. b < 256) bytes → StandsFor (base32 bytes) bytes
 unfolding base32
 base32_stands bytes below =
-    let n = number 256 bytes in
-    let len = text_len (length bytes) in
-    record {
-      digits = digits_of 32 len n;
-      spelled = refl;
-      below = digits_of_below 32 len n (omega arith);
-      count = length_digits_of 32 len n;
-      same = number_digits_of 32 len n (omega arith)
-          (omega (arith, number_below 256 bytes below, digits_hold_bytes (length bytes)));
-    }
+    search (rules, digits_of_below, length_digits_of, number_digits_of, number_below, digits_hold_bytes)

@@ -1,5 +1,5 @@
 -- The digits of each byte in a hexadecimal text.
-use Rattle.std.proofs.Common.{◌≡◌, ◌≢◌, ◌+◌, ◌*◌, ◌<◌, ℕ, zero, suc, List, [], ◌∷◌, length, refl, ap, ◌∙◌, get_or, set, arith}
+use Rattle.std.proofs.Common.{◌≡◌, ◌≢◌, ◌+◌, ◌*◌, ◌<◌, ℕ, zero, suc, List, [], ◌∷◌, length, refl, ap, ◌∙◌, get_or, set, arith, rules}
 use Rattle.std.specs.Prelude.{◌/◌, ◌%◌, All, slice_index}
 use Rattle.std.proofs.lemmas.List.{ext_get_or}
 use Rattle.std.proofs.lemmas.List.Edits.{fill_by_more}
@@ -24,11 +24,7 @@ digits_at (b ∷ rest) (suc at) within =
 -- digits are twice as many as their bytes
 pub twice_as_long : (n : ℕ) (digits bytes : List ℕ) → length digits ≡ 2 * n
     → digits ≡ encode_lower bytes → length bytes ≡ n
-twice_as_long n digits bytes long same =
-    let len : length (encode_lower bytes) ≡ 2 * length bytes
-    = length-encode_with lower_digits bytes in
-    let one = ap length same in
-    omega (arith, len, one, long)
+twice_as_long n digits bytes long same = search (rules, length-encode_with)
 
 -- bytes are read up to a place
 abbrev pub ReadUpTo : ℕ → List ℕ → List ℕ → Type 0
@@ -70,8 +66,4 @@ read_all n digits read long count up bytes each same =
 -- a text of another length has no bytes' digits
 pub no_count : (n : ℕ) (digits : List ℕ) → length digits ≢ 2 * n → (bytes : List ℕ)
     → length bytes ≡ n → digits ≢ encode_lower bytes
-no_count n digits other bytes count same =
-    let len : length (encode_lower bytes) ≡ 2 * length bytes
-    = length-encode_with lower_digits bytes in
-    let one = ap length same in
-    other (omega (arith, len, one, count))
+no_count n digits other bytes count same = search (rules, length-encode_with)

@@ -1,12 +1,12 @@
 -- Bytes and their hexadecimal digits, and what the digits and the text of a digest tell.
-use Rattle.std.proofs.Common.{◌≡◌, ◌≢◌, ◌<◌, ℕ, List, [], ◌∷◌, ◌++◌, get_or, length, Option, Some, None, Ok, inl, inr, refl, sym, ap, subst, ◌∙◌, arith, rules}
+use Rattle.std.proofs.Common.{◌≡◌, ◌≢◌, ◌<◌, ℕ, List, [], ◌∷◌, ◌++◌, length, Option, Some, None, Ok, refl, sym, arith, rules}
 use Rattle.std.specs.Prelude.{All, MatchOption}
 use Rattle.std.proofs.lemmas.Bool.{cases_lt}
 use Rattle.std.proofs.lemmas.List.{get_or_past}
 use Rattle.std.proofs.lemmas.List.Elements.{All-cons, All-head, All-nil, All-tail}
 use Rattle.hex.specs.Hex.{IsBytes, decode_sized, encode_lower}
 use Rattle.hex.proofs.HexLemmas.{decode_sized-encode_lower}
-use Rattle.nix_names.specs.Digests.{DigitsAreOfOneDigest, IsDigest, TextIsOfOneDigest, algorithm_of, bytes_of, digest_with, digits_of, name_of, size_of, text_of}
+use Rattle.nix_names.specs.Digests.{DigitsAreOfOneDigest, IsDigest, TextIsOfOneDigest, algorithm_of, bytes_of, digest_with, digits_of, name_of, text_of}
 use Rattle.nix_names.specs.declared.digest.Algorithm.{Algorithm}
 use Rattle.nix_names.specs.declared.digest.Algorithm.TheVariants.{Md5, Sha1, Sha256, Sha512}
 use Rattle.nix_names.specs.declared.digest.Digest.{Digest}
@@ -20,11 +20,7 @@ AreBytes n bytes = (length bytes ≡ n) × All (λ byte. byte < 256) bytes
 
 -- bytes are bytes at every place
 pub bytes_everywhere : (xs : List ℕ) → All (λ b. b < 256) xs → IsBytes xs
-bytes_everywhere xs each i =
-    elim (cases_lt i (length xs)) [
-      | inl within ↦ each i 0 within
-      | inr past ↦ let e = get_or_past xs i 0 past in omega arith
-    ]
+bytes_everywhere xs each i = search (rules, cases_lt, get_or_past)
 
 -- the digits of bytes decode to them
 pub digits_decode : (n : ℕ) (bytes : List ℕ) → AreBytes n bytes
@@ -50,15 +46,7 @@ made_again (OfSha512 bytes) = refl
 
 -- digits are those of one digest of an algorithm
 pub one_digest : DigitsAreOfOneDigest
-one_digest a b is_a is_b algorithm digits =
-    let size : size_of (algorithm_of b) ≡ size_of (algorithm_of a) = ap size_of (sym algorithm) in
-    let bytes = one_list (size_of (algorithm_of a)) (bytes_of a) (bytes_of b) is_a
-    (is_b.0 ∙ size, is_b.1) digits in
-    let again : digest_with (algorithm_of b) (bytes_of b) ≡ digest_with (algorithm_of a)
-    (bytes_of a)
-    = ap (λ which. digest_with which (bytes_of b)) (sym algorithm)
-    ∙ ap (digest_with (algorithm_of a)) (sym bytes) in
-    sym (made_again a) ∙ sym again ∙ made_again b
+one_digest a b is_a is_b algorithm digits = search (rules, one_list, made_again)
 
 -- ---- texts
 
@@ -95,10 +83,7 @@ one_number : (a b : ℕ) → a < b → a ≡ b → ⊥
 one_number a b less same = omega arith
 
 names_differ : name_of Sha256 ≡ name_of Sha512 → ⊥
-names_differ same =
-    let e : get_or (name_of Sha256) 3 0 ≡ get_or (name_of Sha512) 3 0
-    = ap (λ (name : List ℕ). get_or name 3 0) same in
-    one_number 50 53 (omega arith) e
+names_differ same = search (rules, one_number)
 
 -- an algorithm is told by its name
 pub one_name : (a b : Algorithm) → name_of a ≡ name_of b → a ≡ b
@@ -123,10 +108,7 @@ one_name Sha512 Sha512 same = refl
 
 -- a text is that of one digest
 pub one_text : TextIsOfOneDigest
-one_text a b is_a is_b same =
-    let parts = same_cut (name_of (algorithm_of a)) (name_of (algorithm_of b)) (digits_of a)
-    (digits_of b) (name_lacks_colon (algorithm_of a)) (name_lacks_colon (algorithm_of b)) same in
-    one_digest a b is_a is_b (one_name (algorithm_of a) (algorithm_of b) parts.0) parts.1
+one_text a b is_a is_b same = search (rules, same_cut, name_lacks_colon, one_digest, one_name)
 
 -- ---- texts that are read
 
@@ -141,21 +123,16 @@ none_answer text (Some digest) is other = cc is
 -- a text without a colon is no digest's
 pub no_colon : (text : List ℕ) → LacksColon text
     → (digest : Digest) → IsDigest digest → text ≢ text_of digest
-no_colon text none digest is same =
-    lacks_not (name_of (algorithm_of digest)) (digits_of digest)
-    (subst LacksColon same none)
+no_colon text none digest is same = search (rules, lacks_not)
 
 -- the name and the digits of a digest's text
 text_parts : (text name digits : List ℕ) → LacksColon name → text ≡ name ++ 58 ∷ digits
     → (digest : Digest) → text ≡ text_of digest
     → (name ≡ name_of (algorithm_of digest)) × (digits ≡ digits_of digest)
-text_parts text name digits none parts digest same =
-    same_cut name (name_of (algorithm_of digest)) digits (digits_of digest) none
-    (name_lacks_colon (algorithm_of digest)) (sym parts ∙ same)
+text_parts text name digits none parts digest same = search (rules, same_cut, name_lacks_colon)
 
 -- a text with another name is no digest's
 pub no_name : (text name digits : List ℕ) → LacksColon name → text ≡ name ++ 58 ∷ digits
     → ((algorithm : Algorithm) → name ≢ name_of algorithm)
     → (digest : Digest) → IsDigest digest → text ≢ text_of digest
-no_name text name digits none parts other digest is same =
-    other (algorithm_of digest) (text_parts text name digits none parts digest same).0
+no_name text name digits none parts other digest is same = search (rules, text_parts)

@@ -1,5 +1,5 @@
 -- The first element of a list that has a property: where it stands, and that there is one.
-use Rattle.std.proofs.Common.{◌≡◌, ◌∙◌, ℕ, zero, suc, ◌+◌, ◌<◌, List, [], ◌∷◌, ◌++◌, take, drop, append_assoc, sym, ap, subst, arith, Some}
+use Rattle.std.proofs.Common.{◌≡◌, ◌∙◌, ℕ, zero, suc, ◌+◌, ◌<◌, List, [], ◌∷◌, ◌++◌, take, append_assoc, sym, ap, subst, arith, Some, rules}
 use Rattle.std.specs.Prelude.{All, Contains, slice_get}
 use Rattle.std.specs.List.{range_with_len}
 use Rattle.std.proofs.lemmas.List.Elements.{All-append, All-contains, All-head, All-tail}
@@ -11,13 +11,7 @@ module _ {X : Type 0} (Other Kind : X → Type 0) where
   -- the element at a place behind others
   pub first_at : (list : List X) (n : ℕ) (x : X) → slice_get list n ≡ Some x
       → All Other (take n list) → Kind x → IsFirst Other Kind list x
-  first_at list n x at others is = record {
-    before = take n list;
-    after = drop (suc n) list;
-    parts = split_get list n x at;
-    others = others;
-    is = is;
-  }
+  first_at list n x at others is = search (rules, split_get)
 
   -- the first element is a member
   pub first_contained : (list : List X) (x : X) → IsFirst Other Kind list x → Contains list x
@@ -47,12 +41,8 @@ module _ {X : Type 0} (Other Kind : X → Type 0) where
     one_of_parts : (before other after behind : List X) (x y : X) → before ++ x ∷ after ≡ other
         ++ y ∷ behind → All Other before → All Other other → Kind x → Kind y → x ≡ y
     one_of_parts [] [] after behind x y e all all' is is' = cc
-    one_of_parts [] (z ∷ other) after behind x y e all all' is is' =
-        let same : z ≡ x = cc in
-        absurd (apart x (subst Other same (All-head Other z other all')) is)
-    one_of_parts (z ∷ before) [] after behind x y e all all' is is' =
-        let same : z ≡ y = cc in
-        absurd (apart y (subst Other same (All-head Other z before all)) is')
+    one_of_parts [] (z ∷ other) after behind x y e all all' is is' = search (rules, All-head)
+    one_of_parts (z ∷ before) [] after behind x y e all all' is is' = search (rules, All-head)
     one_of_parts (z ∷ before) (w ∷ other) after behind x y e all all' is is' =
         let tail : before ++ x ∷ after ≡ other ++ y ∷ behind = cc in
         one_of_parts before other after behind x y tail (All-tail Other z before all)
@@ -61,9 +51,7 @@ module _ {X : Type 0} (Other Kind : X → Type 0) where
     -- there is one first element
     pub one_first : (list : List X) (x y : X) → IsFirst Other Kind list x
         → IsFirst Other Kind list y → x ≡ y
-    one_first list x y first first' =
-        one_of_parts first.before first'.before first.after first'.after x y
-        (sym first.parts ∙ first'.parts) first.others first'.others first.is first'.is
+    one_first list x y first first' = search (rules, one_of_parts)
 
 -- ---- numbers
 

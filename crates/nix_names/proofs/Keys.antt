@@ -1,5 +1,5 @@
 -- Keys: numbers that order hash parts, and the paths of one folder.
-use Rattle.std.proofs.Common.{◌≡◌, ◌<◌, ◌+◌, ◌*◌, ℕ, zero, suc, List, [], ◌∷◌, ◌++◌, ap, ap₂, arith, drop, inl, inr, length, refl, subst, sym, take, true, ◌∙◌}
+use Rattle.std.proofs.Common.{◌≡◌, ◌<◌, ◌+◌, ◌*◌, ℕ, zero, suc, List, [], ◌∷◌, ◌++◌, ap, ap₂, arith, drop, inl, inr, length, refl, sym, take, true, ◌∙◌, rules}
 use Rattle.std.specs.Cmp.Lexicographic.{slice_cmp}
 use Rattle.std.specs.Int.{from_be_bytes, w64}
 use Rattle.std.specs.List.{AllByRecursion, list_all}
@@ -7,7 +7,6 @@ use Rattle.std.specs.Ordering.{nat_cmp, ordering_then}
 use Rattle.std.specs.declared.cmp.Ordering.{Ordering}
 use Rattle.std.specs.declared.cmp.Ordering.TheVariants.{Equal, Less}
 use Rattle.std.proofs.lemmas.Bool.{and_parts, cases_lt, le-ltb, lt-ltb}
-use Rattle.std.proofs.lemmas.Cmp.{nat_eq_equiv}
 use Rattle.std.proofs.lemmas.List.{append_assoc, append-nil, length-take-le, take-append-drop}
 use Rattle.nix_names.specs.Base32.{is_digit}
 use Rattle.nix_names.specs.Keys.{key_of}
@@ -49,7 +48,7 @@ eight_spelt (a ∷ b ∷ c ∷ d ∷ e ∷ f ∷ g ∷ h ∷ i ∷ bytes) is = a
 -- ---- so do texts that begin with these bytes
 
 equal_bytes : (x : ℕ) → nat_cmp x x ≡ Equal
-equal_bytes x = rw (le-ltb x x (omega arith), nat_eq_equiv.refl x) refl
+equal_bytes x = search (rules, le-ltb)
 
 lesser_byte : (x y : ℕ) → x < y → nat_cmp x y ≡ Less
 lesser_byte x y less = rw (lt-ltb x y less) refl
@@ -84,17 +83,12 @@ bytes_less n (x ∷ xs) (y ∷ ys) rest others same of_x of_y less =
 
     level : x ≡ y → (spelt (n * 256 + x) xs < spelt (n * 256 + x) ys → tail ≡ Less)
         → ordering_then (nat_cmp x y) tail ≡ Less
-    level is next =
-        ap (λ z. ordering_then (nat_cmp x z) tail) (sym is)
-        ∙ ap (λ o. ordering_then o tail) (equal_bytes x)
-        ∙ next (subst (λ z. spelt (n * 256 + x) xs < spelt (n * 256 + z) ys) (sym is) less)
+    level is next = search (rules, tail, equal_bytes, spelt)
 
 pub same_front : (front xs ys : List ℕ) → slice_cmp nat_cmp (front ++ xs) (front ++ ys)
     ≡ slice_cmp nat_cmp xs ys
 same_front [] xs ys = refl
-same_front (b ∷ front) xs ys =
-    ap (λ o. ordering_then o (slice_cmp nat_cmp (front ++ xs) (front ++ ys))) (equal_bytes b)
-    ∙ same_front front xs ys
+same_front (b ∷ front) xs ys = search (rules, equal_bytes, same_front front xs ys)
 
 -- ---- hash parts, and paths of one folder
 
@@ -128,11 +122,10 @@ lesser_hash p q rest others of_p of_q less =
     ))
   where
     split : (p rest : List ℕ) → p ++ rest ≡ take 8 p ++ (drop 8 p ++ rest)
-    split p rest = ap (λ xs. xs ++ rest) (sym (take-append-drop 8 p))
-        ∙ append_assoc (take 8 p) (drop 8 p) rest
+    split p rest = search (rules, take-append-drop, append_assoc)
 
     eight : (p : List ℕ) → is_hash_part p ≡ true → length (take 8 p) ≡ 8
-    eight p is = let long = hash_part_len p is in length-take-le 8 p (omega (arith, long))
+    eight p is = search (rules, hash_part_len, length-take-le)
 
 pub lesser_hash_part : (path other : List ℕ) → IsStorePath path → IsStorePath other
     → key_of path < key_of other

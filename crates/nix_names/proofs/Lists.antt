@@ -1,5 +1,5 @@
 -- Lists: what they contain, what stands at their places, and their parts.
-use Rattle.std.proofs.Common.{◌≡◌, ◌∙◌, ℕ, ◌+◌, ◌<◌, zero, suc, List, [], ◌∷◌, ◌++◌, length, take, drop, get_or, map, refl, sym, ap, inl, inr, ⊎_elim, arith, Some}
+use Rattle.std.proofs.Common.{◌≡◌, ◌∙◌, ℕ, ◌+◌, ◌<◌, zero, suc, List, [], ◌∷◌, ◌++◌, length, take, drop, get_or, map, refl, sym, ap, inl, inr, ⊎_elim, arith, Some, rules}
 use Rattle.std.specs.Prelude.{◌⊎◌, All, Contains, slice_get}
 use Rattle.std.proofs.lemmas.List.{drop_more, take-append-drop, take_more}
 use Rattle.std.proofs.lemmas.List.Elements.{All-contains, Contains-append_cases, Contains-append_left, Contains-get_or}
@@ -15,9 +15,7 @@ pub either_side : (i j : ℕ) → (i ≡ j) ⊎ ((i < j) ⊎ (j < i))
 either_side zero zero = inl refl
 either_side zero (suc j) = inr (inl (omega arith))
 either_side (suc i) zero = inr (inr (omega arith))
-either_side (suc i) (suc j) = ⊎_elim (λ e. inl (ap suc e))
-    (λ apart. ⊎_elim (λ h. inr (inl (omega arith))) (λ h. inr (inr (omega arith))) apart)
-    (either_side i j)
+either_side (suc i) (suc j) = search (rules, either_side i j)
 
 module _ {X : Type 0} where
   -- ---- members
@@ -97,8 +95,7 @@ module _ {X : Type 0} where
   get_push_cases [] y zero x is = inr (refl, same_Some y x is)
   get_push_cases [] y (suc n) x is = absurd (none-some x is)
   get_push_cases (z ∷ xs) y zero x is = inl is
-  get_push_cases (z ∷ xs) y (suc n) x is = ⊎_elim inl (λ last. inr (ap suc last.0, last.1))
-      (get_push_cases xs y n x is)
+  get_push_cases (z ∷ xs) y (suc n) x is = search (rules, get_push_cases xs y n x is)
 
   -- ---- parts round a place
 
@@ -116,18 +113,16 @@ module _ {X : Type 0} where
 
   pub split_get : (xs : List X) (n : ℕ) (x : X) → slice_get xs n ≡ Some x → xs ≡ take n xs ++ x
       ∷ drop (suc n) xs
-  split_get xs n x is = sym (take-append-drop n xs) ∙ ap (λ l. take n xs ++ l) (drop_at xs n x is)
+  split_get xs n x is = search (rules, take-append-drop, drop_at)
 
   -- the same of an element that was read
   pub parts_at : (xs : List X) (i : ℕ) (x : X) → i < length xs → x ≡ get_or xs i x → xs
       ≡ take i xs ++ x ∷ drop (i + 1) xs
-  parts_at xs i x lt is =
-      sym (take-append-drop i xs) ∙ ap (λ l. take i xs ++ l)
-      (drop_more xs i x lt ∙ ap (λ y. y ∷ drop (i + 1) xs) (sym is))
+  parts_at xs i x lt is = search (rules, take-append-drop, drop_more)
 
   pub taken_more : (xs : List X) (i : ℕ) (x : X) → i < length xs → x ≡ get_or xs i x
       → take (i + 1) xs ≡ take i xs ++ x ∷ []
-  taken_more xs i x below at = take_more xs i x below ∙ ap (λ y. take i xs ++ y ∷ []) (sym at)
+  taken_more xs i x below at = search (rules, take_more)
 
 -- ---- images
 

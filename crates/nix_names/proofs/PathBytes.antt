@@ -1,5 +1,5 @@
 -- The bytes of names and hash parts: none of them is a slash.
-use Rattle.std.proofs.Common.{◌≡◌, ◌==◌, ℕ, Bool, true, false, not, List, refl, ap, sym, ◌∙◌}
+use Rattle.std.proofs.Common.{◌≡◌, ◌==◌, ℕ, Bool, true, false, not, List, refl, rules}
 use Rattle.std.specs.List.{list_all, AllPass}
 use Rattle.std.proofs.lemmas.Bool.{eqb-true, false_from_ne_true, false≢true, not_from_false}
 use Rattle.std.proofs.lemmas.List.Sums.{AllPass-from_list_all}
@@ -8,9 +8,7 @@ use Rattle.nix_names.specs.Names.{is_name_char}
 
 -- a test that fails at a number fails to hold of what equals it
 apart : (test : ℕ → Bool) (n b : ℕ) → test n ≡ false → test b ≡ true → (b == n) ≡ false
-apart test n b fails passes =
-    false_from_ne_true (b == n)
-    (λ e. false≢true (sym fails ∙ ap test (sym (eqb-true b n e)) ∙ passes))
+apart test n b fails passes = search (rules, false_from_ne_true, false≢true, eqb-true)
 
 -- a byte of a name is no slash
 pub no_slash_in_name : (b : ℕ) → is_name_char b ≡ true → (b == 47) ≡ false
@@ -24,5 +22,4 @@ no_slash_in_digit b h = apart is_digit 47 b refl h
 -- a text whose bytes all pass a test that no slash passes has no slash
 pub all_no_slash : (test : ℕ → Bool) → ((b : ℕ) → test b ≡ true → (b == 47) ≡ false) → (xs : List ℕ)
     → list_all test xs ≡ true → AllPass (λ b. not (b == 47)) xs
-all_no_slash test apart_from xs h k d within =
-    not_from_false _ (apart_from _ (AllPass-from_list_all test xs h k d within))
+all_no_slash test apart_from xs h k d within = search (rules, not_from_false, AllPass-from_list_all)

@@ -1,5 +1,5 @@
 -- Hash parts made from digests.
-use Rattle.std.proofs.Common.{◌≡◌, ◌<◌, ◌≤◌, ℕ, true, List, length, reverse, drop, bit_xor, refl, ap, sym, ◌∙◌, lit<}
+use Rattle.std.proofs.Common.{◌≡◌, ◌<◌, ◌≤◌, ℕ, true, List, length, reverse, drop, bit_xor, ap, sym, ◌∙◌, lit<, rules}
 use Rattle.std.specs.Int.Bits.{xor_zero_r}
 use Rattle.std.proofs.lemmas.Bool.{and_from, eq-eqb}
 use Rattle.std.proofs.lemmas.List.{drop_all}
@@ -58,4 +58,4 @@ pub made_path : (kind inner dir name path digest folded hash : List ℕ) → pat
     ≡ sha256 (fingerprint kind inner dir name) → path ≡ store_path kind inner dir name
 unfolding store_path
 made_path kind inner dir name path digest folded hash joined spelled fold_is digest_is =
-    rw (joined, spelled, fold_is, digest_is) refl
+    search rules

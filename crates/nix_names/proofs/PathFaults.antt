@@ -1,5 +1,5 @@
 -- What is wrong first with a text as a path of a folder.
-use Rattle.std.proofs.Common.{◌≡◌, ◌<◌, ◌≤◌, ◌+◌, ◌&&◌, ℕ, inl, inr, Bool, true, false, not, List, [], ◌∷◌, ◌++◌, length, take, drop, nat_eq, refl, ap, sym, ◌∙◌, arith, Option, Some, None, if◌then◌else◌}
+use Rattle.std.proofs.Common.{◌≡◌, ◌<◌, ◌≤◌, ◌+◌, ◌&&◌, ℕ, Bool, true, false, not, List, [], ◌∷◌, ◌++◌, length, take, drop, nat_eq, refl, ap, sym, ◌∙◌, Option, Some, None, if◌then◌else◌, rules}
 use Rattle.std.specs.List.{starts_with}
 use Rattle.std.proofs.lemmas.Bool.{and_from, and_left, and_right, and_parts, cases_lt, ne_eqb}
 use Rattle.std.proofs.lemmas.Bool.Decides.{Decides-eqb}
@@ -23,9 +23,7 @@ pub starts_with_slash : (text dir : List ℕ) → starts_with nat_eq text (dir +
 starts_with_slash text [] = refl
 starts_with_slash [] (d ∷ dir) = refl
 starts_with_slash (t ∷ text) (d ∷ dir) =
-    ap (λ b. nat_eq d t && b) (starts_with_slash text dir)
-    ∙ and_assoc (nat_eq d t) (starts_with nat_eq text dir)
-    (starts_with nat_eq (drop (length dir) text) (47 ∷ []))
+    search (rules, nat_eq, and_assoc, starts_with_slash text dir)
 
 -- the same, where the text begins with the folder
 pub starts_with_slash_behind : (text dir rest : List ℕ) → starts_with nat_eq text dir ≡ true → rest
@@ -41,17 +39,12 @@ begins_with_hash base = is_hash_part (take 32 base) && starts_with nat_eq (drop 
 -- fewer than 32 bytes are no hash part
 fewer_is_no_hash : (hash : List ℕ) → length hash < 32 → is_hash_part hash ≡ false
 unfolding is_hash_part
-fewer_is_no_hash hash few = and_left _ _ (ne_eqb (length hash) 32 (λ e. omega arith))
+fewer_is_no_hash hash few = search (rules, and_left, ne_eqb)
 
 -- no 32 bytes or fewer begin with a hash part and a dash
 pub short_is_no_hash : (base : List ℕ) → length base ≤ 32 → begins_with_hash base ≡ false
 short_is_no_hash base short =
-    elim (cases_lt (length base) 32) as (λ _. begins_with_hash base ≡ false) [
-      | inl less ↦ and_left _ _
-          (fewer_is_no_hash (take 32 base) (omega (arith, length-take 32 base)))
-      | inr more ↦ and_right _ _
-          (ap (λ rest. starts_with nat_eq rest (45 ∷ [])) (drop_all 32 base short))
-    ]
+    search (rules, cases_lt, begins_with_hash, and_left, fewer_is_no_hash, length-take, and_right, nat_eq, drop_all)
 
 -- a test that is passed, where nothing is wrong
 passed : (t : Bool) (f : NameFault) (rest : Option NameFault) → (if not t then Some f else rest)
@@ -94,9 +87,7 @@ path_text_parts dir hash name = append_assoc dir (47 ∷ []) (hash ++ 45 ∷ nam
 -- what a text that begins with a folder and a slash is
 behind_slash : (dir text : List ℕ) → starts_with nat_eq text (dir ++ 47 ∷ []) ≡ true → text
     ≡ (dir ++ 47 ∷ []) ++ drop (length dir + 1) text
-behind_slash dir text begins =
-    (starts_is Decides-eqb text (dir ++ 47 ∷ []) _ refl).0 begins
-    ∙ ap (λ n. (dir ++ 47 ∷ []) ++ drop n text) (length-append dir (47 ∷ []))
+behind_slash dir text begins = search (rules, starts_is, Decides-eqb, length-append)
 
 -- a text with nothing wrong is a path of the folder
 pub path_of_no_fault : (dir text : List ℕ) → path_fault dir text ≡ None → IsPathOf dir text
@@ -133,12 +124,4 @@ no_fault_of_parts hash name is_hash named =
 -- nothing is wrong with a path of the folder
 pub no_fault_of_path : (dir text : List ℕ) → IsPathOf dir text → path_fault dir text ≡ None
 no_fault_of_path dir text p =
-    let base : List ℕ = p.hash ++ 45 ∷ p.name in
-    let split : text ≡ (dir ++ 47 ∷ []) ++ base = p.parts ∙ sym (path_text_parts dir p.hash p.name)
-    in
-    let begins : starts_with nat_eq text (dir ++ 47 ∷ [])
-    ≡ true = (starts_is Decides-eqb text (dir ++ 47 ∷ []) _ refl).1 base split in
-    let rest : base ≡ drop (length dir + 1) text =
-    sym (ap (drop (length dir + 1)) split
-    ∙ drop_at (dir ++ 47 ∷ []) base (length dir + 1) (length-append dir (47 ∷ []))) in
-    fault_inside dir text base begins rest ∙ no_fault_of_parts p.hash p.name p.is_hash p.named
+    search (rules, path_text_parts, nat_eq, starts_is, Decides-eqb, drop_at, length-append, fault_inside, no_fault_of_parts)

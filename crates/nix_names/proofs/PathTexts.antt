@@ -1,5 +1,5 @@
 -- The parts of a path's text: its base name, hash part and name.
-use Rattle.std.proofs.Common.{◌≡◌, ◌==◌, ◌<◌, ◌≤◌, ◌+◌, ◌-◌, ℕ, suc, Bool, true, false, not, Some, None, List, ◌∷◌, ◌++◌, length, take, drop, get_or, refl, ap, sym, subst, ◌∙◌, arith}
+use Rattle.std.proofs.Common.{◌≡◌, ◌==◌, ◌<◌, ◌≤◌, ◌+◌, ◌-◌, ℕ, Bool, true, false, not, Some, None, List, ◌∷◌, ◌++◌, length, take, drop, get_or, refl, ap, sym, ◌∙◌, arith, rules}
 use Rattle.memchr.specs.Find.{IsLastByte, is_byte}
 use Rattle.std.specs.List.{AllPass, after_last, suffix_len}
 use Rattle.std.proofs.lemmas.Bool.{and_parts, eqb-true, leb-true, not_from_true}
@@ -7,7 +7,7 @@ use Rattle.std.proofs.lemmas.List.{length-append, get_or-append_right, get_or_at
 use Rattle.std.proofs.lemmas.List.Elements.{All-append, All-cons}
 use Rattle.std.proofs.lemmas.List.Sums.{suffix_len_is}
 use Rattle.nix_names.specs.Base32.{is_digit}
-use Rattle.nix_names.specs.Names.{IsStoreDir, is_name, is_name_char}
+use Rattle.nix_names.specs.Names.{IsStoreDir, is_name}
 use Rattle.nix_names.specs.StorePaths.{IsPathOf, IsStorePath, base_of, hash_part_of, is_hash_part, name_of, path_text}
 use Rattle.nix_names.proofs.PathBytes.{no_slash_in_name, no_slash_in_digit, all_no_slash}
 
@@ -15,19 +15,12 @@ use Rattle.nix_names.proofs.PathBytes.{no_slash_in_name, no_slash_in_digit, all_
 after_last_from : (p : ℕ → Bool) (xs : List ℕ) (n : ℕ) → n ≤ length xs
     → ((k : ℕ) → n ≤ k → k < length xs → not (p (get_or xs k 0)) ≡ true)
     → not (p (get_or xs (n - 1) 0)) ≡ false → after_last p xs ≡ drop n xs
-after_last_from p xs n within from before =
-    let len : suffix_len (λ b. not (p b)) xs ≡ length xs - n =
-    suffix_len_is (λ b. not (p b)) xs n 0 within from (λ _. before) in
-    let place : length xs - suffix_len (λ b. not (p b)) xs ≡ n = omega arith in
-    ap (λ k. drop k xs) place
+after_last_from p xs n within from before = search (rules, not, suffix_len_is)
 
 -- an element behind the front and one more
 behind : (front back : List ℕ) (x k : ℕ) → length front + 1 ≤ k → get_or (front ++ x ∷ back) k 0
     ≡ get_or back (k - (length front + 1)) 0
-behind front back x k low =
-    let next : k - length front ≡ suc (k - (length front + 1)) = omega arith in
-    get_or-append_right front (x ∷ back) (length front) k 0 refl (omega arith)
-    ∙ ap (λ i. get_or (x ∷ back) i 0) next
+behind front back x k low = search (rules, get_or-append_right)
 
 -- the front and one more element, and what is left without them
 front_more : (front back : List ℕ) (x : ℕ) → length (front ++ x ∷ back) ≡ length front + 1
@@ -64,14 +57,12 @@ hash_part_bytes hash h = all_no_slash is_digit no_slash_in_digit hash (and_parts
 -- a name has no slash
 name_bytes : (name : List ℕ) → is_name name ≡ true → AllPass (λ b. not (b == 47)) name
 unfolding is_name
-name_bytes name h = all_no_slash is_name_char no_slash_in_name name
-    (and_parts _ _ (and_parts _ _ h).0).1
+name_bytes name h = search (rules, all_no_slash, no_slash_in_name, name, and_parts)
 
 -- what holds of each byte of two texts and of one between them holds of each byte of all
 all_pass_join : (p : ℕ → Bool) (xs ys : List ℕ) (y : ℕ) → AllPass p xs → p y ≡ true → AllPass p ys
     → AllPass p (xs ++ y ∷ ys)
-all_pass_join p xs ys y first between rest =
-    All-append (λ b. p b ≡ true) xs (y ∷ ys) first (All-cons (λ b. p b ≡ true) y ys between rest)
+all_pass_join p xs ys y first between rest = search (rules, All-append, All-cons)
 
 -- the base name of the path of a folder, a hash part and a name
 pub base_of_path : (dir hash name : List ℕ) → is_hash_part hash ≡ true → is_name name ≡ true
@@ -114,11 +105,7 @@ name_of_parts base p =
 
 -- such a base name has more than 33 bytes
 parts_long : (base : List ℕ) → Parts base → 33 ≤ length base
-parts_long base p =
-    let long = hash_part_len p.hash p.is_hash in
-    let all = ap length p.parts in
-    let sum = front_more p.hash p.name 45 in
-    omega arith
+parts_long base p = search (rules, hash_part_len, front_more)
 
 -- the path of a folder with a hash part and a name is one of its paths
 pub path_of_parts : (dir hash name : List ℕ) → is_hash_part hash ≡ true → is_name name ≡ true
@@ -153,7 +140,7 @@ name_of_path dir hash name is_hash named = name_is dir _ (path_of_parts dir hash
 
 -- the base name of a store path has more than 33 bytes
 pub base_long : (text : List ℕ) → IsStorePath text → 33 ≤ length (base_of text)
-base_long text p = parts_long (base_of text) (parts_of p.dir text p.is_path)
+base_long text p = search (rules, parts_long, parts_of)
 
 -- a store path's hash part is one
 pub hash_part_of_is : (text : List ℕ) → IsStorePath text → is_hash_part (hash_part_of text) ≡ true
@@ -166,13 +153,12 @@ name_of_is text p = ap is_name (name_is p.dir text p.is_path) ∙ p.is_path.name
 -- a name has at most 211 bytes
 pub name_len : (name : List ℕ) → is_name name ≡ true → length name ≤ 211
 unfolding is_name
-name_len name h = leb-true _ _ (and_parts _ _ (and_parts _ _ (and_parts _ _ h).0).0).1
+name_len name h = search (rules, leb-true, and_parts)
 
 -- a text that is a path of a store folder may be kept as a store path
 pub stored : (dir text items : List ℕ) → IsStoreDir dir → IsPathOf dir text → items ≡ text
     → IsStorePath items
-stored dir text items is_dir p kept = subst IsStorePath (sym kept)
-    (record { dir = dir; is_dir = is_dir; is_path = p })
+stored dir text items is_dir p kept = search rules
 
 -- a test that isn't met
 unmet : (b : Bool) → (b ≡ true → ⊥) → not b ≡ true
@@ -182,12 +168,7 @@ unmet false none = refl
 -- the base name begins behind the last slash
 pub behind_last_slash : (text : List ℕ) (slash : ℕ) → IsLastByte (is_byte 47) text (Some slash)
     → drop (slash + 1) text ≡ base_of text
-behind_last_slash text slash last =
-    let at : slash + 1 - 1 ≡ slash = omega arith in
-    let inside : slash < length text = last.0.high in
-    sym (after_last_from (λ b. b == 47) text (slash + 1) (omega arith)
-    (λ k low high. unmet _ (last.0.after k low high))
-    (rw at (not_from_true _ last.1)))
+behind_last_slash text slash last = search (rules, after_last_from, unmet, not_from_true)
 
 -- where there is no slash, all is the base name
 pub without_slash : (text : List ℕ) → IsLastByte (is_byte 47) text None → drop 0 text ≡ base_of text

@@ -1,6 +1,6 @@
 -- Lists of texts that rise strictly: their parts, what a sort makes, and that their members tell
 -- them.
-use Rattle.std.proofs.Common.{◌≡◌, ◌≢◌, ◌↔◌, ◌⊎◌, inl, inr, ℕ, ◌+◌, Bool, true, false, List, [], ◌∷◌, ◌++◌, take, drop, get_or, nat_eq, refl, sym, ap, subst, ◌∙◌, ⊎_elim, IsTrue, arith}
+use Rattle.std.proofs.Common.{◌≡◌, ◌≢◌, ◌↔◌, ◌⊎◌, inl, inr, ℕ, ◌+◌, Bool, true, false, List, [], ◌∷◌, ◌++◌, take, drop, get_or, nat_eq, refl, sym, ap, subst, ◌∙◌, ⊎_elim, IsTrue, arith, rules}
 use Rattle.std.specs.Prelude.{Contains}
 use Rattle.std.specs.BTreeSet.{BTreeSet}
 use Rattle.std.specs.Cmp.Lexicographic.{bytes_decides, nat_list_eq_equiv, pointwise, slice_cmp, texts_ties}
@@ -31,15 +31,14 @@ pub below_trans : (x y z : List ℕ) → IsBelow x y → IsBelow y z → IsBelow
 below_trans = nat_list_cmp_total.trans
 
 pub not_below_itself : (x : List ℕ) → IsBelow x x → ⊥
-not_below_itself x below = let tied = tied_itself nat_list_cmp_total x in let clash : Less
-    ≡ Equal = sym below ∙ tied in cc
+not_below_itself x below = search (rules, tied_itself, nat_list_cmp_total)
 
 -- what `==` says
 pub equal_from_eq : (x y : List ℕ) → pointwise nat_eq x y ≡ true → x ≡ y
 equal_from_eq x y = (bytes_decides x y).0
 
 pub unequal_from_eq : (x y : List ℕ) → pointwise nat_eq x y ≡ false → x ≢ y
-unequal_from_eq x y differ same = false≢true (sym differ ∙ (bytes_decides x y).1 same)
+unequal_from_eq x y differ same = search (rules, false≢true)
 
 -- what `<` says
 pub below_from_lt : (x y : List ℕ) → is_lt (slice_cmp nat_cmp x y) ≡ true → IsBelow x y
@@ -62,9 +61,7 @@ apart_by_order x y differ = by (slice_cmp nat_cmp x y) refl
 -- of two texts that differ, and of which the second is not less, the first is
 pub below_from_order : (x y : List ℕ) → is_lt (slice_cmp nat_cmp y x) ≡ false → pointwise nat_eq x y
     ≡ false → IsBelow x y
-below_from_order x y ordered differ =
-    ⊎_elim (λ below. below) (λ above. absurd (false≢true (sym ordered ∙ ap is_lt above)))
-    (apart_by_order x y differ)
+below_from_order x y ordered differ = search (rules, false≢true, apart_by_order)
 
 -- ---- parts of a rising list
 
