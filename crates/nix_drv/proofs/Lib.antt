@@ -15,6 +15,7 @@ pub mod EqualDerivations
 pub mod ListTexts
 pub mod FormTexts
 pub mod FormReadings
+pub mod Stopping
 pub mod ListReadings
 pub mod Back
 pub mod CheckedPaths
@@ -25,3 +26,4 @@ pub mod OwnPathLaws
 pub mod Fronts
 pub mod OneAnswer
 pub mod Places
+pub mod Searches

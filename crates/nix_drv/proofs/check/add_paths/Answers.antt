@@ -7,12 +7,12 @@ use Rattle.nix_drv.proofs.check.add_paths.Goals as goal
 pub loop-item-preserved : goal.loop-item-preserved
 loop-item-preserved g c = record {
   added = added_more (λ item. key g.T.Element.form (g.T.Element.value item)) _ _ _ _ _
-      c.loop-item.item-index c.item-item.result c.loop-item-test.true c.item-item.is c.key.ensures
+      _ _ c.loop-item-test.true c.item-item.is c.key.ensures
       c.loop-item.invariant.added
       (c.in_ok-push.ensures.items ∙ ap (λ (path : List ℕ). c.loop-item.refs.items ++ path ∷ [])
       c.in_ok-parse_reference.ensures.ok.0);
-  good = good_more (λ item. key g.T.Element.form (g.T.Element.value item)) _ c.key.result.now _
-      c.loop-item.item-index c.item-item.result c.loop-item-test.true c.item-item.is c.key.ensures
+  good = good_more (λ item. key g.T.Element.form (g.T.Element.value item)) _ _ _
+      _ _ c.loop-item-test.true c.item-item.is c.key.ensures
       c.loop-item.invariant.good c.in_ok-parse_reference.ensures.ok.1;
 }
 

@@ -6,7 +6,7 @@ use Rattle.nix_drv.proofs.check.check_text.Goals as goal
 pub returns-then-ne : goal.returns-then-ne
 returns-then-ne c = (
   c.in_ok-drv.drv,
-  found_at _ _ _ c.name-name.result.now _ c.in_ok-own.own c.name-name.ensures.value (search rules)
+  found_at _ _ _ _ _ _ c.name-name.ensures.value (search rules)
       c.in_ok-drv.ensures.0 c.in_ok-drv.ensures.1 c.in_ok-own.ensures.ok.0 c.in_ok-own.ensures.ok.1,
   unequal_from_eq _ _ (search rules),
 )
@@ -14,6 +14,6 @@ returns-then-ne c = (
 pub returns : goal.returns
 returns c =
     found_here _ _ _ _ _ (equal_from_eq _ _ (search rules))
-    (found_at _ _ _ c.name-name.result.now _ c.in_ok-own.own c.name-name.ensures.value
+    (found_at _ _ _ _ _ _ c.name-name.ensures.value
     (search rules) c.in_ok-drv.ensures.0 c.in_ok-drv.ensures.1 c.in_ok-own.ensures.ok.0
     c.in_ok-own.ensures.ok.1)

@@ -5,5 +5,5 @@ pub returns-in_ok-from_slice-in_default : goal.returns-in_ok-from_slice-in_defau
 returns-in_ok-from_slice-in_default c = record {
   ok = tt;
   err = stray_alone _ _ _ c.in_ok-from_slice-in_default.ensures.items
-      (blamed_is_stray _ _ c.in-Err.fault c.in-Err.ensures c.in_default.not-NoMemory);
+      (blamed_is_stray _ _ _ c.in-Err.ensures c.in_default.not-NoMemory);
 }

@@ -29,7 +29,7 @@ returns-clause-ok c =
     ) (sym (paths_are _ _ _ c.inputs.ensures c.sources.ensures)) in (
       all_good _ _ _ _ c.inputs.ensures c.sources.ensures c.in_ok-add_paths.ensures.good
           c.in_ok-add_paths-2.ensures.good,
-      references_from (referenced_paths c.args.drv.now) _ _ _ pushed
+      references_from (referenced_paths _) _ _ _ pushed
           c.sort_unstable.ensures.permutation
           c.sort_unstable.ensures.sorted (dedup_is _ _ _ c.dedup.ensures.filtered),
     )

@@ -4,6 +4,6 @@ use Rattle.nix_drv.proofs.EqualDerivations.{seen_alike}
 use Rattle.nix_drv.proofs.derivation_eq.same_inputs.Goals as goal
 
 pub returns : goal.returns
-returns c = seen_alike same_input input_of c.inputs.result.now c.inputs-2.result.now
-    c.args.a.now.inputs c.args.b.now.inputs c.eq.result c.inputs.ensures c.inputs-2.ensures
+returns c = seen_alike same_input input_of _ _
+    _ _ _ c.inputs.ensures c.inputs-2.ensures
     c.eq.ensures

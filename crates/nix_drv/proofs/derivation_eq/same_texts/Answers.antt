@@ -6,4 +6,4 @@ use Rattle.nix_drv.proofs.derivation_eq.same_texts.Goals as goal
 
 pub returns : goal.returns
 returns c = seen_alike (pointwise nat_eq) bytes_of c.args.a.now c.args.b.now
-    (map bytes_of c.args.a.now) (map bytes_of c.args.b.now) c.eq.result refl refl c.eq.ensures
+    (map bytes_of c.args.a.now) (map bytes_of c.args.b.now) _ refl refl c.eq.ensures

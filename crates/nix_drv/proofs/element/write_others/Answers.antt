@@ -2,5 +2,5 @@ use Rattle.nix_drv.proofs.ListTexts.{others_written}
 use Rattle.nix_drv.proofs.element.write_others.Goals as goal
 
 pub returns : goal.returns
-returns g c = others_written g.T.Element.form g.T.Element.value c.args.out.now.items
-    c.others.out.items c.args.others.now c.others.other-index c.others.invariant c.others-test.false
+returns g c = others_written g.T.Element.form g.T.Element.value _
+    _ _ _ c.others.invariant c.others-test.false

@@ -4,15 +4,15 @@ use Rattle.nix_drv.proofs.Runs.{first_within, none_before, passes_there}
 use Rattle.nix_drv.proofs.escapes.plain_len.Goals as goal
 
 pub returns-clause-within : goal.returns-clause-within
-returns-clause-within c = first_within (λ b. is_some (letter b)) c.args.bytes.now c.unwrap_or.result
-    c.escape_place.result c.escape_place.ensures c.unwrap_or.ensures
+returns-clause-within c = first_within (λ b. is_some (letter b)) _ _
+    _ c.escape_place.ensures c.unwrap_or.ensures
 
 pub returns-clause-plain : goal.returns-clause-plain
 returns-clause-plain c k lt =
-    ap not (none_before (λ b. is_some (letter b)) c.args.bytes.now c.unwrap_or.result
-    c.escape_place.result c.escape_place.ensures c.unwrap_or.ensures k lt)
+    ap not (none_before (λ b. is_some (letter b)) _ _
+    _ c.escape_place.ensures c.unwrap_or.ensures k lt)
 
 pub returns-clause-ends : goal.returns-clause-ends
 returns-clause-ends c lt =
-    ap not (passes_there (λ b. is_some (letter b)) c.args.bytes.now c.unwrap_or.result
-    c.escape_place.result c.escape_place.ensures c.unwrap_or.ensures lt)
+    ap not (passes_there (λ b. is_some (letter b)) _ _
+    _ c.escape_place.ensures c.unwrap_or.ensures lt)

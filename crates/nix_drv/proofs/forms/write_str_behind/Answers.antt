@@ -5,5 +5,5 @@ pub returns : goal.returns
 returns c =
     on_ok c.write_string.result _ _
     (λ h. behind_mark c.args.out.now.items c.extend_from_slice.new.self.items
-    c.write_string.new.out.items c.args.mark.now _ c.in_ok-extend_from_slice.ensures.items h)
+    c.write_string.new.out.items _ _ c.in_ok-extend_from_slice.ensures.items h)
     c.write_string.ensures

@@ -11,4 +11,4 @@ returns-in_err-bytes c = rw c.from_residual.ensures
 pub returns : goal.returns
 returns c = ap (λ (bytes : List ℕ). Some bytes) c.deref.ensures.value
     ∙ bytes_found (same_bytes c.args.path.now) c.args.files.now.entries
-    (Some c.in_ok-bytes.bytes.now) c.in_ok-bytes.ensures.value
+    (Some _) c.in_ok-bytes.ensures.value

@@ -4,5 +4,5 @@ use Rattle.nix_drv.proofs.reading.fixed_of.Goals as goal
 
 pub returns-in_default : goal.returns-in_default
 returns-in_default c =
-    sym c.wanted.invariant ∙ fixed_ends c.args.wanted.now c.wanted.rest.now c.wanted.byte-index
+    sym c.wanted.invariant ∙ fixed_ends _ _ _
     c.wanted-test.true c.in_default.len_below

@@ -7,21 +7,21 @@ use Rattle.nix_drv.proofs.Derivations.{derivation_clear, read_in_order, read_fir
 use Rattle.nix_drv.proofs.reading.read.Goals as goal
 
 pub overflow_sub-result : goal.overflow_sub-result
-overflow_sub-result c = surplus_fits derivation_form derivation_clear c.args.input.now
-    (parts_value c.in-Ok.parts) c.in-Ok.rest.now c.in-Ok.ensures
+overflow_sub-result c = surplus_fits derivation_form derivation_clear _
+    (parts_value c.in-Ok.parts) _ c.in-Ok.ensures
 
 pub overflow_sub-result-in-Err-Left : goal.overflow_sub-result-in-Err-Left
-overflow_sub-result-in-Err-Left c = stop_fits derivation_form derivation_clear c.args.input.now
-    c.in-Err-Left.left (rw c.in-Err-Left.field-0-is at c.in-Err-Left.ensures)
+overflow_sub-result-in-Err-Left c = stop_fits derivation_form derivation_clear _
+    _ (rw c.in-Err-Left.field-0-is at c.in-Err-Left.ensures)
 
 pub returns-else-is_empty : goal.returns-else-is_empty
 returns-else-is_empty c = (
   omega arith,
   λ drv. surplus_no_text derivation_form derivation_clear c.args.input.now
-      (parts_value c.in-Ok.parts) c.in-Ok.rest.now c.in-Ok.ensures
+      (parts_value c.in-Ok.parts) _ c.in-Ok.ensures
       (eqb-false _ _ (sym c.if-is_empty.ensures)) (drv_value drv),
-  surplus_front derivation_form derivation_clear c.args.input.now (parts_value c.in-Ok.parts)
-      c.in-Ok.rest.now c.in-Ok.ensures,
+  surplus_front derivation_form derivation_clear _ (parts_value c.in-Ok.parts)
+      _ c.in-Ok.ensures,
 )
 
 pub returns-in-Err-Left : goal.returns-in-Err-Left
@@ -29,14 +29,14 @@ returns-in-Err-Left c = (
   omega arith,
   λ drv. stop_no_text derivation_form derivation_clear c.args.input.now c.in-Err-Left.left
       (rw c.in-Err-Left.field-0-is at c.in-Err-Left.ensures) (drv_value drv),
-  stop_front derivation_form derivation_clear c.args.input.now c.in-Err-Left.left
+  stop_front derivation_form derivation_clear _ _
       (rw c.in-Err-Left.field-0-is at c.in-Err-Left.ensures),
 )
 
 pub returns-in-Ok-in_order : goal.returns-in-Ok-in_order
 returns-in-Ok-in_order c = (
   omega arith,
-  read_in_order c.in-Ok-in_order.derivation c.in-Ok.parts c.args.input.now c.in-Ok.rest.now
+  read_in_order _ c.in-Ok.parts _ _
       c.in-Ok.ensures (eqb-true _ _ (sym c.if-is_empty.ensures)) c.in-Ok-in_order.ensures.0
       c.in-Ok-in_order.ensures.1,
 )
@@ -45,6 +45,6 @@ pub returns-in-Err : goal.returns-in-Err
 returns-in-Err c =
     let within : length c.args.input.now ≤ 4194304 = omega arith in (
       within,
-      read_first c.in-Ok.parts c.args.input.now c.in-Ok.rest.now c.in-Err.place
+      read_first c.in-Ok.parts _ _ _
           c.in-Ok.ensures (eqb-true _ _ (sym c.if-is_empty.ensures)) within c.in-Err.ensures,
     )

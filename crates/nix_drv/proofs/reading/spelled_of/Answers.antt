@@ -1,49 +1,39 @@
-use Rattle.std.proofs.Common.{◌≡◌, ℕ, false, Option, Ok, ap, ◌∙◌}
-use Rattle.std.proofs.lemmas.Result.{err_from_is_err_and}
+use Rattle.std.proofs.Common.{◌≡◌, ℕ, ◌<◌, ◌≤◌, true, false, List, ◌++◌, length, get_or, take, drop, Option, Result, Ok, ap, ◌∙◌}
 use Rattle.nix_drv.specs.Reading.{before, bytes_at}
+use Rattle.nix_drv.specs.Strings.{is_plain}
 use Rattle.nix_drv.proofs.Runs.{run_read, byte_fails, byte_more, byte_none}
+use Rattle.nix_drv.proofs.Stopping.{gives_stop}
 use Rattle.nix_drv.proofs.reading.spelled_of.Goals as goal
 
+-- behind the run of plain bytes
+behind_run : (items more rest run special : List ℕ) (n : ℕ) (total : Result (List ℕ × List ℕ) ℕ)
+    → n ≤ length rest → ((k : ℕ) → k < n → is_plain (get_or rest k 0) ≡ true)
+    → before items (bytes_at false rest) ≡ total → more ≡ items ++ run → run ≡ take n rest
+    → special ≡ drop n rest → before more (bytes_at false special) ≡ total
+behind_run items more rest run special n total fits plain so_far is front back =
+    rw (is, front, back) (run_read items rest n total fits plain so_far)
+
 pub returns-in_err-byte : goal.returns-in_err-byte
-returns-in_err-byte c =
-    let total = bytes_at false c.args.bytes.now in
-    let so_far = run_read c.bytes.value.items c.bytes.rest.now c.plain_len.result total
-    c.plain_len.ensures.within c.plain_len.ensures.plain c.bytes.invariant in
-    let here : before c.extend_from_slice.new.self.items (bytes_at false c.split_at.result.1.now)
-    ≡ total =
-    rw (c.in_ok-extend_from_slice.ensures.items, c.split_at.ensures.front, c.split_at.ensures.back)
-    so_far in
-    let p = err_from_is_err_and c.from_residual-in_err-byte.result
-    c.from_residual-in_err-byte.ensures.1 in
-    rw (p.1, p.2)
-    (byte_fails c.in_err-byte.field-0.0 c.extend_from_slice.new.self.items
-    c.split_at.result.1.now total here c.in_err-byte.ensures)
+returns-in_err-byte c = gives_stop _ _ _ _ c.from_residual-in_err-byte.ensures.1
+    (byte_fails _ _ _ _
+    (behind_run _ _ _ _ _ _ _
+    c.plain_len.ensures.within c.plain_len.ensures.plain c.bytes.invariant
+    c.in_ok-extend_from_slice.ensures.items c.split_at.ensures.front c.split_at.ensures.back)
+    c.in_err-byte.ensures)
 
 pub bytes-preserved : goal.bytes-preserved
-bytes-preserved c =
-    let total = bytes_at false c.args.bytes.now in
-    let so_far = run_read c.bytes.value.items c.bytes.rest.now c.plain_len.result total
-    c.plain_len.ensures.within c.plain_len.ensures.plain c.bytes.invariant in
-    let here : before c.extend_from_slice.new.self.items (bytes_at false c.split_at.result.1.now)
-    ≡ total =
-    rw (c.in_ok-extend_from_slice.ensures.items, c.split_at.ensures.front, c.split_at.ensures.back)
-    so_far in
-    rw c.in_ok-push-in-Some-default.ensures.items
-    (byte_more c.extend_from_slice.new.self.items c.split_at.result.1.now c.in-Some-default.byte
-    c.in_ok-byte.field-0.1.now total here
+bytes-preserved c = rw c.in_ok-push-in-Some-default.ensures.items
+    (byte_more _ _ _ _ _
+    (behind_run _ _ _ _ _ _ _
+    c.plain_len.ensures.within c.plain_len.ensures.plain c.bytes.invariant
+    c.in_ok-extend_from_slice.ensures.items c.split_at.ensures.front c.split_at.ensures.back)
     (c.in_ok-byte.ensures ∙ ap (λ (o : Option ℕ). Ok (o, c.in_ok-byte.field-0.1.now))
     c.in-Some-default.is-0))
 
 pub returns-in-None-default : goal.returns-in-None-default
-returns-in-None-default c =
-    let total = bytes_at false c.args.bytes.now in
-    let so_far = run_read c.bytes.value.items c.bytes.rest.now c.plain_len.result total
-    c.plain_len.ensures.within c.plain_len.ensures.plain c.bytes.invariant in
-    let here : before c.extend_from_slice.new.self.items (bytes_at false c.split_at.result.1.now)
-    ≡ total =
-    rw (c.in_ok-extend_from_slice.ensures.items, c.split_at.ensures.front, c.split_at.ensures.back)
-    so_far in
-    byte_none c.extend_from_slice.new.self.items c.split_at.result.1.now c.in_ok-byte.field-0.1.now
-    total here
+returns-in-None-default c = byte_none _ _ _ _
+    (behind_run _ _ _ _ _ _ _
+    c.plain_len.ensures.within c.plain_len.ensures.plain c.bytes.invariant
+    c.in_ok-extend_from_slice.ensures.items c.split_at.ensures.front c.split_at.ensures.back)
     (c.in_ok-byte.ensures ∙ ap (λ (o : Option ℕ). Ok (o, c.in_ok-byte.field-0.1.now))
     c.in-None-default.is-0)

@@ -3,7 +3,7 @@ use Rattle.nix_drv.proofs.writing.pass_str.Goals as goal
 
 pub returns : goal.returns
 returns c =
-    string_end c.args.place c.escapes_in.result c.saturating_add.result c.saturating_add-2.result
-    c.saturating_add-3.result c.args.bytes.now
+    string_end _ _ _ _
+    _ _
     c.escapes_in.ensures c.saturating_add.ensures c.saturating_add-2.ensures
     c.saturating_add-3.ensures

@@ -4,10 +4,10 @@ use Rattle.nix_drv.proofs.writing.write_byte.Goals as goal
 
 pub returns-in-Some : goal.returns-in-Some
 returns-in-Some c =
-    byte_added c.extend_from_slice.result _ _ c.args.byte (Some c.in-Some.letter) c.in-Some.ensures
+    byte_added _ _ _ _ (Some _) c.in-Some.ensures
     c.extend_from_slice.ensures.items
 
 pub returns-in-None : goal.returns-in-None
 returns-in-None c =
-    byte_added c.extend_from_slice-in-None.result _ _ c.args.byte None c.in-None.ensures
+    byte_added _ _ _ _ None c.in-None.ensures
     c.extend_from_slice-in-None.ensures.items

@@ -4,4 +4,4 @@ use Rattle.nix_drv.proofs.Derivations.{not_in_order}
 use Rattle.nix_drv.proofs.derivation.Derivation.new.Goals as goal
 
 pub returns-in-Err : goal.returns-in-Err
-returns-in-Err c = (refl, not_in_order (drv_of c.args.parts) c.in-Err.field-0 c.in-Err.ensures)
+returns-in-Err c = (refl, not_in_order (drv_of c.args.parts) _ c.in-Err.ensures)

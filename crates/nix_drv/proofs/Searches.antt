@@ -1,0 +1,28 @@
+-- What a binary search among elements tells of their keys.
+use Rattle.std.proofs.Common.{◌≡◌, ℕ, ◌<◌, List, length, map, Some, None, sym, subst}
+use Rattle.std.specs.Cmp.Lexicographic.{slice_cmp}
+use Rattle.std.specs.List.{HoldsAt}
+use Rattle.std.specs.List.Sorted.{IsNonDecreasingBy, IsPartitionPoint}
+use Rattle.std.specs.Ordering.{nat_cmp, ordering_index}
+use Rattle.std.specs.declared.cmp.Ordering.TheVariants.{Less, Equal, Greater}
+use Rattle.nix_names.specs.Rising.{IsRising}
+use Rattle.nix_drv.specs.Places.{IsPlaceOfKey}
+use Rattle.nix_drv.proofs.Places.{place_found, place_none}
+
+pub key_found : {X : Type 0} (key_of : X → List ℕ) (xs : List X) (keys : List (List ℕ))
+    (wanted : List ℕ) (i : ℕ) → map key_of xs ≡ keys → i < length xs
+    → HoldsAt (λ y. slice_cmp nat_cmp (key_of y) wanted ≡ Equal) xs i
+    → IsPlaceOfKey keys wanted (Some i)
+key_found key_of xs keys wanted i same below ties =
+    subst (λ (ks : List (List ℕ)). IsPlaceOfKey ks wanted (Some i)) same
+    (place_found key_of xs wanted i below ties)
+
+pub key_none : {X : Type 0} (key_of : X → List ℕ) (xs : List X) (keys : List (List ℕ))
+    (wanted : List ℕ) (i : ℕ) → map key_of xs ≡ keys → IsRising keys
+    → (IsNonDecreasingBy (λ y. ordering_index (slice_cmp nat_cmp (key_of y) wanted)) xs
+    → IsPartitionPoint (λ y. slice_cmp nat_cmp (key_of y) wanted ≡ Less)
+    (λ y. slice_cmp nat_cmp (key_of y) wanted ≡ Greater) xs i)
+    → IsPlaceOfKey keys wanted None
+key_none key_of xs keys wanted i same rises parts =
+    subst (λ (ks : List (List ℕ)). IsPlaceOfKey ks wanted None) same
+    (place_none key_of xs wanted i (subst IsRising (sym same) rises) parts)
