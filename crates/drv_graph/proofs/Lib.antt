@@ -17,6 +17,7 @@ pub mod Marks
 pub mod Owners
 pub mod Twins
 pub mod FirstTwins
+pub mod Ends
 pub mod Leaving
 pub mod Reading
 pub mod Walking

@@ -11,6 +11,6 @@ returns-in_ok-inner-in-Addressed c =
     subst (λ (k : Kind). IfOk c.output_paths.result
     (λ paths. AreExpected c.args.dir.now c.args.name.now k c.args.drv.now c.args.hashes.now
     paths.items)) (sym c.in-Addressed.is)
-    (addressed_from c.args.dir.now c.args.name.now c.in_ok-inner-in-Addressed.inner c.args.drv.now
-    c.args.hashes.now (map output_of c.outputs.result.now) c.output_paths.result
+    (addressed_from _ _ _ _
+    _ (map output_of _) _
     c.in_ok-inner-in-Addressed.ensures c.outputs.ensures c.output_paths.ensures)

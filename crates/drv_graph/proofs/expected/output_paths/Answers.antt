@@ -10,12 +10,12 @@ use Rattle.drv_graph.proofs.expected.output_paths.Goals as goal
 
 pub loop-output-preserved : goal.loop-output-preserved
 loop-output-preserved c =
-    took_more (map (output_path c.args.dir.now c.args.name.now c.args.inner.now)
-    (map output_of c.args.outputs.now)) c.loop-output.output-index
-    (output_path c.args.dir.now c.args.name.now c.args.inner.now (output_of c.output-item.result))
-    c.loop-output.paths.items _
-    (seen_twice (output_path c.args.dir.now c.args.name.now c.args.inner.now) output_of
-    c.args.outputs.now c.loop-output.output-index c.output-item.result c.loop-output-test.true
+    took_more (map (output_path _ _ _)
+    (map output_of _)) _
+    (output_path _ _ _ (output_of c.output-item.result))
+    _ _
+    (seen_twice (output_path _ _ _) output_of
+    _ _ _ c.loop-output-test.true
     c.output-item.is)
     c.loop-output.invariant
     (c.in_ok-push.ensures.items
@@ -28,5 +28,5 @@ pub addressed_path-requires : goal.addressed_path-requires
 addressed_path-requires c =
     subst (λ (output : List ℕ). is_name (path_name c.args.name.now output) ≡ true)
     (sym c.deref.ensures.value)
-    (item_named c.args.name.now c.args.outputs.now c.loop-output.output-index c.output-item.result
+    (item_named _ _ _ _
     c.loop-output-test.true c.output-item.is c.requires)

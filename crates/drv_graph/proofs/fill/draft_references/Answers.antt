@@ -6,6 +6,6 @@ pub returns-in-Err : goal.returns-in-Err
 returns-in-Err c =
     record {
       ok = tt;
-      err = stray_draft c.args.dir.now _ c.in-Err.fault (search rules)
+      err = stray_draft _ _ _ (search rules)
           c.in-Err.ensures.err;
     }

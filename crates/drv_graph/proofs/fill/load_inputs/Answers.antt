@@ -10,26 +10,26 @@ use Rattle.drv_graph.proofs.fill.load_inputs.Goals as goal
 
 pub input_paths-requires : goal.input_paths-requires
 input_paths-requires g c =
-    let paths = map path_of c.deref.result.now in
-    subst (All (IsPathOf c.args.dir.now))
-    (sym (same_inputs c.parts.result.now c.args.draft.now c.deref.result.now paths paths
+    let paths = map path_of _ in
+    subst (All (IsPathOf _))
+    (sym (same_inputs c.parts.result.now _ _ paths paths
     c.parts.ensures.parts c.deref.ensures.value refl refl)) c.requires
 
 pub returns-clause-loading : goal.returns-clause-loading
 returns-clause-loading g c =
-    let same = same_inputs c.parts.result.now c.args.draft.now c.deref.result.now
-    c.in_ok-inputs.inputs.items c.deref-2.result.now c.parts.ensures.parts c.deref.ensures.value
+    let same = same_inputs c.parts.result.now _ _
+    _ _ c.parts.ensures.parts c.deref.ensures.value
     c.in_ok-inputs.ensures.ok c.deref-2.ensures.value in
     subst (λ (roots : List (List ℕ)). IsLoading c.args.dir.now
     (g.S.DrvSource.gives c.args.source.now) roots c.load.result) same c.load.ensures.loading
 
 pub returns-clause-numbers : goal.returns-clause-numbers
 returns-clause-numbers g c =
-    let same = same_inputs c.parts.result.now c.args.draft.now c.deref.result.now
-    c.in_ok-inputs.inputs.items c.deref-2.result.now c.parts.ensures.parts c.deref.ensures.value
+    let same = same_inputs c.parts.result.now _ _
+    _ _ c.parts.ensures.parts c.deref.ensures.value
     c.in_ok-inputs.ensures.ok c.deref-2.ensures.value in
     numbers_loaded c.args.dir.now (g.S.DrvSource.gives c.args.source.now)
-    (inputs_of c.args.draft.now) c.load.result
-    (inputs_rise c.args.draft.now c.parts.ensures.in_order)
+    (inputs_of c.args.draft.now) _
+    (inputs_rise _ c.parts.ensures.in_order)
     (subst (λ (roots : List (List ℕ)). IsLoading c.args.dir.now
     (g.S.DrvSource.gives c.args.source.now) roots c.load.result) same c.load.ensures.loading)

@@ -1,6 +1,6 @@
 use Rattle.std.proofs.Common.{ap, ◌∙◌, map, refl, subst, sym}
 use Rattle.std.specs.Prelude.{All}
-use Rattle.std.proofs.lemmas.Result.{err_from_is_err_and, on_ok_weaker}
+use Rattle.std.proofs.lemmas.Result.{on_ok_weaker}
 use Rattle.nix_names.specs.StorePaths.{IsPathOf}
 use Rattle.nix_drv.proofs.Places.{outputs_rise}
 use Rattle.drv_graph.specs.Loading.{AreDistinct}
@@ -10,6 +10,7 @@ use Rattle.drv_graph.specs.Walks.{visited}
 use Rattle.drv_graph.proofs.InStore.{outputs_in_store}
 use Rattle.drv_graph.proofs.Leaving.{checking_right, leaving_clash, leaving_kept, outputs_are, parts_outputs, parts_sources}
 use Rattle.drv_graph.proofs.OwnOutputs.{own_outputs}
+use Rattle.drv_graph.proofs.Ends.{err_is}
 use Rattle.drv_graph.proofs.found.leave.Goals as goal
 
 pub check_visit-requires-clause-kept : goal.check_visit-requires-clause-kept
@@ -18,20 +19,20 @@ check_visit-requires-clause-kept c =
 
 pub output_paths-requires : goal.output_paths-requires
 output_paths-requires c =
-    let lent = parts_outputs c.parts-parts.result.now c.args.visit.drv c.deref-2.result.now
+    let lent = parts_outputs c.parts-parts.result.now _ _
     c.parts-parts.ensures.parts c.deref-2.ensures.value in
-    subst (All (IsPathOf c.args.dir.now))
-    (sym (outputs_are c.deref-2.result.now c.args.visit.drv
-    (map text_path_of c.deref-2.result.now) lent refl))
-    (outputs_in_store c.args.dir.now (nodes_of c.args.found.now.nodes.items)
-    (visited c.args.visit) c.in_ok-kind.kind
-    (checking_right c.args.dir.now c.args.found.now.nodes.items c.deref.result.now c.args.visit
-    c.in_ok-kind.kind c.in_ok-kind.hash c.deref.ensures.value c.in_ok-kind.ensures).0)
+    subst (All (IsPathOf _))
+    (sym (outputs_are _ c.args.visit.drv
+    (map text_path_of _) lent refl))
+    (outputs_in_store _ (nodes_of _)
+    (visited c.args.visit) _
+    (checking_right _ _ _ c.args.visit
+    _ _ c.deref.ensures.value c.in_ok-kind.ensures).0)
 
 pub source_paths-requires : goal.source_paths-requires
 source_paths-requires c =
-    subst (All (IsPathOf c.args.dir.now))
-    (sym (parts_sources c.parts-parts.result.now c.args.visit.drv c.deref-3.result.now
+    subst (All (IsPathOf _))
+    (sym (parts_sources c.parts-parts.result.now _ _
     c.parts-parts.ensures.parts c.deref-3.ensures.value)) c.requires.in_store
 
 pub own-requires-clause-kept : goal.own-requires-clause-kept
@@ -41,48 +42,45 @@ own-requires-clause-kept c =
 pub own-requires-clause-distinct : goal.own-requires-clause-distinct
 own-requires-clause-distinct c =
     subst AreDistinct (sym (c.deref-5.ensures.value
-    ∙ outputs_are c.deref-2.result.now c.args.visit.drv c.in_ok-outputs.outputs.items
-    (parts_outputs c.parts-parts.result.now c.args.visit.drv c.deref-2.result.now
+    ∙ outputs_are c.deref-2.result.now c.args.visit.drv _
+    (parts_outputs c.parts-parts.result.now _ _
     c.parts-parts.ensures.parts c.deref-2.ensures.value) c.in_ok-outputs.ensures.ok))
-    (own_outputs c.args.dir.now (nodes_of c.args.found.now.nodes.items) (visited c.args.visit)
-    c.in_ok-kind.kind
-    (checking_right c.args.dir.now c.args.found.now.nodes.items c.deref.result.now c.args.visit
-    c.in_ok-kind.kind c.in_ok-kind.hash c.deref.ensures.value c.in_ok-kind.ensures).0
-    (outputs_rise c.args.visit.drv c.parts-parts.ensures.in_order))
+    (own_outputs _ (nodes_of _) (visited c.args.visit)
+    _
+    (checking_right _ _ _ c.args.visit
+    _ _ c.deref.ensures.value c.in_ok-kind.ensures).0
+    (outputs_rise _ c.parts-parts.ensures.in_order))
 
 pub returns-in_err-first : goal.returns-in_err-first
-returns-in_err-first c =
-    let p = err_from_is_err_and c.from_residual-in_err-first.result
-    c.from_residual-in_err-first.ensures.1 in
-    rw (p.1, p.2)
-    (leaving_clash c.args.dir.now c.args.found.now.nodes.items c.deref-4.result.now c.args.visit
-    c.deref-5.result.now (owned c.own.new.owners) c.in_err-first.field-0.0 c.in_ok-kind.kind
-    (checking_right c.args.dir.now c.args.found.now.nodes.items c.deref.result.now c.args.visit
-    c.in_ok-kind.kind c.in_ok-kind.hash c.deref.ensures.value c.in_ok-kind.ensures).0
+returns-in_err-first c = rw (err_is _ _ c.from_residual-in_err-first.ensures.1)
+    (leaving_clash _ _ _ c.args.visit
+    _ (owned c.own.new.owners) _ _
+    (checking_right _ _ _ c.args.visit
+    _ _ c.deref.ensures.value c.in_ok-kind.ensures).0
     c.deref-4.ensures.value
     (c.deref-5.ensures.value
-    ∙ outputs_are c.deref-2.result.now c.args.visit.drv c.in_ok-outputs.outputs.items
-    (parts_outputs c.parts-parts.result.now c.args.visit.drv c.deref-2.result.now
+    ∙ outputs_are c.deref-2.result.now c.args.visit.drv _
+    (parts_outputs c.parts-parts.result.now _ _
     c.parts-parts.ensures.parts c.deref-2.ensures.value) c.in_ok-outputs.ensures.ok)
     c.in_err-first.ensures)
 
 pub returns : goal.returns
 returns c =
-    leaving_kept c.args.dir.now c.args.found.now c.keep.new.found c.args.visit c.in_ok-kind.kind
-    c.in_ok-kind.hash c.in_ok-outputs.outputs c.in_ok-sources.sources c.in_ok-first.first
-    c.deref-4.result.now
-    c.deref-5.result.now (owned c.own.new.owners) c.keep.result c.requires.found
+    leaving_kept _ _ _ _ _
+    _ _ _ _
+    _
+    _ (owned c.own.new.owners) _ c.requires.found
     c.requires.visit c.requires.walked c.requires.is_new
-    (checking_right c.args.dir.now c.args.found.now.nodes.items c.deref.result.now c.args.visit
-    c.in_ok-kind.kind c.in_ok-kind.hash c.deref.ensures.value c.in_ok-kind.ensures)
-    (outputs_are c.deref-2.result.now c.args.visit.drv c.in_ok-outputs.outputs.items
-    (parts_outputs c.parts-parts.result.now c.args.visit.drv c.deref-2.result.now
+    (checking_right _ _ _ c.args.visit
+    _ _ c.deref.ensures.value c.in_ok-kind.ensures)
+    (outputs_are _ c.args.visit.drv _
+    (parts_outputs c.parts-parts.result.now _ _
     c.parts-parts.ensures.parts c.deref-2.ensures.value) c.in_ok-outputs.ensures.ok)
     (c.in_ok-sources.ensures.ok
-    ∙ parts_sources c.parts-parts.result.now c.args.visit.drv c.deref-3.result.now
+    ∙ parts_sources c.parts-parts.result.now _ _
     c.parts-parts.ensures.parts c.deref-3.ensures.value)
     c.deref-4.ensures.value c.deref-5.ensures.value
-    (outputs_rise c.args.visit.drv c.parts-parts.ensures.in_order) c.in_ok-first.ensures
+    (outputs_rise _ c.parts-parts.ensures.in_order) c.in_ok-first.ensures
     c.keep.ensures.nodes
     (on_ok_weaker c.keep.result (λ same. ap owned same) c.keep.ensures.owners)
     c.keep.ensures.marks c.keep.ensures.count c.keep.ensures.err

@@ -5,6 +5,6 @@ use Rattle.drv_graph.proofs.found.used_inputs.Goals as goal
 pub loop-number-preserved : goal.loop-number-preserved
 loop-number-preserved c =
     rw c.in_ok-push.ensures.items
-    (used_more c.args.kept.now c.args.numbers.now c.loop-number.number-index
-    c.index-kept-number.result c.loop-number.used.items _ c.loop-number-test.true c.requires
+    (used_more _ _ _
+    _ _ _ c.loop-number-test.true c.requires
     c.index-kept-number.is refl refl refl c.loop-number.invariant)

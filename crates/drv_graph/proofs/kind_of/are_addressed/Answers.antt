@@ -8,15 +8,15 @@ use Rattle.nix_names.proofs.Lists.{Contains-map}
 pub returns-then-not-is_addressed : goal.returns-then-not-is_addressed
 returns-then-not-is_addressed c = (
   output_of c.output-item.result,
-  Contains-map output_of c.args.outputs.now c.output-item.result
+  Contains-map output_of _ _
       (c.loop-output.output-index, c.loop-output-test.true, sym c.output-item.is),
   c.if-not-is_addressed.ensures,
 )
 
 pub loop-output-preserved : goal.loop-output-preserved
 loop-output-preserved c =
-    all_took_more IsAddressed (map output_of c.args.outputs.now) c.loop-output.output-index
+    all_took_more IsAddressed (map output_of _) _
     (output_of c.output-item.result)
-    (seen_at output_of c.args.outputs.now c.loop-output.output-index c.output-item.result
+    (seen_at output_of _ _ _
     c.loop-output-test.true c.output-item.is)
     c.loop-output.invariant c.if-not-is_addressed.ensures

@@ -9,22 +9,22 @@ returns-then-is_empty-clause-err c =
     let none : length c.outputs-outputs.result.now
     ≡ 0 = first_of (search (rules, tests), omega arith) in
     inl (sym c.outputs-outputs.ensures ∙ ap (map output_of)
-    (nil_from_length c.outputs-outputs.result.now none))
+    (nil_from_length _ none))
 
 pub returns-in-None-clause-err : goal.returns-in-None-clause-err
-returns-in-None-clause-err c = mixed c.args.drv.now (map output_of c.outputs-outputs.result.now)
+returns-in-None-clause-err c = mixed c.args.drv.now (map output_of _)
     c.outputs-outputs.ensures c.if-are_addressed.ensures c.in-None.ensures
 
 pub returns-in-Some-clause-ok : goal.returns-in-Some-clause-ok
 returns-in-Some-clause-ok c =
-    (kind_from c.args.drv.now (map output_of c.outputs-outputs.result.now)
-    (output_of c.in-Some.output.now) c.fixed_kind.result
+    (kind_from c.args.drv.now (map output_of _)
+    (output_of c.in-Some.output.now) _
     c.outputs-outputs.ensures c.in-Some.ensures.0 c.in-Some.ensures.1 c.if-are_addressed.ensures
     c.fixed_kind.ensures).0
 
 pub returns-in-Some-clause-err : goal.returns-in-Some-clause-err
 returns-in-Some-clause-err c =
-    (kind_from c.args.drv.now (map output_of c.outputs-outputs.result.now)
-    (output_of c.in-Some.output.now) c.fixed_kind.result
+    (kind_from c.args.drv.now (map output_of _)
+    (output_of c.in-Some.output.now) _
     c.outputs-outputs.ensures c.in-Some.ensures.0 c.in-Some.ensures.1 c.if-are_addressed.ensures
     c.fixed_kind.ensures).1

@@ -6,6 +6,6 @@ use Rattle.drv_graph.proofs.kind_of.only_out.Goals as goal
 pub returns-then-eq : goal.returns-then-eq
 returns-then-eq c =
     let one : length c.args.outputs.now ≡ 1 = omega arith in (
-      one_element output_of c.args.outputs.now c.output-item.result one c.output-item.is,
+      one_element output_of _ _ one c.output-item.is,
       search rules,
     )

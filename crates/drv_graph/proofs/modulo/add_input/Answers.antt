@@ -9,8 +9,8 @@ use Rattle.drv_graph.proofs.modulo.add_input.Goals as goal
 
 pub returns-then-eq : goal.returns-then-eq
 returns-then-eq c =
-    joins c.args.gathered.now.items _ c.in-Some.last.now c.args.input c.append.new.self
-    c.append.result c.args.gathered.now.ok.0
+    joins _ _ _ c.args.input _
+    _ c.args.gathered.now.ok.0
     (c.in-Some.ensures.variant.0 (search rules)) c.in-Some.ensures.value
     ((bytes_decides _ _).0 (sym c.if-eq.ensures)) c.append.ensures.items
 
@@ -21,9 +21,9 @@ returns c =
     let at = vec_len c.args.gathered.now - 1 in
     let kept : set items at last ≡ items = ap (set items at) c.in-Some.ensures.value
     ∙ set-get_or items at last in
-    on_ok_weaker c.push_input.result
+    on_ok_weaker _
     (λ (is : c.push_input.new.gathered.items ≡ set items at last ++ c.args.input ∷ []).
-    appends_other items c.push_input.new.gathered.items _ last c.args.input c.args.gathered.now.ok.0
+    appends_other items _ _ last _ c.args.gathered.now.ok.0
     (c.in-Some.ensures.variant.0 (search rules)) c.in-Some.ensures.value
     (λ same. false≢true (c.if-eq.ensures ∙ (bytes_decides _ _).1 same))
     (is ∙ ap (λ (xs : List Input). xs ++ c.args.input ∷ []) kept))

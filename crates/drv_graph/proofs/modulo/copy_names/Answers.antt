@@ -5,7 +5,7 @@ use Rattle.drv_graph.proofs.modulo.copy_names.Goals as goal
 
 pub loop-name-preserved : goal.loop-name-preserved
 loop-name-preserved c =
-    mapped_more bytes_of bytes_of c.args.names.now c.loop-name.name-index c.name-item.result
-    c.loop-name.copy.items _ _
+    mapped_more bytes_of bytes_of _ _ _
+    _ _ _
     c.loop-name-test.true c.name-item.is c.loop-name.invariant c.in_ok-push.ensures.items
     (c.in_ok-from_slice.ensures.items ∙ c.deref.ensures.value)

@@ -7,20 +7,20 @@ use Rattle.drv_graph.proofs.modulo.gather.Goals as goal
 
 pub loop-input-preserved : goal.loop-input-preserved
 loop-input-preserved c =
-    let all = YieldsList-from_vec {s = c.into_iter-input-iterator.result} c.args.inputs.items (cc)
+    let all = YieldsList-from_vec {s = c.into_iter-input-iterator.result} _ (cc)
     (cc) in
-    let turn = YieldsList-turn all c.loop-input.yielded c.loop-input.input-iterator
-    c.loop-input.yielded_by c.next.result c.next.new.self c.in-Some.input c.in-Some.is
+    let turn = YieldsList-turn all _ _
+    c.loop-input.yielded_by _ c.next.new.self _ c.in-Some.is
     c.next.ensures.steps in
-    gather_step c.args.inputs.items c.loop-input.yielded (map input_of c.loop-input.gathered.items)
-    _ c.in-Some.input c.requires
-    (YieldsList-so_far all c.loop-input.yielded c.loop-input.input-iterator c.loop-input.yielded_by)
+    gather_step _ _ (map input_of _)
+    _ _ c.requires
+    (YieldsList-so_far all _ _ c.loop-input.yielded_by)
     turn.0 turn.1 c.loop-input.invariant c.in_ok-add_input.ensures
 
 pub returns : goal.returns
 returns c =
-    let all = YieldsList-from_vec {s = c.into_iter-input-iterator.result} c.args.inputs.items (cc)
+    let all = YieldsList-from_vec {s = c.into_iter-input-iterator.result} _ (cc)
     (cc) in
-    let end = YieldsList-end all c.loop-input.yielded c.loop-input.input-iterator
-    c.loop-input.yielded_by c.next.result c.next.new.self c.in-None.is c.next.ensures.steps in
-    gather_end c.args.inputs.items c.loop-input.yielded _ end.0 c.loop-input.invariant
+    let end = YieldsList-end all _ _
+    c.loop-input.yielded_by _ c.next.new.self c.in-None.is c.next.ensures.steps in
+    gather_end _ _ _ end.0 c.loop-input.invariant

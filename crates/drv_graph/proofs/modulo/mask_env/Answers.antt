@@ -10,26 +10,26 @@ use Rattle.drv_graph.proofs.modulo.mask_env.Goals.{then-is_some, else-is_some}
 pub loop-entry-preserved : goal.loop-entry-preserved
 loop-entry-preserved c =
     let was = get_or c.loop-entry.env c.loop-entry.entry-index c.entry-item.result in
-    let names = names_of c.args.drv.now.outputs in
+    let names = names_of _ in
     let with_value : List ℕ → DrvEntry = λ value. record { key = was.key.items; value = value } in
     elim c.if-is_some.branch [
       | then-is_some w ↦
-          written_more entry_of (masked_entry names) c.args.env.now c.loop-entry.env
-          c.if-is_some.env c.loop-entry.entry-index _ c.entry-item.result
+          written_more entry_of (masked_entry names) _ _
+          c.if-is_some.env _ _ c.entry-item.result
           (omega arith) c.loop-entry.auto.env c.loop-entry.invariant w.env-is
           (ap with_value w.clear.ensures.items
-          ∙ masked_found names (entry_of was) c.deref.result.now c.output_place.result
+          ∙ masked_found names (entry_of was) _ _
           c.output_place.ensures.found c.deref.ensures.value
           (sym c.is_some.ensures ∙ w.if-is_some.true))
       | else-is_some w ↦
-          written_more entry_of (masked_entry names) c.args.env.now c.loop-entry.env
-          c.if-is_some.env c.loop-entry.entry-index was c.entry-item.result
+          written_more entry_of (masked_entry names) _ _
+          c.if-is_some.env _ was c.entry-item.result
           (omega arith) c.loop-entry.auto.env c.loop-entry.invariant w.env-is
-          (masked_missing names (entry_of was) c.deref.result.now c.output_place.result
+          (masked_missing names (entry_of was) _ _
           c.output_place.ensures.found c.deref.ensures.value
           (sym c.is_some.ensures ∙ w.if-is_some.false))
     ]
 
 pub returns : goal.returns
-returns c = written_all entry_of (masked_entry (names_of c.args.drv.now.outputs)) c.args.env.now
-    c.loop-entry.env c.loop-entry.entry-index (omega arith) c.loop-entry.invariant
+returns c = written_all entry_of (masked_entry (names_of _)) _
+    _ _ (omega arith) c.loop-entry.invariant

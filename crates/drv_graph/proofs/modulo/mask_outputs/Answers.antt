@@ -17,5 +17,5 @@ loop-output-preserved c =
     (ap with_path c.clear.ensures.items)
 
 pub returns : goal.returns
-returns c = written_all output_of masked_output c.args.outputs.now c.loop-output.outputs
-    c.loop-output.output-index (omega arith) c.loop-output.invariant
+returns c = written_all output_of masked_output _ _
+    _ (omega arith) c.loop-output.invariant

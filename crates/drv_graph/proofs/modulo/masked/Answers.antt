@@ -12,7 +12,7 @@ returns c =
     let long_outputs : length c.mask_outputs.new.outputs ≡ c.in_ok-parts.parts.outputs.len =
     omega arith in
     let long_env : length c.mask_env.new.env ≡ c.in_ok-parts.parts.env.len = omega arith in
-    masked_parts c.in_ok-parts.parts c.args.drv.now c.mask_outputs.new.outputs c.mask_env.new.env
+    masked_parts c.in_ok-parts.parts _ _ _
     (c.in_ok-parts.ensures ∙ c.parts.ensures.parts) long_outputs long_env
     (c.mask_outputs.ensures ∙ ap (λ (os : List Output). map masked_output (map output_of os))
     c.deref_mut.ensures.value)

@@ -14,16 +14,16 @@ loop-place-preserved c =
     let hash = get_or c.args.hashes.now c.loop-place.place [] in
     let below : c.loop-place.place < length c.args.hashes.now = omega arith in
     let item = c.index-inputs-place.result in
-    took_more (replaced (map input_of c.args.inputs.now) c.args.hashes.now) c.loop-place.place
+    took_more (replaced (map input_of _) _) _
     (record { path = encode_lower hash; names = map bytes_of item.names.items })
-    (map input_of c.loop-place.placed.items) _
+    (map input_of _) _
     (replaced_at (map input_of c.args.inputs.now) c.args.hashes.now c.loop-place.place
     (input_of item) hash
-    (seen_at input_of c.args.inputs.now c.loop-place.place item c.loop-place-test.true
-    c.index-inputs-place.is) (slice_get-get_or c.args.hashes.now c.loop-place.place [] below))
+    (seen_at input_of _ _ item c.loop-place-test.true
+    c.index-inputs-place.is) (slice_get-get_or _ _ [] below))
     c.loop-place.invariant
     (ap (map input_of) c.in_ok-push.ensures.items
-    ∙ map-append input_of c.loop-place.placed.items (c.in_ok-with_hash.field-0 ∷ [])
+    ∙ map-append input_of _ (c.in_ok-with_hash.field-0 ∷ [])
     ∙ ap (λ (i : Input). map input_of c.loop-place.placed.items ++ i ∷ [])
     (input_parts c.in_ok-with_hash.field-0 (encode_lower hash) (map bytes_of item.names.items)
     c.in_ok-with_hash.ensures.path c.in_ok-with_hash.ensures.names))

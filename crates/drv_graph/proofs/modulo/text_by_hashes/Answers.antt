@@ -11,8 +11,8 @@ pub returns-then-mask : goal.returns-then-mask
 returns-then-mask c =
     let given = c.in_ok-replaced.ensures ∙ ap
     (λ (inputs : List Input). replaced inputs c.args.hashes.now) c.inputs.ensures in
-    text_from c.args.drv.now (masked c.args.drv.now) c.args.hashes.now c.args.mask
-    (map input_of c.as_slice-inputs.result.now) c.masked_text.result
+    text_from _ (masked _) _ _
+    (map input_of _) _
     (subst (λ (inputs : List Input). IsUnited inputs (map input_of c.as_slice-inputs.result.now))
     given
     (subst (λ (items : List InputStruct). IsUnited (map input_of c.in_ok-replaced.replaced.items)
@@ -24,8 +24,8 @@ pub returns : goal.returns
 returns c =
     let given = c.in_ok-replaced.ensures ∙ ap
     (λ (inputs : List Input). replaced inputs c.args.hashes.now) c.inputs.ensures in
-    text_from c.args.drv.now c.args.drv.now c.args.hashes.now c.args.mask
-    (map input_of c.as_slice-inputs.result.now) c.text_with_inputs.result
+    text_from _ _ _ _
+    (map input_of _) _
     (subst (λ (inputs : List Input). IsUnited inputs (map input_of c.as_slice-inputs.result.now))
     given
     (subst (λ (items : List InputStruct). IsUnited (map input_of c.in_ok-replaced.replaced.items)

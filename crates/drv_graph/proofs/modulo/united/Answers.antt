@@ -25,7 +25,7 @@ returns c =
     let gathered = c.in_ok-gathered.gathered in
     let long : length sorted ≡ gathered.len = omega arith in
     rw (take_at sorted (drop (length sorted) gathered.items) gathered.len long)
-    (united_from (map input_of c.args.inputs.items) (map input_of gathered.items)
+    (united_from (map input_of _) (map input_of gathered.items)
     (map input_of sorted)
     (gathered_moved _ _ _ (IsPermutation-map input_of _ _ c.sort_unstable_by.ensures.permutation)
     c.in_ok-gathered.ensures)

@@ -5,6 +5,6 @@ use Rattle.drv_graph.proofs.node.copy_nodes.Goals as goal
 pub loop-node-preserved : goal.loop-node-preserved
 loop-node-preserved c =
     rw c.in_ok-push.ensures.items
-    (all_zip_more IsSameNode c.args.nodes.now c.loop-node.copies.items c.loop-node.node-index
-    c.node-item.result _ c.loop-node-test.true c.node-item.is c.loop-node.invariant
+    (all_zip_more IsSameNode _ _ _
+    _ _ c.loop-node-test.true c.node-item.is c.loop-node.invariant
     c.in_ok-copy.ensures.ok)

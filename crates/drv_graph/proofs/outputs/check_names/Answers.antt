@@ -15,9 +15,9 @@ Named name output = IsTrue (is_name output) × IsTrue (is_name (path_name name o
 pub returns-then-not-named-clause-err : goal.returns-then-not-named-clause-err
 returns-then-not-named-clause-err c = (
   output_of c.output-item.result,
-  Contains-map output_of c.args.outputs.now c.output-item.result
+  Contains-map output_of _ _
       (c.loop-output.output-index, c.loop-output-test.true, sym c.output-item.is),
-  λ (w : Named c.args.name.now c.output-item.result.name.items).
+  λ (w : Named _ c.output-item.result.name.items).
       let is : IsTrue c.in_ok-named.named = c.in_ok-named.ensures.1
       (subst (λ (o : List ℕ). Named c.args.name.now o) (sym c.deref.ensures.value) w) in
       false≢true (sym c.if-not-named.true ∙ is),
@@ -25,9 +25,9 @@ returns-then-not-named-clause-err c = (
 
 pub loop-output-preserved : goal.loop-output-preserved
 loop-output-preserved c =
-    all_took_more (IsWellNamed c.args.name.now) (map output_of c.args.outputs.now)
-    c.loop-output.output-index (output_of c.output-item.result)
-    (seen_at output_of c.args.outputs.now c.loop-output.output-index c.output-item.result
+    all_took_more (IsWellNamed _) (map output_of _)
+    _ (output_of c.output-item.result)
+    (seen_at output_of _ _ _
     c.loop-output-test.true c.output-item.is)
     c.loop-output.invariant
     (subst (λ (o : List ℕ). Named c.args.name.now o) c.deref.ensures.value

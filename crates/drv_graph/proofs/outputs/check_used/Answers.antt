@@ -16,11 +16,11 @@ loop-name-preserved c =
     let path = c.args.used.now.path.now in
     let drv = c.args.used.now.drv.now in
     let use_of : List ℕ → Use = λ name. record { input = path; output = name; drv = drv } in
-    let found = Contains-from_get (output_names drv) c.in-Some.field-0 c.as_slice-name.result.now
+    let found = Contains-from_get (output_names drv) _ _
     c.in-Some.ensures.found in
-    all_took_more IsKnownUse (uses_of path drv (map bytes_of c.args.names.now))
-    c.loop-name.name-index (use_of c.name-item.result.items)
-    (seen_twice use_of bytes_of c.args.names.now c.loop-name.name-index c.name-item.result
+    all_took_more IsKnownUse (uses_of path drv (map bytes_of _))
+    _ (use_of _)
+    (seen_twice use_of bytes_of _ _ _
     c.loop-name-test.true c.name-item.is)
     c.loop-name.invariant
     (subst (λ (n : List ℕ). Contains (output_names drv) n) c.as_slice-name.ensures.value found)
@@ -30,11 +30,11 @@ returns-in_default-clause-err c =
     let path = c.args.used.now.path.now in
     let drv = c.args.used.now.drv.now in
     let use_of : List ℕ → Use = λ name. record { input = path; output = name; drv = drv } in
-    unknown_use (uses_of path drv (map bytes_of c.args.names.now)) (use_of c.name-item.result.items)
+    unknown_use (uses_of path drv (map bytes_of _)) (use_of _)
     _
-    (first_without IsKnownUse (uses_of path drv (map bytes_of c.args.names.now))
-    c.loop-name.name-index (use_of c.name-item.result.items)
-    (seen_twice use_of bytes_of c.args.names.now c.loop-name.name-index c.name-item.result
+    (first_without IsKnownUse (uses_of path drv (map bytes_of _))
+    _ (use_of _)
+    (seen_twice use_of bytes_of _ _ _
     c.loop-name-test.true c.name-item.is)
     c.loop-name.invariant
     (λ has. c.in_default.ensures.found

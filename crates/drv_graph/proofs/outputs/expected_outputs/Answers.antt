@@ -6,26 +6,21 @@ use Rattle.drv_graph.specs.Expected.{IsExpected}
 use Rattle.drv_graph.specs.UsedInputs.{drvs_of_uses, hashes_of}
 use Rattle.drv_graph.proofs.Checks.{all_right, value_is_checked}
 use Rattle.drv_graph.proofs.KindAnswers.{kind_not_mixed}
+use Rattle.drv_graph.proofs.Ends.{err_is}
 use Rattle.drv_graph.proofs.outputs.expected_outputs.Goals as goal
 
 pub returns-in_err-hashes : goal.returns-in_err-hashes
-returns-in_err-hashes c =
-    let p = err_from_is_err_and c.from_residual-in_err-hashes.result
-    c.from_residual-in_err-hashes.ensures.1 in
-    rw (p.1, p.2) (kind_not_mixed c.args.drv.now c.in_ok-kind.kind c.in_ok-kind.ensures.has_kind)
+returns-in_err-hashes c = rw (err_is _ _ c.from_residual-in_err-hashes.ensures.1) (kind_not_mixed c.args.drv.now _ c.in_ok-kind.ensures.has_kind)
 
 pub returns-in_err-paths : goal.returns-in_err-paths
-returns-in_err-paths c =
-    let p = err_from_is_err_and c.from_residual-in_err-paths.result
-    c.from_residual-in_err-paths.ensures.1 in
-    rw (p.1, p.2) (kind_not_mixed c.args.drv.now c.in_ok-kind.kind c.in_ok-kind.ensures.has_kind)
+returns-in_err-paths c = rw (err_is _ _ c.from_residual-in_err-paths.ensures.1) (kind_not_mixed c.args.drv.now _ c.in_ok-kind.ensures.has_kind)
 
 pub check_values-requires : goal.check_values-requires
 check_values-requires c =
     ap length c.as_slice.ensures.value
     ∙ AllZip-long
-    (IsExpected c.args.dir.now c.args.name.now c.in_ok-kind.kind c.args.drv.now
-    c.deref.result.now) c.args.drv.now.outputs c.in_ok-paths.paths.items c.in_ok-paths.ensures
+    (IsExpected _ _ _ _
+    _) _ _ c.in_ok-paths.ensures
 
 pub returns-in_err-check_values : goal.returns-in_err-check_values
 returns-in_err-check_values c =
@@ -47,16 +42,16 @@ returns-in_err-check_values c =
 pub returns : goal.returns
 returns c =
     let expected : AreExpected c.args.dir.now c.args.name.now c.in_ok-kind.kind c.args.drv.now
-    (hashes_of c.args.used.now) c.in_ok-paths.paths.items =
+    (hashes_of _) _ =
     subst (λ (hs : List (List ℕ)). AreExpected c.args.dir.now c.args.name.now c.in_ok-kind.kind
     c.args.drv.now hs c.in_ok-paths.paths.items)
     (c.deref.ensures.value ∙ c.in_ok-hashes.ensures) c.in_ok-paths.ensures in
     let slice : AreExpected c.args.dir.now c.args.name.now c.in_ok-kind.kind c.args.drv.now
-    (hashes_of c.args.used.now) c.as_slice.result.now =
+    (hashes_of _) _ =
     subst (λ (ps : List (List ℕ)). AreExpected c.args.dir.now c.args.name.now c.in_ok-kind.kind
     c.args.drv.now (hashes_of c.args.used.now) ps) (sym c.as_slice.ensures.value) expected in (
-      all_right c.args.in_draft c.args.dir.now c.args.name.now c.in_ok-kind.kind c.args.drv.now
-          (hashes_of c.args.used.now) c.as_slice.result.now slice (drvs_of_uses c.args.used.now)
+      all_right _ _ _ _ _
+          (hashes_of _) _ slice (drvs_of_uses _)
           c.in_ok-kind.ensures c.in_ok-check_values.ensures.paths c.in_ok-check_values.ensures.env,
       expected,
     )

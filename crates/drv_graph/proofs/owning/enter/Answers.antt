@@ -6,19 +6,19 @@ use Rattle.drv_graph.proofs.owning.enter.Goals as goal
 pub returns-then-ne : goal.returns-then-ne
 returns-then-ne c =
     enter_stops (owned c.args.owners.now) (owned c.loop-path.owners) (owned c.insert.new.self)
-    c.args.paths.now c.loop-path.path-index c.path-item.result c.in_ok-key.key c.args.owner
-    c.in_ok-insert.field-0 c.args.number c.loop-path-test.true c.path-item.is
+    _ _ _ _ _
+    _ _ c.loop-path-test.true c.path-item.is
     c.in_ok-key.ensures.same c.requires c.loop-path.invariant.entered c.in_ok-insert.ensures.old
-    (other_owner c.in_ok-insert.field-0 c.args.owner c.ne.result c.ne.ensures c.if-ne.true)
+    (other_owner _ _ _ c.ne.ensures c.if-ne.true)
 
 pub loop-path-preserved : goal.loop-path-preserved
 loop-path-preserved c =
     let made = enter_step (owned c.args.owners.now) (owned c.loop-path.owners)
-    (owned c.insert.new.self) c.args.paths.now c.loop-path.path-index c.path-item.result
-    c.in_ok-key.key c.args.owner c.in_ok-insert.field-0 c.args.number c.loop-path-test.true
+    (owned c.insert.new.self) _ _ _
+    _ _ _ _ c.loop-path-test.true
     c.path-item.is c.in_ok-key.ensures.same c.requires c.loop-path.invariant.were
     c.loop-path.invariant.entered c.in_ok-insert.ensures.old
-    (same_owner c.in_ok-insert.field-0 c.args.owner c.ne.result c.ne.ensures c.if-ne.false)
-    (sets_entry c.loop-path.owners c.insert.new.self c.in_ok-key.key c.args.number
+    (same_owner _ _ _ c.ne.ensures c.if-ne.false)
+    (sets_entry c.loop-path.owners c.insert.new.self _ _
     c.in_ok-insert.ensures.updates) in
     record { were = made.0; entered = made.1 }

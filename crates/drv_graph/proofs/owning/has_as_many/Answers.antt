@@ -3,5 +3,5 @@ use Rattle.drv_graph.proofs.owning.has_as_many.Goals as goal
 
 pub returns-in-Some : goal.returns-in-Some
 returns-in-Some c =
-    as_many c.args.kept.now c.args.number c.in-Some.number c.index-kept-number.result c.args.count
-    c.len.result c.requires c.in-Some.is c.index-kept-number.is c.len.ensures
+    as_many _ _ _ _ _
+    _ c.requires c.in-Some.is c.index-kept-number.is c.len.ensures

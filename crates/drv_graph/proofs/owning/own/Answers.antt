@@ -4,30 +4,30 @@ use Rattle.drv_graph.proofs.owning.own.Goals as goal
 
 pub has_as_many-requires : goal.has_as_many-requires
 has_as_many-requires c =
-    owner_within c.args.kept.now (owned c.args.owners.now) c.args.outputs.now
-    c.first_owner-owner.result c.requires.owners c.first_owner-owner.ensures
+    owner_within _ (owned c.args.owners.now) _
+    _ c.requires.owners c.first_owner-owner.ensures
 
 pub returns-then-not-has_as_many : goal.returns-then-not-has_as_many
 returns-then-not-has_as_many c =
-    owning_clash c.args.kept.now c.args.path.now c.args.outputs.now (owned c.args.owners.now)
-    c.in_ok-clash.field-0 c.in_ok-clash.ensures
-    (clash_many c.args.kept.now (owned c.args.owners.now) c.args.outputs.now
-    c.first_owner-owner.result c.has_as_many.result c.requires.kept c.requires.own_outputs
+    owning_clash _ _ _ (owned c.args.owners.now)
+    _ c.in_ok-clash.ensures
+    (clash_many _ (owned c.args.owners.now) _
+    _ _ c.requires.kept c.requires.own_outputs
     c.requires.owners c.requires.distinct c.first_owner-owner.ensures c.has_as_many.ensures
     c.if-not-has_as_many.true)
 
 pub returns-then-not-branch : goal.returns-then-not-branch
 returns-then-not-branch c =
-    owning_clash c.args.kept.now c.args.path.now c.args.outputs.now (owned c.enter.new.owners)
-    c.in_ok-clash-2.field-0 c.in_ok-clash-2.ensures
-    (clash_entered c.args.kept.now (owned c.args.owners.now) (owned c.enter.new.owners)
-    c.args.outputs.now c.first_owner-owner.result c.unwrap_or-first.result c.in_ok-enter.field-0
+    owning_clash _ _ _ (owned c.enter.new.owners)
+    _ c.in_ok-clash-2.ensures
+    (clash_entered _ (owned c.args.owners.now) (owned c.enter.new.owners)
+    _ _ _ _
     c.requires.owners c.first_owner-owner.ensures c.in_ok-enter.ensures c.if-not-branch.true)
 
 pub returns : goal.returns
 returns c =
-    owning_all c.args.kept.now (owned c.args.owners.now) (owned c.enter.new.owners)
-    c.args.outputs.now c.first_owner-owner.result c.unwrap_or-first.result c.has_as_many.result
-    c.in_ok-enter.field-0 c.requires.kept c.requires.owners c.requires.distinct
+    owning_all _ (owned c.args.owners.now) (owned c.enter.new.owners)
+    _ _ _ _
+    _ c.requires.kept c.requires.owners c.requires.distinct
     c.has_as_many.ensures c.if-not-has_as_many.false c.unwrap_or-first.ensures
     c.in_ok-enter.ensures c.if-not-branch.false

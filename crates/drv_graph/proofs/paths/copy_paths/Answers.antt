@@ -4,6 +4,6 @@ use Rattle.drv_graph.proofs.paths.copy_paths.Goals as goal
 
 pub loop-path-preserved : goal.loop-path-preserved
 loop-path-preserved c =
-    c.in_ok-push.ensures.items ∙ copied_more c.args.paths.now c.loop-path.copies.items
-    c.loop-path.path-index c.path-item.result _ c.loop-path-test.true c.path-item.is
+    c.in_ok-push.ensures.items ∙ copied_more _ _
+    _ _ _ c.loop-path-test.true c.path-item.is
     c.loop-path.invariant c.in_ok-copy.ensures.same

@@ -6,6 +6,6 @@ use Rattle.drv_graph.proofs.paths.input_paths.Goals as goal
 
 pub known_path-requires : goal.known_path-requires
 known_path-requires c =
-    subst (IsPathOf c.args.dir.now) (sym c.deref.ensures.value)
-    (item_is (IsPathOf c.args.dir.now) path_of c.args.inputs.now c.loop-input.input-index
-    c.input-item.result c.loop-input-test.true c.input-item.is c.requires)
+    subst (IsPathOf _) (sym c.deref.ensures.value)
+    (item_is (IsPathOf _) path_of _ _
+    _ c.loop-input-test.true c.input-item.is c.requires)

@@ -4,4 +4,4 @@ use Rattle.drv_graph.proofs.paths.known_path.Goals as goal
 
 pub unreachable-requires : goal.unreachable-requires
 unreachable-requires c =
-    only_memory c.args.dir.now c.args.text.now _ c.requires c.in-Err.ensures (search rules)
+    only_memory _ _ _ c.requires c.in-Err.ensures (search rules)

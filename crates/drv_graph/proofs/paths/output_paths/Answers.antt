@@ -6,6 +6,6 @@ use Rattle.drv_graph.proofs.paths.output_paths.Goals as goal
 
 pub known_path-requires : goal.known_path-requires
 known_path-requires c =
-    subst (IsPathOf c.args.dir.now) (sym c.deref.ensures.value)
-    (item_is (IsPathOf c.args.dir.now) text_path_of c.args.outputs.now c.loop-output.output-index
-    c.output-item.result c.loop-output-test.true c.output-item.is c.requires)
+    subst (IsPathOf _) (sym c.deref.ensures.value)
+    (item_is (IsPathOf _) text_path_of _ _
+    _ c.loop-output-test.true c.output-item.is c.requires)

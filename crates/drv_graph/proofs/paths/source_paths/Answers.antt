@@ -6,6 +6,6 @@ use Rattle.drv_graph.proofs.paths.source_paths.Goals as goal
 
 pub known_path-requires : goal.known_path-requires
 known_path-requires c =
-    subst (IsPathOf c.args.dir.now) (sym c.deref.ensures.value)
-    (item_is (IsPathOf c.args.dir.now) bytes_of c.args.sources.now c.loop-source.source-index
-    c.source-item.result c.loop-source-test.true c.source-item.is c.requires)
+    subst (IsPathOf _) (sym c.deref.ensures.value)
+    (item_is (IsPathOf _) bytes_of _ _
+    _ c.loop-source-test.true c.source-item.is c.requires)

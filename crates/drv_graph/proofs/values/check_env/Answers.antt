@@ -14,13 +14,13 @@ loop-place-preserved c =
     let outputs = c.outputs-output-items.result.now in
     let below : c.loop-place.place < length c.args.paths.now =
     omega (arith, ap length c.outputs-output-items.ensures, length-map outputs output_of) in
-    fit_more (EntriesFit c.args.in_draft c.args.drv.now.env) c.args.drv.now.outputs c.args.paths.now
-    c.loop-place.place (output_of c.output-item.result) c.index-paths-place.result
+    fit_more (EntriesFit _ _) _ _
+    _ (output_of c.output-item.result) _
     (ap (λ (os : List Output). slice_get os c.loop-place.place) (sym c.outputs-output-items.ensures)
-    ∙ seen_at output_of outputs c.loop-place.place c.output-item.result c.loop-place-test.true
+    ∙ seen_at output_of outputs _ _ c.loop-place-test.true
     c.output-item.is)
-    (slice_get_read c.args.paths.now (length c.args.paths.now) c.loop-place.place
-    c.index-paths-place.result refl below c.index-paths-place.is)
+    (slice_get_read _ (length _) _
+    _ refl below c.index-paths-place.is)
     c.loop-place.invariant c.if-not-entry_fits.ensures
 
 pub returns-then-not-entry_fits-clause-err : goal.returns-then-not-entry_fits-clause-err
@@ -28,11 +28,11 @@ returns-then-not-entry_fits-clause-err c =
     let outputs = c.outputs-output-items.result.now in
     let below : c.loop-place.place < length c.args.paths.now =
     omega (arith, ap length c.outputs-output-items.ensures, length-map outputs output_of) in
-    env_mismatch c.args.in_draft c.args.drv.now.env c.args.drv.now.outputs c.args.paths.now
-    c.loop-place.place (output_of c.output-item.result) c.index-paths-place.result _
+    env_mismatch _ _ _ _
+    _ (output_of c.output-item.result) _ _
     (ap (λ (os : List Output). slice_get os c.loop-place.place) (sym c.outputs-output-items.ensures)
-    ∙ seen_at output_of outputs c.loop-place.place c.output-item.result c.loop-place-test.true
+    ∙ seen_at output_of outputs _ _ c.loop-place-test.true
     c.output-item.is)
-    (slice_get_read c.args.paths.now (length c.args.paths.now) c.loop-place.place
-    c.index-paths-place.result refl below c.index-paths-place.is)
+    (slice_get_read _ (length _) _
+    _ refl below c.index-paths-place.is)
     c.loop-place.invariant c.if-not-entry_fits.ensures c.in_ok-env_mismatch.ensures

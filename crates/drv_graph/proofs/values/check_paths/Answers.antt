@@ -9,12 +9,12 @@ use Rattle.drv_graph.proofs.values.check_paths.Goals as goal
 pub loop-place-preserved : goal.loop-place-preserved
 loop-place-preserved c =
     let below : c.loop-place.place < length c.args.paths.now = omega arith in
-    fit_more (PathFits c.args.in_draft) (map output_of c.args.outputs.now) c.args.paths.now
-    c.loop-place.place (output_of c.index-outputs-place.result) c.index-paths-place.result
-    (seen_at output_of c.args.outputs.now c.loop-place.place c.index-outputs-place.result
+    fit_more (PathFits _) (map output_of _) _
+    _ (output_of c.index-outputs-place.result) _
+    (seen_at output_of _ _ _
     c.loop-place-test.true c.index-outputs-place.is)
-    (slice_get_read c.args.paths.now (length c.args.paths.now) c.loop-place.place
-    c.index-paths-place.result refl below c.index-paths-place.is)
+    (slice_get_read _ (length _) _
+    _ refl below c.index-paths-place.is)
     c.loop-place.invariant
     (subst (λ (v : List ℕ). FitsExpected c.args.in_draft v c.index-paths-place.result)
     c.deref.ensures.value c.if-not-fits.ensures)
@@ -22,12 +22,12 @@ loop-place-preserved c =
 pub returns-then-not-fits-clause-err : goal.returns-then-not-fits-clause-err
 returns-then-not-fits-clause-err c =
     let below : c.loop-place.place < length c.args.paths.now = omega arith in
-    mismatch c.args.in_draft (map output_of c.args.outputs.now) c.args.paths.now c.loop-place.place
-    (output_of c.index-outputs-place.result) c.index-paths-place.result _
-    (seen_at output_of c.args.outputs.now c.loop-place.place c.index-outputs-place.result
+    mismatch _ (map output_of _) _ _
+    (output_of c.index-outputs-place.result) _ _
+    (seen_at output_of _ _ _
     c.loop-place-test.true c.index-outputs-place.is)
-    (slice_get_read c.args.paths.now (length c.args.paths.now) c.loop-place.place
-    c.index-paths-place.result refl below c.index-paths-place.is)
+    (slice_get_read _ (length _) _
+    _ refl below c.index-paths-place.is)
     c.loop-place.invariant
     (subst (λ (v : List ℕ). FitsExpected c.args.in_draft v c.index-paths-place.result → ⊥)
     c.deref.ensures.value c.if-not-fits.ensures)

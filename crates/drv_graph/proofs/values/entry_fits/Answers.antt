@@ -34,6 +34,6 @@ returns-in-Some c =
 
 pub returns-in-None : goal.returns-in-None
 returns-in-None c =
-    no_misfit c.args.in_draft c.args.drv.now.env c.as_slice-name.result.now
-    c.args.output.now.name.items c.args.path.now c.in-None.ensures.found
+    no_misfit _ _ _
+    _ _ c.in-None.ensures.found
     c.as_slice-name.ensures.value

@@ -7,10 +7,10 @@ use Rattle.drv_graph.proofs.walk.begin.Goals as goal
 
 pub input_paths-requires : goal.input_paths-requires
 input_paths-requires c =
-    subst (All (IsPathOf c.args.dir.now))
-    (sym (inputs_are c.inputs.result.now c.args.drv (map path_of c.inputs.result.now)
+    subst (All (IsPathOf _))
+    (sym (inputs_are _ c.args.drv (map path_of _)
     c.inputs.ensures refl)) c.requires
 
 pub returns-clause-inputs : goal.returns-clause-inputs
-returns-clause-inputs c = inputs_are c.inputs.result.now c.args.drv c.in_ok-inputs.inputs.items
+returns-clause-inputs c = inputs_are _ c.args.drv _
     c.inputs.ensures c.in_ok-inputs.ensures.ok

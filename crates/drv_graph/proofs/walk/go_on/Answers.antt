@@ -1,31 +1,27 @@
 use Rattle.std.proofs.Common.{◌≡◌, ◌∙◌, ap, inl, refl, subst, None, Ok}
-use Rattle.std.proofs.lemmas.Result.{err_from_is_err_and}
 use Rattle.drv_graph.specs.Walks.{IsStepping}
 use Rattle.drv_graph.proofs.Going.{went_along, went_down}
+use Rattle.drv_graph.proofs.Ends.{err_is}
 use Rattle.drv_graph.proofs.walk.go_on.Goals as goal
 use Rattle.drv_graph.proofs.walk.go_on.Goals.{in-Some+in_ok-push-2, in_default}
 
 pub returns-in_err-push-clause-going_on : goal.returns-in_err-push-clause-going_on
-returns-in_err-push-clause-going_on g c =
-    let p = err_from_is_err_and c.from_residual-in_err-push.result
-    c.from_residual-in_err-push.ensures.1 in rw (p.1, p.2) (inl refl)
+returns-in_err-push-clause-going_on g c = rw (err_is _ _ c.from_residual-in_err-push.ensures.1) (inl refl)
 
 pub returns-in_err-push-2-clause-going_on : goal.returns-in_err-push-2-clause-going_on
-returns-in_err-push-2-clause-going_on g c =
-    let p = err_from_is_err_and c.from_residual-in_err-push-2.result
-    c.from_residual-in_err-push-2.ensures.1 in rw (p.1, p.2) (inl refl)
+returns-in_err-push-2-clause-going_on g c = rw (err_is _ _ c.from_residual-in_err-push-2.ensures.1) (inl refl)
 
 pub returns-clause-going_on : goal.returns-clause-going_on
 returns-clause-going_on g c =
     elim c.match-child-2.branch [
       | in-Some+in_ok-push-2 w ↦
-          went_down c.args.dir.now (g.S.DrvSource.gives c.args.source.now) c.args.found.now
+          went_down _ (g.S.DrvSource.gives _) _
           (record {
             nodes = c.args.found.now.nodes;
             marks = c.step.new.marks;
             owners = c.args.found.now.owners;
-          }) c.args.visits.now.items c.push.new.self.items
-          c.match-child-2.visits.items c.args.visit c.step.new.visit w.in-Some.child tt
+          }) _ _
+          _ _ _ w.in-Some.child tt
           (record { nodes = refl; owners = refl })
           (subst (λ child. IsStepping c.args.dir.now (g.S.DrvSource.gives c.args.source.now)
           c.args.found.now.marks c.step.new.marks c.args.visit c.step.new.visit (Ok child))
@@ -33,13 +29,13 @@ returns-clause-going_on g c =
           c.in_ok-push.ensures.items (ap (λ v. v.items) w.visits-is ∙ w.in_ok-push-2.ensures.items)
       | in_default w ↦
           let none : c.in_ok-child.child ≡ None = cc in
-          went_along c.args.dir.now (g.S.DrvSource.gives c.args.source.now) c.args.found.now
+          went_along _ (g.S.DrvSource.gives _) _
           (record {
             nodes = c.args.found.now.nodes;
             marks = c.step.new.marks;
             owners = c.args.found.now.owners;
-          }) c.args.visits.now.items
-          c.match-child-2.visits.items c.args.visit c.step.new.visit c.in_ok-child.child tt
+          }) _
+          _ _ _ _ tt
           (record { nodes = refl; owners = refl }) none c.in_ok-child.ensures.stepping
           (ap (λ v. v.items) w.visits-is ∙ c.in_ok-push.ensures.items)
     ]

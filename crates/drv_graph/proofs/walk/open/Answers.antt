@@ -4,13 +4,13 @@ use Rattle.drv_graph.proofs.walk.open.Goals as goal
 
 pub begin-requires : goal.begin-requires
 begin-requires g c =
-    inputs_in_store c.args.dir.now c.in_ok-drv.drv c.in_ok-drv.ensures.reading.0.found.in_store
+    inputs_in_store _ _ c.in_ok-drv.ensures.reading.0.found.in_store
 
 pub returns-clause-opening : goal.returns-clause-opening
 returns-clause-opening g c =
-    opens_made c.args.dir.now (g.S.DrvSource.gives c.args.source.now) c.args.marks.now
-    c.insert.new.self c.args.path.now c.in_ok-key.key c.in_ok-drv.drv c.in_ok-visit.visit
-    c.in_ok-insert.field-0 c.len.result c.in_ok-visit.ensures.path c.in_ok-drv.ensures.reading
+    opens_made _ (g.S.DrvSource.gives _) _
+    _ _ _ _ _
+    _ _ c.in_ok-visit.ensures.path c.in_ok-drv.ensures.reading
     c.in_ok-visit.ensures.drv c.in_ok-visit.ensures.inputs c.in_ok-visit.ensures.numbers
     c.in_ok-key.ensures.same c.in_ok-insert.ensures.updates c.requires c.len.ensures.len
     c.in_ok-insert.ensures.old c.in_ok-insert.ensures.len

@@ -8,14 +8,14 @@ pub invariant_of-result : goal.invariant_of-result
 invariant_of-result c =
     let zip = subst (λ nodes. AllZip IsSameNode nodes c.in_ok-nodes.nodes.items)
     c.deref.ensures.value c.in_ok-nodes.ensures.ok in
-    copy_sound c.self.inside.nodes.items c.in_ok-nodes.nodes.items c.self.inside.roots.items
-    c.in_ok-roots.roots.items zip (c.in_ok-roots.ensures.items ∙ c.deref-2.ensures.value)
+    copy_sound _ _ _
+    _ zip (c.in_ok-roots.ensures.items ∙ c.deref-2.ensures.value)
     c.self.invariant
 
 pub returns-clause-ok : goal.returns-clause-ok
 returns-clause-ok c =
     let zip = subst (λ nodes. AllZip IsSameNode nodes c.in_ok-nodes.nodes.items)
     c.deref.ensures.value c.in_ok-nodes.ensures.ok in
-    same_graph c.self.inside.nodes.items c.in_ok-nodes.nodes.items c.self.inside.roots.items
-    c.in_ok-roots.roots.items zip (c.in_ok-roots.ensures.items ∙ c.deref-2.ensures.value)
+    same_graph _ _ _
+    _ zip (c.in_ok-roots.ensures.items ∙ c.deref-2.ensures.value)
     ∙ c.self.view_is

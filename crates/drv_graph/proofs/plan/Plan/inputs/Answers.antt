@@ -4,5 +4,5 @@ use Rattle.drv_graph.proofs.plan.Plan.inputs.Goals as goal
 pub returns-clause-smaller : goal.returns-clause-smaller
 returns-clause-smaller c =
     rw c.deref.ensures.value
-    (inputs_smaller c.self.inside.nodes.items c.self.inside.roots.items c.args.number
-    c.index.result.now (rw (← c.self.view_is) at c.requires) c.index.ensures c.self.invariant)
+    (inputs_smaller _ _ _
+    _ (rw (← c.self.view_is) at c.requires) c.index.ensures c.self.invariant)

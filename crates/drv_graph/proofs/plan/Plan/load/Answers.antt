@@ -13,8 +13,8 @@ invariant_of-result g c =
     × IsSound
     (record { nodes = nodes_of c.in_ok-found.field-0.found.nodes.items; roots = numbers }))
     (sym same)
-    (sound_found c.args.dir.now (g.S.DrvSource.gives c.args.source.now) c.args.roots.now
-    c.in_ok-found.field-0.found c.in_ok-found.field-0.roots.keys c.in_ok-found.ensures.walking)
+    (sound_found _ (g.S.DrvSource.gives _) _
+    _ _ c.in_ok-found.ensures.walking)
 
 pub returns-clause-loading : goal.returns-clause-loading
 returns-clause-loading g c =
@@ -23,5 +23,5 @@ returns-clause-loading g c =
     subst (λ numbers. IsPlan c.args.dir.now (g.S.DrvSource.gives c.args.source.now) c.args.roots.now
     (record { nodes = nodes_of c.in_ok-found.field-0.found.nodes.items; roots = numbers }))
     (sym same)
-    (plan_found c.args.dir.now (g.S.DrvSource.gives c.args.source.now) c.args.roots.now
-    c.in_ok-found.field-0.found c.in_ok-found.field-0.roots.keys c.in_ok-found.ensures.walking)
+    (plan_found _ (g.S.DrvSource.gives _) _
+    _ _ c.in_ok-found.ensures.walking)

@@ -4,6 +4,6 @@ use Rattle.drv_graph.proofs.plan.Plan.output_paths.Goals as goal
 pub returns-clause-distinct : goal.returns-clause-distinct
 returns-clause-distinct c =
     rw c.deref.ensures.value
-    (kept_distinct c.self.inside.nodes.items c.self.inside.roots.items c.args.number
-    c.index.result.now (rw (← c.self.view_is) at c.requires) c.index.ensures c.self.invariant.0
+    (kept_distinct _ _ _
+    _ (rw (← c.self.view_is) at c.requires) c.index.ensures c.self.invariant.0
     c.self.invariant.1)
