@@ -6,3 +6,4 @@ pub mod Passing
 pub mod Spared
 pub mod Telling
 pub mod Unhindered
+pub mod Writing

@@ -1,15 +1,10 @@
-use Rattle.std.proofs.Common.{◌≡◌, ◌++◌, List, ℕ, drop}
-use Rattle.std.specs.List.{flat_map}
-use Rattle.sched_core.specs.declared.listing.Listed.{Listed}
 use Rattle.forecast.specs.Holding.{state_at}
 use Rattle.forecast.specs.Marks.{is_marked}
 use Rattle.forecast.specs.Pictures.{node_at}
+use Rattle.forecast.proofs.Writing.{AreWritten}
 use Rattle.forecast.proofs.picture.write_nodes.Given as goal
 
--- what is written, and the nodes of the derivations that are left
 abbrev pub invariant-listed : goal.invariant-listed
-invariant-listed l =
-    let line : Listed → List ℕ = λ one. node_at l.plan.nodes (state_at l.prospects)
-    (is_marked l.roots) one.number in
-    l.out.items ++ flat_map line (drop l.one-index l.listed) ≡ l.initial.out.items
-    ++ flat_map line l.listed
+invariant-listed l = AreWritten l.listed l.one-index
+    (λ one. node_at l.plan.nodes (state_at l.prospects) (is_marked l.roots) one.number)
+    l.initial.out.items l.out.items
