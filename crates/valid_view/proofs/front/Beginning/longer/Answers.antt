@@ -1,27 +1,17 @@
-use Rattle.std.proofs.Common.{◌≤◌, List, ap, arith, length, subst}
-use mathlib.Core.List.{IsPrefix}
-use Rattle.valid_table.specs.declared.entry.Entry.{Entry}
+use Rattle.std.proofs.Common.{ap, arith}
 use Rattle.valid_view.proofs.Prefixes.{prefix_shorter}
 use Rattle.valid_view.proofs.front.Beginning.longer.Goals as goal
 
 pub returns-then-self-other-clause-this : goal.returns-then-self-other-clause-this
 returns-then-self-other-clause-this c =
-    let both = c.learn.new.self.log in
-    let this : IsPrefix c.self.inside.seen.log both =
-    subst (λ (l : List Entry). IsPrefix l both) (ap (λ s. s.log) c.again-both.ensures)
-    c.learn.ensures.2 in
-    let less : length c.self.inside.seen.log ≤ length c.other.inside.seen.log =
-    omega (arith, c.self.invariant.0, c.other.invariant.0) in
     rw (c.again.ensures, ← c.self.view_is, ← c.other.view_is)
-    (prefix_shorter c.self.inside.seen.log c.other.inside.seen.log both this c.learn.ensures.3 less)
+    (prefix_shorter c.self.inside.seen.log c.other.inside.seen.log _
+    (rw (ap (λ s. s.log) c.again-both.ensures) at c.learn.ensures.2) c.learn.ensures.3
+    (omega (arith, c.self.invariant.0, c.other.invariant.0)))
 
 pub returns-clause-that : goal.returns-clause-that
 returns-clause-that c =
-    let both = c.learn.new.self.log in
-    let this : IsPrefix c.self.inside.seen.log both =
-    subst (λ (l : List Entry). IsPrefix l both) (ap (λ s. s.log) c.again-both.ensures)
-    c.learn.ensures.2 in
-    let less : length c.other.inside.seen.log ≤ length c.self.inside.seen.log =
-    omega (arith, c.self.invariant.0, c.other.invariant.0) in
     rw (c.again-else-self-other.ensures, ← c.self.view_is, ← c.other.view_is)
-    (prefix_shorter c.other.inside.seen.log c.self.inside.seen.log both c.learn.ensures.3 this less)
+    (prefix_shorter c.other.inside.seen.log c.self.inside.seen.log _ c.learn.ensures.3
+    (rw (ap (λ s. s.log) c.again-both.ensures) at c.learn.ensures.2)
+    (omega (arith, c.self.invariant.0, c.other.invariant.0)))

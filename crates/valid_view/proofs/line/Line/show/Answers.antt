@@ -1,5 +1,4 @@
-use Rattle.std.proofs.Common.{◌≡◌, ap, drop}
-use Rattle.valid_view.specs.Feeding.{Lined, entries_of}
+use Rattle.std.proofs.Common.{drop}
 use Rattle.valid_view.proofs.Shelves.{shown_lined, shown_ok, shows}
 use Rattle.valid_view.proofs.line.Line.show.Goals as goal
 
@@ -21,11 +20,7 @@ pub returns-clause-ok : goal.returns-clause-ok
 returns-clause-ok g c =
     let w = c.self.inside.writer in
     let w' = c.publish_as-writer.result.0 in
-    let shown : w.desk.shown.value.front.entries ≡ c.args.self.shown =
-    ap (λ (l : Lined). l.shown) c.self.view_is in
-    let handed : entries_of (drop w.behind w.log.items) ≡ c.args.self.handed =
-    ap (λ (l : Lined). l.handed) c.self.view_is in
-    rw (← shown, ← handed)
+    rw (← c.self.view_is)
     (shown_ok g.J.Naming.book w.desk.shown.value w'.desk.shown.value (drop w.behind w.log.items)
     (drop w'.behind w'.log.items) c.publish_as-writer.result.1 c.publish_as-writer.ensures.values
     c.self.invariant)
