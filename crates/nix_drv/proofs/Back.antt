@@ -1,9 +1,9 @@
 -- A derivation is told by its value, and so by its text.
-use Rattle.std.proofs.Common.{IfOk, Result, ◌≡◌, ℕ, List, [], ◌∷◌, map, Ok, Err, refl, sym, ap, subst, ◌∙◌, arith, inl, inr}
+use Rattle.std.proofs.Common.{IfOk, Result, ◌≡◌, ℕ, List, [], ◌∷◌, map, Ok, Err, refl, sym, ap, subst, ◌∙◌, arith, inl, inr, rules}
 use Rattle.nix_drv.specs.declared.fault.DrvFault.TheVariants.{NoMemory, Syntax, Order, TooLong, TextPathMismatch, NotADrvName, NotSorted, BadReference}
 use Rattle.nix_drv.specs.Grammar.{Value}
 use Rattle.nix_drv.specs.Order.{IsViolation}
-use Rattle.nix_drv.specs.Derivation.{Output, Input, EnvEntry, Drv, output_form, input_form, entry_form, derivation_form, output_value, input_value, entry_value, drv_value, IsLooseText}
+use Rattle.nix_drv.specs.Derivation.{Output, Input, EnvEntry, Drv, output_form, input_form, entry_form, derivation_form, drv_value, IsLooseText}
 use Rattle.nix_drv.specs.Outcome.{ReadsBack}
 use Rattle.nix_drv.proofs.Texts.{one_value_each}
 use Rattle.nix_drv.specs.declared.derivation.Parts.{Parts}
@@ -38,16 +38,10 @@ drv_back v = record {
 all_back : {A B : Type 0} (to : A → B) (back : B → A) → ((x : A) → back (to x) ≡ x) → (xs : List A)
     → map back (map to xs) ≡ xs
 all_back to back same [] = refl
-all_back to back same (x ∷ xs) = ap (λ (y : _). y ∷ map back (map to xs)) (same x)
-    ∙ ap (λ (ys : List _). x ∷ ys) (all_back to back same xs)
+all_back to back same (x ∷ xs) = search (rules, all_back to back same xs)
 
 drv_back_value : (d : Drv) → drv_back (drv_value d) ≡ d
-drv_back_value d =
-    rw (
-      all_back output_value output_back (λ o. refl) d.outputs,
-      all_back input_value input_back (λ i. refl) d.inputs,
-      all_back entry_value entry_back (λ e. refl) d.env,
-    ) refl
+drv_back_value d = search (rules, all_back, output_back, input_back, entry_back)
 
 -- no bytes are the text of two derivations
 pub one_drv : (d e : Drv) (text : List ℕ) → IsLooseText d text → IsLooseText e text → d ≡ e
@@ -60,7 +54,7 @@ pub reads_back : ReadsBack
 reads_back drv text (Ok d) is within reading =
     inl (ap (λ (x : Drv). Ok x) (one_drv d drv text reading.1.is_text is.is_text))
 reads_back drv text (Err NoMemory) is within reading = inr refl
-reads_back drv text (Err (Syntax place)) is within reading = absurd (reading.1 drv is.is_text)
+reads_back drv text (Err (Syntax place)) is within reading = search rules
 reads_back drv text (Err (Order place)) is within reading =
     let same : reading.1.0 ≡ drv = one_drv reading.1.0 drv text reading.1.1 is.is_text in
     absurd (is.in_order place

@@ -1,5 +1,5 @@
 -- A list of files gives what a source may give, and counts its failures.
-use Rattle.std.proofs.Common.{◌≡◌, ◌⊎◌, inl, inr, ℕ, ◌<◌, ◌≤◌, Bool, true, false, cond, eqb, List, [], ◌∷◌, ◌++◌, Option, Some, None, Result, Ok, Err, refl, sym, ap, subst, ◌∙◌, arith}
+use Rattle.std.proofs.Common.{◌≡◌, ◌⊎◌, ℕ, ◌<◌, ◌≤◌, Bool, true, false, cond, eqb, List, [], ◌∷◌, ◌++◌, Option, Some, None, Result, Ok, Err, refl, sym, ap, ◌∙◌, arith, rules}
 use Rattle.std.specs.Option.{option_map}
 use Rattle.std.specs.Global.{Vec}
 use Rattle.std.proofs.lemmas.Bool.{cases_Bool, eqb-true}
@@ -10,7 +10,7 @@ use Rattle.indexmap.specs.IndexMap.{insert_entry}
 use Rattle.nix_names.specs.Names.{same_bytes}
 use Rattle.nix_drv.specs.ListedFiles.{entries_of, pairs_of}
 use Rattle.nix_drv.specs.declared.listing.ListedFile.{ListedFile}
-use Rattle.nix_drv.specs.Sources.{IsFetched, GivesSame, IsCounted, IsGiven, Listing, after_fetch, bytes_at, counted, found_answer, is_failing, listing_gives, most_failures, next_answer}
+use Rattle.nix_drv.specs.Sources.{IsFetched, GivesSame, IsCounted, IsGiven, Listing, after_fetch, bytes_at, counted, found_answer, listing_gives, most_failures, next_answer}
 use Rattle.nix_drv.specs.declared.source.SourceFault.{SourceFault}
 use Rattle.nix_drv.specs.declared.source.SourceFault.TheVariants.{Missing, Device, NoMemory}
 
@@ -23,70 +23,51 @@ same_after old path (Err NoMemory) = (λ h. h, λ h. h)
 -- a fetch changes nothing of what is given
 pub keeps_gives : (old new : Listing) → new ≡ after_fetch old
     → GivesSame (listing_gives old) (listing_gives new)
-keeps_gives old new is_after =
-    subst (λ (l : Listing). GivesSame (listing_gives old) (listing_gives l)) (sym is_after)
-    (same_after old)
+keeps_gives old new is_after = search (rules, same_after)
 
 given_for : (old : Listing) (path : List ℕ) (failing : Bool) (found : Option (List ℕ))
     → bytes_at old.files path ≡ found → (result : Result (Vec ℕ) SourceFault)
     → IsFetched (cond failing (Err Device) (found_answer found)) result
     → IsGiven (listing_gives old path) result
 given_for old path true found at (Ok fetched) answer = absurd answer
-given_for old path true found at (Err fault) answer =
-    subst (λ (f : SourceFault). IsGiven (listing_gives old path) (Err f)) (sym answer) tt
-given_for old path false (Some bytes) at (Ok fetched) answer = at
-    ∙ ap (λ (b : List ℕ). Some b) (sym answer)
-given_for old path false (Some bytes) at (Err fault) answer =
-    subst (λ (f : SourceFault). IsGiven (listing_gives old path) (Err f)) (sym answer) tt
+given_for old path true found at (Err fault) answer = search rules
+given_for old path false (Some bytes) at (Ok fetched) answer = search rules
+given_for old path false (Some bytes) at (Err fault) answer = search rules
 given_for old path false None at (Ok fetched) answer = absurd answer
-given_for old path false None at (Err fault) answer =
-    subst (λ (f : SourceFault). IsGiven (listing_gives old path) (Err f)) (sym answer) at
+given_for old path false None at (Err fault) answer = search rules
 
 -- what the next fetch answers is given
 pub answer_is_given : (old : Listing) (path : List ℕ) (result : Result (Vec ℕ) SourceFault)
     → IsFetched (next_answer old path) result → IsGiven (listing_gives old path) result
-answer_is_given old path result answer = given_for old path (is_failing old)
-    (bytes_at old.files path) refl result answer
+answer_is_given old path result answer = search (rules, given_for)
 
 counted_above : (n : ℕ) → (n < counted n) ⊎ (counted n ≡ most_failures)
-counted_above n =
-    elim (cases_Bool (eqb n most_failures)) [
-      | inl e ↦ inr (rw e (eqb-true n most_failures e))
-      | inr e ↦ inl (rw e (omega arith))
-    ]
+counted_above n = search (rules, cases_Bool, eqb, eqb-true)
 
 counted_for : (failing : Bool) (found : Option (List ℕ)) (before : ℕ)
     (result : Result (Vec ℕ) SourceFault) → IsFetched
     (cond failing (Err Device) (found_answer found))
     result → IsCounted before (cond failing (counted before) before) result
 counted_for true found before (Ok fetched) answer = absurd answer
-counted_for true found before (Err fault) answer =
-    subst (λ (f : SourceFault). IsCounted before (counted before) (Err f)) (sym answer)
-    (counted_above before)
+counted_for true found before (Err fault) answer = search (rules, counted_above)
 counted_for false (Some bytes) before (Ok fetched) answer = tt
-counted_for false (Some bytes) before (Err fault) answer =
-    subst (λ (f : SourceFault). IsCounted before before (Err f)) (sym answer) tt
+counted_for false (Some bytes) before (Err fault) answer = search rules
 counted_for false None before (Ok fetched) answer = absurd answer
-counted_for false None before (Err fault) answer =
-    subst (λ (f : SourceFault). IsCounted before before (Err f)) (sym answer) tt
+counted_for false None before (Err fault) answer = search rules
 
 -- a failed fetch is counted
 pub device_is_counted : (old new : Listing) (path : List ℕ) (result : Result (Vec ℕ) SourceFault)
     → new ≡ after_fetch old → IsFetched (next_answer old path) result
     → IsCounted old.failures new.failures result
-device_is_counted old new path result is_after answer =
-    subst (λ (l : Listing). IsCounted old.failures l.failures result) (sym is_after)
-    (counted_for (is_failing old) (bytes_at old.files path) old.failures result answer)
+device_is_counted old new path result is_after answer = search (rules, counted_for)
 
 rises : (failing : Bool) (before : ℕ) → before ≤ cond failing (counted before) before
-rises true before = elim (cases_Bool (eqb before most_failures))
-    [ inl e ↦ rw e (omega arith) | inr e ↦ rw e (omega arith) ]
+rises true before = search (rules, cases_Bool, eqb)
 rises false before = omega arith
 
 -- the count of failures never falls
 pub failures_rise : (old new : Listing) → new ≡ after_fetch old → old.failures ≤ new.failures
-failures_rise old new is_after = subst (λ (l : Listing). old.failures ≤ l.failures) (sym is_after)
-    (rises (is_failing old) old.failures)
+failures_rise old new is_after = search (rules, rises)
 
 -- ---- files by their paths
 
@@ -100,31 +81,22 @@ lookup_mapped : (test : List ℕ → Bool) (entries : List (Vec ℕ × Vec ℕ))
     → lookup test (entries_of entries) ≡ option_map (λ v. v.items)
     (lookup (λ k. test k.items) entries)
 lookup_mapped test [] = refl
-lookup_mapped test (e ∷ entries) = elim (test e.0.items) as
-    (λ b. cond b (Some e.1.items) (lookup test (entries_of entries))
-    ≡ option_map (λ (v : Vec ℕ). v.items) (cond b (Some e.1) (lookup (λ k. test k.items) entries)))
-    [ true ↦ refl | false ↦ lookup_mapped test entries ]
+lookup_mapped test (e ∷ entries) = search (rules, lookup_mapped test entries)
 
 -- the bytes of the entry that is found
 pub bytes_found : (test : List ℕ → Bool) (entries : List (Vec ℕ × Vec ℕ)) (found : Option (Vec ℕ))
     → found ≡ lookup (λ k. test k.items) entries → option_map (λ v. v.items) found
     ≡ lookup test (entries_of entries)
-bytes_found test entries found e = ap (option_map (λ (v : Vec ℕ). v.items)) e
-    ∙ sym (lookup_mapped test entries)
+bytes_found test entries found e = search (rules, lookup_mapped)
 
 -- files in front decide before the one behind them
 lookup_push : (test : List ℕ → Bool) (files : List (List ℕ × List ℕ)) (path bytes : List ℕ)
     (other : Option (List ℕ))
     → or_else (lookup test (files ++ (path, bytes) ∷ [])) other
     ≡ or_else (lookup test files) (cond (test path) (Some bytes) other)
-lookup_push test [] path bytes other = elim (test path) as
-    (λ b. or_else (cond b (Some bytes) None) other ≡ cond b (Some bytes) other)
-    [ true ↦ refl | false ↦ refl ]
+lookup_push test [] path bytes other = search (rules, or_else)
 lookup_push test (e ∷ files) path bytes other =
-    elim (test e.0) as
-    (λ b. or_else (cond b (Some e.1) (lookup test (files ++ (path, bytes) ∷ []))) other
-    ≡ or_else (cond b (Some e.1) (lookup test files)) (cond (test path) (Some bytes) other))
-    [ true ↦ refl | false ↦ lookup_push test files path bytes other ]
+    search (rules, or_else, lookup_push test files path bytes other)
 
 -- an entry that takes the place of one with the same key
 same_twice : (b : Bool) (x y z : Option (List ℕ)) → cond b x z ≡ cond b x (cond b y z)
@@ -146,23 +118,7 @@ pub lookup_inserted : (wanted : List ℕ) (entries : List (Vec ℕ × Vec ℕ)) 
     (lookup (same_bytes wanted) (entries_of entries))
 lookup_inserted wanted [] k v = refl
 lookup_inserted wanted (e ∷ entries) k v =
-    elim (cases_Bool (same_bytes k.items e.0.items)) [
-      | inl same ↦
-          let keys : k.items ≡ e.0.items = (bytes_eq-Decides k.items e.0.items).0 same in
-          rw (same, keys)
-          (same_twice (same_bytes wanted e.0.items) (Some v.items) (Some e.1.items)
-          (lookup (same_bytes wanted) (entries_of entries)))
-      | inr other ↦
-          let apart : same_bytes wanted e.0.items ≡ true → same_bytes wanted k.items ≡ true → ⊥ =
-          λ is also. let keys : k.items ≡ e.0.items = sym ((bytes_eq-Decides wanted k.items).0 also)
-          ∙ (bytes_eq-Decides wanted e.0.items).0 is in
-          let yes : same_bytes k.items e.0.items
-          ≡ true = (bytes_eq-Decides k.items e.0.items).1 keys in cc in
-          rw (other, lookup_inserted wanted entries k v)
-          (either_first (same_bytes wanted e.0.items) (same_bytes wanted k.items)
-          (Some e.1.items) (Some v.items) (lookup (same_bytes wanted) (entries_of entries))
-          apart)
-    ]
+    search (rules, cases_Bool, bytes_eq-Decides, same_twice, either_first, lookup_inserted wanted entries k v)
 
 -- the files that are left decide before those by path
 abbrev pub AreByPath : List ListedFile → List (Vec ℕ × Vec ℕ) → List ListedFile → Type 0

@@ -1,5 +1,5 @@
 -- The references of a text, as they are looked at one after the other.
-use Rattle.std.proofs.Common.{◌≡◌, ◌≢◌, ℕ, ◌+◌, ◌<◌, suc, List, [], ◌∷◌, ◌++◌, length, take, drop, map, get_or, Some, None, ◌⊎◌, inl, inr, sym, ap, subst, ◌∙◌, append_assoc, append-nil, arith, All}
+use Rattle.std.proofs.Common.{◌≡◌, ◌≢◌, ℕ, ◌+◌, ◌<◌, suc, List, [], ◌∷◌, ◌++◌, length, take, drop, map, get_or, Some, None, ◌⊎◌, inl, inr, sym, ap, subst, ◌∙◌, append_assoc, append-nil, arith, All, rules}
 use Rattle.std.specs.Global.{Vec}
 use Rattle.std.proofs.Math.Seq.{split_at}
 use Rattle.std.proofs.lemmas.List.{map-append, take_more}
@@ -11,7 +11,7 @@ use Rattle.nix_names.specs.declared.fault.NameFault.TheVariants.{NoMemory}
 use Rattle.nix_names.proofs.PathFaults.{no_fault_of_path}
 use Rattle.nix_names.proofs.FirstElements.{first_within}
 use Rattle.nix_drv.specs.Checked.{IsFirstStray}
-use Rattle.nix_drv.specs.Derivation.{Drv, Input as DrvInput}
+use Rattle.nix_drv.specs.Derivation.{Drv}
 use Rattle.nix_drv.specs.OwnPath.{referenced_paths}
 use Rattle.nix_drv.specs.Parts.{bytes_of, input_of, path_of}
 use Rattle.nix_drv.specs.References.{IsStrayFault}
@@ -22,8 +22,7 @@ use Rattle.nix_drv.specs.declared.fault.DrvFault.TheVariants as fault
 -- a text that parsing blames is no path of the folder
 pub blamed_is_stray : (dir text : List ℕ) (blame : NameFault) → (path_fault dir text ≡ Some blame)
     ⊎ ((path_fault dir text ≡ None) × (blame ≡ NoMemory)) → blame ≢ NoMemory → IsPathOf dir text → ⊥
-blamed_is_stray dir text blame (inl blamed) other path = let none : path_fault dir text
-    ≡ None = no_fault_of_path dir text path in cc
+blamed_is_stray dir text blame (inl blamed) other path = search (rules, no_fault_of_path)
 blamed_is_stray dir text blame (inr refused) other path = other refused.1
 
 -- a stray text alone
@@ -50,7 +49,7 @@ pub fault_behind : (dir text : List ℕ) (before after : List (List ℕ)) (found
     → All (IsPathOf dir) before → IsStrayFault dir (text ∷ []) found
     → IsStrayFault dir (before ++ text ∷ after) found
 fault_behind dir text before after (fault.BadReference spelled) good stray =
-    stray_behind dir text before after spelled.items good stray
+    search (rules, stray_behind)
 fault_behind dir text before after fault.NoMemory good stray = tt
 fault_behind dir text before after (fault.Syntax place) good stray = stray
 fault_behind dir text before after (fault.Order place) good stray = stray
@@ -63,17 +62,14 @@ fault_behind dir text before after fault.NotSorted good stray = stray
 stray_within : (dir : List ℕ) (before texts after : List (List ℕ)) (spelled : List ℕ)
     → All (IsPathOf dir) before → IsFirstStray dir texts spelled
     → IsFirstStray dir (before ++ texts ++ after) spelled
-stray_within dir before texts after spelled good stray =
-    subst (λ (paths : List (List ℕ)). IsFirstStray dir paths spelled)
-    (sym (append_assoc before texts after))
-    (first_within (IsPathOf dir) (λ t. IsPathOf dir t → ⊥) before texts after spelled good stray)
+stray_within dir before texts after spelled good stray = search (rules, append_assoc, first_within)
 
 -- what is wrong with some texts is what is wrong with all, where those before them are good
 pub fault_within : (dir : List ℕ) (before texts after : List (List ℕ)) (found : DrvFault)
     → All (IsPathOf dir) before → IsStrayFault dir texts found
     → IsStrayFault dir (before ++ texts ++ after) found
 fault_within dir before texts after (fault.BadReference spelled) good stray =
-    stray_within dir before texts after spelled.items good stray
+    search (rules, stray_within)
 fault_within dir before texts after fault.NoMemory good stray = tt
 fault_within dir before texts after (fault.Syntax place) good stray = stray
 fault_within dir before texts after (fault.Order place) good stray = stray
@@ -127,27 +123,20 @@ pub added_more : {A : Type 0} (view : A → List ℕ) (front refs after : List (
     → refs ≡ front ++ map view (take i items) → after ≡ refs ++ text ∷ [] → after ≡ front
     ++ map view (take (i + 1) items)
 added_more view front refs after text items i d below at same before pushed =
-    pushed ∙ ap (λ (r : List (List ℕ)). r ++ text ∷ []) before
-    ∙ append_assoc front (map view (take i items)) (text ∷ [])
-    ∙ ap (λ (t : List ℕ). front ++ (map view (take i items) ++ t ∷ [])) same
-    ∙ ap (λ (all : List (List ℕ)). front ++ all) (sym (items_more view items i d below at))
+    search (rules, append_assoc, items_more)
 
 -- a derivation's paths begin with those of its inputs
 inputs_first : (drv : Drv) (inputs : List Input) → map input_of inputs ≡ drv.inputs
     → referenced_paths drv
     ≡ map path_of inputs ++ drv.sources
 unfolding referenced_paths
-inputs_first drv inputs same =
-    ap (λ (front : List (List ℕ)). front ++ drv.sources)
-    (ap (map (λ (input : DrvInput). input.path)) (sym same)
-    ∙ map-map (λ (input : DrvInput). input.path) input_of inputs)
+inputs_first drv inputs same = search (rules, map-map)
 
 -- a derivation's paths are those of its inputs, then its sources
 pub paths_are : (drv : Drv) (inputs : List Input) (sources : List (Vec ℕ)) → map input_of inputs
     ≡ drv.inputs → map bytes_of sources ≡ drv.sources → referenced_paths drv ≡ map path_of inputs
     ++ map bytes_of sources
-paths_are drv inputs sources same_inputs same_sources = inputs_first drv inputs same_inputs
-    ∙ ap (λ (behind : List (List ℕ)). map path_of inputs ++ behind) (sym same_sources)
+paths_are drv inputs sources same_inputs same_sources = search (rules, inputs_first)
 
 -- what is wrong with the inputs' paths is what is wrong with the derivation's
 pub inputs_fault : (dir : List ℕ) (drv : Drv) (inputs : List Input) (found : DrvFault)

@@ -1,5 +1,5 @@
 -- Bytes that were read, whose references were parsed, are found at their own path.
-use Rattle.std.proofs.Common.{◌≡◌, ℕ, ◌≤◌, true, List, length, ap, subst, ◌∙◌, All}
+use Rattle.std.proofs.Common.{◌≡◌, ℕ, ◌≤◌, true, List, length, ap, ◌∙◌, All, rules}
 use Rattle.nix_names.specs.Names.{is_drv_name}
 use Rattle.nix_names.specs.StorePaths.{IsPathOf, name_of}
 use Rattle.nix_drv.specs.Checked.{IsFoundAt}
@@ -24,18 +24,9 @@ pub found_at : (dir path bytes name : List ℕ) (drv : Drv) (own : List ℕ) →
     → is_drv_name name ≡ true → length bytes ≤ max_len → IsDrvText drv bytes
     → All (IsPathOf dir) (referenced_paths drv) → IsOwnPath dir name drv bytes own
     → IsFoundAt dir path bytes drv own
-found_at dir path bytes name drv own named is_drv within is_text good is_own = record {
-  read = record {
-    named = subst (λ (n : List ℕ). is_drv_name n ≡ true) named is_drv;
-    within = within;
-    is_text = is_text;
-  };
-  in_store = good;
-  own_path = subst (λ (n : List ℕ). IsOwnPath dir n drv bytes own) named is_own;
-}
+found_at dir path bytes name drv own named is_drv within is_text good is_own = search rules
 
 -- what is found at its own path stands there
 pub found_here : (dir path bytes : List ℕ) (drv : Drv) (own : List ℕ) → own ≡ path
     → IsFoundAt dir path bytes drv own → IsFoundAt dir path bytes drv path
-found_here dir path bytes drv own same found =
-    subst (λ (p : List ℕ). IsFoundAt dir path bytes drv p) same found
+found_here dir path bytes drv own same found = search rules

@@ -18,7 +18,7 @@ derivation_clear = search rules
 map_twice : {A B C : Type 0} (f : B → C) (g : A → B) (xs : List A) → map (λ (x : A). f (g x)) xs
     ≡ map f (map g xs)
 map_twice f g [] = refl
-map_twice f g (x ∷ xs) = ap (λ (ys : List _). f (g x) ∷ ys) (map_twice f g xs)
+map_twice f g (x ∷ xs) = search (rules, map_twice f g xs)
 
 pub parts_value_is : (p : Parts) → parts_value p ≡ drv_value (drv_of p)
 parts_value_is p = rw (
@@ -61,12 +61,11 @@ disordered p place e = rw (parts_value_is p) at e
 
 pub not_in_order : (parts : Drv) (place : ℕ) → pass derivation_form 0 (drv_value parts) ≡ Err place
     → InOrder derivation_form (drv_value parts) → ⊥
-not_in_order parts place = pass_out_of_order derivation_form (drv_value parts) place
+not_in_order parts place = search (rules, pass_out_of_order)
 
 whole_text : (p : Parts) (s rest : List ℕ) → read derivation_form s ≡ Ok (parts_value p, rest)
     → length rest ≡ 0 → IsLooseText (drv_of p) s
-whole_text p s rest e none = read_whole derivation_form derivation_clear s (drv_value (drv_of p))
-    rest (rw (parts_value_is p) at e) none
+whole_text p s rest e none = search (rules, read_whole, derivation_clear, parts_value_is)
 
 -- bytes that were read whole, and whose parts are in order
 pub read_in_order : (drv : Drv) (p : Parts) (s rest : List ℕ) → read derivation_form s

@@ -1,5 +1,5 @@
 -- A list is read exactly where its element is.
-use Rattle.std.proofs.Common.{◌≡◌, ℕ, zero, suc, ◌<◌, ◌≤◌, cond, eqb, List, [], ◌∷◌, ◌++◌, length, Result, Ok, Err, refl, sym, ap, subst, ◌∙◌, append_assoc, arith, inl, inr, ◌⊎◌}
+use Rattle.std.proofs.Common.{◌≡◌, ℕ, zero, suc, ◌<◌, ◌≤◌, eqb, List, [], ◌∷◌, ◌++◌, length, Result, Ok, Err, refl, sym, ap, ◌∙◌, append_assoc, arith, inl, inr, ◌⊎◌, rules}
 use Rattle.std.proofs.lemmas.Bool.{eqb-true, cond_both}
 use Rattle.std.proofs.lemmas.List.{append-nil, length-append}
 use Rattle.nix_drv.specs.Grammar.{Begins, separated, each_with_comma}
@@ -13,15 +13,7 @@ use Rattle.nix_drv.proofs.Readers.{IsReader, reader_shrinks}
 next_shrinks : {A : Type 0} (others : List ℕ → Result (List A × List ℕ) ℕ) (v : A) (t : List ℕ)
     → ((s : List ℕ) → left_of (others s) ≤ length s) → left_of (next_at others v t) ≤ length t
 next_shrinks others v [] h = omega arith
-next_shrinks others v (b ∷ s) h =
-    let later : left_of (before (v ∷ []) (others s))
-    ≤ suc (length s) = rw left-before (omega (arith, h s)) in
-    let end : left_of (cond (eqb b 93) (Ok (v ∷ [], s)) (Err (suc (length s)))) ≤ suc (length s) =
-    cond_both (eqb b 93) (Ok (v ∷ [], s)) (Err (suc (length s))) (λ r. left_of r ≤ suc (length s))
-    (λ _. omega arith) (λ _. omega arith) in
-    cond_both (eqb b 44) (before (v ∷ []) (others s))
-    (cond (eqb b 93) (Ok (v ∷ [], s)) (Err (suc (length s)))) (λ r. left_of r ≤ suc (length s))
-    (λ _. later) (λ _. end)
+next_shrinks others v (b ∷ s) h = search (rules, left-before, eqb, cond_both)
 
 elements_at-shrinks : {A : Type 0} (one : List ℕ → Result (A × List ℕ) ℕ)
     → ((s : List ℕ) → left_of (one s) ≤ length s) → (n : ℕ) (s : List ℕ)
@@ -29,12 +21,7 @@ elements_at-shrinks : {A : Type 0} (one : List ℕ → Result (A × List ℕ) �
 unfolding elements_at
 elements_at-shrinks one h zero s = omega arith
 elements_at-shrinks one h (suc n) s =
-    omega (
-      arith,
-      bind_shrinks (one s) (λ x. next_at (elements_at one n) x.0 x.1)
-          (λ x. next_shrinks (elements_at one n) x.0 x.1 (elements_at-shrinks one h n)),
-      h s,
-    )
+    search (rules, bind_shrinks, next_shrinks, elements_at-shrinks one h n)
 
 -- ---- the bound on how many elements there are is never met
 
@@ -46,9 +33,7 @@ same_bind (Err left) f h e = refl
 same_next : {A : Type 0} (f h : List ℕ → Result (List A × List ℕ) ℕ) (v : A) (t : List ℕ)
     → ((s : List ℕ) → length s < length t → f s ≡ h s) → next_at f v t ≡ next_at h v t
 same_next f h v [] e = refl
-same_next f h v (b ∷ s) e =
-    ap (λ (r : Result (List _ × List ℕ) ℕ). cond (eqb b 44) (before (v ∷ []) r)
-    (cond (eqb b 93) (Ok (v ∷ [], s)) (Err (suc (length s))))) (e s (omega arith))
+same_next f h v (b ∷ s) e = search (rules, eqb)
 
 same_bound : {A : Type 0} (one : List ℕ → Result (A × List ℕ) ℕ)
     → ((s : List ℕ) → left_of (one s) ≤ length s) → (n m : ℕ) (s : List ℕ) → length s < n → length s
@@ -111,8 +96,7 @@ told_comma : {A : Type 0} (text_of : A → List ℕ) (IsFrontOf : List ℕ → T
     (r : Result (List A × List ℕ) ℕ) → ToldSome text_of IsFrontOf s r
     → ToldSome text_of IsFrontOf (text_of v ++ 44 ∷ s) (before (v ∷ []) r)
 told_comma text_of IsFrontOf v s (Ok ([], rest)) told = absurd told
-told_comma text_of IsFrontOf v s (Ok (w ∷ ws, rest)) told =
-    ap (λ (t : List ℕ). text_of v ++ 44 ∷ t) told ∙ simp append_assoc
+told_comma text_of IsFrontOf v s (Ok (w ∷ ws, rest)) told = search (rules, append_assoc)
 told_comma text_of IsFrontOf v s (Err left) told = record {
   front = text_of v ++ 44 ∷ told.front;
   rest = told.rest;
@@ -138,16 +122,7 @@ next_told : {A : Type 0} (text_of : A → List ℕ) (IsFrontOf : List ℕ → Ty
     → ToldSome text_of IsFrontOf (text_of v ++ t) (next_at others v t)
 next_told text_of IsFrontOf others v [] h = stops_there text_of IsFrontOf v []
 next_told text_of IsFrontOf others v (b ∷ s) h =
-    let P : Result (List _ × List ℕ) ℕ → Type 0 = λ r.
-    ToldSome text_of IsFrontOf (text_of v ++ b ∷ s) r in
-    cond_both (eqb b 44) (before (v ∷ []) (others s))
-    (cond (eqb b 93) (Ok (v ∷ [], s)) (Err (suc (length s)))) P
-    (λ e. subst (λ (x : ℕ). ToldSome text_of IsFrontOf (text_of v ++ x ∷ s)
-    (before (v ∷ []) (others s))) (sym (eqb-true b 44 e))
-    (told_comma text_of IsFrontOf v s (others s) (h s (omega arith))))
-    (λ _. cond_both (eqb b 93) (Ok (v ∷ [], s)) (Err (suc (length s))) P
-    (λ e. ap (λ (x : ℕ). text_of v ++ x ∷ s) (eqb-true b 93 e) ∙ simp append_assoc)
-    (λ _. stops_there text_of IsFrontOf v (b ∷ s)))
+    search (rules, cond_both, eqb, eqb-true, told_comma, append_assoc, stops_there)
 
 some_told : {A : Type 0} (text_of : A → List ℕ) (IsFrontOf : List ℕ → Type 0) (s : List ℕ)
     (r : Result (A × List ℕ) ℕ) (next : A × List ℕ → Result (List A × List ℕ) ℕ)
@@ -155,16 +130,8 @@ some_told : {A : Type 0} (text_of : A → List ℕ) (IsFrontOf : List ℕ → Ty
     → ((x : A × List ℕ) → s ≡ text_of x.0 ++ x.1
     → ToldSome text_of IsFrontOf (text_of x.0 ++ x.1) (next x))
     → ToldSome text_of IsFrontOf s (r >>= next)
-some_told text_of IsFrontOf s (Ok x) next told h =
-    subst (λ (t : List ℕ). ToldSome text_of IsFrontOf t (next x)) (sym told) (h x told)
-some_told text_of IsFrontOf s (Err left) next told h =
-    record {
-      front = told.front;
-      rest = told.rest;
-      parts = told.parts;
-      is_front = inl ([], told.front, refl, told.is_front);
-      is_left = told.is_left;
-    }
+some_told text_of IsFrontOf s (Ok x) next told h = search rules
+some_told text_of IsFrontOf s (Err left) next told h = search rules
 
 pub elements_told : {A : Type 0} (text_of : A → List ℕ) (IsFrontOf : List ℕ → Type 0)
     (one : List ℕ → Result (A × List ℕ) ℕ) → ((s : List ℕ) → Told text_of IsFrontOf s (one s))

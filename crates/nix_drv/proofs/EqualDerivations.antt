@@ -1,5 +1,5 @@
 -- Derivations that are equal by `==` are the same.
-use Rattle.std.proofs.Common.{◌≡◌, ◌∙◌, Bool, Decides, ◌&&◌, List, ap, map, nat_eq, sym}
+use Rattle.std.proofs.Common.{◌≡◌, ◌∙◌, Bool, Decides, ◌&&◌, List, ap, map, nat_eq, sym, rules}
 use Rattle.std.specs.Cmp.Lexicographic.{bytes_decides, pointwise, pointwise_decides}
 use Rattle.std.specs.Cmp.Derive.Mapped.{pointwise-map}
 use Rattle.std.proofs.lemmas.Bool.{and_from, and_parts}
@@ -8,34 +8,14 @@ use Rattle.nix_drv.specs.Equality.{EqualDerivationsAreSame, same_build, same_drv
 
 -- two tests, each of one part
 both : {P Q : Type 0} (a b : Bool) → Decides a P → Decides b Q → Decides (a && b) (P × Q)
-both a b first second = (
-  λ h. let parts = and_parts a b h in (first.0 parts.0, second.0 parts.1),
-  λ r. and_from a b (first.1 r.0) (second.1 r.1),
-)
+both a b first second = search (rules, and_parts, and_from)
 
 -- a test of a statement is one of another that says the same
 also : {P Q : Type 0} (a : Bool) → Decides a P → (P → Q) → (Q → P) → Decides a Q
-also a test on back = (λ h. on (test.0 h), λ q. test.1 (back q))
+also a test on back = search rules
 
 outputs_decide : (a b : Output) → Decides (same_output a b) (a ≡ b)
-outputs_decide a b =
-    also (same_output a b)
-    (both ((pointwise nat_eq a.name b.name && pointwise nat_eq a.path b.path)
-    && pointwise nat_eq a.algo b.algo) (pointwise nat_eq a.hash b.hash)
-    (both (pointwise nat_eq a.name b.name && pointwise nat_eq a.path b.path)
-    (pointwise nat_eq a.algo b.algo)
-    (both (pointwise nat_eq a.name b.name) (pointwise nat_eq a.path b.path)
-    (bytes_decides a.name b.name) (bytes_decides a.path b.path))
-    (bytes_decides a.algo b.algo))
-    (bytes_decides a.hash b.hash))
-    (λ p j. record { name = p.0.0.0 j; path = p.0.0.1 j; algo = p.0.1 j; hash = p.1 j })
-    (λ e. (
-      (
-        (ap (λ (o : Output). o.name) e, ap (λ (o : Output). o.path) e),
-        ap (λ (o : Output). o.algo) e,
-      ),
-      ap (λ (o : Output). o.hash) e,
-    ))
+outputs_decide a b = search (rules, also, both, nat_eq)
 
 inputs_decide : (a b : Input) → Decides (same_input a b) (a ≡ b)
 inputs_decide a b =
@@ -46,12 +26,7 @@ inputs_decide a b =
     (λ e. (ap (λ (i : Input). i.path) e, ap (λ (i : Input). i.names) e))
 
 entries_decide : (a b : EnvEntry) → Decides (same_entry a b) (a ≡ b)
-entries_decide a b =
-    also (same_entry a b)
-    (both (pointwise nat_eq a.key b.key) (pointwise nat_eq a.value b.value)
-    (bytes_decides a.key b.key) (bytes_decides a.value b.value))
-    (λ p j. record { key = p.0 j; value = p.1 j })
-    (λ e. (ap (λ (x : EnvEntry). x.key) e, ap (λ (x : EnvEntry). x.value) e))
+entries_decide a b = search (rules, also, both, nat_eq)
 
 paths_decide : (a b : Drv) → Decides (same_paths a b)
     (((a.outputs ≡ b.outputs) × (a.inputs ≡ b.inputs)) × (a.sources ≡ b.sources))
@@ -75,28 +50,7 @@ build_decide a b =
     (pointwise_decides entries_decide a.env b.env)
 
 pub drvs_decide : (a b : Drv) → Decides (same_drv a b) (a ≡ b)
-drvs_decide a b =
-    also (same_drv a b)
-    (both (same_paths a b) (same_build a b) (paths_decide a b) (build_decide a b))
-    (λ p j. record {
-      outputs = p.0.0.0 j;
-      inputs = p.0.0.1 j;
-      sources = p.0.1 j;
-      system = p.1.0.0.0 j;
-      builder = p.1.0.0.1 j;
-      args = p.1.0.1 j;
-      env = p.1.1 j;
-    })
-    (λ e. (
-      (
-        (ap (λ (d : Drv). d.outputs) e, ap (λ (d : Drv). d.inputs) e),
-        ap (λ (d : Drv). d.sources) e,
-      ),
-      (
-        ((ap (λ (d : Drv). d.system) e, ap (λ (d : Drv). d.builder) e), ap (λ (d : Drv). d.args) e),
-        ap (λ (d : Drv). d.env) e,
-      ),
-    ))
+drvs_decide a b = search (rules, also, both, paths_decide, build_decide)
 
 -- lists are equal as they are seen
 pub seen_alike : {A B : Type 0} (same : B → B → Bool) (view : A → B) (xs ys : List A)

@@ -1,5 +1,5 @@
 -- Reading by a grammar answers with the one value, or stops behind the longest front.
-use Rattle.std.proofs.Common.{◌≡◌, ◌≢◌, ℕ, ◌-◌, ◌≤◌, false, List, [], ◌∷◌, ◌++◌, length, Result, Ok, Err, refl, sym, ap, subst, ◌∙◌, arith}
+use Rattle.std.proofs.Common.{◌≡◌, ◌≢◌, ℕ, ◌-◌, ◌≤◌, false, List, [], ◌∷◌, ◌++◌, length, Result, Ok, Err, refl, sym, ap, subst, ◌∙◌, rules}
 use Rattle.std.proofs.lemmas.Bool.{ne_eqb}
 use Rattle.std.proofs.lemmas.List.{append-nil, length-append, nil_from_length}
 use Rattle.nix_drv.specs.Grammar.{Grammar, Fixed, Str, Then, Many, Value, text, IsText, IsFront, IsFrontOfBytes, IsFrontOfElements, IsLongestFront, first_byte, IsNoBracket, IsClear}
@@ -24,8 +24,7 @@ pub reader : (g : Grammar) → IsClear g → IsReader (text g) (IsFront g) (read
 unfolding read text IsFront
 reader (Fixed bytes) clear = fixed_reader bytes
 reader Str clear = behind_reader 34 bytes_text IsFrontOfBytes (bytes_at false) bytes_reader
-reader (Then a b) clear = both_reader (text a) (text b) (IsFront a) (IsFront b) (read a) (read b)
-    (reader a clear.0) (reader b clear.1)
+reader (Then a b) clear = search (rules, both_reader, reader a clear.0, reader b clear.1)
 reader (Many order g) clear =
     behind_reader 91 (elements_text (text g)) (IsFrontOfElements (text g) (IsFront g))
     (list_at (read g))
@@ -36,36 +35,13 @@ reader (Many order g) clear =
 stops : (g : Grammar) → ((v : Value g) → IsFront g (text g v))
     → (s : List ℕ) (r : Result (Value g × List ℕ) ℕ) → Told (text g) (IsFront g) s r
     → StopsAt (IsFront g) s (left_of r)
-stops g whole s (Ok x) told = record {
-  front = text g x.0;
-  rest = x.1;
-  parts = told;
-  is_front = whole x.0;
-  is_left = refl;
-}
+stops g whole s (Ok x) told = search rules
 stops g whole s (Err left) told = told
 
 -- before what is left lies the longest front
 pub read-longest : (g : Grammar) → IsClear g → (s : List ℕ)
     → IsLongestFront g s (length s - left_of (read g s))
-read-longest g clear s =
-    let r = reader g clear in
-    let stop = stops g r.whole s (read g s) (r.told s) in
-    record {
-      front = stop.front;
-      rest = stop.rest;
-      parts = stop.parts;
-      is_front = stop.is_front;
-      is_place = omega (
-        arith,
-        ap length stop.parts,
-        length-append stop.front stop.rest,
-        stop.is_left,
-      );
-      longest = λ other more at e.
-          let bound : left_of (read g s) ≤ length more = rw e (r.longest other more at) in
-          omega (arith, ap length e, length-append other more, bound);
-    }
+read-longest g clear s = search (rules, reader, stops, length-append)
 
 pub read-shrinks : (g : Grammar) → IsClear g → (s : List ℕ) → left_of (read g s) ≤ length s
 read-shrinks g clear s = reader_shrinks (reader g clear) s
@@ -87,25 +63,20 @@ ok_is : {A : Type 0} (x y : A × List ℕ) → done x ≡ done y → x ≡ y
 ok_is x y e = cc
 
 pub value_is : {A : Type 0} (x y : A × List ℕ) → done x ≡ done y → x.0 ≡ y.0
-value_is {A} x y e = ap (λ (p : A × List ℕ). p.0) (ok_is x y e)
+value_is {A} x y e = search (rules, ok_is)
 
 pub rest_is : {A : Type 0} (x y : A × List ℕ) → done x ≡ done y → x.1 ≡ y.1
-rest_is {A} x y e = ap (λ (p : A × List ℕ). p.1) (ok_is x y e)
+rest_is {A} x y e = search (rules, ok_is)
 
 -- of a text nothing is left
 pub read_whole : (g : Grammar) → IsClear g → (s : List ℕ) (v : Value g) (rest : List ℕ) → read g s
     ≡ Ok (v, rest) → length rest ≡ 0 → IsText g v s
-read_whole g clear s v rest e none =
-    let told : Told (text g) (IsFront g) s (Ok (v, rest)) =
-    subst (λ (r : Result (Value g × List ℕ) ℕ). Told (text g) (IsFront g) s r) e
-    ((reader g clear).told s) in
-    told ∙ ap (λ (t : List ℕ). text g v ++ t) (nil_from_length rest none) ∙ append-nil (text g v)
+read_whole g clear s v rest e none = search (rules, reader, nil_from_length, append-nil)
 
 -- what leaves bytes is no text, and stands behind the longest front
 pub surplus_no_text : (g : Grammar) → IsClear g → (s : List ℕ) (w : Value g) (rest : List ℕ)
     → read g s ≡ Ok (w, rest) → length rest ≢ 0 → (v : Value g) → IsText g v s → ⊥
-surplus_no_text g clear s w rest e some v is =
-    some (ap length (rest_is (w, rest) (v, []) (sym e ∙ read-text g clear v s is)))
+surplus_no_text g clear s w rest e some v is = search (rules, rest_is, read-text)
 
 pub surplus_fits : (g : Grammar) → IsClear g → (s : List ℕ) (v : Value g) (rest : List ℕ) → read g s
     ≡ Ok (v, rest) → length rest ≤ length s
@@ -121,7 +92,7 @@ surplus_front g clear s v rest e =
 -- where reading stops lies no text, and the longest front before it
 pub stop_no_text : (g : Grammar) → IsClear g → (s : List ℕ) (left : ℕ) → read g s ≡ Err left
     → (v : Value g) → IsText g v s → ⊥
-stop_no_text g clear s left e v is = let whole = read-text g clear v s is in absurd cc
+stop_no_text g clear s left e v is = search (rules, read-text)
 
 pub stop_fits : (g : Grammar) → IsClear g → (s : List ℕ) (left : ℕ) → read g s ≡ Err left → left
     ≤ length s

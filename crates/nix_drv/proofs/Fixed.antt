@@ -1,5 +1,5 @@
 -- Fixed bytes are read exactly.
-use Rattle.std.proofs.Common.{◌≡◌, ℕ, suc, ◌≤◌, true, eqb, List, [], ◌∷◌, ◌++◌, length, Result, Ok, Err, refl, sym, ap, subst}
+use Rattle.std.proofs.Common.{◌≡◌, ℕ, ◌≤◌, true, eqb, List, [], ◌∷◌, ◌++◌, length, Result, Ok, Err, refl, ap, rules}
 use Rattle.std.proofs.lemmas.Bool.{eqb-true, eq-eqb, cond_both}
 use Rattle.nix_drv.specs.Grammar.{Begins}
 use Rattle.nix_drv.specs.Reading.{fixed_at, left_of}
@@ -25,33 +25,16 @@ told_more b bytes s (Err left) told = record {
 
 pub fixed-told : (bytes s : List ℕ) → Told (λ _. bytes) (Fronts bytes) s (fixed_at bytes s)
 fixed-told [] s = refl
-fixed-told (b ∷ bytes) [] = record {
-  front = [];
-  rest = [];
-  parts = refl;
-  is_front = (b ∷ bytes, refl);
-  is_left = refl;
-}
+fixed-told (b ∷ bytes) [] = search rules
 fixed-told (b ∷ bytes) (c ∷ s) =
-    cond_both (eqb b c) (fixed_at bytes s) (Err (suc (length s)))
-    (Told (λ _. b ∷ bytes) (Fronts (b ∷ bytes)) (c ∷ s))
-    (λ e. subst (λ (x : ℕ). Told (λ _. b ∷ bytes) (Fronts (b ∷ bytes)) (x ∷ s) (fixed_at bytes s))
-    (eqb-true b c e) (told_more b bytes s (fixed_at bytes s) (fixed-told bytes s)))
-    (λ _. record {
-      front = [];
-      rest = c ∷ s;
-      parts = refl;
-      is_front = (b ∷ bytes, refl);
-      is_left = refl;
-    })
+    search (rules, cond_both, eqb, eqb-true, told_more, fixed-told bytes s)
 
 pub fixed-again : (bytes rest : List ℕ) → fixed_at bytes (bytes ++ rest) ≡ Ok (tt, rest)
 fixed-again [] rest = refl
 fixed-again (b ∷ bytes) rest = rw (eqb_same b) (fixed-again bytes rest)
 
 pub fixed-shrinks : (bytes s : List ℕ) → left_of (fixed_at bytes s) ≤ length s
-fixed-shrinks bytes s = told_shrinks (λ _. bytes) (Fronts bytes) s (fixed_at bytes s)
-    (fixed-told bytes s)
+fixed-shrinks bytes s = search (rules, told_shrinks, fixed-told)
 
 within : (front more rest : List ℕ) → left_of (fixed_at (front ++ more) (front ++ rest))
     ≤ length rest
@@ -59,6 +42,4 @@ within [] more rest = fixed-shrinks more rest
 within (x ∷ front) more rest = rw (eqb_same x) (within front more rest)
 
 pub fixed-longest : (bytes : List ℕ) → Longest (Fronts bytes) (fixed_at bytes)
-fixed-longest bytes front rest h =
-    subst (λ (b : List ℕ). left_of (fixed_at b (front ++ rest)) ≤ length rest) (sym h.1)
-    (within front h.0 rest)
+fixed-longest bytes front rest h = search (rules, within)

@@ -1,5 +1,5 @@
 -- Reading a form part by part, each with the fixed bytes before it.
-use Rattle.std.proofs.Common.{◌≡◌, ℕ, List, [], ◌∷◌, Result, Ok, Err, refl}
+use Rattle.std.proofs.Common.{◌≡◌, ℕ, List, [], ◌∷◌, Result, Ok, Err, refl, rules}
 use Rattle.nix_drv.specs.declared.fault.Stop.{Stop}
 use Rattle.nix_drv.specs.declared.fault.Stop.TheVariants.{NoMemory, Left}
 use Rattle.std.specs.Prelude.{codes}
@@ -44,13 +44,13 @@ after_fixed (Err left) first second = refl
 string_then : (bytes : List ℕ) (b : Grammar) (s : List ℕ) → read (Then (Fixed bytes) (Then Str b)) s
     ≡ then_of (string_behind bytes s) (read b)
 unfolding read string_behind
-string_then bytes b s = after_fixed (fixed_at bytes s) (read Str) (read b)
+string_then bytes b s = search (rules, after_fixed)
 
 list_then : (bytes : List ℕ) (order : ListOrder) (g b : Grammar) (s : List ℕ)
     → read (Then (Fixed bytes) (Then (Many order g) b)) s
     ≡ then_of (list_behind bytes (read g) s) (read b)
 unfolding read list_behind
-list_then bytes order g b s = after_fixed (fixed_at bytes s) (read (Many order g)) (read b)
+list_then bytes order g b s = search (rules, after_fixed)
 
 fails_on : {X Y : Type 0} (stop : Stop) (r : Result X ℕ) (f : X → Result Y ℕ) → Fails stop r
     → Fails stop (r >>= f)
@@ -73,14 +73,12 @@ fixed_read bytes s rest e = e
 
 pub string_fails : (stop : Stop) (bytes : List ℕ) (b : Grammar) (s : List ℕ)
     → Fails stop (string_behind bytes s) → Fails stop (read (Then (Fixed bytes) (Then Str b)) s)
-string_fails stop bytes b s fails = rw (string_then bytes b s)
-    (fails_on stop (string_behind bytes s) (λ y. read b y.1 >>= with_two y.0) fails)
+string_fails stop bytes b s fails = search (rules, string_then, fails_on, with_two)
 
 pub string_later : (stop : Stop) (bytes : List ℕ) (b : Grammar) (s v rest : List ℕ)
     → string_behind bytes s ≡ Ok (v, rest) → Fails stop (read b rest)
     → Fails stop (read (Then (Fixed bytes) (Then Str b)) s)
-string_later stop bytes b s v rest e fails = rw (string_then bytes b s, e)
-    (fails_on stop (read b rest) (with_two v) fails)
+string_later stop bytes b s v rest e fails = search (rules, string_then, fails_on, with_two)
 
 pub string_read : (bytes : List ℕ) (b : Grammar) (s v rest : List ℕ) (w : Value b) (end : List ℕ)
     → string_behind bytes s ≡ Ok (v, rest) → read b rest ≡ Ok (w, end)
@@ -92,20 +90,18 @@ string_read bytes b s v rest w end e more = rw (string_then bytes b s, e, more) 
 pub list_fails : (stop : Stop) (bytes : List ℕ) (order : ListOrder) (g b : Grammar) (s : List ℕ)
     → Fails stop (list_behind bytes (read g) s)
     → Fails stop (read (Then (Fixed bytes) (Then (Many order g) b)) s)
-list_fails stop bytes order g b s fails = rw (list_then bytes order g b s)
-    (fails_on stop (list_behind bytes (read g) s) (λ y. read b y.1 >>= with_two y.0) fails)
+list_fails stop bytes order g b s fails = search (rules, list_then, fails_on, with_two)
 
 pub list_later : (stop : Stop) (bytes : List ℕ) (order : ListOrder) (g b : Grammar) (s : List ℕ)
     (v : List (Value g)) (rest : List ℕ) → list_behind bytes (read g) s ≡ Ok (v, rest)
     → Fails stop (read b rest) → Fails stop (read (Then (Fixed bytes) (Then (Many order g) b)) s)
-list_later stop bytes order g b s v rest e fails =
-    rw (list_then bytes order g b s, e) (fails_on stop (read b rest) (with_two v) fails)
+list_later stop bytes order g b s v rest e fails = search (rules, list_then, fails_on, with_two)
 
 pub list_read : (bytes : List ℕ) (order : ListOrder) (g b : Grammar) (s : List ℕ)
     (v : List (Value g)) (rest : List ℕ) (w : Value b) (end : List ℕ) → list_behind bytes (read g) s
     ≡ Ok (v, rest) → read b rest ≡ Ok (w, end) → read (Then (Fixed bytes) (Then (Many order g) b)) s
     ≡ Ok ((tt, (v, w)), end)
-list_read bytes order g b s v rest w end e more = rw (list_then bytes order g b s, e, more) refl
+list_read bytes order g b s v rest w end e more = search (rules, list_then)
 
 -- ---- two strings and what follows them
 
@@ -129,35 +125,29 @@ after_last (Err left) v u f same = refl
 
 after_string : (b : Grammar) (r : Result (List ℕ × List ℕ) ℕ) (v : List ℕ)
     → (then_of r (read b) >>= with_two v) ≡ ((r >>= with_one v) >>= strings_with b)
-after_string b (Ok u) v = after_last (read b u.1) v u.0 (λ z. Ok ((tt, (v, (tt, (u.0, z.0)))), z.1))
-    (λ z. refl)
+after_string b (Ok u) v = search (rules, after_last)
 after_string b (Err left) v = refl
 
 after_strings : (b : Grammar) (r : Result (List ℕ × List ℕ) ℕ)
     → then_of r (read (Then (Fixed (44 ∷ [])) (Then Str b)))
     ≡ ((r >>= second_of) >>= strings_with b)
-after_strings b (Ok y) = rw (string_then (44 ∷ []) b y.1)
-    (after_string b (string_behind (44 ∷ []) y.1) y.0)
+after_strings b (Ok y) = search (rules, string_then, after_string)
 after_strings b (Err left) = refl
 
 strings_then : (bytes : List ℕ) (b : Grammar) (s : List ℕ) → read (TwoStrings bytes b) s
     ≡ (strings_behind bytes s >>= strings_with b)
 unfolding strings_behind
-strings_then bytes b s = rw (string_then bytes (Then (Fixed (44 ∷ [])) (Then Str b)) s)
-    (after_strings b (string_behind bytes s))
+strings_then bytes b s = search (rules, string_then, after_strings)
 
 pub strings_fails : (stop : Stop) (bytes : List ℕ) (b : Grammar) (s : List ℕ)
     → Fails stop (strings_behind bytes s) → Fails stop
     (read (Then (Fixed bytes) (Then Str (Then (Fixed (44 ∷ [])) (Then Str b)))) s)
-strings_fails stop bytes b s fails = rw (strings_then bytes b s)
-    (fails_on stop (strings_behind bytes s) (strings_with b) fails)
+strings_fails stop bytes b s fails = search (rules, strings_then, fails_on, strings_with)
 
 pub strings_later : (stop : Stop) (bytes : List ℕ) (b : Grammar) (s v u rest : List ℕ)
     → strings_behind bytes s ≡ Ok ((v, u), rest) → Fails stop (read b rest)
     → Fails stop (read (Then (Fixed bytes) (Then Str (Then (Fixed (44 ∷ [])) (Then Str b)))) s)
-strings_later stop bytes b s v u rest e fails =
-    rw (strings_then bytes b s, e)
-    (fails_on stop (read b rest) (λ z. Ok ((tt, (v, (tt, (u, z.0)))), z.1)) fails)
+strings_later stop bytes b s v u rest e fails = search (rules, strings_then, fails_on)
 
 pub strings_read : (bytes : List ℕ) (b : Grammar) (s v u rest : List ℕ) (w : Value b) (end : List ℕ)
     → strings_behind bytes s ≡ Ok ((v, u), rest) → read b rest ≡ Ok (w, end)

@@ -1,5 +1,5 @@
 -- A front is just a beginning of a text, in every grammar.
-use Rattle.std.proofs.Common.{◌≡◌, ◌⊎◌, inl, inr, ℕ, List, [], ◌∷◌, ◌++◌, refl, sym, ap, ◌∙◌, append_assoc}
+use Rattle.std.proofs.Common.{◌≡◌, ◌⊎◌, inl, inr, ℕ, List, [], ◌∷◌, ◌++◌, refl, sym, ap, ◌∙◌, append_assoc, rules}
 use Rattle.std.specs.List.{flat_map}
 use Rattle.std.proofs.lemmas.List.{append-nil}
 use Rattle.nix_drv.specs.Strings.{spelling}
@@ -113,10 +113,7 @@ begins_byte : (b : ℕ) (s front rest : List ℕ) (P : List ℕ → Type 0)
     → ((more later : List ℕ) → s ≡ more ++ later → P more) → b ∷ s ≡ front ++ rest
     → Begins front (b ∷ []) ⊎ ((more : List ℕ) × (front ≡ b ∷ more) × P more)
 begins_byte b s [] rest P others e = inl (b ∷ [], refl)
-begins_byte b s (c ∷ more) rest P others e =
-    let head : b ≡ c = cc in
-    let tail : s ≡ more ++ rest = cc in
-    inr (more, ap (λ (k : ℕ). k ∷ more) (sym head), others more rest tail)
+begins_byte b s (c ∷ more) rest P others e = search rules
 
 begins_front : (g : Grammar) (v : Value g) (front : List ℕ) → Begins front (text g v)
     → IsFront g front
@@ -146,8 +143,7 @@ some_value (Many order g) = []
 spellings-append : (v w : List ℕ) → flat_map spelling (v ++ w) ≡ flat_map spelling v
     ++ flat_map spelling w
 spellings-append [] w = refl
-spellings-append (b ∷ v) w = ap (λ (t : List ℕ). spelling b ++ t) (spellings-append v w)
-    ∙ sym (append_assoc (spelling b) (flat_map spelling v) (flat_map spelling w))
+spellings-append (b ∷ v) w = search (rules, append_assoc, spellings-append v w)
 
 bytes_begin : (more : List ℕ) → IsFrontOfBytes more → (v : List ℕ)
     × Begins more (flat_map spelling v ++ 34 ∷ [])
@@ -171,10 +167,9 @@ bytes_begin more (at0, at1, at2, inr at) = (
 separated-last : {A : Type 0} (text_of : A → List ℕ) (whole : List A) (v : A)
     → separated text_of (whole ++ v ∷ []) ≡ each_with_comma text_of whole ++ text_of v
 separated-last text_of [] v = refl
-separated-last text_of (w ∷ []) v = sym (append_assoc (text_of w) (44 ∷ []) (text_of v))
+separated-last text_of (w ∷ []) v = search (rules, append_assoc)
 separated-last text_of (w ∷ u ∷ whole) v =
-    ap (λ (t : List ℕ). text_of w ++ 44 ∷ t) (separated-last text_of (u ∷ whole) v)
-    ∙ sym (append_assoc (text_of w) (44 ∷ each_with_comma text_of (u ∷ whole)) (text_of v))
+    search (rules, append_assoc, separated-last text_of (u ∷ whole) v)
 
 elements_begin : {A : Type 0} (text_of : A → List ℕ) (IsFrontOf : List ℕ → Type 0)
     → ((f : List ℕ) → IsFrontOf f → (v : A) × Begins f (text_of v)) → (more : List ℕ)
@@ -189,15 +184,7 @@ elements_begin text_of IsFrontOf one more (inl at) =
             (simp append_assoc),
       ),
     )
-elements_begin text_of IsFrontOf one more (inr at) = (
-  at.0,
-  (
-    at.3.0,
-    ap (λ (t : List ℕ). separated text_of at.0 ++ t) at.3.1
-        ∙ sym (append_assoc (separated text_of at.0) at.1 at.3.0)
-        ∙ ap (λ (t : List ℕ). t ++ at.3.0) (sym at.2),
-  ),
-)
+elements_begin text_of IsFrontOf one more (inr at) = search (rules, append_assoc)
 
 front_begins : (g : Grammar) (front : List ℕ) → IsFront g front → (v : Value g)
     × Begins front (text g v)

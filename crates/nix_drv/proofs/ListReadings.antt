@@ -1,5 +1,5 @@
 -- Reading the elements of a list one by one.
-use Rattle.std.proofs.Common.{◌≡◌, ℕ, suc, ◌≤◌, eqb, List, [], ◌∷◌, ◌++◌, length, map, Result, Ok, Err, refl, sym, ap, subst, ◌∙◌, arith, inl, inr}
+use Rattle.std.proofs.Common.{◌≡◌, ℕ, suc, ◌≤◌, eqb, List, [], ◌∷◌, ◌++◌, length, map, Result, Ok, Err, refl, sym, ap, subst, ◌∙◌, rules}
 use Rattle.std.proofs.lemmas.Bool.{cases_Bool}
 use Rattle.std.proofs.lemmas.List.{map-append}
 use Rattle.nix_drv.specs.declared.fault.Stop.{Stop}
@@ -24,11 +24,7 @@ follow others v (End, rest) = Ok (v ∷ [], rest)
 next_open : {A : Type 0} (others : List ℕ → Result (List A × List ℕ) ℕ) (v : A) (s : List ℕ)
     → next_at others v s ≡ (sign_at s >>= follow others v)
 next_open others v [] = refl
-next_open others v (b ∷ s) =
-    elim (cases_Bool (eqb b 44)) [
-      | inl e ↦ rw e refl
-      | inr e ↦ elim (cases_Bool (eqb b 93)) [ inl f ↦ rw (e, f) refl | inr f ↦ rw (e, f) refl ]
-    ]
+next_open others v (b ∷ s) = search (rules, cases_Bool, eqb)
 
 -- a sign is one byte
 abbrev OneLess : ℕ → Result (Next × List ℕ) ℕ → Type 0
@@ -37,11 +33,7 @@ OneLess n (Err left) = Unit {0}
 
 sign_is_one : (s : List ℕ) → OneLess (length s) (sign_at s)
 sign_is_one [] = tt
-sign_is_one (b ∷ s) =
-    elim (cases_Bool (eqb b 44)) [
-      | inl e ↦ rw e refl
-      | inr e ↦ elim (cases_Bool (eqb b 93)) [ inl f ↦ rw (e, f) refl | inr f ↦ rw (e, f) tt ]
-    ]
+sign_is_one (b ∷ s) = search (rules, cases_Bool, eqb)
 
 sign_shorter : (s : List ℕ) (x : Next × List ℕ) → sign_at s ≡ Ok x → suc (length x.1) ≡ length s
 sign_shorter s x e = subst (OneLess (length s)) e (sign_is_one s)
@@ -58,14 +50,7 @@ with_sign one x = sign_at x.1 >>= follow (elements_of one) x.0
 open_sign : {A : Type 0} (one : List ℕ → Result (A × List ℕ) ℕ)
     → ((s : List ℕ) → left_of (one s) ≤ length s) → (s : List ℕ) → elements_of one s
     ≡ (one s >>= with_sign one)
-open_sign {A} one h s =
-    let same : (r : Result (A × List ℕ) ℕ) → (r >>= λ x. next_at (elements_of one) x.0 x.1)
-    ≡ (r >>= with_sign one) = λ r. elim r as
-    (λ q. (q >>= λ x. next_at (elements_of one) x.0 x.1) ≡ (q >>= with_sign one)) [
-      | Ok x ↦ next_open (elements_of one) x.0 x.1
-      | Err left ↦ refl
-    ] in
-    elements_open one h s ∙ same (one s)
+open_sign {A} one h s = search (rules, with_sign, next_open, elements_open)
 
 -- no element was read, and so no list
 pub element_fails : {A : Type 0} (one : List ℕ → Result (A × List ℕ) ℕ)
@@ -73,18 +58,15 @@ pub element_fails : {A : Type 0} (one : List ℕ → Result (A × List ℕ) ℕ)
     → (stop : Stop) (items : List A) (s : List ℕ) (total : Result (List A × List ℕ) ℕ)
     → before items (elements_of one s) ≡ total → Fails stop (one s) → Fails stop total
 element_fails one h NoMemory items s total so_far fails = tt
-element_fails {A} one h (Left left) items s total so_far fails = sym so_far
-    ∙ ap (before items)
-    (open_sign one h s ∙ ap (λ (r : Result (A × List ℕ) ℕ). r >>= with_sign one) fails)
+element_fails {A} one h (Left left) items s total so_far fails =
+    search (rules, open_sign, with_sign)
 
 after_element : {A : Type 0} (one : List ℕ → Result (A × List ℕ) ℕ)
     → ((s : List ℕ) → left_of (one s) ≤ length s)
     → (items : List A) (s : List ℕ) (v : A) (after : List ℕ) (total : Result (List A × List ℕ) ℕ)
     → before items (elements_of one s) ≡ total → one s ≡ Ok (v, after)
     → before items (sign_at after >>= follow (elements_of one) v) ≡ total
-after_element {A} one h items s v after total so_far e =
-    ap (before items)
-    (sym (open_sign one h s ∙ ap (λ (r : Result (A × List ℕ) ℕ). r >>= with_sign one) e)) ∙ so_far
+after_element {A} one h items s v after total so_far e = search (rules, open_sign, with_sign)
 
 -- neither a comma nor the end stands behind the element
 pub sign_fails : {A : Type 0} (one : List ℕ → Result (A × List ℕ) ℕ)
@@ -129,11 +111,9 @@ pub element_shorter : {A : Type 0} (one : List ℕ → Result (A × List ℕ) �
     → ((s : List ℕ) → left_of (one s) ≤ length s)
     → (s : List ℕ) (v : A) (after : List ℕ) (x : Next × List ℕ) → one s ≡ Ok (v, after)
     → sign_at after ≡ Ok x → suc (length x.1) ≤ length s
-element_shorter {A} one h s v after x e sign =
-    let within : length after ≤ length s = let r : left_of (one s) ≤ length s = h s in rw e at r in
-    omega (arith, sign_shorter after x sign)
+element_shorter {A} one h s v after x e sign = search (rules, sign_shorter)
 
 -- the values of the elements with one more
 pub more_values : {A B : Type 0} (value : A → B) (old new : List A) (x : A) → new ≡ old ++ x ∷ []
     → map value new ≡ map value old ++ value x ∷ []
-more_values value old new x e = ap (map value) e ∙ map-append value old (x ∷ [])
+more_values value old new x e = search (rules, map-append)

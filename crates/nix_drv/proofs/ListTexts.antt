@@ -1,5 +1,5 @@
 -- A list's text, element by element.
-use Rattle.std.proofs.Common.{◌≡◌, ℕ, ◌-◌, ◌≤◌, List, [], ◌∷◌, ◌++◌, length, get_or, take, drop, map, sym, ap, ◌∙◌, append_assoc, arith}
+use Rattle.std.proofs.Common.{◌≡◌, ℕ, ◌-◌, ◌≤◌, List, [], ◌∷◌, ◌++◌, length, get_or, take, drop, map, sym, append_assoc, arith, rules}
 use Rattle.std.proofs.lemmas.List.{append-nil, take_all, drop_all}
 use Rattle.nix_drv.specs.Grammar.{Grammar, Value, text, separated}
 use Rattle.nix_drv.specs.Listings.{list_text, others_text}
@@ -7,16 +7,12 @@ use Rattle.nix_drv.specs.Listings.{list_text, others_text}
 pub separated-others : {A : Type 0} (text_of : A → List ℕ) (v : A) (vs : List A)
     → separated text_of (v ∷ vs) ≡ text_of v ++ others_text text_of vs
 separated-others text_of v [] = sym (append-nil (text_of v))
-separated-others text_of v (w ∷ vs) = ap (λ (t : List ℕ). text_of v ++ 44 ∷ t)
-    (separated-others text_of w vs)
+separated-others text_of v (w ∷ vs) = search (rules, separated-others text_of w vs)
 
 rest_from_head : {A : Type 0} (xs : List A) (x : A) → 1 ≤ length xs → x ≡ get_or xs 0 x → x
     ∷ take (length xs - 1) (drop 1 xs) ≡ xs
 rest_from_head [] x long e = absurd (omega arith)
-rest_from_head {A} (y ∷ xs) x long e =
-    let all : take (length (y ∷ xs) - 1) xs ≡ xs = take_all (length (y ∷ xs) - 1) xs (omega arith)
-    in
-    ap (λ (v : A). v ∷ take (length (y ∷ xs) - 1) xs) e ∙ ap (λ (t : List A). y ∷ t) all
+rest_from_head {A} (y ∷ xs) x long e = search (rules, take_all)
 
 -- no elements are left to be written
 pub others_written : {A : Type 0} (g : Grammar) (value : A → Value g) (old out : List ℕ)
@@ -24,10 +20,7 @@ pub others_written : {A : Type 0} (g : Grammar) (value : A → Value g) (old out
     → out ++ others_text (text g) (map value (drop i others)) ≡ old
     ++ others_text (text g) (map value others)
     → length others ≤ i → out ≡ old ++ others_text (text g) (map value others)
-others_written {A} g value old out others i so_far past =
-    let none : drop i others ≡ [] = drop_all i others past in
-    sym (append-nil out) ∙ ap (λ (t : List A). out ++ others_text (text g) (map value t)) (sym none)
-    ∙ so_far
+others_written {A} g value old out others i so_far past = search (rules, drop_all, append-nil)
 
 -- a list of one element and others is written
 pub list_written : {A : Type 0} (g : Grammar) (value : A → Value g)
@@ -36,10 +29,4 @@ pub list_written : {A : Type 0} (g : Grammar) (value : A → Value g)
     → out ≡ first ++ others_text (text g) (map value (take (length xs - 1) (drop 1 xs)))
     → out ++ 93 ∷ [] ≡ before ++ list_text (text g) (map value xs)
 list_written {A} g value before opened first out xs x long is_first open_is first_is out_is =
-    let others : List A = take (length xs - 1) (drop 1 xs) in
-    let whole : x ∷ others ≡ xs = rest_from_head xs x long is_first in
-    let text_is : separated (text g) (map value xs) ≡ text g (value x)
-    ++ others_text (text g) (map value others) =
-    ap (λ (t : List A). separated (text g) (map value t)) (sym whole)
-    ∙ separated-others (text g) (value x) (map value others) in
-    rw (out_is, first_is, open_is, text_is) (simp append_assoc)
+    search (rules, rest_from_head, separated-others, append_assoc)

@@ -1,6 +1,6 @@
 -- A list behind its first bracket is read exactly, where its elements don't begin with the last
 -- bracket.
-use Rattle.std.proofs.Common.{◌≡◌, ℕ, suc, ◌≤◌, eqb, List, [], ◌∷◌, ◌++◌, length, Result, Ok, Err, refl, ap, arith, inl, inr}
+use Rattle.std.proofs.Common.{◌≡◌, ℕ, suc, ◌≤◌, eqb, List, [], ◌∷◌, ◌++◌, length, Result, Ok, Err, refl, ap, arith, inl, inr, rules}
 use Rattle.std.proofs.lemmas.Bool.{eqb-true, cond_both}
 use Rattle.nix_drv.specs.Grammar.{IsFrontOfElements}
 use Rattle.nix_drv.specs.Reading.{elements_of, list_at, left_of}
@@ -23,21 +23,12 @@ widened_told : {A : Type 0} (text_of : A → List ℕ) (IsFrontOf : List ℕ →
     → Told (elements_text text_of) (IsFrontOfElements text_of IsFrontOf) s r
 widened_told text_of IsFrontOf s (Ok ([], rest)) told = absurd told
 widened_told text_of IsFrontOf s (Ok (v ∷ vs, rest)) told = told
-widened_told text_of IsFrontOf s (Err left) told =
-    record {
-      front = told.front;
-      rest = told.rest;
-      parts = told.parts;
-      is_front = widened text_of IsFrontOf told.front told.is_front;
-      is_left = told.is_left;
-    }
+widened_told text_of IsFrontOf s (Err left) told = search (rules, widened)
 
 some_list_told : {A : Type 0} {text_of : A → List ℕ} {IsFrontOf : List ℕ → Type 0}
     {one : List ℕ → Result (A × List ℕ) ℕ} → IsReader text_of IsFrontOf one → (s : List ℕ)
     → Told (elements_text text_of) (IsFrontOfElements text_of IsFrontOf) s (elements_of one s)
-some_list_told {A} {text_of} {IsFrontOf} {one} r s =
-    widened_told text_of IsFrontOf s (elements_of one s)
-    (elements_told text_of IsFrontOf one r.told (suc (length s)) s (omega arith))
+some_list_told {A} {text_of} {IsFrontOf} {one} r s = search (rules, widened_told, elements_told)
 
 list-told : {A : Type 0} {text_of : A → List ℕ} {IsFrontOf : List ℕ → Type 0}
     {one : List ℕ → Result (A × List ℕ) ℕ} → IsReader text_of IsFrontOf one → (s : List ℕ)
@@ -105,8 +96,7 @@ list-again : {A : Type 0} {text_of : A → List ℕ} {IsFrontOf : List ℕ → T
     → (vs : List A) (rest : List ℕ) → list_at one (elements_text text_of vs ++ rest) ≡ Ok (vs, rest)
 list-again r refuses [] rest = refl
 list-again {A} {text_of} {IsFrontOf} {one} r refuses (v ∷ vs) rest =
-    list_opens r refuses (elements_text text_of (v ∷ vs) ++ rest) (v ∷ vs, rest)
-    (elements-again r v vs rest)
+    search (rules, list_opens, elements_text, elements-again)
 
 pub list_reader : {A : Type 0} (text_of : A → List ℕ) (IsFrontOf : List ℕ → Type 0)
     (one : List ℕ → Result (A × List ℕ) ℕ) → IsReader text_of IsFrontOf one → RefusesBracket one

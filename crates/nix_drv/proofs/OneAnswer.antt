@@ -1,5 +1,5 @@
 -- Two answers to one input are the same, want of memory apart.
-use Rattle.std.proofs.Common.{◌≡◌, ◌≢◌, ◌⊎◌, inl, inr, ℕ, List, Result, Ok, Err, refl, sym, ap, subst, ◌∙◌, arith, All}
+use Rattle.std.proofs.Common.{◌≡◌, ◌≢◌, ◌⊎◌, inl, inr, ℕ, List, Result, Ok, Err, refl, sym, subst, ◌∙◌, arith, All, rules}
 use Rattle.std.specs.Global.{Vec}
 use Rattle.nix_names.specs.StorePaths.{IsDrvPath, IsPathOf, name_of}
 use Rattle.nix_names.proofs.FirstElements.{no_first, one_first}
@@ -19,14 +19,7 @@ use Rattle.nix_drv.proofs.OwnPathLaws.{one_own_path}
 
 one_place : (g : Grammar) (input : List ℕ) (p q : ℕ) → IsLongestFront g input p
     → IsLongestFront g input q → p ≡ q
-one_place g input p q one other =
-    omega (
-      arith,
-      one.is_place,
-      other.is_place,
-      one.longest other.front other.rest other.is_front other.parts,
-      other.longest one.front one.rest one.is_front one.parts,
-    )
+one_place g input p q one other = search rules
 
 one_violation : (d e : Drv) (p q : ℕ) → d ≡ e → IsFirstViolation derivation_form (drv_value d) p
     → IsFirstViolation derivation_form (drv_value e) q → p ≡ q
@@ -53,42 +46,33 @@ one_reading input answer (Err NotSorted) is also a b = absurd also
 one_reading input answer (Err (TextPathMismatch own)) is also a b = absurd also
 one_reading input answer (Err NotADrvName) is also a b = absurd also
 one_reading input answer (Err (BadReference spelled)) is also a b = absurd also
-one_reading input (Ok d) (Ok e) is also a b =
-    ap (λ (x : Drv). Ok x) (one_drv d e input is.1.is_text also.1.is_text)
-one_reading input (Ok d) (Err TooLong) is also a b = absurd (omega (arith, is.0, also))
+one_reading input (Ok d) (Ok e) is also a b = search (rules, one_drv)
+one_reading input (Ok d) (Err TooLong) is also a b = search rules
 one_reading input (Ok d) (Err (Syntax q)) is also a b = absurd (also.1 d is.1.is_text)
-one_reading input (Ok d) (Err (Order q)) is also a b =
-    absurd (no_violation d also.1.0 input q is also (one_drv d also.1.0 input is.1.is_text also.1.1)
-    also.1.2)
-one_reading input (Err TooLong) (Ok e) is also a b = absurd (omega (arith, also.0, is))
+one_reading input (Ok d) (Err (Order q)) is also a b = search (rules, no_violation, one_drv)
+one_reading input (Err TooLong) (Ok e) is also a b = search rules
 one_reading input (Err TooLong) (Err TooLong) is also a b = refl
-one_reading input (Err TooLong) (Err (Syntax q)) is also a b = absurd (omega (arith, also.0, is))
-one_reading input (Err TooLong) (Err (Order q)) is also a b = absurd (omega (arith, also.0, is))
+one_reading input (Err TooLong) (Err (Syntax q)) is also a b = search rules
+one_reading input (Err TooLong) (Err (Order q)) is also a b = search rules
 one_reading input (Err (Syntax p)) (Ok e) is also a b = absurd (is.1 e also.1.is_text)
-one_reading input (Err (Syntax p)) (Err TooLong) is also a b = absurd (omega (arith, is.0, also))
-one_reading input (Err (Syntax p)) (Err (Syntax q)) is also a b =
-    ap (λ (n : ℕ). Err (Syntax n)) (one_place derivation_form input p q is.2 also.2)
+one_reading input (Err (Syntax p)) (Err TooLong) is also a b = search rules
+one_reading input (Err (Syntax p)) (Err (Syntax q)) is also a b = search (rules, one_place)
 one_reading input (Err (Syntax p)) (Err (Order q)) is also a b = absurd (is.1 also.1.0 also.1.1)
-one_reading input (Err (Order p)) (Ok e) is also a b =
-    absurd (no_violation e is.1.0 input p also is (one_drv e is.1.0 input also.1.is_text is.1.1)
-    is.1.2)
-one_reading input (Err (Order p)) (Err TooLong) is also a b = absurd (omega (arith, is.0, also))
+one_reading input (Err (Order p)) (Ok e) is also a b = search (rules, no_violation, one_drv)
+one_reading input (Err (Order p)) (Err TooLong) is also a b = search rules
 one_reading input (Err (Order p)) (Err (Syntax q)) is also a b = absurd (also.1 is.1.0 is.1.1)
 one_reading input (Err (Order p)) (Err (Order q)) is also a b =
-    ap (λ (n : ℕ). Err (Order n))
-    (one_violation is.1.0 also.1.0 p q (one_drv is.1.0 also.1.0 input is.1.1 also.1.1) is.1.2
-    also.1.2)
+    search (rules, one_violation, one_drv)
 
 -- ---- the first stray path
 
 first_stray_is : (dir : List ℕ) (paths : List (List ℕ)) (x y : List ℕ) → IsFirstStray dir paths x
     → IsFirstStray dir paths y → x ≡ y
-first_stray_is dir paths x y one other =
-    one_first (IsPathOf dir) (λ t. IsPathOf dir t → ⊥) (λ t is not. not is) paths x y one other
+first_stray_is dir paths x y one other = search (rules, one_first)
 
 no_stray : (dir : List ℕ) (paths : List (List ℕ)) (x : List ℕ) → IsFirstStray dir paths x
     → All (IsPathOf dir) paths → ⊥
-no_stray dir = no_first (IsPathOf dir) (λ t. IsPathOf dir t → ⊥) (λ t is not. not is)
+no_stray dir = search (rules, no_first)
 
 -- ---- the check
 
@@ -104,7 +88,7 @@ says_itself (Err NotSorted) = refl
 says_itself (Err (BadReference spelled)) = refl
 
 says_same : (a b : Result Drv DrvFault) → a ≡ b → SaysSame a b
-says_same a b e = subst (λ (x : Result Drv DrvFault). SaysSame a x) e (says_itself a)
+says_same a b e = search (rules, says_itself)
 
 -- the answer where all paths are in the folder and the text's own path is known
 abbrev IsByOwn : (path : List ℕ) → Drv → List ℕ → Result Drv DrvFault → Type 0
@@ -178,8 +162,7 @@ by_own : (path : List ℕ) (drv : Drv) (own also : List ℕ) (a b : Result Drv D
 by_own path drv own also a b same (inl p) (inl q) = says_same a b (p.0 ∙ sym q.0)
 by_own path drv own also a b same (inl p) (inr q) = absurd (q.1 (sym same ∙ p.1))
 by_own path drv own also a b same (inr p) (inl q) = absurd (p.1 (same ∙ q.1))
-by_own path drv own also a b same (inr p) (inr q) =
-    says_same a b (p.0 ∙ ap (λ (o : List ℕ). Err (TextPathMismatch o)) same ∙ sym q.0)
+by_own path drv own also a b same (inr p) (inr q) = search (rules, says_same)
 
 follows_once : (dir path bytes : List ℕ) (read a b : Result Drv DrvFault)
     → Follows dir path bytes read a → Follows dir path bytes read b → SaysSame a b
@@ -189,12 +172,9 @@ follows_once dir path bytes (Ok drv) a b (inl p) (inl q) =
     first_stray_is dir (referenced_paths drv) p.0.items q.0.items p.2 q.2 in
     subst (λ (x : Result Drv DrvFault). SaysSame x b) (sym p.1)
     (subst (λ (x : Result Drv DrvFault). SaysSame (Err (BadReference p.0)) x) (sym q.1) texts)
-follows_once dir path bytes (Ok drv) a b (inl p) (inr q) =
-    absurd (no_stray dir (referenced_paths drv) p.0.items p.2 q.1)
-follows_once dir path bytes (Ok drv) a b (inr p) (inl q) =
-    absurd (no_stray dir (referenced_paths drv) q.0.items q.2 p.1)
-follows_once dir path bytes (Ok drv) a b (inr p) (inr q) =
-    by_own path drv p.0 q.0 a b (one_own_path dir (name_of path) drv bytes p.0 q.0 p.2 q.2) p.3 q.3
+follows_once dir path bytes (Ok drv) a b (inl p) (inr q) = search (rules, no_stray)
+follows_once dir path bytes (Ok drv) a b (inr p) (inl q) = search (rules, no_stray)
+follows_once dir path bytes (Ok drv) a b (inr p) (inr q) = search (rules, by_own, one_own_path)
 
 pub one_check : HasOneCheck
 one_check dir path bytes answer other is also a b =

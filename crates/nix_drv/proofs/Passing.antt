@@ -1,5 +1,5 @@
 -- Going over a value finds the first element that breaks the order of its list.
-use Rattle.std.proofs.Common.{◌≡◌, ℕ, ◌+◌, ◌-◌, ◌^◌, ◌<◌, ◌≤◌, min, true, false, List, [], ◌∷◌, ◌++◌, length, Option, Some, None, Result, Ok, Err, refl, sym, subst, ◌∙◌, arith, inl, inr, ◌⊎◌}
+use Rattle.std.proofs.Common.{◌≡◌, ℕ, ◌+◌, ◌-◌, ◌^◌, ◌<◌, ◌≤◌, min, true, false, List, [], ◌∷◌, ◌++◌, length, Option, Some, None, Result, Ok, Err, refl, sym, subst, ◌∙◌, arith, inl, inr, ◌⊎◌, rules}
 use Rattle.std.proofs.lemmas.List.{length-append}
 use Rattle.std.proofs.lemmas.Bool.{cond_both}
 use Rattle.nix_drv.specs.Grammar.{ListOrder, Grammar, Fixed, Str, Then, Many, Value, text, separated, each_with_comma}
@@ -19,40 +19,15 @@ Passes P end (Err q) = (place : ℕ) × P place × ((other : ℕ) → P other �
 
 same_passes : (P Q : ℕ → Type 0) (end : ℕ) (x : Result ℕ ℕ) → ((r : ℕ) → P r → Q r)
     → ((r : ℕ) → Q r → P r) → Passes P end x → Passes Q end x
-same_passes P Q end (Ok q) to back h = (h.0, λ r at. h.1 r (back r at))
-same_passes P Q end (Err q) to back h = (
-  h.0,
-  to h.0 h.1,
-  λ other at. h.2 other (back other at),
-  h.3,
-)
+same_passes P Q end (Ok q) to back h = search rules
+same_passes P Q end (Err q) to back h = search rules
 
 -- the second part comes behind the first
 both_pass : (P Q : ℕ → Type 0) (mid end : ℕ) (x : Result ℕ ℕ) (next : ℕ → Result ℕ ℕ)
     → ((r : ℕ) → P r → r ≤ mid) → ((r : ℕ) → Q r → mid ≤ r)
     → Passes P mid x → Passes Q end (next (capped mid)) → Passes (λ r. P r ⊎ Q r) end (x >>= next)
-both_pass P Q mid end (Ok q) next below above first second =
-    let later : (y : Result ℕ ℕ) → Passes Q end y → Passes (λ r. P r ⊎ Q r) end y = λ y.
-    elim y as (λ z. Passes Q end z → Passes (λ r. P r ⊎ Q r) end z) [
-      | Ok e ↦ λ h. (h.0, λ r at. elim at [ inl p ↦ first.1 r p | inr s ↦ h.1 r s ])
-      | Err e ↦ λ h. (
-        h.0,
-        inr h.1,
-        λ other at. elim at [ inl p ↦ absurd (first.1 other p) | inr s ↦ h.2 other s ],
-        h.3,
-      )
-    ] in
-    rw first.0 (later (next (capped mid)) second)
-both_pass P Q mid end (Err q) next below above first second =
-    let one : first.0 ≤ mid = below first.0 first.1 in (
-      first.0,
-      inl first.1,
-      λ other at. elim at [
-        | inl p ↦ first.2 other p
-        | inr s ↦ let two : mid ≤ other = above other s in omega arith
-      ],
-      first.3,
-    )
+both_pass P Q mid end (Ok q) next below above first second = search (rules, capped)
+both_pass P Q mid end (Err q) next below above first second = search (rules, below, above)
 
 -- ---- bounds
 
@@ -79,35 +54,20 @@ among_below : {A : Type 0} (order : ListOrder) (key_of text_of : A → List ℕ)
 among_below order key_of text_of Within below before p [] r at = absurd at
 among_below order key_of text_of Within below before p (v ∷ vs) r (inl at) = omega (arith, at.1)
 among_below order key_of text_of Within below before p (v ∷ vs) r (inr (inl at)) =
-    omega (arith, below p v r at, length-append (text_of v) (44 ∷ each_with_comma text_of vs))
+    search (rules, below, length-append)
 among_below order key_of text_of Within below before p (v ∷ vs) r (inr (inr at)) =
-    omega (
-      arith,
-      among_below order key_of text_of Within below (Some (key_of v))
-          (p + length (text_of v) + 1) vs r at,
-      length-append (text_of v) (44 ∷ each_with_comma text_of vs),
-    )
+    search (rules, below, length-append, among_below order key_of text_of Within below (Some (key_of v)) (p + length (text_of v) + 1) vs r at)
 
 -- with a comma after each, a list is one byte longer than with commas between
 commas_between : {A : Type 0} (text_of : A → List ℕ) (v : A) (vs : List A)
     → length (each_with_comma text_of (v ∷ vs)) ≡ length (separated text_of (v ∷ vs)) + 1
-commas_between text_of v [] = omega (arith, length-append (text_of v) (44 ∷ []))
-commas_between text_of v (w ∷ vs) =
-    omega (
-      arith,
-      commas_between text_of w vs,
-      length-append (text_of v) (44 ∷ each_with_comma text_of (w ∷ vs)),
-      length-append (text_of v) (44 ∷ separated text_of (w ∷ vs)),
-    )
+commas_between text_of v [] = search (rules, length-append)
+commas_between text_of v (w ∷ vs) = search (rules, length-append, commas_between text_of w vs)
 
 brackets_around : {A : Type 0} (text_of : A → List ℕ) (v : A) (vs : List A)
     → length (91 ∷ separated text_of (v ∷ vs) ++ 93 ∷ []) ≡ 1
     + length (each_with_comma text_of (v ∷ vs))
-brackets_around text_of v vs = omega (
-  arith,
-  commas_between text_of v vs,
-  length-append (separated text_of (v ∷ vs)) (93 ∷ []),
-)
+brackets_around text_of v vs = search (rules, commas_between, length-append)
 
 pub violation_above : (g : Grammar) (p : ℕ) (v : Value g) (r : ℕ) → IsViolation g p v r → p ≤ r
 unfolding IsViolation
@@ -116,11 +76,7 @@ violation_above Str p v r at = absurd at
 violation_above (Then a b) p v r (inl at) = violation_above a p v.0 r at
 violation_above (Then a b) p v r (inr at) = omega
     (arith, violation_above b (p + length (text a v.0)) v.1 r at)
-violation_above (Many order g) p vs r at = omega (
-  arith,
-  among_above order (key g) (text g) (IsViolation g) (violation_above g) None (p + 1) vs r
-      at,
-)
+violation_above (Many order g) p vs r at = search (rules, among_above, violation_above g)
 
 list_below : {A : Type 0} (order : ListOrder) (key_of text_of : A → List ℕ)
     (Within : ℕ → A → ℕ → Type 0)
@@ -140,15 +96,11 @@ pub violation_below : (g : Grammar) (p : ℕ) (v : Value g) (r : ℕ) → IsViol
 unfolding IsViolation text
 violation_below (Fixed bytes) p v r at = absurd at
 violation_below Str p v r at = absurd at
-violation_below (Then a b) p v r (inl at) = omega
-    (arith, violation_below a p v.0 r at, length-append (text a v.0) (text b v.1))
-violation_below (Then a b) p v r (inr at) = omega (
-  arith,
-  violation_below b (p + length (text a v.0)) v.1 r at,
-  length-append (text a v.0) (text b v.1),
-)
-violation_below (Many order g) p vs r at = list_below order (key g) (text g) (IsViolation g)
-    (violation_below g) p vs r at
+violation_below (Then a b) p v r (inl at) =
+    search (rules, length-append, violation_below a p v.0 r at)
+violation_below (Then a b) p v r (inr at) =
+    search (rules, length-append, violation_below b (p + length (text a v.0)) v.1 r at)
+violation_below (Many order g) p vs r at = search (rules, list_below, violation_below g)
 
 -- ---- the least place
 

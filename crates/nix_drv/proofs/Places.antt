@@ -1,5 +1,5 @@
 -- What a binary search finds among keys that rise; those of a derivation do.
-use Rattle.std.proofs.Common.{◌≡◌, ◌↔◌, ℕ, zero, suc, ◌+◌, ◌<◌, true, false, List, [], ◌∷◌, length, map, get_or, Option, Some, None, IfSome, IsTrue, refl, sym, ap, subst, ◌∙◌, inl, inr, arith}
+use Rattle.std.proofs.Common.{◌≡◌, ◌↔◌, ℕ, zero, suc, ◌+◌, ◌<◌, true, false, List, [], ◌∷◌, length, map, get_or, Option, Some, None, IfSome, IsTrue, refl, sym, ap, subst, ◌∙◌, inl, inr, arith, rules}
 use Rattle.std.specs.Prelude.{Contains}
 use Rattle.std.specs.Cmp.Lexicographic.{bytes_decides, slice_cmp, texts_ties}
 use Rattle.std.specs.Fn.{AlwaysReturns, Called, ReturnsEach}
@@ -19,10 +19,10 @@ use denote.Param.Members.{Mut}
 use Rattle.nix_names.specs.Rising.{IsRising}
 use Rattle.nix_names.proofs.Lists.{element}
 use Rattle.nix_names.proofs.RisingLists.{sorted_from_rising}
-use Rattle.nix_drv.specs.Derivation.{Drv, EnvEntry, Input, Output, derivation_form, drv_value, entry_form, entry_value, input_form, input_value, output_form, output_value}
+use Rattle.nix_drv.specs.Derivation.{Drv, Input, derivation_form, drv_value, entry_form, entry_value, input_form, input_value, output_form, output_value}
 use Rattle.nix_drv.specs.Grammar.{Str}
 use Rattle.nix_drv.specs.Order.{Each, InOrder, KeysRise, key}
-use Rattle.nix_drv.specs.Parts.{drv_of, entry_of, input_of, output_of}
+use Rattle.nix_drv.specs.Parts.{drv_of, input_of}
 use Rattle.nix_drv.specs.Places.{IsPlaceOfKey, env_keys, output_names}
 use Rattle.nix_drv.specs.declared.derivation.EnvEntry.{EnvEntry as EnvEntryStruct}
 use Rattle.nix_drv.specs.declared.derivation.Input.{Input as InputStruct}
@@ -39,8 +39,7 @@ always_answers {F} {X} {R} g P f answers = record { at = each }
   where
     each : (xs : List X) → ReturnsEach g P f xs
     each [] = tt
-    each (a ∷ xs) = λ r f' called. let h = answers a r f' called
-        in (h.0, subst (λ (q : F). ReturnsEach g P q xs) (sym h.1) (each xs))
+    each (a ∷ xs) = search (rules, each xs)
 
 tied : (x y : List ℕ) → slice_cmp nat_cmp x y ≡ Equal → x ≡ y
 tied x y e = (bytes_decides x y).0 (texts_ties x y ∙ ap is_eq e)
@@ -123,17 +122,12 @@ env_rises drv ordered =
 pub output_keys : (parts : Parts) (drv : Drv) (outputs : List OutputStruct) → drv_of parts ≡ drv
     → outputs ≡ parts.outputs.items
     → map (λ (o : OutputStruct). o.name.items) outputs ≡ output_names drv
-output_keys parts drv outputs view same =
-    ap (map (λ (o : OutputStruct). o.name.items)) same
-    ∙ sym (map-map (λ (o : Output). o.name) output_of parts.outputs.items)
-    ∙ ap output_names view
+output_keys parts drv outputs view same = search (rules, map-map)
 
 pub entry_keys : (parts : Parts) (drv : Drv) (entries : List EnvEntryStruct) → drv_of parts ≡ drv
     → entries ≡ parts.env.items
     → map (λ (e : EnvEntryStruct). e.key.items) entries ≡ env_keys drv
-entry_keys parts drv entries view same =
-    ap (map (λ (e : EnvEntryStruct). e.key.items)) same
-    ∙ sym (map-map (λ (e : EnvEntry). e.key) entry_of parts.env.items) ∙ ap env_keys view
+entry_keys parts drv entries view same = search (rules, map-map)
 
 pub outputs_rise_here : (parts : Parts) (drv : Drv) → drv_of parts ≡ drv
     → InOrder derivation_form (drv_value (drv_of parts)) → IsRising (output_names drv)
@@ -149,12 +143,12 @@ env_rises_here parts drv view ordered = subst (λ (d : Drv). IsRising (env_keys 
 each_at : {A : Type 0} (P : A → Type 0) (vs : List A) (k : ℕ) (v : A) → Each P vs → slice_get vs k
     ≡ Some v → P v
 each_at P [] k v all at = absurd cc
-each_at P (w ∷ ws) zero v all at = let same : w ≡ v = cc in subst P same all.0
+each_at P (w ∷ ws) zero v all at = search rules
 each_at P (w ∷ ws) (suc k) v all at = each_at P ws k v all.1 at
 
 map_itself : (names : List (List ℕ)) → map (key Str) names ≡ names
 map_itself [] = refl
-map_itself (n ∷ ns) = ap (λ (l : List (List ℕ)). n ∷ l) (map_itself ns)
+map_itself (n ∷ ns) = search (rules, map_itself ns)
 
 -- the names of an input rise
 pub names_rise : (drv : Drv) (k : ℕ) (input : Input) → InOrder derivation_form (drv_value drv)
@@ -172,15 +166,7 @@ names_rise drv k input ordered at =
 pub input_at : (parts : Parts) (drv : Drv) (k : ℕ) (input : InputStruct) → drv_of parts ≡ drv → k
     < length drv.inputs
     → input ≡ get_or parts.inputs.items k input → slice_get drv.inputs k ≡ Some (input_of input)
-input_at parts drv k input view low is =
-    let same : map input_of parts.inputs.items ≡ drv.inputs = ap (λ (d : Drv). d.inputs) view in
-    let within : k < length parts.inputs.items =
-    omega (arith, low, ap (length {A = Input}) same, length-map parts.inputs.items input_of) in
-    let here : slice_get parts.inputs.items k
-    ≡ Some input = slice_get_read parts.inputs.items (length parts.inputs.items) k input refl
-    within is in
-    ap (λ (l : List Input). slice_get l k) (sym same) ∙ slice_get-map input_of parts.inputs.items k
-    ∙ ap (option_map input_of) here
+input_at parts drv k input view low is = search (rules, length-map, slice_get_read, slice_get-map)
 
 pub names_rise_here : (parts : Parts) (drv : Drv) (k : ℕ) (input : Input) → drv_of parts ≡ drv
     → InOrder derivation_form (drv_value (drv_of parts))
@@ -207,6 +193,4 @@ used_found inputs k input name place at found =
 pub used_none : (inputs : List Input) (k : ℕ) (input : Input) (name : List ℕ) → slice_get inputs k
     ≡ Some input → IsPlaceOfKey input.names name None
     → IfSome (slice_get inputs k) (λ used. IsTrue false ↔ Contains used.names name)
-used_none inputs k input name at none =
-    subst (λ (o : Option Input). IfSome o (λ used. IsTrue false ↔ Contains used.names name))
-    (sym at) (λ told. absurd (false≢true told), λ has. absurd (none has))
+used_none inputs k input name at none = search (rules, false≢true)

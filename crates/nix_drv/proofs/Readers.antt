@@ -1,5 +1,5 @@
 -- Readers that are exact: of fixed bytes, of something behind one byte, and of two parts in order.
-use Rattle.std.proofs.Common.{◌≡◌, ℕ, ◌≤◌, false, List, [], ◌∷◌, ◌++◌, length, Result, Ok, Err, refl, sym, ap, ◌∙◌, append_assoc, arith, inl, inr, ◌⊎◌}
+use Rattle.std.proofs.Common.{◌≡◌, ℕ, ◌≤◌, false, List, [], ◌∷◌, ◌++◌, length, Result, Ok, Err, refl, sym, ap, ◌∙◌, append_assoc, arith, inl, inr, ◌⊎◌, rules}
 use Rattle.std.proofs.lemmas.List.{append-nil}
 use Rattle.nix_drv.specs.Grammar.{Begins, IsFrontOfBytes}
 use Rattle.nix_drv.specs.Reading.{◌>>=◌, fixed_at, bytes_at, left_of}
@@ -20,8 +20,7 @@ pub record IsReader {A : Type 0} (text_of : A → List ℕ) (IsFrontOf : List �
 pub reader_shrinks : {A : Type 0} {text_of : A → List ℕ} {IsFrontOf : List ℕ → Type 0}
     {reading : List ℕ → Result (A × List ℕ) ℕ} → IsReader text_of IsFrontOf reading → (s : List ℕ)
     → left_of (reading s) ≤ length s
-reader_shrinks {A} {text_of} {IsFrontOf} {reading} r s =
-    told_shrinks text_of IsFrontOf s (reading s) (r.told s)
+reader_shrinks {A} {text_of} {IsFrontOf} {reading} r s = search (rules, told_shrinks)
 
 pub fixed_reader : (bytes : List ℕ) → IsReader {A = Unit {0}} (λ _. bytes)
     (λ front. Begins front bytes) (fixed_at bytes)
@@ -70,16 +69,8 @@ behind_told : {A : Type 0} (b : ℕ) (text_of : A → List ℕ) (IsFrontOf : Lis
     → (s : List ℕ) (first : Result (Unit {0} × List ℕ) ℕ)
     → Told (λ _. b ∷ []) (λ front. Begins front (b ∷ [])) s first
     → Told (λ v. b ∷ text_of v) (FrontBehind b IsFrontOf) s (first >>= λ x. reading x.1)
-behind_told b text_of IsFrontOf reading h s (Ok x) told =
-    second_told b text_of IsFrontOf s x.1 (reading x.1) told (h x.1)
-behind_told b text_of IsFrontOf reading h s (Err left) told =
-    record {
-      front = told.front;
-      rest = told.rest;
-      parts = told.parts;
-      is_front = inl told.is_front;
-      is_left = told.is_left;
-    }
+behind_told b text_of IsFrontOf reading h s (Ok x) told = search (rules, second_told, told)
+behind_told b text_of IsFrontOf reading h s (Err left) told = search rules
 
 pub behind_reader : {A : Type 0} (b : ℕ) (text_of : A → List ℕ) (IsFrontOf : List ℕ → Type 0)
     (reading : List ℕ → Result (A × List ℕ) ℕ) → IsReader text_of IsFrontOf reading
@@ -117,9 +108,8 @@ later_told : {A B : Type 0} (first_text : A → List ℕ) (second_text : B → L
     ≡ first_text v ++ t → Told second_text IsSecond t r
     → Told {A = A × B} (λ w. first_text w.0 ++ second_text w.1)
     (FrontOfBoth first_text IsFirst IsSecond) s (r >>= λ y. Ok ((v, y.0), y.1))
-later_told first_text second_text IsFirst IsSecond s t v (Ok y) e told = e
-    ∙ ap (λ (u : List ℕ). first_text v ++ u) told
-    ∙ sym (append_assoc (first_text v) (second_text y.0) y.1)
+later_told first_text second_text IsFirst IsSecond s t v (Ok y) e told =
+    search (rules, told, append_assoc)
 later_told first_text second_text IsFirst IsSecond s t v (Err left) e told = record {
   front = first_text v ++ told.front;
   rest = told.rest;
@@ -138,14 +128,7 @@ both_told : {A B : Type 0} (first_text : A → List ℕ) (second_text : B → Li
     (first >>= λ x. second x.1 >>= λ y. Ok ((x.0, y.0), y.1))
 both_told first_text second_text IsFirst IsSecond second h s (Ok x) told =
     later_told first_text second_text IsFirst IsSecond s x.1 x.0 (second x.1) told (h x.1)
-both_told first_text second_text IsFirst IsSecond second h s (Err left) told =
-    record {
-      front = told.front;
-      rest = told.rest;
-      parts = told.parts;
-      is_front = inl told.is_front;
-      is_left = told.is_left;
-    }
+both_told first_text second_text IsFirst IsSecond second h s (Err left) told = search rules
 
 pub both_reader : {A B : Type 0} (first_text : A → List ℕ) (second_text : B → List ℕ)
     (IsFirst IsSecond : List ℕ → Type 0) (first : List ℕ → Result (A × List ℕ) ℕ)

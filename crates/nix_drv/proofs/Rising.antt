@@ -1,5 +1,5 @@
 -- A value keeps the order rules where the keys of its lists rise.
-use Rattle.std.proofs.Common.{◌≡◌, ◌↔◌, ℕ, ◌+◌, Bool, true, false, List, [], ◌∷◌, length, Option, Some, None, map, refl, sym, ap, ◌∙◌, inl, inr, ⊎_elim}
+use Rattle.std.proofs.Common.{◌≡◌, ◌↔◌, ℕ, ◌+◌, Bool, true, List, [], ◌∷◌, length, Option, Some, None, map, refl, ap, inl, inr, rules}
 use Rattle.std.specs.Prelude.{not}
 use Rattle.std.specs.Ordering.{is_lt}
 use Rattle.std.proofs.lemmas.Bool.{cases_Bool}
@@ -13,22 +13,19 @@ behind None ks = ks
 behind (Some before) ks = before ∷ ks
 
 not_both : (b : Bool) → b ≡ true → not b ≡ true → ⊥
-not_both b is isnt = let t : false ≡ true = sym (ap not is) ∙ isnt in absurd cc
+not_both b is isnt = search rules
 
 stands_more : (order : ListOrder) (before : Option (List ℕ)) (k : List ℕ) (ks : List (List ℕ))
     → (breaks order before k ≡ true → ⊥) → MayBeKeys order (k ∷ ks)
     → MayBeKeys order (behind before (k ∷ ks))
 stands_more Free before k ks none h = tt
 stands_more Rising None k ks none h = h
-stands_more Rising (Some a) k ks none h = (
-  below_from_lt a k (⊎_elim (λ e. e) (λ e. absurd (none (ap not e))) (cases_Bool (is_less a k))),
-  h,
-)
+stands_more Rising (Some a) k ks none h = search (rules, below_from_lt, cases_Bool)
 
 breaks_none : (order : ListOrder) (before : Option (List ℕ)) (k : List ℕ) (ks : List (List ℕ))
     → MayBeKeys order (behind before (k ∷ ks)) → breaks order before k ≡ true → ⊥
-breaks_none Free before k ks h e = let t : false ≡ true = e in absurd cc
-breaks_none Rising None k ks h e = let t : false ≡ true = e in absurd cc
+breaks_none Free before k ks h e = search rules
+breaks_none Rising None k ks h e = search rules
 breaks_none Rising (Some a) k ks h e = not_both (is_less a k) (ap is_lt h.0) e
 
 stands_last : (order : ListOrder) (before : Option (List ℕ)) → MayBeKeys order (behind before [])
@@ -64,7 +61,7 @@ rises_among : {A : Type 0} (order : ListOrder) (key_of text_of : A → List ℕ)
     → IsViolationAmong order key_of text_of Within before p vs r → ⊥
 rises_among order key_of text_of Within Rises one before p [] stands each r at = at
 rises_among order key_of text_of Within Rises one before p (v ∷ vs) stands each r (inl at) =
-    breaks_none order before (key_of v) (map key_of vs) stands at.0
+    search (rules, breaks_none)
 rises_among order key_of text_of Within Rises one before p (v ∷ vs) stands each r (inr (inl at)) =
     one p v each.0 r at
 rises_among order key_of text_of Within Rises one before p (v ∷ vs) stands each r (inr (inr at)) =

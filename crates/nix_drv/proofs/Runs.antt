@@ -1,7 +1,7 @@
 -- Reading fixed bytes one by one, and a string by runs of plain bytes.
-use Rattle.std.proofs.Common.{◌≡◌, ℕ, zero, suc, ◌<◌, ◌≤◌, Bool, true, false, List, [], ◌∷◌, ◌++◌, length, get_or, take, drop, Option, Some, None, Result, Ok, Err, refl, sym, ap, ◌∙◌, arith, drop-cons}
+use Rattle.std.proofs.Common.{◌≡◌, ℕ, zero, suc, ◌<◌, ◌≤◌, Bool, true, false, List, [], ◌∷◌, ◌++◌, length, get_or, take, drop, Option, Some, None, Result, Ok, Err, refl, sym, ap, ◌∙◌, arith, drop-cons, rules}
 use Rattle.std.specs.Prelude.{unwrap_or}
-use Rattle.std.specs.List.{position, position_or_len}
+use Rattle.std.specs.List.{position}
 use Rattle.std.proofs.lemmas.Grind.{common_steps}
 use Rattle.std.proofs.lemmas.List.{append-nil, nil_from_length}
 use Rattle.std.proofs.lemmas.List.Quantifiers.{position-Some}
@@ -25,8 +25,7 @@ fixed_ends wanted rest i lt short =
 -- ---- runs of plain bytes
 
 pub is_plain-true : (b : ℕ) → is_plain b ≡ true → IsPlain b
-is_plain-true = by_byte (λ b. is_plain b ≡ true → IsPlain b) (λ e. absurd cc) (λ e. absurd cc)
-    (λ e. absurd cc) (λ e. absurd cc) (λ e. absurd cc) (λ b plain e. plain)
+is_plain-true = search (rules, by_byte)
 
 -- a run of plain bytes is read as itself
 pub bytes_at-run : (n : ℕ) (s : List ℕ) → n ≤ length s
@@ -58,29 +57,15 @@ follow (Some b) s = before (b ∷ []) (bytes_at false s)
 escape_open : (s : List ℕ) → bytes_at true s ≡ (escape_at s >>= λ x. follow x.0 x.1)
 unfolding bytes_at
 escape_open [] = refl
-escape_open (letter ∷ s) =
-    by_letter (λ x. bytes_at true (x ∷ s) ≡ (escape_at (x ∷ s) >>= λ y. follow y.0 y.1)) refl refl
-    refl refl refl
-    (λ x none. bytes_at-refused x s none ∙ rw none refl) letter
+escape_open (letter ∷ s) = search (rules, by_letter, follow, bytes_at-refused)
 
 byte_at-plain : (b : ℕ) (s : List ℕ) → IsPlain b → byte_at (b ∷ s) ≡ Ok (Some b, s)
-byte_at-plain b s plain = rw (
-  plain.no_quote,
-  plain.no_backslash,
-  plain.no_newline,
-  plain.no_return,
-  plain.no_tab,
-) refl
+byte_at-plain b s plain = search rules
 
 bytes_open : (s : List ℕ) → bytes_at false s ≡ (byte_at s >>= λ x. follow x.0 x.1)
 unfolding bytes_at
 bytes_open [] = refl
-bytes_open (b ∷ s) =
-    by_byte (λ x. bytes_at false (x ∷ s) ≡ (byte_at (x ∷ s) >>= λ y. follow y.0 y.1)) refl
-    (escape_open s) refl refl refl
-    (λ x plain. bytes_at-plain x s plain ∙ ap
-    (λ (r : Result (Option ℕ × List ℕ) ℕ). r >>= λ y. follow y.0 y.1)
-    (sym (byte_at-plain x s plain))) b
+bytes_open (b ∷ s) = search (rules, by_byte, follow, escape_open, bytes_at-plain, byte_at-plain)
 
 abbrev following : Result (Option ℕ × List ℕ) ℕ → Result (List ℕ × List ℕ) ℕ
 following r = r >>= λ x. follow x.0 x.1
@@ -89,24 +74,19 @@ following r = r >>= λ x. follow x.0 x.1
 pub byte_fails : (stop : Stop) (items s : List ℕ) (total : Result (List ℕ × List ℕ) ℕ)
     → before items (bytes_at false s) ≡ total → Fails stop (byte_at s) → Fails stop total
 byte_fails NoMemory items s total so_far fails = tt
-byte_fails (Left left) items s total so_far fails = sym so_far
-    ∙ ap (before items) (bytes_open s ∙ ap following fails)
+byte_fails (Left left) items s total so_far fails = search (rules, bytes_open, following)
 
 -- one more byte
 pub byte_more : (items s : List ℕ) (b : ℕ) (rest : List ℕ) (total : Result (List ℕ × List ℕ) ℕ)
     → before items (bytes_at false s) ≡ total → byte_at s ≡ Ok (Some b, rest)
     → before (items ++ b ∷ []) (bytes_at false rest) ≡ total
-byte_more items s b rest total so_far e =
-    sym (before-before items (b ∷ []) (bytes_at false rest))
-    ∙ ap (before items) (sym (bytes_open s ∙ ap following e)) ∙ so_far
+byte_more items s b rest total so_far e = search (rules, before-before, bytes_open, following)
 
 -- the last quote
 pub byte_none : (items s rest : List ℕ) (total : Result (List ℕ × List ℕ) ℕ)
     → before items (bytes_at false s) ≡ total → byte_at s ≡ Ok (None, rest) → total
     ≡ Ok (items, rest)
-byte_none items s rest total so_far e =
-    sym so_far ∙ ap (before items) (bytes_open s ∙ ap following e)
-    ∙ ap (λ (xs : List ℕ). Ok (xs, rest)) (append-nil items)
+byte_none items s rest total so_far e = search (rules, bytes_open, following, append-nil)
 
 -- ---- where a run ends
 
@@ -114,14 +94,11 @@ byte_none items s rest total so_far e =
 pub first_within : (test : ℕ → Bool) (s : List ℕ) (n : ℕ) (place : Option ℕ) → place
     ≡ position test s → n ≡ unwrap_or place (length s) → n ≤ length s
 first_within test s n None e is = omega arith
-first_within test s n (Some i) e is = let at = position-Some test s i 0 (sym e)
-    in omega (arith, at.0)
+first_within test s n (Some i) e is = search (rules, position-Some)
 
 none_within : (test : ℕ → Bool) (s : List ℕ) → position test s ≡ None → (k : ℕ) → k < length s
     → test (get_or s k 0) ≡ false
-none_within test s e k lt =
-    let out : length s ≤ position_or_len test s = grind (arith, common_steps) in
-    fails_before_first test s k 0 (omega arith)
+none_within test s e k lt = search (rules, common_steps, fails_before_first)
 
 pub none_before : (test : ℕ → Bool) (s : List ℕ) (n : ℕ) (place : Option ℕ) → place
     ≡ position test s → n ≡ unwrap_or place (length s) → (k : ℕ) → k < n → test (get_or s k 0)
@@ -133,4 +110,4 @@ none_before test s n (Some i) e is k lt = let at = position-Some test s i 0 (sym
 pub passes_there : (test : ℕ → Bool) (s : List ℕ) (n : ℕ) (place : Option ℕ) → place
     ≡ position test s → n ≡ unwrap_or place (length s) → n < length s → test (get_or s n 0) ≡ true
 passes_there test s n None e is lt = absurd (omega arith)
-passes_there test s n (Some i) e is lt = let at = position-Some test s i 0 (sym e) in rw is at.1
+passes_there test s n (Some i) e is lt = search (rules, position-Some)

@@ -1,5 +1,5 @@
 -- Strings are spelled by runs of plain bytes and single bytes; how long their texts are.
-use Rattle.std.proofs.Common.{◌≡◌, ℕ, zero, suc, ◌+◌, ◌-◌, ◌<◌, ◌≤◌, true, List, [], ◌∷◌, ◌++◌, length, get_or, take, drop, Option, Some, None, is_some, cond, Result, refl, sym, ap, ◌∙◌, append_assoc, arith, OnOk}
+use Rattle.std.proofs.Common.{◌≡◌, ℕ, zero, suc, ◌+◌, ◌-◌, ◌<◌, ◌≤◌, true, List, [], ◌∷◌, ◌++◌, length, get_or, take, drop, Option, Some, None, is_some, cond, Result, refl, sym, ap, ◌∙◌, append_assoc, arith, OnOk, rules}
 use Rattle.std.specs.Prelude.{if◌then◌else◌, count_by, is_ok}
 use Rattle.std.specs.List.{flat_map}
 use Rattle.std.proofs.lemmas.List.{append-nil, length-append, nil_from_length, take_all}
@@ -18,8 +18,7 @@ by_letter_of b l e = ap (spelled b) e
 pub byte_added : {E : Type 0} (r : Result (Unit {0}) E) (old new : List ℕ) (b : ℕ) (l : Option ℕ)
     → l ≡ letter b → new ≡ (if is_ok r then old ++ spelled b l else old)
     → OnOk r (new ≡ old ++ spelling b)
-byte_added r old new b l e is = added_last r old new (spelled b l) (old ++ spelling b)
-    (ap (λ (t : List ℕ). old ++ t) (by_letter_of b l e)) is
+byte_added r old new b l e is = search (rules, added_last, by_letter_of)
 
 -- a run of plain bytes is spelled as itself
 pub spelled_run : (n : ℕ) (s : List ℕ) → n ≤ length s
@@ -53,12 +52,11 @@ pub string_end : (place escapes first second last : ℕ) (v : List ℕ) → esca
     → first ≡ behind place (length v) → second ≡ behind first escapes → last ≡ behind second 2
     → last ≡ behind place (length (string_text v))
 string_end place escapes first second last v e one two three =
-    omega (arith, length-spellings v, length-append (flat_map spelling v) (34 ∷ []))
+    search (rules, length-spellings, length-append)
 
 rest_behind : (s : List ℕ) → 1 ≤ length s → get_or s 0 0 ∷ take (length s - 1) (drop 1 s) ≡ s
 rest_behind [] long = absurd (omega arith)
-rest_behind (b ∷ s) long = ap (λ (t : List ℕ). b ∷ t)
-    (take_all (length (b ∷ s) - 1) s (omega arith))
+rest_behind (b ∷ s) long = search (rules, take_all)
 
 -- a run and the byte behind it
 run_spelled : (part rest run special : List ℕ) (n byte : ℕ) (total : List ℕ) → n ≤ length rest
@@ -68,13 +66,7 @@ run_spelled : (part rest run special : List ℕ) (n byte : ℕ) (total : List �
     → (part ++ run ++ spelling byte) ++ flat_map spelling
     (take (length special - 1) (drop 1 special)) ≡ total
 run_spelled part rest run special n byte total fits plain so_far run_is special_is long byte_is =
-    let whole : spelling byte ++ flat_map spelling (take (length special - 1) (drop 1 special))
-    ≡ flat_map spelling special =
-    ap (λ (b : ℕ). spelling b ++ flat_map spelling (take (length special - 1) (drop 1 special)))
-    byte_is ∙ ap (flat_map spelling) (rest_behind special long) in
-    rw run_is (simp append_assoc
-    (ap (λ (t : List ℕ). part ++ (take n rest ++ t)) (whole ∙ ap (flat_map spelling) special_is)
-    ∙ ap (λ (t : List ℕ). part ++ t) (sym (spelled_run n rest fits plain)) ∙ so_far))
+    search (rules, rest_behind, append_assoc, spelled_run)
 
 -- the last run, with nothing behind it
 last_spelled : (part rest run special : List ℕ) (n : ℕ) (total : List ℕ) → n ≤ length rest

@@ -1,5 +1,5 @@
 -- One reading after another: what is known of both.
-use Rattle.std.proofs.Common.{◌≡◌, ℕ, ◌≤◌, List, [], ◌++◌, length, Result, Ok, Err, refl, sym, ap, append_assoc, arith}
+use Rattle.std.proofs.Common.{◌≡◌, ℕ, ◌≤◌, List, [], ◌++◌, length, Result, Ok, Err, refl, ap, append_assoc, arith, rules}
 use Rattle.std.proofs.lemmas.List.{length-append}
 use Rattle.nix_drv.specs.Reading.{◌>>=◌, before, left_of}
 
@@ -28,8 +28,7 @@ le_by_front s front rest e = omega (arith, ap length e, length-append front rest
 pub told_shrinks : {A : Type 0} (text_of : A → List ℕ) (Front : List ℕ → Type 0) (s : List ℕ)
     (reading : Result (A × List ℕ) ℕ) → Told text_of Front s reading → left_of reading ≤ length s
 told_shrinks text_of Front s (Ok x) told = le_by_front s (text_of x.0) x.1 told
-told_shrinks text_of Front s (Err left) told =
-    omega (arith, le_by_front s told.front told.rest told.parts, told.is_left)
+told_shrinks text_of Front s (Err left) told = search (rules, le_by_front)
 
 -- what follows leaves no more
 pub bind_shrinks : {A B : Type 0} (reading : Result (A × List ℕ) ℕ)
@@ -49,5 +48,5 @@ before_none (Err left) = refl
 
 pub before-before : {A : Type 0} (front more : List A) (reading : Result (List A × List ℕ) ℕ)
     → before front (before more reading) ≡ before (front ++ more) reading
-before-before front more (Ok x) = ap (λ (xs : _). Ok (xs, x.1)) (sym (append_assoc front more x.0))
+before-before front more (Ok x) = search (rules, append_assoc, front)
 before-before front more (Err left) = refl
