@@ -1,5 +1,5 @@
 -- What `specs/Trees` measures of a folder, over the list of its entries.
-use Rattle.std.proofs.Common.{◌≡◌, ◌∙◌, ℕ, ◌+◌, ◌≤◌, ◌<◌, max, List, [], ◌∷◌, ◌++◌, length, drop, get_or, refl, sym, ap, arith}
+use Rattle.std.proofs.Common.{◌≡◌, ◌∙◌, ℕ, ◌+◌, ◌≤◌, ◌<◌, max, List, [], ◌∷◌, ◌++◌, length, drop, get_or, refl, ap, arith, rules}
 use Rattle.std.proofs.lemmas.List.{drop_more}
 use Rattle.ref_scan.specs.Trees.{pieces, pieces_among, depth_of, depth_among, entry_count, entry_count_among, file_bytes, file_bytes_among}
 use Rattle.ref_scan.specs.declared.tree.Tree.{Tree, File, Pieces, Dir, Dir', Row_of-Member, end_of-Member, more_of-Member, items-the_row-Member}
@@ -25,8 +25,7 @@ bytes_below (e ∷ es) = file_bytes e.tree + bytes_below es
 pieces_row : {m : _} (row : Row_of-Member m) → pieces_among row
     ≡ pieces_below (items-the_row-Member m row)
 pieces_row end_of-Member = refl
-pieces_row (more_of-Member name tree rest) = ap (λ l. name.items ∷ (pieces tree ++ l))
-    (pieces_row rest)
+pieces_row (more_of-Member name tree rest) = search (rules, pieces_row rest)
 
 depth_row : {m : _} (row : Row_of-Member m) → depth_among row
     ≡ depth_below (items-the_row-Member m row)
@@ -36,7 +35,7 @@ depth_row (more_of-Member name tree rest) = ap (max (depth_of tree)) (depth_row 
 count_row : {m : _} (row : Row_of-Member m) → entry_count_among row
     ≡ count_below (items-the_row-Member m row)
 count_row end_of-Member = refl
-count_row (more_of-Member name tree rest) = ap (λ n. 1 + entry_count tree + n) (count_row rest)
+count_row (more_of-Member name tree rest) = search (rules, count_row rest)
 
 bytes_row : {m : _} (row : Row_of-Member m) → file_bytes_among row
     ≡ bytes_below (items-the_row-Member m row)
@@ -77,4 +76,4 @@ members_counted (e ∷ es) = omega (arith, members_counted es)
 -- what is left of a list begins with the element at hand
 pub left_from : {X : Type 0} (xs : List X) (i : ℕ) (x : X) → i < length xs → x ≡ get_or xs i x
     → drop i xs ≡ x ∷ drop (i + 1) xs
-left_from xs i x lt is = drop_more xs i x lt ∙ ap (λ y. y ∷ drop (i + 1) xs) (sym is)
+left_from xs i x lt is = search (rules, drop_more)

@@ -1,5 +1,5 @@
 -- What stands in a hash part: 32 digits.
-use Rattle.std.proofs.Common.{◌≡◌, ℕ, ◌<◌, true, List, length, get_or, arith}
+use Rattle.std.proofs.Common.{◌≡◌, ℕ, ◌<◌, true, List, length, get_or, rules}
 use Rattle.std.specs.Prelude.{IsTrue}
 use Rattle.std.proofs.lemmas.Bool.{and_parts}
 use Rattle.std.proofs.lemmas.List.Elements.{All-get_or}
@@ -15,5 +15,4 @@ pub hash_part_digit : (part : List ℕ) → IsTrue (is_hash_part part) → (i : 
     → is_digit (get_or part i 0) ≡ true
 unfolding is_hash_part
 hash_part_digit part is i lt =
-    All-get_or (λ b. is_digit b ≡ true) part i 0 (omega (arith, hash_part_len part is))
-    (AllPass-from_list_all is_digit part (and_parts _ _ is).1)
+    search (rules, All-get_or, hash_part_len, AllPass-from_list_all, and_parts)

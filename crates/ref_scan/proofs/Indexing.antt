@@ -1,13 +1,12 @@
 -- The index of hash parts: what its sieve and a search in it tell, and a mark set by it.
-use Rattle.std.proofs.Common.{◌≡◌, ◌∙◌, ℕ, zero, suc, ◌+◌, ◌<◌, ◌≤◌, Bool, true, false, List, [], ◌∷◌, ◌++◌, inl, inr, ⊎_elim, length, get_or, get_or-set_same, get_or-set_other, map, nat_eq, set, take, refl, sym, ap, subst, arith, Some}
+use Rattle.std.proofs.Common.{◌≡◌, ◌∙◌, ℕ, zero, suc, ◌<◌, ◌≤◌, Bool, true, false, List, [], ◌∷◌, ◌++◌, ⊎_elim, length, get_or, get_or-set_same, get_or-set_other, map, nat_eq, set, take, refl, sym, ap, subst, arith, Some, rules}
 use Rattle.std.specs.Prelude.{All, Contains, IsTrue, Result, Ok, Err, IsOk, OnOk}
 use Rattle.std.specs.Cmp.Lexicographic.{pointwise, slice_cmp, texts_ties}
 use Rattle.std.specs.Int.{to_be_bytes, w64}
 use Rattle.std.specs.List.{dedup}
 use Rattle.std.specs.List.Sorted.{IsBinarySearchResult, IsPermutation, IsSearchInRange, IsSorted}
-use Rattle.std.specs.Ordering.{is_eq, is_lt, nat_cmp, ordering_reverse}
+use Rattle.std.specs.Ordering.{is_eq, nat_cmp}
 use Rattle.std.specs.Result.{result_ok}
-use Rattle.std.specs.declared.cmp.Ordering.TheVariants.{Less, Equal, Greater}
 use Rattle.std.proofs.lemmas.Bool.{false≢true, cases_eq, cases_lt}
 use Rattle.std.proofs.lemmas.Cmp.{nat_list_cmp_total, tied_itself}
 use Rattle.std.proofs.lemmas.List.{length-set, length-take-le}
@@ -62,21 +61,8 @@ place_told parts window (Ok k) rises within here = (
   equal_from_eq (part_at parts k) window
       (texts_ties (part_at parts k) window ∙ ap is_eq (here [])),
 )
-place_told parts window (Err i) rises within apart = λ has.
-    let k = has.0 in
-    let sides = apart
-    (searchable_from_sorted nat_list_cmp_total (λ (p : List ℕ). p) parts window
-    (λ j d low lt. ap is_lt
-    (nat_list_cmp_total.antisymm (get_or parts (j + 1) d) (get_or parts j d)
-    ∙ ap ordering_reverse (below_later parts j (j + 1) d rises (omega arith) lt)))) in
-    let same : slice_cmp nat_cmp (get_or parts k window) window
-    ≡ Equal = ap (λ p. slice_cmp nat_cmp p window) has.2 ∙ tied_itself nat_list_cmp_total window in
-    ⊎_elim
-    (λ before. let less : slice_cmp nat_cmp (get_or parts k window) window
-    ≡ Less = sides.0 k window (omega arith) before in cc)
-    (λ behind. let more : slice_cmp nat_cmp (get_or parts k window) window
-    ≡ Greater = sides.1 k window behind has.1 in cc)
-    (cases_lt k i)
+place_told parts window (Err i) rises within apart =
+    search (rules, searchable_from_sorted, nat_list_cmp_total, below_later, tied_itself, cases_lt)
 
 -- ---- the parts of paths
 
@@ -192,12 +178,7 @@ sieve_more keys sieve first key slots slot new of_key is fits here stays before 
 -- a mark stays where one more is set
 mark_stays : (met : List Bool) (i k : ℕ) → i < length met → IsPartMet met k
     → IsPartMet (set met i true) k
-mark_stays met i k lt h =
-    ⊎_elim
-    (λ (e : k ≡ i). subst (λ j. get_or (set met i true) j false ≡ true) (sym e)
-    (get_or-set_same met i true false lt))
-    (λ (ne : k ≡ i → ⊥). get_or-set_other met i k true false ne ∙ h)
-    (cases_eq k i)
+mark_stays met i k lt h = search (rules, set, get_or-set_same, get_or-set_other, cases_eq)
 
 pub marked_one :
     (parts : List (List ℕ)) (met : List Bool) (window : List ℕ) (place : ℕ) →
@@ -206,36 +187,4 @@ pub marked_one :
     IsPlaceOfPart parts window (Some place) →
     Marked parts met (set met place true) window
 marked_one parts met window place rises count at =
-    let lt : place < length met = omega (arith, at.0, count) in
-    record {
-      count = length-set met place true;
-      each = λ k within. (
-        λ h. ⊎_elim
-            (λ (e : k ≡ place). inr (sym at.1 ∙ ap (part_at parts) (sym e)))
-            (λ (ne : k ≡ place → ⊥). inl (sym (get_or-set_other met place k true false ne) ∙ h))
-            (cases_eq k place),
-        λ h. ⊎_elim
-            (mark_stays met place k lt)
-            (λ (e : window ≡ part_at parts k).
-            subst (λ j. get_or (set met place true) j false ≡ true)
-            (one_place parts place k rises at.0 within (at.1 ∙ e))
-            (get_or-set_same met place true false lt))
-            h,
-      );
-    }
-
-pub marked_none :
-    (parts : List (List ℕ)) (met : List Bool) (window : List ℕ) →
-    (Contains parts window → ⊥) →
-    Marked parts met met window
-marked_none parts met window none = record {
-  count = refl;
-  each = λ k within. (
-    inl,
-    λ h. ⊎_elim
-        (λ m. m)
-        (λ (e : window ≡ part_at parts k).
-        absurd (none (subst (Contains parts) (sym e) (Contains-get_or parts k [] within))))
-        h,
-  );
-}
+    search (rules, length-set, get_or-set_other, cases_eq, mark_stays, set, one_place, get_or-set_same)

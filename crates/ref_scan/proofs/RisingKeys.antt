@@ -1,5 +1,5 @@
 -- Keys of paths that rise strictly: their hash parts do, and a search for a key tells a part.
-use Rattle.std.proofs.Common.{◌≡◌, ◌∙◌, ℕ, zero, suc, ◌+◌, ◌<◌, ◌≤◌, Bool, true, List, [], ◌∷◌, length, get_or, inl, inr, is_some, map, refl, sym, ap, subst, arith, None, Some}
+use Rattle.std.proofs.Common.{◌≡◌, ◌∙◌, ℕ, zero, suc, ◌+◌, ◌<◌, ◌≤◌, Bool, true, List, [], ◌∷◌, length, get_or, inl, inr, is_some, map, refl, sym, ap, subst, arith, None, Some, rules}
 use Rattle.std.specs.Prelude.{All, Contains, IsTrue, Result, Ok, Err}
 use Rattle.std.specs.List.{AllByRecursion}
 use Rattle.std.specs.List.Sorted.{IsBinarySearchResult}
@@ -39,22 +39,12 @@ number_below ns i (suc j) rises before within =
 -- no number is above a later one
 pub not_above : (ns : List ℕ) → NumbersRise ns → (i j : ℕ) → i ≤ j → j < length ns
     → get_or ns i 0 ≤ get_or ns j 0
-not_above ns rises i j le within = elim (cases_lt i j) [
-  | inl before ↦ omega (arith, number_below ns i j rises before within)
-  | inr past ↦
-      let same : i ≡ j = omega (arith, le, past) in omega (arith, ap (λ k. get_or ns k 0) same)
-]
+not_above ns rises i j le within = search (rules, cases_lt, number_below)
 
 -- no number stands twice
 one_number : (ns : List ℕ) (i j : ℕ) → NumbersRise ns → i < length ns → j < length ns
     → get_or ns i 0 ≡ get_or ns j 0 → i ≡ j
-one_number ns i j rises lt lt' same = elim (cases_lt i j) [
-  | inl before ↦ absurd (omega (arith, same, number_below ns i j rises before lt'))
-  | inr past ↦ elim (cases_lt j i) [
-    | inl behind ↦ absurd (omega (arith, same, number_below ns j i rises behind lt))
-    | inr not ↦ omega (arith, past, not)
-  ]
-]
+one_number ns i j rises lt lt' same = search (rules, cases_lt, number_below)
 
 -- ---- the hash parts of paths
 
@@ -97,14 +87,7 @@ key_at : (parts : List (List ℕ)) (keys window : List ℕ) → keys ≡ map key
     → Contains parts window
     → (k : ℕ) × (k < length keys) × (part_at parts k ≡ window)
     × (get_or keys k 0 ≡ key_of_part window)
-key_at parts keys window is has =
-    let k = has.0 in
-    let part : part_at parts k ≡ window = get_or_default parts k [] window has.1 ∙ has.2 in (
-      k,
-      omega (arith, has.1, ap length is, length-map parts key_of_part),
-      part,
-      ap (λ ks. get_or ks k 0) is ∙ get_or-map key_of_part parts k [] 0 has.1 ∙ ap key_of_part part,
-    )
+key_at parts keys window is has = search (rules, get_or_default, length-map, get_or-map)
 
 pub key_missing :
     (parts : List (List ℕ)) (keys window : List ℕ) (key place : ℕ) →
@@ -148,7 +131,7 @@ pub none_found :
 none_found parts keys window key (Ok k) is of_window rises here none =
     absurd (false≢true (ap is_some none))
 none_found parts keys window key (Err place) is of_window rises apart none =
-    key_missing parts keys window key place is of_window rises apart
+    search (rules, key_missing)
 
 one_found :
     (keys : List ℕ) (key place : ℕ) (found : Result ℕ ℕ) →
@@ -169,17 +152,7 @@ part_at_key :
     place < length keys →
     path ≡ get_or paths place path →
     (place < length parts) × (part_at parts place ≡ hash_part_of path)
-part_at_key paths parts keys path place are is within here =
-    let long = ap length is in
-    let lengths = length-map parts key_of_part in
-    let inside : place < length parts = omega (arith, long, lengths, within) in
-    let of_paths = ap length are in
-    let all = length-map paths hash_part_of in
-    let below : place < length paths = omega (arith, inside, of_paths, all) in (
-      inside,
-      ap (λ ps. part_at ps place) (sym are) ∙ get_or-map hash_part_of paths place path [] below
-          ∙ ap hash_part_of (sym here),
-    )
+part_at_key paths parts keys path place are is within here = search (rules, length-map, get_or-map)
 
 -- ---- a search in an index by keys
 

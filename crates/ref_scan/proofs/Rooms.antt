@@ -1,5 +1,5 @@
 -- The room that is left while a folder's entries are taken up one after the other.
-use Rattle.std.proofs.Common.{◌≡◌, ◌∙◌, ℕ, ◌+◌, ◌<◌, max, List, ◌∷◌, length, ap, arith}
+use Rattle.std.proofs.Common.{◌≡◌, ◌∙◌, ℕ, ◌+◌, ◌<◌, max, List, ◌∷◌, length, ap, arith, rules}
 use Rattle.ref_scan.specs.Room.{FitsIn}
 use Rattle.ref_scan.specs.Trees.{depth_of, entry_count, file_bytes}
 use Rattle.ref_scan.specs.declared.tree.Room.{Room}
@@ -47,9 +47,7 @@ pub counting_deep :
     below ≡ 0 →
     Counting below room left tree (e ∷ rest) →
     ¬ FitsIn below room tree
-counting_deep below room left tree e rest is before fits =
-    let some = depth_some e.tree in
-    absurd (omega (arith, before.depth, fits.depth))
+counting_deep below room left tree e rest is before fits = search (rules, depth_some)
 
 -- a folder with more members than there is room for
 pub folder_wide :
@@ -58,6 +56,4 @@ pub folder_wide :
     room.entries < length entries.items →
     ¬ FitsIn below room tree
 folder_wide below room tree entries is wide fits =
-    let count = ap entry_count is ∙ count_dir entries in
-    let members = members_counted entries.items in
-    absurd (omega (arith, fits.entries))
+    search (rules, count_dir, entries, members_counted)

@@ -1,5 +1,5 @@
 -- What a scanner keeps, as it is made, fed and cut, and what it finds.
-use Rattle.std.proofs.Common.{◌≡◌, ◌∙◌, sym, ℕ, ◌<◌, ◌≤◌, Bool, false, List, [], ◌∷◌, ◌++◌, ◌⊎◌, ◌↔◌, inl, inr, ⊎_elim, length, take, replicate, get_or, refl, ap, subst, arith, append_assoc, Some}
+use Rattle.std.proofs.Common.{◌≡◌, ◌∙◌, sym, ℕ, ◌<◌, Bool, false, List, [], ◌∷◌, ◌++◌, ◌⊎◌, ◌↔◌, inl, inr, ⊎_elim, length, take, replicate, get_or, refl, ap, subst, append_assoc, Some, rules}
 use Rattle.std.specs.Prelude.{Any, Contains, IsTrue, IfOk, Result, Ok, Err}
 use Rattle.std.proofs.lemmas.Bool.{false≢true, cases_lt}
 use Rattle.std.proofs.lemmas.List.{get_or-replicate, length-map, length-replicate, get_or-map, get_or_past, take_at}
@@ -23,12 +23,7 @@ sought_of permitted parts in_order ended present = record {
 
 -- no mark is set at first
 unmarked : (n k : ℕ) → get_or (replicate n false) k false ≡ false
-unmarked n k =
-    ⊎_elim
-    (λ (lt : k < n). get_or-replicate n k false false lt)
-    (λ (le : n ≤ k). get_or_past (replicate n false) k false
-    (omega (arith, length-replicate n false)))
-    (cases_lt k n)
+unmarked n k = search (rules, get_or-replicate, get_or_past, length-replicate, cases_lt)
 
 pub scanned_new :
     (permitted parts : List (List ℕ)) (in_order : Bool) (met : List Bool) (n : ℕ) →
@@ -36,18 +31,8 @@ pub scanned_new :
     met ≡ replicate n false →
     n ≡ length parts →
     Scanned (sought_of permitted parts in_order [] []) met []
-scanned_new permitted parts in_order met n of_paths none many = record {
-  of_paths = of_paths;
-  count = ap length none ∙ length-replicate n false ∙ many;
-  marks = λ k at.
-      let P = Within (part_at parts k) in (
-        λ m. absurd (false≢true (sym (ap (λ l. get_or l k false) none ∙ unmarked n k) ∙ m)),
-        λ h. absurd (⊎_elim (λ none'. Any-none P none')
-            (not_in_none (part_at parts k) (of_paths.are_parts.each k [] at))
-            (Any-last_cases P [] [] h)),
-      );
-  kept = refl;
-}
+scanned_new permitted parts in_order met n of_paths none many =
+    search (rules, length-replicate, false≢true, unmarked, Any-none, not_in_none, Any-last_cases)
 
 pub scanned_fed :
     (permitted parts ended : List (List ℕ)) (in_order : Bool) (present piece seam : List ℕ)
@@ -121,9 +106,7 @@ pub met_at :
     Scanned sought met tail →
     IsPlaceOfPart sought.parts part (Some place) →
     IsPartMet met place ↔ OccursIn part (sought.ended ++ sought.present ∷ [])
-met_at sought met tail part place scanned at =
-    subst (λ p. IsPartMet met place ↔ OccursIn p (sought.ended ++ sought.present ∷ [])) at.1
-    (scanned.marks place at.0)
+met_at sought met tail part place scanned at = search rules
 
 -- the place of the part of a path, where the parts stand as the paths do
 pub place_in_order :
@@ -132,11 +115,7 @@ pub place_in_order :
     IsTrue in_order →
     number < length paths →
     IsPlaceOfPart parts (hash_part_of (get_or paths number [])) (Some number)
-place_in_order paths parts in_order number of ordered lt =
-    let same = of.as_paths ordered in (
-      subst (λ n. number < n) (sym (ap length same ∙ length-map paths hash_part_of)) lt,
-      ap (λ l. get_or l number []) same ∙ get_or-map hash_part_of paths number [] [] lt,
-    )
+place_in_order paths parts in_order number of ordered lt = search (rules, length-map, get_or-map)
 
 -- a slice of a list that was lent whole, and written
 pub written : {X : Type 0} (new rest : List X) (n : ℕ) → length new ≡ n → take n (new ++ rest) ≡ new
@@ -153,10 +132,7 @@ pub member_fed :
     present ≡ [] →
     lists ++ (name ∷ (trees ++ rest)) ≡ whole →
     ((lists ++ (present ++ name) ∷ []) ++ trees) ++ rest ≡ whole
-member_fed lists trees rest whole present name none is =
-    ap (λ p. ((lists ++ (p ++ name) ∷ []) ++ trees) ++ rest) none
-    ∙ ap (λ l. l ++ rest) (append_assoc lists (name ∷ []) trees)
-    ∙ append_assoc lists (name ∷ trees) rest ∙ is
+member_fed lists trees rest whole present name none is = search (rules, append_assoc)
 
 -- the hash part of each path is one
 pub are_hash_parts :

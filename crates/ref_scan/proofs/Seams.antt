@@ -1,5 +1,5 @@
 -- The bytes that are kept of a list of bytes, as pieces come.
-use Rattle.std.proofs.Common.{◌≡◌, ◌∙◌, ℕ, ◌+◌, ◌-◌, ◌<◌, ◌≤◌, List, ◌++◌, ◌⊎◌, inl, inr, ⊎_elim, length, take, drop, sym, ap, subst, arith, append_assoc, length-append, length-take, length-drop}
+use Rattle.std.proofs.Common.{◌≡◌, ◌∙◌, ℕ, ◌+◌, ◌-◌, ◌<◌, ◌≤◌, List, ◌++◌, ◌⊎◌, inl, inr, ⊎_elim, length, take, drop, sym, ap, subst, arith, append_assoc, length-append, length-take, length-drop, rules}
 use Rattle.std.specs.Prelude.{min, IsTrue}
 use Rattle.std.proofs.Math.Nat.{min_comm}
 use Rattle.std.proofs.lemmas.Bool.{cases_lt}
@@ -15,9 +15,7 @@ pub joined :
     (tail piece one two : List ℕ) (n : ℕ) →
     one ≡ tail → two ≡ one ++ take n piece → n ≡ min (length piece) 31 →
     two ≡ tail ++ take 31 piece
-joined tail piece one two n head whole least =
-    whole ∙ ap (λ l. l ++ take n piece) head ∙ ap (λ l. tail ++ l)
-    (ap (λ k. take k piece) (least ∙ min_comm (length piece) 31) ∙ take_min 31 piece)
+joined tail piece one two n head whole least = search (rules, least, min_comm, take_min)
 
 -- all but the last 31 bytes
 before_last : List ℕ → List ℕ
@@ -29,20 +27,12 @@ parts_of now = take-append-drop (length now - 31) now
 
 -- either all bytes are kept, or 31
 kept_long : (now : List ℕ) → (last_bytes now ≡ now) ⊎ (length (last_bytes now) ≡ 31)
-kept_long now =
-    ⊎_elim
-    (λ (few : length now < 31). let none : length now - 31 ≡ 0 = omega arith
-    in inl (ap (λ n. drop n now) none))
-    (λ (more : 31 ≤ length now). inr (omega (arith, length-drop (length now - 31) now)))
-    (cases_lt (length now) 31)
+kept_long now = search (rules, length-drop, cases_lt)
 
 -- what is kept of bytes with many more, and with few more
 pub kept_of_long : (now piece : List ℕ) → 31 ≤ length piece → last_bytes (now ++ piece)
     ≡ last_bytes piece
-kept_of_long now piece long =
-    let count : length (now ++ piece) - 31 ≡ length now
-    + (length piece - 31) = omega (arith, length-append now piece) in
-    ap (λ n. drop n (now ++ piece)) count ∙ drop-append-add now piece (length piece - 31)
+kept_of_long now piece long = search (rules, length-append, drop-append-add)
 
 least : (n : ℕ) → min (n - 31) n ≡ n - 31
 least n = omega arith

@@ -1,5 +1,5 @@
 -- A hash part within some bytes, as a search over windows goes on, and as pieces join.
-use Rattle.std.proofs.Common.{◌≡◌, ◌∙◌, ℕ, ◌+◌, ◌-◌, ◌<◌, ◌≤◌, false, List, [], ◌∷◌, ◌++◌, ◌⊎◌, inl, inr, ⊎_elim, length, take, drop, get_or, refl, sym, ap, subst, arith, append_assoc, length-append}
+use Rattle.std.proofs.Common.{◌≡◌, ◌∙◌, ℕ, ◌+◌, ◌-◌, ◌<◌, ◌≤◌, false, List, [], ◌∷◌, ◌++◌, ◌⊎◌, inl, inr, ⊎_elim, length, take, drop, get_or, refl, sym, ap, subst, arith, append_assoc, length-append, rules}
 use Rattle.std.specs.Prelude.{IsTrue}
 use Rattle.std.proofs.lemmas.Bool.{false≢true, cases_lt}
 use Rattle.std.proofs.lemmas.List.{take-append-drop, drop-append-le, take-append-le, drop_at, take_at, get_or-drop}
@@ -63,8 +63,7 @@ pub within_next :
     Within part bytes → (take 32 bytes ≡ part) ⊎ Within part (drop 1 bytes)
 within_next part bytes is_part ([], y, is) =
     inl (ap (take 32) is ∙ take_at part y 32 (hash_part_long part is_part))
-within_next part bytes is_part (b ∷ x, y, is) =
-    inr (within_behind part bytes 1 (b ∷ x) y is (omega arith))
+within_next part bytes is_part (b ∷ x, y, is) = search (rules, within_behind)
 
 pub within_window : (part bytes : List ℕ) → take 32 bytes ≡ part → Within part bytes
 within_window part bytes is =
@@ -73,11 +72,7 @@ within_window part bytes is =
 -- in fewer bytes than a part has
 pub within_few : (part bytes : List ℕ) → IsTrue (is_hash_part part) → length bytes < 32
     → Within part bytes → ⊥
-within_few part bytes is_part few (x, y, is) =
-    let long = hash_part_long part is_part in
-    let all : length bytes ≡ length x + (length part + length y) = ap length is
-    ∙ length-append x (part ++ y) ∙ ap (λ n. length x + n) (length-append part y) in
-    absurd (omega arith)
+within_few part bytes is_part few (x, y, is) = search (rules, hash_part_long, length-append)
 
 pub within_of_drop : (part bytes : List ℕ) (n : ℕ) → Within part (drop n bytes) → Within part bytes
 within_of_drop part bytes n within =
