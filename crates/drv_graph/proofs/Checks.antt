@@ -1,5 +1,5 @@
 -- The parts of the check of outputs, one behind the other.
-use Rattle.std.proofs.Common.{◌≡◌, ◌+◌, ◌<◌, ℕ, zero, suc, Bool, true, false, List, [], ◌∷◌, ◌++◌, add-one, append-nil, append_assoc, get_or, length, take, drop, map, Some, inl, inr, sym, ap, subst, ◌∙◌, arith}
+use Rattle.std.proofs.Common.{◌≡◌, ◌+◌, ◌<◌, ℕ, zero, suc, Bool, true, false, List, [], ◌∷◌, ◌++◌, add-one, append-nil, append_assoc, get_or, length, take, drop, map, Some, inl, inr, sym, ap, subst, ◌∙◌, arith, rules}
 use Rattle.std.specs.Prelude.{All, Contains, IfOk, Result, Ok, Err}
 use Rattle.std.specs.List.{slice_get}
 use Rattle.std.proofs.lemmas.Bool.{cases_lt}
@@ -9,14 +9,13 @@ use Rattle.nix_names.specs.Firsts.{IsFirstWhere}
 use Rattle.nix_names.proofs.FirstElements.{first_within}
 use Rattle.nix_drv.specs.Derivation.{Drv, EnvEntry, Input, Output}
 use Rattle.drv_graph.specs.Checking.{AreExpected, EntriesFit, FitBefore, FitsExpected, HasMisfit, IsEnvFault, IsEnvMismatch, IsFirstPair, IsKindFault, IsMismatch, IsNameFault, IsPathFault, IsSoundCheck, IsUnknownOutput, IsUseFault, IsValueFault, PathFits}
-use Rattle.drv_graph.specs.Expected.{IsExpected, path_name}
+use Rattle.drv_graph.specs.Expected.{IsExpected}
 use Rattle.drv_graph.specs.ExpectedPaths.{IsMaskedDigest, output_path}
 use Rattle.drv_graph.specs.UsedInputs.{uses_of}
 use Rattle.drv_graph.specs.declared.kinds.Kind.TheVariants.{Addressed}
-use Rattle.nix_names.specs.StorePaths.{store_path}
 use Rattle.nix_names.specs.Rising.{IsRising}
 use Rattle.nix_names.proofs.RisingLists.{not_below_itself, sorted_from_rising}
-use Rattle.std.specs.Prelude.{Vec, codes}
+use Rattle.std.specs.Prelude.{Vec}
 use Rattle.std.specs.Bool.{MatchBool}
 use Rattle.std.specs.Option.{option_map}
 use Rattle.std.specs.Cmp.Lexicographic.{slice_cmp}
@@ -51,8 +50,7 @@ pub name_is_sound : (name : List ℕ) (drv : Drv) (used : List Drv) (kind : Kind
     (outputs : List Output) (fault : OutputFault) → HasKind drv kind → outputs ≡ drv.outputs
     → IsNameFault name outputs fault → IsSoundCheck name drv used (Err fault)
 name_is_sound name drv used kind outputs NoMemory is same h = kind_not_mixed drv kind is
-name_is_sound name drv used kind outputs BadName is same h =
-    (kind, is, subst (λ (os : List Output). IsNameFault name os BadName) same h)
+name_is_sound name drv used kind outputs BadName is same h = search rules
 name_is_sound name drv used kind outputs MixedOutputs is same h = absurd h
 name_is_sound name drv used kind outputs (UnknownMethod output) is same h = absurd h
 name_is_sound name drv used kind outputs (UnknownOutput input output) is same h = absurd h
@@ -66,12 +64,8 @@ pub use_is_sound : (name : List ℕ) (drv : Drv) (used : List Drv) (kind : Kind)
     → IsSoundCheck name drv used (Err fault)
 use_is_sound name drv used kind outputs inputs NoMemory is same named here h =
     kind_not_mixed drv kind is
-use_is_sound name drv used kind outputs inputs (UnknownOutput input output) is same named here h = (
-  kind,
-  is,
-  subst (λ (os : List Output). All (IsWellNamed name) os) same named,
-  subst (λ (is : List Input). IsUseFault (uses is used) (UnknownOutput input output)) here h,
-)
+use_is_sound name drv used kind outputs inputs (UnknownOutput input output) is same named here h =
+    search rules
 use_is_sound name drv used kind outputs inputs MixedOutputs is same named here h = absurd h
 use_is_sound name drv used kind outputs inputs (UnknownMethod output) is same named here h =
     absurd h
@@ -112,18 +106,7 @@ pub fit_more : (Fits : Output → List ℕ → Type 0) (outputs : List Output) (
     → slice_get outputs i ≡ Some o → slice_get paths i ≡ Some path → FitBefore Fits outputs paths i
     → Fits o path → FitBefore Fits outputs paths (i + 1)
 fit_more Fits outputs paths i o path at_o at_path before here k p q below at_p at_q =
-    elim (cases_lt k i) [
-      | inl earlier ↦ before k p q earlier at_p at_q
-      | inr not_earlier ↦
-          let last : k ≡ i = omega arith in
-          let same_o : o
-          ≡ p = same_Some o p (sym at_o ∙ ap (λ (n : ℕ). slice_get outputs n) (sym last) ∙ at_p)
-          in
-          let same_path : path ≡ q = same_Some path q
-          (sym at_path ∙ ap (λ (n : ℕ). slice_get paths n) (sym last) ∙ at_q) in
-          subst (λ (r : List ℕ). Fits p r) same_path
-          (subst (λ (x : Output). Fits x path) same_o here)
-    ]
+    search (rules, cases_lt, same_Some)
 
 pub mismatch : (in_draft : Bool) (outputs : List Output) (paths : List (List ℕ)) (i : ℕ)
     (o : Output) (path : List ℕ) (fault : OutputFault)
@@ -131,17 +114,7 @@ pub mismatch : (in_draft : Bool) (outputs : List Output) (paths : List (List ℕ
     → FitBefore (PathFits in_draft) outputs paths i → (PathFits in_draft o path → ⊥)
     → IsMismatch o.name path fault → IsPathFault in_draft outputs paths fault
 mismatch in_draft outputs paths i o path (OutputMismatch output expected) at_o at_path before wrong
-    h = (
-      o,
-      record {
-        place = i;
-        is_output = at_o;
-        is_path = at_path ∙ ap (λ (p : List ℕ). Some p) (sym h.1);
-        wrong = subst (λ (p : List ℕ). PathFits in_draft o p → ⊥) (sym h.1) wrong;
-        before = before;
-      },
-      h.0,
-    )
+    h = search rules
 mismatch in_draft outputs paths i o path NoMemory at_o at_path before wrong h = tt
 mismatch in_draft outputs paths i o path MixedOutputs at_o at_path before wrong h = h
 mismatch in_draft outputs paths i o path (UnknownMethod output) at_o at_path before wrong h = h
@@ -153,9 +126,7 @@ mismatch in_draft outputs paths i o path (EnvMismatch output) at_o at_path befor
 pub path_is_value : (in_draft : Bool) (drv : Drv) (outputs : List Output) (paths : List (List ℕ))
     (fault : OutputFault) → outputs ≡ drv.outputs → IsPathFault in_draft outputs paths fault
     → IsValueFault in_draft drv paths fault
-path_is_value in_draft drv outputs paths (OutputMismatch output expected) same h =
-    subst (λ (os : List Output). IsPathFault in_draft os paths (OutputMismatch output expected))
-    same h
+path_is_value in_draft drv outputs paths (OutputMismatch output expected) same h = search rules
 path_is_value in_draft drv outputs paths NoMemory same h = tt
 path_is_value in_draft drv outputs paths MixedOutputs same h = h
 path_is_value in_draft drv outputs paths (UnknownMethod output) same h = h
@@ -184,7 +155,7 @@ module _ (in_draft : Bool) (dir name : List ℕ) (kind : Kind) (drv : Drv) (hash
   -- the expected path of an output at a place is the one beside it
   at_place : (k : ℕ) (o : Output) → slice_get drv.outputs k ≡ Some o → (path : List ℕ)
       × (slice_get paths k ≡ Some path) × Expected o path
-  at_place k o at = beside Expected drv.outputs paths k o expected at
+  at_place k o at = search (rules, beside)
 
   pub paths_fit : FitBefore (PathFits in_draft) drv.outputs paths (length drv.outputs)
       → PathsFit (FitsExpected in_draft) Expected drv
@@ -196,17 +167,11 @@ module _ (in_draft : Bool) (dir name : List ℕ) (kind : Kind) (drv : Drv) (hash
   no_other : (k : ℕ) (o : Output) → slice_get drv.outputs k ≡ Some o
       → FitBefore (EntriesFit in_draft drv.env) drv.outputs paths (k + 1)
       → HasOtherEntry (FitsExpected in_draft) Expected drv o → ⊥
-  no_other k o at fit (entry, path, has, key, is, misfit) =
-      let found = at_place k o at in
-      let one : path ≡ found.0 = one_path dir name kind drv hashes o path found.0 is found.2 in
-      fit k o found.0 (omega arith) at found.1
-      (entry, has, key, subst (λ (p : List ℕ). FitsExpected in_draft entry.value p → ⊥) one misfit)
+  no_other k o at fit (entry, path, has, key, is, misfit) = search (rules, at_place, one_path)
 
   pub entries_fit : FitBefore (EntriesFit in_draft drv.env) drv.outputs paths (length drv.outputs)
       → All (λ o. HasOtherEntry (FitsExpected in_draft) Expected drv o → ⊥) drv.outputs
-  entries_fit fit k d below =
-      no_other k (get_or drv.outputs k d) (slice_get-get_or drv.outputs k d below)
-      (λ j o path before. fit j o path (omega (arith, before)))
+  entries_fit fit k d below = search (rules, no_other, slice_get-get_or)
 
   pub first_mismatch : (o : Output) (path : List ℕ)
       → IsFirstPair (PathFits in_draft) (λ p q. PathFits in_draft p q → ⊥) drv.outputs paths o path
@@ -266,7 +231,7 @@ module _ (in_draft : Bool) (dir name : List ℕ) (kind : Kind) (drv : Drv) (hash
   value_is_checked used (OutputMismatch output path) sound (o, pair, is) =
       let first = first_mismatch o path pair in (kind, sound, (o, first.0, first.1, is))
   value_is_checked used (EnvMismatch output) sound (fit, (o, path, pair, is)) =
-      (kind, sound, paths_fit fit, (o, first_other o path pair, is))
+      search (rules, paths_fit, first_other)
   value_is_checked used NoMemory sound h = kind_not_mixed drv kind sound.has_kind
   value_is_checked used MixedOutputs sound h = absurd h
   value_is_checked used (UnknownMethod output) sound h = absurd h
@@ -292,15 +257,7 @@ pub addressed_from : (dir name inner : List ℕ) (drv : Drv) (hashes : List (Lis
     → IfOk answer (λ paths. AreExpected dir name Addressed drv hashes paths.items)
 addressed_from dir name inner drv hashes outputs (Err refused) digest same are = tt
 addressed_from dir name inner drv hashes outputs (Ok paths) digest same are =
-    zipped_from_map (IsExpected dir name Addressed drv hashes) (output_path dir name inner)
-    drv.outputs paths.items
-    (are ∙ ap (map (output_path dir name inner)) same)
-    (λ o. (
-      digest.bytes,
-      digest.is_text,
-      ap (λ (d : List ℕ). store_path (codes "output:" ++ o.name) d dir (path_name name o.name))
-          digest.is_digest,
-    ))
+    search (rules, zipped_from_map)
 
 -- ---- uses of several inputs
 
@@ -319,12 +276,7 @@ uses_split (y ∷ ys) (e ∷ es) zero x d at_x at_d =
           ∙ ap (λ (f : Drv). uses_of x.path f x.names ++ uses ys es) other,
     )
 uses_split (y ∷ ys) (e ∷ es) (suc i) x d at_x at_d =
-    let later = uses_split ys es i x d at_x at_d in (
-      later.0,
-      ap (λ (us : List Use). uses_of y.path e y.names ++ us) later.1
-          ∙ sym (append_assoc (uses_of y.path e y.names) (uses (take i ys) (take i es))
-          (uses_of x.path d x.names ++ later.0)),
-    )
+    search (rules, append_assoc, uses_split ys es i x d at_x at_d)
 
 uses_next : (inputs : List Input) (drvs : List Drv) (i : ℕ) (x : Input) (d : Drv)
     → slice_get inputs i ≡ Some x → slice_get drvs i ≡ Some d
@@ -332,16 +284,9 @@ uses_next : (inputs : List Input) (drvs : List Drv) (i : ℕ) (x : Input) (d : D
     ++ uses_of x.path d x.names
 uses_next [] drvs i x d at_x at_d = absurd cc
 uses_next (y ∷ ys) [] i x d at_x at_d = absurd cc
-uses_next (y ∷ ys) (e ∷ es) zero x d at_x at_d =
-    let one : y ≡ x = cc in
-    let other : e ≡ d = cc in
-    ap (λ (z : Input). uses_of z.path e z.names ++ []) one
-    ∙ ap (λ (f : Drv). uses_of x.path f x.names ++ []) other
-    ∙ append-nil (uses_of x.path d x.names)
+uses_next (y ∷ ys) (e ∷ es) zero x d at_x at_d = search (rules, append-nil)
 uses_next (y ∷ ys) (e ∷ es) (suc i) x d at_x at_d =
-    ap (λ (us : List Use). uses_of y.path e y.names ++ us) (uses_next ys es i x d at_x at_d)
-    ∙ sym (append_assoc (uses_of y.path e y.names) (uses (take i ys) (take i es))
-    (uses_of x.path d x.names))
+    search (rules, append_assoc, uses_next ys es i x d at_x at_d)
 
 pub known_more : (inputs : List Input) (drvs : List Drv) (i : ℕ) (x : Input) (d : Drv)
     → slice_get inputs i ≡ Some x → slice_get drvs i ≡ Some d
@@ -356,14 +301,8 @@ known_more inputs drvs i x d at_x at_d before here =
 
 use_fault_within : (before middle after : List Use) (fault : OutputFault) → All IsKnownUse before
     → IsUseFault middle fault → IsUseFault (before ++ (middle ++ after)) fault
-use_fault_within before middle after (UnknownOutput input output) known (u, first, a, b) = (
-  u,
-  first_within (λ (other : Use). (IsKnownUse other → ⊥) → ⊥)
-      (λ (other : Use). IsKnownUse other → ⊥) before middle after u
-      (λ k d below h. h (known k d below)) first,
-  a,
-  b,
-)
+use_fault_within before middle after (UnknownOutput input output) known (u, first, a, b) =
+    search (rules, first_within)
 use_fault_within before middle after NoMemory known h = tt
 use_fault_within before middle after MixedOutputs known h = h
 use_fault_within before middle after (UnknownMethod output) known h = h
@@ -376,10 +315,7 @@ pub use_fault_at : (inputs : List Input) (drvs : List Drv) (i : ℕ) (x : Input)
     → All IsKnownUse (uses (take i inputs) (take i drvs))
     → IsUseFault (uses_of x.path d x.names) fault → IsUseFault (uses inputs drvs) fault
 use_fault_at inputs drvs i x d fault at_x at_d before here =
-    let split = uses_split inputs drvs i x d at_x at_d in
-    subst (λ (us : List Use). IsUseFault us fault) (sym split.1)
-    (use_fault_within (uses (take i inputs) (take i drvs)) (uses_of x.path d x.names) split.0
-    fault before here)
+    search (rules, uses_split, use_fault_within)
 
 -- ---- entries under a name
 
@@ -429,17 +365,13 @@ entry_answer in_draft env name path true place entry rises at_key at fits =
     (key ∙ sym (same_Some entry.key name here)) in
     misfit (subst (λ (e : EnvEntry). FitsExpected in_draft e.value path) (sym same) fits)
 entry_answer in_draft env name path false place entry rises at_key at fits =
-    let here : Some entry.key ≡ Some name = sym
-    (slice_get-map (λ (e : EnvEntry). e.key) env place
-    ∙ ap (option_map (λ (e : EnvEntry). e.key)) at) ∙ at_key in
-    (entry, Contains-from_get env place entry at, same_Some entry.key name here, fits)
+    search (rules, slice_get-map, Contains-from_get, same_Some)
 
 -- outputs that fit, seen otherwise
 pub fit_moved : (Fits : Output → List ℕ → Type 0) (outputs others : List Output)
     (paths : List (List ℕ)) (n m : ℕ) → outputs ≡ others → n ≡ m → FitBefore Fits outputs paths n
     → FitBefore Fits others paths m
-fit_moved Fits outputs others paths n m same long fit = λ k o path below at_o at_path.
-    fit k o path (omega arith) (ap (λ (os : List Output). slice_get os k) same ∙ at_o) at_path
+fit_moved Fits outputs others paths n m same long fit = search rules
 
 pub env_mismatch : (in_draft : Bool) (env : List EnvEntry) (outputs : List Output)
     (paths : List (List ℕ)) (i : ℕ) (o : Output) (path : List ℕ) (fault : OutputFault)
@@ -447,18 +379,7 @@ pub env_mismatch : (in_draft : Bool) (env : List EnvEntry) (outputs : List Outpu
     → FitBefore (EntriesFit in_draft env) outputs paths i → HasMisfit in_draft env o.name path
     → IsEnvMismatch o.name fault → IsEnvFault in_draft env outputs paths fault
 env_mismatch in_draft env outputs paths i o path (EnvMismatch output) at_o at_path before wrong
-    h = (
-      o,
-      path,
-      record {
-        place = i;
-        is_output = at_o;
-        is_path = at_path;
-        wrong = wrong;
-        before = before;
-      },
-      h,
-    )
+    h = search rules
 env_mismatch in_draft env outputs paths i o path NoMemory at_o at_path before wrong h = tt
 env_mismatch in_draft env outputs paths i o path MixedOutputs at_o at_path before wrong h = h
 env_mismatch in_draft env outputs paths i o path (UnknownMethod output) at_o at_path before wrong

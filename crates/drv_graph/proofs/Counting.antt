@@ -1,16 +1,13 @@
 -- Failures of a source's device are counted: what a step counted is counted of the whole walk too.
-use Rattle.std.proofs.Common.{◌≤◌, ℕ, List, inl, inr, arith}
+use Rattle.std.proofs.Common.{◌≤◌, ℕ, List, inl, inr, rules}
 use Rattle.nix_drv.specs.Derivation.{Drv}
 use Rattle.nix_drv.specs.Sources.{Answer, GivesSame}
 use Rattle.drv_graph.specs.FillSteps.{IsFillRefused, IsTargetRefused, IsTextRefused}
 use Rattle.drv_graph.specs.Loading.{IsCountedFault}
 use Rattle.drv_graph.specs.Nodes.{Node}
-use Rattle.drv_graph.specs.Walks.{IsLeavingFault}
 use Rattle.drv_graph.specs.declared.fault.GraphFault.{GraphFault}
 use Rattle.drv_graph.specs.declared.fault.GraphFault.TheVariants.{NoMemory, At, Draft, Name}
 use Rattle.drv_graph.specs.declared.fault.NodeFault.TheVariants.{Unreadable, TooMany, Text, Cycle, Outputs, OutputClash}
-use Rattle.drv_graph.specs.declared.found.Visit.{Visit}
-use Rattle.drv_graph.specs.declared.node.PlanNode.{PlanNode}
 
 -- what was counted from later on was counted from before
 pub counted_before : (G H : List ℕ → Answer → Type 0) (before from after : ℕ) (fault : GraphFault)
@@ -19,9 +16,9 @@ pub counted_before : (G H : List ℕ → Answer → Type 0) (before from after :
 counted_before G H before from after (At p Unreadable) same less (inl missing) =
     inl ((same p _).1 missing)
 counted_before G H before from after (At p Unreadable) same less (inr (device, inl rose)) =
-    inr ((same p _).1 device, inl (omega (arith, less, rose)))
+    search rules
 counted_before G H before from after (At p Unreadable) same less (inr (device, inr most)) =
-    inr ((same p _).1 device, inr most)
+    search rules
 counted_before G H before from after (At p TooMany) same less at = tt
 counted_before G H before from after (At p (Text fault)) same less at = tt
 counted_before G H before from after (At p Cycle) same less at = tt
@@ -30,20 +27,6 @@ counted_before G H before from after (At p OutputClash) same less at = tt
 counted_before G H before from after NoMemory same less at = tt
 counted_before G H before from after (Draft fault) same less at = tt
 counted_before G H before from after Name same less at = tt
-
--- nothing is fetched where a derivation is left
-pub leaving_counted : (gives : List ℕ → Answer → Type 0) (before after : ℕ) (dir : List ℕ)
-    (kept : List PlanNode) (visit : Visit) (fault : GraphFault)
-    → IsLeavingFault dir kept visit fault → IsCountedFault gives before after fault
-leaving_counted gives before after dir kept visit (At p Unreadable) at = absurd at
-leaving_counted gives before after dir kept visit (At p TooMany) at = tt
-leaving_counted gives before after dir kept visit (At p (Text fault)) at = tt
-leaving_counted gives before after dir kept visit (At p Cycle) at = tt
-leaving_counted gives before after dir kept visit (At p (Outputs fault)) at = tt
-leaving_counted gives before after dir kept visit (At p OutputClash) at = tt
-leaving_counted gives before after dir kept visit NoMemory at = tt
-leaving_counted gives before after dir kept visit (Draft fault) at = tt
-leaving_counted gives before after dir kept visit Name at = tt
 
 -- nor where a draft's names, references, outputs and text are tested
 pub target_counted : (gives : List ℕ → Answer → Type 0) (before after : ℕ) (dir name : List ℕ)

@@ -1,5 +1,5 @@
 -- Paths in the empty places of a draft.
-use Rattle.std.proofs.Common.{◌≡◌, ◌∙◌, ◌<◌, ℕ, ◌+◌, zero, suc, List, [], ◌∷◌, length, map, take, set, get_or, refl, sym, ap, subst, arith, Some}
+use Rattle.std.proofs.Common.{◌≡◌, ◌∙◌, ◌<◌, ℕ, ◌+◌, zero, suc, List, [], ◌∷◌, length, map, take, set, get_or, refl, sym, ap, subst, arith, Some, rules}
 use Rattle.std.specs.Prelude.{Contains, slice_get}
 use Rattle.std.specs.List.{AllZip}
 use Rattle.std.specs.Vec.{with_items}
@@ -31,11 +31,8 @@ place_set : (os : List Output) (ps : List (List ℕ)) (i : ℕ) (o : Output) (p 
     (placed_output o p)
 place_set [] ps i o p at_o at_p = absurd (none-some o at_o)
 place_set (x ∷ os) [] i o p at_o at_p = absurd (none-some p at_p)
-place_set (x ∷ os) (q ∷ ps) zero o p at_o at_p =
-    ap (λ (y : Output). placed_output y q ∷ os) (same_Some x o at_o)
-    ∙ ap (λ (r : List ℕ). placed_output o r ∷ os) (same_Some q p at_p)
-place_set (x ∷ os) (q ∷ ps) (suc i) o p at_o at_p =
-    ap (λ (rest : List Output). placed_output x q ∷ rest) (place_set os ps i o p at_o at_p)
+place_set (x ∷ os) (q ∷ ps) zero o p at_o at_p = search (rules, same_Some)
+place_set (x ∷ os) (q ∷ ps) (suc i) o p at_o at_p = search (rules, place_set os ps i o p at_o at_p)
 
 -- the outputs behind are as they were
 unplaced : (os : List Output) (ps : List (List ℕ)) (i : ℕ)
@@ -72,7 +69,7 @@ pub same_names : (os : List Output) (ps : List (List ℕ)) → names_of (placed_
     ≡ names_of os
 same_names os [] = refl
 same_names [] (p ∷ ps) = refl
-same_names (o ∷ os) (p ∷ ps) = ap (λ (names : List (List ℕ)). o.name ∷ names) (same_names os ps)
+same_names (o ∷ os) (p ∷ ps) = search (rules, same_names os ps)
 
 -- ---- entries
 
@@ -81,24 +78,13 @@ pub entry_under : (names paths : List (List ℕ)) (draft filled : EnvEntry) (pla
     (path : List ℕ) → IsRising names → slice_get names place ≡ Some draft.key
     → slice_get paths place ≡ Some path → filled.key ≡ draft.key → filled.value
     ≡ placed draft.value path → IsPlacedEntry names paths draft filled
-entry_under names paths draft filled place path rising at at_path same is = record {
-  key = same;
-  named = λ other beside at_other at_beside.
-      let one : place ≡ other = same_place names place other draft.key
-      (distinct_from_rising names rising) at at_other in
-      is ∙ ap (placed draft.value)
-      (same_Some path beside (sym at_path ∙ ap (slice_get paths) one ∙ at_beside));
-  other = λ none. absurd (none (Contains-from_get names place draft.key at));
-}
+entry_under names paths draft filled place path rising at at_path same is =
+    search (rules, same_place, distinct_from_rising, same_Some, Contains-from_get)
 
 -- another entry stays
 pub entry_other : (names paths : List (List ℕ)) (draft : EnvEntry) → (Contains names draft.key → ⊥)
     → IsPlacedEntry names paths draft draft
-entry_other names paths draft none = record {
-  key = refl;
-  named = λ place path at at_path. absurd (none (Contains-from_get names place draft.key at));
-  other = λ again. refl;
-}
+entry_other names paths draft none = search (rules, Contains-from_get)
 
 same_keys : (names paths : List (List ℕ)) (draft filled : List EnvEntry)
     → AllZip (IsPlacedEntry names paths) draft filled
@@ -106,9 +92,7 @@ same_keys : (names paths : List (List ℕ)) (draft filled : List EnvEntry)
 same_keys names paths [] [] zip = refl
 same_keys names paths [] (f ∷ fs) zip = absurd zip
 same_keys names paths (d ∷ ds) [] zip = absurd zip
-same_keys names paths (d ∷ ds) (f ∷ fs) zip =
-    ap (λ (k : List ℕ). k ∷ map (λ (e : EnvEntry). e.key) fs) zip.0.key
-    ∙ ap (λ (ks : List (List ℕ)). d.key ∷ ks) (same_keys names paths ds fs zip.1)
+same_keys names paths (d ∷ ds) (f ∷ fs) zip = search (rules, same_keys names paths ds fs zip.1)
 
 -- ---- parts
 
@@ -124,35 +108,14 @@ pub placed_parts : (parts : Parts) (draft : Drv) (outputs : List OutputStruct)
       env = with_items parts.env env;
     }))
 placed_parts parts draft outputs env paths view long_outputs long_env are_outputs are_env =
-    let made : Drv =
-    drv_of (record parts {
-      outputs = with_items parts.outputs outputs;
-      env = with_items parts.env env;
-    }) in
-    let entries : AllZip (IsPlacedEntry (names_of (map output_of parts.outputs.items)) paths)
-    (map entry_of parts.env.items) (map entry_of env) =
-    subst (λ (d : Drv). AllZip (IsPlacedEntry (names_of d.outputs) paths)
-    (map entry_of parts.env.items) (map entry_of env)) (sym view) are_env in
-    subst (λ (d : Drv). IsPlaced paths d made) view
-    (record {
-      outputs = ap (map output_of) (with_items_is parts.outputs outputs long_outputs) ∙ are_outputs;
-      inputs = refl;
-      sources = refl;
-      system = refl;
-      builder = refl;
-      args = refl;
-      env = subst (λ (es : List EntryStruct).
-          AllZip (IsPlacedEntry (names_of (map output_of parts.outputs.items)) paths)
-          (map entry_of parts.env.items) (map entry_of es))
-          (sym (with_items_is parts.env env long_env)) entries;
-    })
+    search (rules, with_items_is)
 
 -- ---- the order rules
 
 each_output : (os : List Output) → Each (KeysRise output_form) (map output_value os)
 unfolding KeysRise
 each_output [] = tt
-each_output (o ∷ os) = ((tt, (tt, (tt, (tt, (tt, (tt, (tt, (tt, tt)))))))), each_output os)
+each_output (o ∷ os) = search (rules, each_output os)
 
 each_entry : (es : List EnvEntry) → Each (KeysRise entry_form) (map entry_value es)
 unfolding KeysRise

@@ -1,20 +1,15 @@
 -- Plans that are equal by `==` are the same, if derivations are.
-use Rattle.std.proofs.Common.{◌≡◌, Decides, ap, nat_eq}
+use Rattle.std.proofs.Common.{◌≡◌, Decides, ap, nat_eq, rules}
 use Rattle.std.specs.Cmp.Lexicographic.{bytes_decides, pointwise, pointwise_decides}
 use Rattle.nix_names.proofs.Tests.{both_parts}
-use Rattle.nix_drv.specs.Equality.{EqualDerivationsAreSame, same_drv}
+use Rattle.nix_drv.specs.Equality.{EqualDerivationsAreSame}
 use Rattle.drv_graph.specs.Equality.{EqualPlansAreSame, same_node}
 use Rattle.drv_graph.specs.Nodes.{Node}
 use Rattle.drv_graph.specs.Plans.{Graph}
 
 module _ (drvs : EqualDerivationsAreSame) where
   nodes_decide : (a b : Node) → Decides (same_node a b) (a ≡ b)
-  nodes_decide a b =
-      both_parts (pointwise nat_eq a.path b.path) (same_drv a.drv b.drv)
-      (bytes_decides a.path b.path) (drvs a.drv b.drv)
-      (λ p q j. record { path = p j; drv = q j })
-      (λ e. ap (λ (n : Node). n.path) e)
-      (λ e. ap (λ (n : Node). n.drv) e)
+  nodes_decide a b = search (rules, both_parts, nat_eq)
 
   pub equal_plans_are_same : EqualPlansAreSame
   equal_plans_are_same a b =

@@ -1,5 +1,5 @@
 -- What filling a draft answers, from what its steps answer.
-use Rattle.std.proofs.Common.{◌≡◌, ◌∙◌, ◌++◌, ℕ, List, [], ◌∷◌, length, map, inl, inr, refl, sym, ap, subst, Bool, true}
+use Rattle.std.proofs.Common.{◌≡◌, ◌∙◌, ℕ, List, [], ◌∷◌, length, map, inl, inr, refl, sym, ap, subst, Bool, true, rules}
 use Rattle.std.specs.Prelude.{◌≢◌, All, Contains, IfOk, Ok, Err, Result, filter, not}
 use Rattle.std.specs.List.{AllZip}
 use Rattle.std.proofs.lemmas.Simd.{map-map}
@@ -9,18 +9,17 @@ use Rattle.nix_names.specs.Rising.{IsRising}
 use Rattle.nix_names.specs.StorePaths.{IsPathOf}
 use Rattle.nix_names.proofs.RisingLists.{IsBelow, first_below, not_below_itself, rising_later}
 use Rattle.nix_names.proofs.FirstElements.{no_first}
-use Rattle.nix_drv.specs.Derivation.{Drv, Input, IsDrvText}
+use Rattle.nix_drv.specs.Derivation.{Drv, IsDrvText}
 use Rattle.nix_drv.specs.OwnPath.{IsOwnPath, referenced_paths, text_path}
-use Rattle.nix_drv.specs.Parts.{drv_of, input_of, path_of}
+use Rattle.nix_drv.specs.Parts.{drv_of, path_of}
 use Rattle.nix_drv.specs.References.{IsReferencesOf, IsStrayFault}
 use Rattle.nix_drv.specs.Sources.{Answer}
 use Rattle.nix_drv.specs.declared.derivation.Input.{Input as InputStruct}
 use Rattle.nix_drv.specs.declared.derivation.Parts.{Parts}
 use Rattle.nix_drv.specs.declared.fault.DrvFault.{DrvFault}
 use Rattle.nix_drv.specs.declared.fault.DrvFault.TheVariants.{NoMemory as NoSpace, Syntax, Order, TooLong, TextPathMismatch, NotADrvName, NotSorted, BadReference}
-use Rattle.drv_graph.specs.Expected.{IsExpected}
 use Rattle.drv_graph.specs.Filling.{AreInStore, IsFilledText, IsFilling, MayFill, file_name}
-use Rattle.drv_graph.specs.FillSteps.{AreDraftPaths, AreUsed, IsFillRefused, IsFilledBehind, IsStrayRefused, IsTarget, IsTargetRefused, IsTextPath, IsTextRefused}
+use Rattle.drv_graph.specs.FillSteps.{AreDraftPaths, AreUsed, IsFillRefused, IsFilledBehind, IsStrayRefused, IsTarget, IsTextPath, IsTextRefused}
 use Rattle.drv_graph.specs.Loading.{IsLoading}
 use Rattle.drv_graph.specs.Nodes.{AreHashes, Node, inputs_of}
 use Rattle.drv_graph.specs.Placing.{IsPlaced}
@@ -55,10 +54,7 @@ stray_draft dir paths NotSorted some stray = absurd stray
 -- where all paths are of the folder there is no first that isn't
 none_stray : (dir : List ℕ) (draft : Drv) → All (IsPathOf dir) (referenced_paths draft)
     → AreInStore dir draft
-none_stray dir draft all text stray =
-    no_first (IsPathOf dir) (λ t. IsPathOf dir t → ⊥) (λ t is not. not is) (referenced_paths draft)
-    text
-    stray all
+none_stray dir draft all text stray = search (rules, no_first)
 
 -- ---- the draft's inputs
 
@@ -83,15 +79,12 @@ once_rising (p ∷ ps) rises =
 pub same_inputs : (parts : Parts) (draft : Drv) (inputs : List InputStruct)
     (paths given : List (List ℕ)) → drv_of parts ≡ draft → inputs ≡ parts.inputs.items → paths
     ≡ map path_of inputs → given ≡ paths → given ≡ inputs_of draft
-same_inputs parts draft inputs paths given view same are is =
-    is ∙ are ∙ ap (map path_of) same
-    ∙ sym (map-map (λ (i : Input). i.path) input_of parts.inputs.items) ∙ ap inputs_of view
+same_inputs parts draft inputs paths given view same are is = search (rules, map-map)
 
 pub numbers_loaded : (dir : List ℕ) (gives : List ℕ → Answer → Type 0) (roots : List (List ℕ))
     (answer : Result Graph GraphFault) → IsRising roots → IsLoading dir gives roots answer
     → IfOk answer (λ (graph : Graph). AreNumbers graph.nodes graph.roots roots)
-numbers_loaded dir gives roots (Ok graph) rises loaded =
-    subst (AreNumbers graph.nodes graph.roots) (once_rising roots rises) loaded.is_roots
+numbers_loaded dir gives roots (Ok graph) rises loaded = search (rules, once_rising)
 numbers_loaded dir gives roots (Err fault) rises loaded = tt
 
 -- ---- the filled derivation
@@ -115,8 +108,8 @@ are_used kept numbers used given draft right are zip same =
 pub paths_long : (dir name : List ℕ) (draft : Drv) (used : List Drv)
     (hashes paths given : List (List ℕ)) → AreDraftPaths dir name draft used hashes paths → given
     ≡ paths → length given ≡ length draft.outputs
-paths_long dir name draft used hashes paths given (kind, right, expected) same = ap length same
-    ∙ AllZip-long (IsExpected dir name kind draft hashes) draft.outputs paths expected
+paths_long dir name draft used hashes paths given (kind, right, expected) same =
+    search (rules, AllZip-long)
 
 pub filled_behind : (dir name : List ℕ) (nodes : List Node) (draft filled : Drv) (used : List Drv)
     (hashes paths given : List (List ℕ)) → AreUsed nodes draft used hashes
@@ -136,23 +129,11 @@ filled_behind dir name nodes draft filled used hashes paths given behind (kind, 
 -- ---- all of it
 
 module _ (dir : List ℕ) (gives : List ℕ → Answer → Type 0) (name : List ℕ) (draft : Drv) where
-  pub target_refused : (fault : GraphFault) → IsTargetRefused dir name draft fault
-      → IsFilling dir gives name draft (Err fault)
-  target_refused fault (inl (inl (memory, named))) = rw memory named
-  target_refused fault (inl (inr (is, none))) = rw is none
-  target_refused fault (inr (names, inl memory)) = rw memory names.0
-  target_refused fault (inr (names, inr (text, is, stray))) = rw is (names, stray)
-
   module _ (target : Target) (is_target : IsTarget dir name draft target) where
     pub load_refused : (fault : GraphFault) → IsLoading dir gives (inputs_of draft) (Err fault)
         → IsFilling dir gives name draft (Err fault)
     load_refused NoMemory loaded = is_target.names.0
-    load_refused (At path fault) loaded = (
-      is_target.names,
-      none_stray dir draft is_target.in_store,
-      loaded.0,
-      loaded.1,
-    )
+    load_refused (At path fault) loaded = search (rules, none_stray)
     load_refused (Draft fault) loaded = absurd loaded
     load_refused Name loaded = absurd loaded
 
@@ -203,10 +184,7 @@ module _ (dir : List ℕ) (gives : List ℕ → Answer → Type 0) (name : List 
 
         same_paths : referenced_paths filled ≡ referenced_paths draft
         unfolding referenced_paths
-        same_paths = ap (λ (inputs : List Input). map (λ (i : Input). i.path) inputs
-            ++ filled.sources) is_filled.filled_is.inputs
-            ∙ ap (λ (sources : List (List ℕ)). inputs_of draft ++ sources)
-            is_filled.filled_is.sources
+        same_paths = search rules
 
         pub filling_right : (path : List ℕ) → IsTextPath dir target.file.items target.refs.items
             filled path → IsFilling dir gives name draft (Ok (filled, path))

@@ -1,5 +1,5 @@
 -- A draft with its outputs' expected paths in its empty places is filled.
-use Rattle.std.proofs.Common.{◌≡◌, ◌∙◌, ℕ, zero, suc, List, [], ◌∷◌, inl, inr, refl, sym, ap, subst, ⊎_elim, Some}
+use Rattle.std.proofs.Common.{◌≡◌, ◌∙◌, ℕ, zero, suc, List, [], ◌∷◌, inl, inr, refl, sym, ap, subst, ⊎_elim, Some, rules}
 use Rattle.std.specs.Prelude.{◌⊎◌, Contains, Ok, slice_get}
 use Rattle.std.specs.List.{AllZip}
 use Rattle.std.proofs.lemmas.List.Elements.{All-contains}
@@ -48,8 +48,7 @@ placed_at : (os : List Output) (ps : List (List ℕ)) (R : Output → List ℕ �
 placed_at [] [] R n filled zip at = absurd (none-some filled at)
 placed_at [] (p ∷ ps) R n filled zip at = absurd zip
 placed_at (o ∷ os) [] R n filled zip at = absurd zip
-placed_at (o ∷ os) (p ∷ ps) R zero filled zip at =
-    (o, p, refl, refl, sym (same_Some (placed_output o p) filled at))
+placed_at (o ∷ os) (p ∷ ps) R zero filled zip at = search (rules, same_Some)
 placed_at (o ∷ os) (p ∷ ps) R (suc n) filled zip at = placed_at os ps R n filled zip.1 at
 
 module _ (dir name : List ℕ) (kind : Kind) (draft : Drv) (hashes paths : List (List ℕ))
@@ -59,15 +58,7 @@ module _ (dir name : List ℕ) (kind : Kind) (draft : Drv) (hashes paths : List 
 
   output_filled : (o : Output) (p : List ℕ) → Expected o p → IsThePathOrEmpty o.path p
       → IsFilledOutput Expected o (placed_output o p)
-  output_filled o p is fits =
-      let same = sym (placed_is o.path p fits)
-      in record {
-        name = refl;
-        algo = refl;
-        hash = refl;
-        expected = subst (Expected o) same is;
-        kept = subst (IsThePathOrEmpty o.path) same fits;
-      }
+  output_filled o p is fits = search (rules, placed_is)
 
   outputs_filled : (os : List Output) (ps : List (List ℕ)) → AllZip Expected os ps
       → ((o : Output) → Contains os o → (p : List ℕ) × Expected o p × IsThePathOrEmpty o.path p)

@@ -1,5 +1,5 @@
 -- The test of twins, and the first twin of a derivation.
-use Rattle.std.proofs.Common.{◌≡◌, ◌∙◌, ℕ, ◌+◌, ◌<◌, ◌≤◌, Bool, true, false, List, [], ◌∷◌, ◌++◌, length, not, refl, sym, ap, subst, ⊎_elim, arith, Option, Some}
+use Rattle.std.proofs.Common.{◌≡◌, ◌∙◌, ℕ, ◌+◌, ◌<◌, ◌≤◌, Bool, true, false, List, [], ◌∷◌, ◌++◌, length, not, refl, sym, ap, subst, ⊎_elim, arith, Option, Some, rules}
 use Rattle.std.specs.Prelude.{Contains, slice_get, if◌then◌else◌}
 use Rattle.std.specs.Cmp.Lexicographic.{nat_list_eq_equiv}
 use Rattle.std.specs.List.{list_any, position_or_len}
@@ -52,22 +52,21 @@ twins_are_told a b =
 
 -- each derivation is a twin of itself
 pub twins_alone : (a : Drv) → are_twins a a ≡ true
-twins_alone a = (twins_are_told a a).1 (λ path. (λ is. is, λ is. is))
+twins_alone a = search (rules, twins_are_told)
 
 -- ---- the first of a list that passes a test
 
 module _ {X : Type 0} (p : X → Bool) where
   at : (x : X) (xs : List X) (b : Bool) → p x ≡ b → position_or_len p (x ∷ xs)
       ≡ (if not b then 1 + position_or_len p xs else 0)
-  at x xs b is = ap (λ t. if not t then 1 + position_or_len p xs else 0) is
+  at x xs b is = search (rules, not)
 
   -- one element more in front of lists that have it at one place
   behind : (z : X) (xs ys : List X) (b : Bool) → p z ≡ b
       → (b ≡ false → position_or_len p xs ≡ position_or_len p ys)
       → position_or_len p (z ∷ xs) ≡ position_or_len p (z ∷ ys)
-  behind z xs ys true is same = at z xs true is ∙ sym (at z ys true is)
-  behind z xs ys false is same = at z xs false is ∙ ap (λ n. 1 + n) (same refl)
-      ∙ sym (at z ys false is)
+  behind z xs ys true is same = search (rules, at)
+  behind z xs ys false is same = search (rules, at)
 
   -- it stays the first as the list grows
   pub position_grows : (xs ys : List X) (x : X) → Contains xs x → p x ≡ true
@@ -83,8 +82,7 @@ module _ {X : Type 0} (p : X → Bool) where
   pub position_push : (xs : List X) (x : X) → p x ≡ true → position_or_len p (xs ++ x ∷ [])
       ≡ position_or_len p xs
   position_push [] x passes = at x [] true passes
-  position_push (z ∷ xs) x passes =
-      behind z (xs ++ x ∷ []) xs (p z) refl (λ fails. position_push xs x passes)
+  position_push (z ∷ xs) x passes = search (rules, behind, position_push xs x passes)
 
 -- ---- the first twin, by the owners of outputs
 

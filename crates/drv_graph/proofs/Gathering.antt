@@ -1,5 +1,5 @@
 -- How the code gathers inputs and sorts their names.
-use Rattle.std.proofs.Common.{◌≡◌, ◌↔◌, ℕ, ◌+◌, ◌-◌, ◌<◌, Bool, true, false, cond, List, [], ◌∷◌, ◌++◌, length, take, map, get_or, set, nat_eq, Result, Ok, Err, inl, inr, refl, sym, ap, subst, ◌∙◌, arith}
+use Rattle.std.proofs.Common.{◌≡◌, ◌↔◌, ℕ, ◌+◌, ◌-◌, ◌<◌, Bool, true, false, cond, List, [], ◌∷◌, ◌++◌, length, take, map, get_or, set, nat_eq, Result, Ok, Err, inl, inr, refl, sym, ap, subst, ◌∙◌, arith, rules}
 use Rattle.std.specs.Prelude.{Contains, OnOk, is_ok, if◌then◌else◌}
 use Rattle.std.specs.Global.{Vec}
 use Rattle.std.specs.declared.alloc.AllocError.{AllocError}
@@ -139,6 +139,4 @@ gather_step all yielded gathered after input sorted so_far below at are added =
 pub gather_end : (all yielded : List InputStruct) (gathered : List Input)
     → map (λ (y : InputStruct). y) yielded ≡ all → IsGathered (map input_of yielded) gathered
     → IsGathered (map input_of all) gathered
-gather_end all yielded gathered whole are =
-    subst (λ (given : List InputStruct). IsGathered (map input_of given) gathered)
-    (sym (map-id yielded) ∙ whole) are
+gather_end all yielded gathered whole are = search (rules, map-id)

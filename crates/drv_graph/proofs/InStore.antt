@@ -1,10 +1,8 @@
 -- The paths that a derivation names are paths of the folder where they were found to be, and the
 -- paths that are expected of its outputs always are.
-use Rattle.std.proofs.Common.{◌≡◌, ◌∙◌, ℕ, ◌<◌, List, [], ◌∷◌, ◌++◌, length, map, get_or, inl, inr, sym, ap, subst, true, None, Ok, Some}
+use Rattle.std.proofs.Common.{◌≡◌, ◌∙◌, ℕ, ◌<◌, List, [], ◌∷◌, ◌++◌, length, map, get_or, inl, inr, sym, ap, subst, true, None, Ok, Some, rules}
 use Rattle.std.specs.Prelude.{◌≢◌, ◌⊎◌, All, Contains, codes}
 use Rattle.std.proofs.lemmas.List.Elements.{All-contains, Contains-append_right}
-use Rattle.sha2.specs.Sha256.{sha256}
-use Rattle.nix_names.specs.Digests.{bytes_of}
 use Rattle.nix_names.specs.Names.{is_name}
 use Rattle.nix_names.specs.StorePaths.{IsPathOf, path_fault}
 use Rattle.nix_names.specs.declared.fault.NameFault.{NameFault}
@@ -17,7 +15,7 @@ use Rattle.nix_drv.specs.OwnPath.{referenced_paths}
 use Rattle.nix_drv.specs.Parts.{output_of}
 use Rattle.nix_drv.specs.declared.derivation.Output.{Output as OutputStruct}
 use Rattle.std.proofs.lemmas.Option.{none-some}
-use Rattle.drv_graph.specs.Expected.{IsExpected, drv_name_of, flat_text, path_name}
+use Rattle.drv_graph.specs.Expected.{IsExpected, drv_name_of, path_name}
 use Rattle.drv_graph.specs.Kinds.{HasKind}
 use Rattle.drv_graph.specs.Nodes.{Node, inputs_of}
 use Rattle.drv_graph.specs.Outputs.{IsThePath, IsWellNamed}
@@ -52,7 +50,7 @@ only_memory dir text fault is (inr none) other = other none.1
 pub inputs_in_store : (dir : List ℕ) (drv : Drv) → All (IsPathOf dir) (referenced_paths drv)
     → All (IsPathOf dir) (inputs_of drv)
 unfolding referenced_paths
-inputs_in_store dir drv all = All-left (IsPathOf dir) (inputs_of drv) drv.sources all
+inputs_in_store dir drv all = search (rules, All-left)
 
 pub sources_in_store : (dir : List ℕ) (drv : Drv) → All (IsPathOf dir) (referenced_paths drv)
     → All (IsPathOf dir) drv.sources
@@ -70,26 +68,18 @@ pub fixed_named : (name : List ℕ) (kind : Kind) (drv : Drv) → HasKind drv ki
     → All (IsWellNamed name) drv.outputs → (o : Output) → drv.outputs ≡ o ∷ []
     → o.name ≡ codes "out" → is_name name ≡ true
 fixed_named name kind drv is named o only out =
-    subst (λ t. is_name t ≡ true) (name_of_out name o.name out)
-    (All-contains (IsWellNamed name) drv.outputs o named
-    (subst (λ os. Contains os o) (sym only) (Contains-first o []))).1
+    search (rules, name_of_out, All-contains, Contains-first)
 
 -- an expected path is a path of the folder
 expected_in_store : (dir name : List ℕ) (kind : Kind) (drv : Drv) (hashes : List (List ℕ))
     → HasKind drv kind → All (IsWellNamed name) drv.outputs → (o : Output) → Contains drv.outputs o
     → (path : List ℕ) → IsExpected dir name kind drv hashes o path → IsPathOf dir path
 expected_in_store dir name Addressed drv hashes is named o has path (bytes, is_text, made) =
-    subst (IsPathOf dir) (sym made)
-    (store_path_is_path (codes "output:" ++ o.name) (sha256 bytes) dir (path_name name o.name)
-    (All-contains (IsWellNamed name) drv.outputs o named has).1)
+    search (rules, store_path_is_path, All-contains)
 expected_in_store dir name (Fixed Flat digest) drv hashes is named o has path made =
-    subst (IsPathOf dir) (sym made)
-    (store_path_is_path (codes "output:out") (sha256 (flat_text digest)) dir name
-    (fixed_named name (Fixed Flat digest) drv is named is.0 is.1.0 is.1.1))
+    search (rules, store_path_is_path, fixed_named)
 expected_in_store dir name (Fixed Recursive digest) drv hashes is named o has path made =
-    subst (IsPathOf dir) (sym made)
-    (store_path_is_path (codes "source") (bytes_of digest) dir name
-    (fixed_named name (Fixed Recursive digest) drv is named is.0 is.1.0 is.1.1))
+    search (rules, store_path_is_path, fixed_named)
 
 -- so are the paths of outputs that are right
 pub outputs_in_store : (dir : List ℕ) (nodes : List Node) (node : Node) (kind : Kind)

@@ -1,5 +1,5 @@
 -- The derivations of a plan, by their numbers.
-use Rattle.std.proofs.Common.{◌≡◌, ◌∙◌, ℕ, ◌<◌, ◌≤◌, suc, List, [], ◌∷◌, ◌++◌, length, take, drop, get_or, refl, sym, ap, subst, ⊎_elim, arith, Some}
+use Rattle.std.proofs.Common.{◌≡◌, ◌∙◌, ℕ, ◌<◌, ◌≤◌, suc, List, [], ◌∷◌, ◌++◌, length, take, drop, get_or, sym, ap, subst, ⊎_elim, arith, Some, rules}
 use Rattle.std.specs.Prelude.{All, Contains, slice_get}
 use Rattle.std.specs.List.{position_or_len}
 use Rattle.std.proofs.Math.Seq.{split_at}
@@ -11,7 +11,7 @@ use Rattle.nix_drv.specs.Derivation.{Drv}
 use Rattle.drv_graph.specs.Loading.{AreDistinct}
 use Rattle.drv_graph.specs.Nodes.{Node, inputs_of, paths_of}
 use Rattle.drv_graph.specs.Plans.{AreDrvsOf, AreNumbers, Graph}
-use Rattle.drv_graph.specs.PlanNodes.{AreKept, IsPlanNode, drvs_of, node_of, nodes_of, output_paths_of}
+use Rattle.drv_graph.specs.PlanNodes.{AreKept, IsPlanNode, drvs_of, node_of, nodes_of}
 use Rattle.drv_graph.specs.SoundGraphs.{IsSound}
 use Rattle.drv_graph.specs.Twins.{are_twins_at, first_twin_of}
 use Rattle.drv_graph.specs.declared.node.PlanNode.{PlanNode}
@@ -24,43 +24,33 @@ use Rattle.nix_names.proofs.Lists.{All-from_contains, Contains-cons_cases, Conta
 -- the derivation that is kept with a number
 kept_at : (kept : List PlanNode) (n : ℕ) (node : PlanNode) → n < length (nodes_of kept) → node
     ≡ get_or kept n node → slice_get kept n ≡ Some node
-kept_at kept n node lt is = slice_get_read kept (length kept) n node refl
-    (omega (arith, lt, length-map kept node_of)) is
+kept_at kept n node lt is = search (rules, slice_get_read, length-map)
 
 pub kept_node : (kept : List PlanNode) (n : ℕ) (node : PlanNode) → n < length (nodes_of kept) → node
     ≡ get_or kept n node → slice_get (nodes_of kept) n ≡ Some (node_of node)
-kept_node kept n node lt is = get_mapped node_of kept n node (kept_at kept n node lt is)
+kept_node kept n node lt is = search (rules, get_mapped, kept_at)
 
 pub kept_drv : (kept : List PlanNode) (n : ℕ) (node : PlanNode) → n < length (nodes_of kept) → node
     ≡ get_or kept n node → slice_get (drvs_of (nodes_of kept)) n ≡ Some node.drv
-kept_drv kept n node lt is = get_mapped (λ (m : Node). m.drv) (nodes_of kept) n (node_of node)
-    (kept_node kept n node lt is)
+kept_drv kept n node lt is = search (rules, get_mapped, kept_node)
 
 pub kept_path : (kept : List PlanNode) (n : ℕ) (node : PlanNode) → n < length (nodes_of kept) → node
     ≡ get_or kept n node → slice_get (paths_of (nodes_of kept)) n ≡ Some node.path
-kept_path kept n node lt is = get_mapped (λ (m : Node). m.path) (nodes_of kept) n (node_of node)
-    (kept_node kept n node lt is)
+kept_path kept n node lt is = search (rules, get_mapped, kept_node)
 
 -- its path has the name of a derivation's file
 pub kept_named : (kept : List PlanNode) (roots : List ℕ) (n : ℕ) (node : PlanNode) → n
     < length (nodes_of kept) → node ≡ get_or kept n node
     → IsSound (record { nodes = nodes_of kept; roots = roots }) → IsDrvPath node.path
 kept_named kept roots n node lt is sound =
-    All-contains (λ (m : Node). IsDrvPath m.path) (nodes_of kept) (node_of node) sound.named
-    (Contains-from_get (nodes_of kept) n (node_of node) (kept_node kept n node lt is))
+    search (rules, All-contains, Contains-from_get, kept_node)
 
 -- the paths of its outputs are kept, each once
 pub kept_distinct : (kept : List PlanNode) (roots : List ℕ) (n : ℕ) (node : PlanNode) → n
     < length (nodes_of kept) → node ≡ get_or kept n node → AreKept kept
     → IsSound (record { nodes = nodes_of kept; roots = roots }) → AreDistinct node.outputs.items
 kept_distinct kept roots n node lt is are sound =
-    let own : IsPlanNode (nodes_of kept) node =
-    All-contains (IsPlanNode (nodes_of kept)) kept node are
-    (Contains-from_get kept n node (kept_at kept n node lt is)) in
-    subst AreDistinct (sym own.outputs)
-    (All-contains (λ (m : Node). AreDistinct (output_paths_of m.drv)) (nodes_of kept)
-    (node_of node) sound.own_outputs
-    (Contains-from_get (nodes_of kept) n (node_of node) (kept_node kept n node lt is)))
+    search (rules, All-contains, Contains-from_get, kept_at, kept_node)
 
 -- the number of its first twin is kept
 pub kept_first : (kept : List PlanNode) (n : ℕ) (node : PlanNode) → n < length (nodes_of kept)
@@ -76,9 +66,7 @@ kept_first kept n node lt is are =
 -- it is no greater
 pub kept_first_within : (kept : List PlanNode) (n : ℕ) (node : PlanNode)
     → n < length (nodes_of kept) → node ≡ get_or kept n node → AreKept kept → node.first ≤ n
-kept_first_within kept n node lt is are =
-    let within : first_twin_of (nodes_of kept) n ≤ n = first_within (nodes_of kept) n lt in
-    omega (arith, within, kept_first kept n node lt is are)
+kept_first_within kept n node lt is are = search (rules, first_within, kept_first)
 
 -- what is used stands among the nodes
 pub drvs_paths : (nodes : List Node) (paths : List (List ℕ)) (drvs : List Drv)

@@ -1,5 +1,5 @@
 -- The kind of a derivation's outputs, from its outputs.
-use Rattle.std.proofs.Common.{◌≡◌, ◌≢◌, ℕ, List, [], ◌∷◌, length, Ok, Err, inl, inr, refl, sym, ap, subst, ◌∙◌}
+use Rattle.std.proofs.Common.{◌≡◌, ◌≢◌, ℕ, List, [], ◌∷◌, length, Ok, Err, inl, inr, refl, sym, ap, subst, ◌∙◌, rules}
 use Rattle.std.specs.Prelude.{All, Contains, IfOk, IfErr, Result, codes}
 use Rattle.std.proofs.lemmas.List.Elements.{All-contains}
 use Rattle.nix_names.proofs.DigestTexts.{one_digest, one_name}
@@ -21,37 +21,24 @@ use Rattle.nix_names.proofs.Lists.{Contains-cons_cases, Contains-first, Contains
 -- ---- kinds
 
 pub some_outputs : (outputs : List Output) (n : ℕ) → length outputs ≡ n → n ≢ 0 → outputs ≡ [] → ⊥
-some_outputs outputs n long some none = some (sym long ∙ ap length none)
+some_outputs outputs n long some none = search rules
 
 -- an output that says something among outputs that aren't one alone
 pub mixed : (drv : Drv) (outputs : List Output) → outputs ≡ drv.outputs → (o : Output)
     × Contains outputs o × (IsAddressed o → ⊥)
     → ((o : Output) → outputs ≡ o ∷ [] → o.name ≡ codes "out" → ⊥) → AreMixed drv
-mixed drv outputs is (o, has, says) alone =
-    inr (
-      o,
-      subst (λ (os : List Output). Contains os o) is has,
-      says,
-      λ only. alone o (is ∙ only.0) only.1,
-    )
+mixed drv outputs is (o, has, says) alone = search rules
 
 not_mixed : (drv : Drv) (only : Output) → drv.outputs ≡ only ∷ [] → only.name ≡ codes "out"
     → AreMixed drv → ⊥
-not_mixed drv only is named (inl none) = let clash : [] ≡ only ∷ [] = sym none ∙ is in cc
+not_mixed drv only is named (inl none) = search rules
 not_mixed drv only is named (inr (o, has, says, other)) =
-    elim (Contains-cons_cases only [] o (subst (λ (os : List Output). Contains os o) is has)) [
-      | inl same ↦ other (
-        is ∙ ap (λ (p : Output). p ∷ []) same,
-        ap (λ (p : Output). p.name) (sym same) ∙ named,
-      )
-      | inr later ↦ Contains-nothing o later
-    ]
+    search (rules, Contains-cons_cases, Contains-nothing)
 
 -- outputs of one kind aren't mixed
 pub kind_not_mixed : (drv : Drv) (kind : Kind) → HasKind drv kind → AreMixed drv → ⊥
 kind_not_mixed drv Addressed has (inl none) = has.0 none
-kind_not_mixed drv Addressed has (inr (o, here, says, other)) =
-    says (All-contains IsAddressed drv.outputs o has.1 here)
+kind_not_mixed drv Addressed has (inr (o, here, says, other)) = search (rules, All-contains)
 kind_not_mixed drv (Fixed method digest) (only, is, fixed) mixed =
     not_mixed drv only is.0 is.1 mixed
 
@@ -59,10 +46,7 @@ kind_not_mixed drv (Fixed method digest) (only, is, fixed) mixed =
 says_alone : (only : Output) (outputs : List Output) → outputs ≡ only ∷ [] → (o : Output)
     × Contains outputs o × (IsAddressed o → ⊥) → IsAddressed only → ⊥
 says_alone only outputs is (o, has, says) addressed =
-    elim (Contains-cons_cases only [] o (subst (λ (os : List Output). Contains os o) is has)) [
-      | inl same ↦ says (subst IsAddressed same addressed)
-      | inr later ↦ Contains-nothing o later
-    ]
+    search (rules, Contains-cons_cases, Contains-nothing)
 
 pub unknown : (drv : Drv) (outputs : List Output) (only : Output) (name : List ℕ) → outputs
     ≡ drv.outputs → outputs ≡ only ∷ [] → only.name ≡ codes "out"
@@ -70,15 +54,8 @@ pub unknown : (drv : Drv) (outputs : List Output) (only : Output) (name : List �
     → ((method : Method) (digest : Digest) → IsFixed only method digest → ⊥) → name ≡ only.name
     → (AreMixed drv → ⊥) × ((o : Output) × Contains drv.outputs o × HasUnknownMethod o
     × (name ≡ o.name))
-unknown drv outputs only name here is named says none same = (
-  not_mixed drv only (sym here ∙ is) named,
-  (
-    only,
-    subst (λ (os : List Output). Contains os only) (sym is ∙ here) (Contains-first only []),
-    record { says = says_alone only outputs is says; none = none },
-    same,
-  ),
-)
+unknown drv outputs only name here is named says none same =
+    search (rules, not_mixed, Contains-first, says_alone)
 
 fixed_has_kind : (drv : Drv) (only : Output) (kind : Kind) → drv.outputs ≡ only ∷ [] → only.name
     ≡ codes "out" → IsFixedKind only (Ok kind) → HasKind drv kind
@@ -88,8 +65,7 @@ fixed_has_kind drv only (Fixed method digest) is named h = (only, (is, named), h
 fixed_fault : (drv : Drv) (outputs : List Output) (only : Output) (fault : OutputFault) → outputs
     ≡ drv.outputs → outputs ≡ only ∷ [] → only.name ≡ codes "out"
     → SaysSome outputs → IsFixedKind only (Err fault) → IsKindFault drv fault
-fixed_fault drv outputs only (UnknownMethod output) here is named says h =
-    unknown drv outputs only output.items here is named says h.0 h.1
+fixed_fault drv outputs only (UnknownMethod output) here is named says h = search (rules, unknown)
 fixed_fault drv outputs only NoMemory here is named says h =
     not_mixed drv only (sym here ∙ is) named
 fixed_fault drv outputs only MixedOutputs here is named says h = absurd h
@@ -104,10 +80,8 @@ pub kind_from : (drv : Drv) (outputs : List Output) (only : Output)
     ≡ codes "out"
     → SaysSome outputs → IsFixedKind only answer → IfOk answer (HasKind drv)
     × IfErr answer (IsKindFault drv)
-kind_from drv outputs only (Ok kind) here is named says h =
-    (fixed_has_kind drv only kind (sym here ∙ is) named h, tt)
-kind_from drv outputs only (Err fault) here is named says h =
-    (tt, fixed_fault drv outputs only fault here is named says h)
+kind_from drv outputs only (Ok kind) here is named says h = search (rules, fixed_has_kind)
+kind_from drv outputs only (Err fault) here is named says h = search (rules, fixed_fault)
 
 -- ---- one kind
 
@@ -122,11 +96,9 @@ not_recursive Sha512 e = cc
 one_method : (a b : Method) (d e : Digest) → MayBeDeclared a d → MayBeDeclared b e
     → algo_of a d ≡ algo_of b e
     → (a ≡ b) × (algorithm_of d ≡ algorithm_of e)
-one_method Flat Flat d e taken taken' same =
-    (refl, one_name (algorithm_of d) (algorithm_of e) same)
+one_method Flat Flat d e taken taken' same = search (rules, one_name)
 one_method Flat Recursive d e taken taken' same = absurd (not_recursive (algorithm_of d) same)
-one_method Recursive Flat d e taken taken' same =
-    absurd (not_recursive (algorithm_of e) (sym same))
+one_method Recursive Flat d e taken taken' same = search (rules, not_recursive)
 one_method Recursive Recursive d e taken taken' same = (refl, taken ∙ sym taken')
 
 some_name : (algorithm : Algorithm) → name_of algorithm ≡ [] → ⊥
@@ -149,10 +121,8 @@ not_both drv method digest each (output, only, fixed) =
 
 pub one_kind : (drv : Drv) (a b : Kind) → HasKind drv a → HasKind drv b → a ≡ b
 one_kind drv Addressed Addressed is_a is_b = refl
-one_kind drv Addressed (Fixed method digest) is_a is_b =
-    absurd (not_both drv method digest is_a.1 is_b)
-one_kind drv (Fixed method digest) Addressed is_a is_b =
-    absurd (not_both drv method digest is_b.1 is_a)
+one_kind drv Addressed (Fixed method digest) is_a is_b = search (rules, not_both)
+one_kind drv (Fixed method digest) Addressed is_a is_b = search (rules, not_both)
 one_kind drv (Fixed m d) (Fixed m' d') (o, only, fixed) (o', only', fixed') =
     let lists : o ∷ [] ≡ o' ∷ [] = sym only.0 ∙ only'.0 in
     let same : o ≡ o' = cc in

@@ -1,12 +1,12 @@
 -- How an open derivation whose inputs were all left is left itself.
-use Rattle.std.proofs.Common.{◌≡◌, ◌∙◌, ℕ, ◌≤◌, Bool, List, [], ◌∷◌, ◌++◌, length, map, refl, sym, ap, subst, inl, inr, ⊎_elim, arith, Option, Some, Ok, Err, Result, IfErr, OnOk}
+use Rattle.std.proofs.Common.{◌≡◌, ◌∙◌, ℕ, Bool, List, [], ◌∷◌, ◌++◌, length, map, refl, sym, ap, subst, inl, inr, ⊎_elim, Option, Some, Ok, Err, Result, IfErr, OnOk, rules}
 use Rattle.std.specs.Prelude.{◌⊎◌, ⊤, All, Contains, slice_get}
 use Rattle.std.specs.Global.{Vec}
 use Rattle.std.specs.List.{position_or_len}
 use Rattle.std.proofs.lemmas.List.{append_assoc, map_push, same_from_push, take_all}
 use Rattle.std.proofs.lemmas.List.Elements.{All-contains, All-push}
 use Rattle.std.proofs.lemmas.Simd.{map-map}
-use Rattle.nix_drv.specs.Derivation.{Drv, Output, Input}
+use Rattle.nix_drv.specs.Derivation.{Drv, Output}
 use Rattle.nix_drv.specs.Parts.{bytes_of, drv_of, input_of, output_of, path_of}
 use Rattle.nix_drv.specs.Places.{output_names}
 use Rattle.nix_drv.specs.declared.derivation.Input.{Input as InputStruct}
@@ -38,31 +38,25 @@ use Rattle.nix_names.proofs.Lists.{All-from_contains, Contains-from_map, Contain
 -- the parts that are lent are those of the derivation
 pub parts_outputs : (parts : Parts) (drv : Drv) (lent : List OutputStruct) → drv_of parts ≡ drv
     → lent ≡ parts.outputs.items → map output_of lent ≡ drv.outputs
-parts_outputs parts drv lent same is = ap (map output_of) is ∙ ap (λ (d : Drv). d.outputs) same
+parts_outputs parts drv lent same is = search rules
 
 pub parts_sources : (parts : Parts) (drv : Drv) (lent : List (Vec ℕ)) → drv_of parts ≡ drv
     → lent ≡ parts.sources.items → map bytes_of lent ≡ drv.sources
-parts_sources parts drv lent same is = ap (map bytes_of) is ∙ ap (λ (d : Drv). d.sources) same
+parts_sources parts drv lent same is = search rules
 
 -- the paths of inputs and outputs, from what lends them
 pub inputs_are : (lent : List InputStruct) (drv : Drv) (paths : List (List ℕ)) → map input_of lent
     ≡ drv.inputs → paths ≡ map path_of lent → paths ≡ inputs_of drv
-inputs_are lent drv paths same is = is ∙ sym (map-map (λ (i : Input). i.path) input_of lent)
-    ∙ ap (map (λ (i : Input). i.path)) same
+inputs_are lent drv paths same is = search (rules, map-map)
 
 pub outputs_are : (lent : List OutputStruct) (drv : Drv) (paths : List (List ℕ))
     → map output_of lent ≡ drv.outputs → paths ≡ map text_path_of lent → paths ≡ output_paths_of drv
-outputs_are lent drv paths same is = is ∙ sym (map-map (λ (o : Output). o.path) output_of lent)
-    ∙ ap (map (λ (o : Output). o.path)) same
+outputs_are lent drv paths same is = search (rules, map-map)
 
 -- an open derivation with all its numbers has those of all its inputs
 pub all_numbers : (nodes : List Node) (visit : Visit) → IsVisit nodes visit → HasAllNumbers visit
     → AreNumbers nodes visit.numbers.items (inputs_of visit.drv)
-all_numbers nodes visit is all =
-    let long : length (inputs_of visit.drv) ≤ length visit.numbers.items =
-    omega (arith, all, ap length is.inputs) in
-    subst (AreNumbers nodes visit.numbers.items)
-    (take_all (length visit.numbers.items) (inputs_of visit.drv) long) is.numbers
+all_numbers nodes visit is all = search (rules, take_all)
 
 -- the fault of outputs that clash is true
 pub leaving_clash : (dir : List ℕ) (kept given : List PlanNode) (visit : Visit)
@@ -71,7 +65,7 @@ pub leaving_clash : (dir : List ℕ) (kept given : List PlanNode) (visit : Visit
     → outputs ≡ output_paths_of visit.drv → IsOwning given visit.path outputs owners (Err fault)
     → IsLeavingFault dir kept visit fault
 leaving_clash dir kept given visit outputs owners fault kind right same are (inl memory) =
-    subst (IsLeavingFault dir kept visit) (sym memory) tt
+    search rules
 leaving_clash dir kept given visit outputs owners fault kind right same are (inr (is, found)) =
     let clash : IsClash kept (output_paths_of visit.drv) = subst (IsClash kept) are
     (subst (λ k. IsClash k outputs) same found) in
@@ -97,10 +91,7 @@ last_cases x (z ∷ zs) = let rest = last_cases z zs in (x ∷ rest.0, rest.1, a
 -- one more lawful node
 pub lawful_push : (dir : List ℕ) (nodes : List Node) (node : Node) → AreLawful dir nodes
     → IsLawful dir nodes node → AreLawful dir (nodes ++ node ∷ [])
-lawful_push dir nodes node all one before [] other parts =
-    let ends = same_from_push nodes before node other parts
-    in subst (λ (l : List Node). IsLawful dir l other) ends.0
-    (subst (IsLawful dir nodes) ends.1 one)
+lawful_push dir nodes node all one before [] other parts = search (rules, same_from_push)
 lawful_push dir nodes node all one before (x ∷ xs) other parts =
     let rest = last_cases x xs in
     let whole : nodes ++ node ∷ [] ≡ (before ++ other ∷ rest.0) ++ rest.1 ∷ [] =
@@ -124,11 +115,7 @@ kept_grows nodes more kept right stays = record {
   where
     hash_grows : (ns ms : List Node) (drv : Drv) (kind : Kind) (hash : List ℕ)
         → HasHash ns drv kind hash → HasHash (ns ++ ms) drv kind hash
-    hash_grows ns ms drv kind hash has = record {
-      of_inputs = has.of_inputs;
-      are_hashes = hashes_grow ms has.are_hashes;
-      is_hash = has.is_hash;
-    }
+    hash_grows ns ms drv kind hash has = search (rules, hashes_grow)
 
 -- with each earlier derivation this one shares no output path, or is its twin
 apart_drv : (kept : List PlanNode) (drv : Drv) (owners : List ℕ → Option ℕ)
@@ -213,14 +200,10 @@ found_right dir kept after one owners outputs right distinct lawful is_kept new 
     }
   where
     its_entered : AreOwners owners (outputs_of kept ++ output_paths_of one.drv ∷ [])
-    its_entered = subst (λ l. AreOwners owners (outputs_of kept ++ l ∷ [])) are entered
+    its_entered = search rules
 
     is_lawful : IsLawful dir (nodes_of kept) (node_of one)
-    is_lawful = record {
-      kind = one.kind;
-      right = answer;
-      apart = apart_drv kept one.drv owners its_entered;
-    }
+    is_lawful = search (rules, apart_drv, its_entered)
 
 -- the owner of its outputs is its first twin
 its_first : (dir : List ℕ) (kept : List PlanNode) (visit : Visit) (kind : Kind)
@@ -265,7 +248,7 @@ pub leaving_kept :
     IsLeaving dir before after visit result
 leaving_kept dir before after visit kind hash outputs sources first given entered owners (Err fault)
     found is all new right are lent same own rising owning grown owners_same marks count err =
-    subst (λ f. IsLeavingFault dir before.nodes.items visit f) (sym err) tt
+    search rules
 leaving_kept dir before after visit kind hash outputs sources first given entered owners (Ok made)
     found is all new right are lent same own rising owning grown owners_same marks count err =
     let kept = before.nodes.items in
@@ -301,6 +284,4 @@ pub checking_right : (dir : List ℕ) (kept given : List PlanNode) (visit : Visi
     × HasHash (nodes_of given) visit.drv kind hash
     → MayAnswer dir (nodes_of kept) (visited visit) (Ok kind)
     × HasHash (nodes_of kept) visit.drv kind hash
-checking_right dir kept given visit kind hash same right =
-    subst (λ k. MayAnswer dir (nodes_of k) (visited visit) (Ok kind)
-    × HasHash (nodes_of k) visit.drv kind hash) same right
+checking_right dir kept given visit kind hash same right = search rules

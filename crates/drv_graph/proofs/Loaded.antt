@@ -1,9 +1,8 @@
 -- All that some roots reach: what was left behind the first roots, and the plan behind all of them.
-use Rattle.std.proofs.Common.{◌≡◌, ℕ, ◌+◌, ◌≤◌, List, [], ◌∷◌, ◌++◌, length, map, take, refl, sym, ap, subst, nat_eq, arith, Option, None}
+use Rattle.std.proofs.Common.{◌≡◌, ℕ, ◌+◌, ◌≤◌, List, [], ◌∷◌, ◌++◌, length, take, refl, sym, subst, nat_eq, None, rules}
 use Rattle.std.specs.Prelude.{All, Contains}
 use Rattle.std.specs.Cmp.Lexicographic.{pointwise}
 use Rattle.std.specs.List.{IsDistinct}
-use Rattle.std.specs.Map.{lookup}
 use Rattle.std.proofs.lemmas.List.{length-map, take_all}
 use Rattle.std.proofs.lemmas.List.Elements.{All-contains_itself, All-nil}
 use Rattle.indexmap.specs.IndexMap.{IndexMap, get, keys}
@@ -15,7 +14,7 @@ use Rattle.drv_graph.specs.Nodes.{Node, output_paths_of, paths_of}
 use Rattle.drv_graph.specs.Owners.{AreOwners, outputs_of, owned}
 use Rattle.drv_graph.specs.Plans.{AreLawful, AreLeft, AreNumbers, IsPlan, IsReachedBy, MayBeAt, MayUse, each_once}
 use Rattle.drv_graph.specs.Plans.AreLeft.{none_left}
-use Rattle.drv_graph.specs.PlanNodes.{AreKept, IsPlanNode, node_of, nodes_of}
+use Rattle.drv_graph.specs.PlanNodes.{AreKept, IsPlanNode, nodes_of}
 use Rattle.drv_graph.specs.SoundGraphs.{IsSound}
 use Rattle.drv_graph.specs.Walks.{AreMarks, IsEmptyFound, IsReachedAll, IsVisited, IsWalked, marked}
 use Rattle.drv_graph.specs.declared.found.Found.{Found}
@@ -42,7 +41,7 @@ no_nodes dir (x ∷ xs) after node parts = absurd cc
 
 empty_get : {X S : Type 0} (m : IndexMap (List ℕ) X S) → m.entries ≡ [] → (path : List ℕ)
     → get (pointwise nat_eq) m path ≡ None
-empty_get m none path = ap (λ es. lookup (pointwise nat_eq path) es) none
+empty_get m none path = search (rules, nat_eq)
 
 distinct_none : IsDistinct (pointwise nat_eq) []
 unfolding IsDistinct
@@ -50,17 +49,10 @@ distinct_none = tt
 
 no_keys : (found : Found) → IsEmptyFound found → length (keys found.marks)
     ≡ length found.nodes.items + 0
-no_keys found empty =
-    let marks : length (keys found.marks) ≡ 0 =
-    ap (λ (es : List (List ℕ × Option ℕ)). length (map (λ (e : List ℕ × Option ℕ). e.0) es))
-    empty.1 in
-    let nodes : length found.nodes.items ≡ 0 = ap length empty.0 in
-    omega (arith, marks, nodes)
+no_keys found empty = search rules
 
 no_more : (found : Found) → IsEmptyFound found → length (keys found.marks) ≤ max_nodes
-no_more found empty =
-    let nodes : length found.nodes.items ≡ 0 = ap length empty.0 in
-    omega (arith, no_keys found empty, nodes)
+no_more found empty = search (rules, no_keys)
 
 -- nothing was left yet
 pub loading_begins : (dir : List ℕ) (gives : List ℕ → Answer → Type 0) (roots : List (List ℕ))
@@ -145,8 +137,7 @@ loading_ends dir gives roots place found numbers all some =
 few_found : (dir : List ℕ) (gives : List ℕ → Answer → Type 0) (roots : List (List ℕ))
     (found : Found) (numbers : List ℕ) → IsReachedAll dir gives roots found numbers
     → length (nodes_of found.nodes.items) ≤ max_nodes
-few_found dir gives roots found numbers all =
-    omega (arith, length-map found.nodes.items node_of, all.walked.count, all.walked.few)
+few_found dir gives roots found numbers all = search (rules, length-map)
 
 -- what was found is the plan
 pub plan_found : (dir : List ℕ) (gives : List ℕ → Answer → Type 0) (roots : List (List ℕ))

@@ -1,7 +1,6 @@
 -- Lists as loops build and change them.
-use Rattle.std.proofs.Common.{◌≡◌, ℕ, zero, suc, ◌+◌, ◌-◌, ◌<◌, ◌≤◌, List, [], ◌∷◌, ◌++◌, length, take, drop, map, get_or, set, Some, refl, sym, ap, subst, ◌∙◌, add-one, append-nil, arith}
+use Rattle.std.proofs.Common.{◌≡◌, ℕ, zero, suc, ◌+◌, ◌-◌, ◌<◌, ◌≤◌, List, [], ◌∷◌, ◌++◌, length, take, drop, map, get_or, set, Some, refl, sym, ap, subst, ◌∙◌, add-one, append-nil, arith, rules}
 use Rattle.std.specs.Prelude.{All}
-use Rattle.std.specs.Option.{option_map}
 use Rattle.std.specs.List.{AllZip, slice_get}
 use Rattle.std.proofs.Math.Seq.{split_at}
 use Rattle.std.proofs.lemmas.List.{drop-set-lt, drop_all, drop_more, get_or-map, length-map, map-append, map-set, set_split, take_all, take_more, take_more_set}
@@ -65,10 +64,7 @@ pub written_all : {A C : Type 0} (view : A → C) (f : C → C) (old now : List 
     → map view now ≡ map f (take i (map view old)) ++ drop i (map view old) → map view now
     ≡ map f (map view old)
 written_all {A} {C} view f old now i past is =
-    let long : length (map view old) ≤ i = omega (arith, length-map old view) in
-    is ∙ ap (λ (cs : List C). map f cs ++ drop i (map view old)) (take_all i (map view old) long)
-    ∙ ap (λ (cs : List C). map f (map view old) ++ cs) (drop_all i (map view old) long)
-    ∙ append-nil (map f (map view old))
+    search (rules, length-map, take_all, drop_all, append-nil)
 
 -- ---- elements and their places
 
@@ -78,8 +74,7 @@ slice_get-take [] zero k x e = absurd cc
 slice_get-take [] (suc n) k x e = absurd cc
 slice_get-take (y ∷ ys) zero k x e = absurd cc
 slice_get-take (y ∷ ys) (suc n) zero x e = (omega arith, e)
-slice_get-take (y ∷ ys) (suc n) (suc k) x e = let h = slice_get-take ys n k x e
-    in (omega (arith, h.0), h.1)
+slice_get-take (y ∷ ys) (suc n) (suc k) x e = search (rules, slice_get-take ys n k x e)
 
 -- beside each element stands another
 pub beside : {A B : Type 0} (R : A → B → Type 0) (xs : List A) (ys : List B) (k : ℕ) (x : A)
@@ -87,8 +82,7 @@ pub beside : {A B : Type 0} (R : A → B → Type 0) (xs : List A) (ys : List B)
     → (y : B) × (slice_get ys k ≡ Some y) × R x y
 beside R [] ys k x zipped e = absurd cc
 beside R (a ∷ xs) [] k x zipped e = absurd zipped
-beside {A} {B} R (a ∷ xs) (b ∷ ys) zero x zipped e = let is : a ≡ x = cc
-    in (b, refl, subst (λ (z : A). R z b) is zipped.0)
+beside {A} {B} R (a ∷ xs) (b ∷ ys) zero x zipped e = search rules
 beside R (a ∷ xs) (b ∷ ys) (suc k) x zipped e = beside R xs ys k x zipped.1 e
 
 -- two lists in step
@@ -106,14 +100,12 @@ zipped_from_map {A} {B} R f xs ys is each = subst (λ (zs : List B). AllZip R xs
 -- the view of the element at a place
 pub seen_at : {A B : Type 0} (view : A → B) (items : List A) (i : ℕ) (d : A) → i < length items → d
     ≡ get_or items i d → slice_get (map view items) i ≡ Some (view d)
-seen_at view items i d below at = slice_get-map view items i
-    ∙ ap (option_map view) (slice_get_read items (length items) i d refl below at)
+seen_at view items i d below at = search (rules, slice_get-map, slice_get_read)
 
 pub seen_twice : {A B C : Type 0} (outer : B → C) (view : A → B) (items : List A) (i : ℕ) (d : A)
     → i < length items → d ≡ get_or items i d
     → slice_get (map outer (map view items)) i ≡ Some (outer (view d))
-seen_twice outer view items i d below at = slice_get-map outer (map view items) i
-    ∙ ap (option_map outer) (seen_at view items i d below at)
+seen_twice outer view items i d below at = search (rules, slice_get-map, seen_at)
 
 -- a list that is built is the front of another, up to a place
 pub took_more : {B : Type 0} (xs : List B) (i : ℕ) (x : B) (built pushed : List B) → slice_get xs i
@@ -137,20 +129,18 @@ all_took_more {B} P xs i x at before here =
 
 pub all_took_all : {B : Type 0} (P : B → Type 0) (xs : List B) (i : ℕ) → length xs ≤ i
     → All P (take i xs) → All P xs
-all_took_all {B} P xs i past all = subst (λ (ys : List B). All P ys) (take_all i xs past) all
+all_took_all {B} P xs i past all = search (rules, take_all)
 
 -- the first element of which something doesn't hold
 pub first_without : {B : Type 0} (Good : B → Type 0) (xs : List B) (i : ℕ) (x : B) → slice_get xs i
     ≡ Some x → All Good (take i xs) → (Good x → ⊥) → IsFirstWhere (λ (b : B). Good b → ⊥) xs x
-first_without Good xs i x at good bad =
-    first_at (λ b. (Good b → ⊥) → ⊥) (λ b. Good b → ⊥) xs i x at (λ k d below h. h (good k d below))
-    bad
+first_without Good xs i x at good bad = search (rules, first_at)
 
 -- a list of one element
 pub one_element : {A B : Type 0} (view : A → B) (xs : List A) (x : A) → length xs ≡ 1 → x
     ≡ get_or xs 0 x → map view xs ≡ view x ∷ []
 one_element view [] x long at = absurd (omega arith)
-one_element {A} {B} view (y ∷ []) x long at = ap (λ (z : A). view z ∷ []) (sym at)
+one_element {A} {B} view (y ∷ []) x long at = search rules
 one_element view (y ∷ z ∷ zs) x long at = absurd (omega arith)
 
 -- an element is changed in place, by a relation
@@ -187,9 +177,7 @@ zipped_in_place {A} {C} R view old now after i x d below same zipped rest is mad
 
 pub zipped_all : {C : Type 0} (R : C → C → Type 0) (old now : List C) (i : ℕ) → length old ≤ i
     → length now ≤ i → AllZip R (take i old) (take i now) → AllZip R old now
-zipped_all {C} R old now i past past' zipped =
-    subst (λ (cs : List C). AllZip R cs now) (take_all i old past)
-    (subst (λ (cs : List C). AllZip R (take i old) cs) (take_all i now past') zipped)
+zipped_all {C} R old now i past past' zipped = search (rules, take_all)
 
 -- the last element of a list
 pub split_last : {A : Type 0} (xs : List A) (n : ℕ) (x : A) → n ≡ length xs → 0 < n → x
@@ -201,6 +189,4 @@ split_last {A} xs n x long some at =
 
 pub set_last : {A : Type 0} (xs : List A) (n : ℕ) (x : A) → n ≡ length xs → 0 < n → set xs (n - 1) x
     ≡ take (n - 1) xs ++ x ∷ []
-set_last {A} xs n x long some =
-    set_split xs (n - 1) x (omega arith) ∙ ap (λ (ys : List A). take (n - 1) xs ++ x ∷ ys)
-    (drop_all (suc (n - 1)) xs (omega arith))
+set_last {A} xs n x long some = search (rules, set_split, drop_all)

@@ -1,5 +1,5 @@
 -- Marks and owners, as entries are set.
-use Rattle.std.proofs.Common.{◌≡◌, ◌∙◌, ℕ, List, [], ◌∷◌, ◌++◌, length, sym, ap, subst, ⊎_elim, nat_eq, Option, Some, None}
+use Rattle.std.proofs.Common.{◌≡◌, ◌∙◌, ℕ, List, [], ◌∷◌, ◌++◌, length, sym, ap, subst, ⊎_elim, nat_eq, Option, Some, None, rules}
 use Rattle.std.specs.Prelude.{Contains, slice_get}
 use Rattle.std.specs.Cmp.Lexicographic.{pointwise}
 use Rattle.std.proofs.lemmas.Option.{same_Some, none-some}
@@ -12,10 +12,7 @@ use Rattle.nix_names.proofs.Lists.{Contains-cons_cases, Contains-first, Contains
 pub sets_entry : {X S : Type 0} (before after : IndexMap (List ℕ) X S) (path : List ℕ) (entry : X)
     → Updates (pointwise nat_eq) before after path (Some entry)
     → SetsEntry (get (pointwise nat_eq) before) (get (pointwise nat_eq) after) path entry
-sets_entry before after path entry updates = record {
-  here = updates.1;
-  others = λ other differs. updates.2 other (other_path path other (λ same. differs (sym same)));
-}
+sets_entry before after path entry updates = search (rules, other_path)
 
 -- nothing was met
 pub marks_none : (marks : List ℕ → Option (Option ℕ)) → ((path : List ℕ) → marks path ≡ None)
@@ -40,8 +37,7 @@ new_not_left marks left pending path right none has =
 
 pub new_not_pending : (marks : List ℕ → Option (Option ℕ)) (left pending : List (List ℕ))
     (path : List ℕ) → AreMarks marks left pending → marks path ≡ None → Contains pending path → ⊥
-new_not_pending marks left pending path right none has =
-    none-some None (sym none ∙ (right.is_pending path).1 has)
+new_not_pending marks left pending path right none has = search (rules, none-some)
 
 -- an open path wasn't left
 pub pending_not_left : (marks : List ℕ → Option (Option ℕ)) (left pending : List (List ℕ))
@@ -79,9 +75,7 @@ marks_opened marks after left pending path right none sets = record {
 }
   where
     numberless : (other : List ℕ) (number : ℕ) → other ≡ path → after other ≡ Some (Some number) → ⊥
-    numberless other number same e =
-        let both : Some None ≡ Some (Some number) = sym sets.here ∙ ap after (sym same) ∙ e
-        in none-some number (same_Some None (Some number) both)
+    numberless other number same e = search (rules, none-some, same_Some)
 
 -- the innermost open path was left
 pub marks_left : (marks after : List ℕ → Option (Option ℕ)) (left pending : List (List ℕ))
@@ -110,24 +104,11 @@ marks_left marks after left pending path right apart sets = record {
   where
     at_end : (other : List ℕ) (number : ℕ) → other ≡ path → after other ≡ Some (Some number)
         → slice_get (left ++ path ∷ []) number ≡ Some other
-    at_end other number same e =
-        let both : Some (Some (length left)) ≡ Some (Some number) = sym sets.here
-        ∙ ap after (sym same) ∙ e in
-        let number_is = same_Some (length left) number
-        (same_Some (Some (length left)) (Some number) both) in
-        ap (λ n. slice_get (left ++ path ∷ []) n) (sym number_is) ∙ get_pushed left path
-        ∙ ap Some (sym same)
+    at_end other number same e = search (rules, same_Some, get_pushed)
 
     before : (other : List ℕ) (number : ℕ) → slice_get left number ≡ Some other → after other
         ≡ Some (Some number)
-    before other number old =
-        sets.others other
-        (λ same. pending_not_left marks left (path ∷ pending) path right
-        (Contains-first path pending)
-        (subst (Contains left) same (Contains-from_get left number other old)))
-        ∙ (right.numbered other number).1 old
+    before other number old = search (rules, pending_not_left, Contains-first, Contains-from_get)
 
     numbered : (other : List ℕ) → other ≡ path → after other ≡ Some None → ⊥
-    numbered other same e =
-        let both : Some None ≡ Some (Some (length left)) = sym e ∙ ap after same ∙ sets.here
-        in none-some (length left) (same_Some None (Some (length left)) both)
+    numbered other same e = search (rules, none-some, same_Some)

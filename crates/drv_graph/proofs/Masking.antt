@@ -1,5 +1,5 @@
 -- A derivation without the paths of its outputs, and inputs with hashes.
-use Rattle.std.proofs.Common.{◌≡◌, ◌≤◌, ℕ, zero, suc, Bool, true, false, List, [], ◌∷◌, length, map, Option, Some, None, inl, inr, refl, sym, ap, subst, ◌∙◌, arith}
+use Rattle.std.proofs.Common.{◌≡◌, ◌≤◌, ℕ, zero, suc, Bool, true, false, List, [], ◌∷◌, length, map, Option, Some, None, inl, inr, refl, sym, ap, subst, ◌∙◌, arith, rules}
 use Rattle.std.specs.Prelude.{Contains, IfOk, Result, Ok, Err, if◌then◌else◌}
 use Rattle.std.specs.Cmp.Lexicographic.{bytes_decides}
 use Rattle.std.specs.List.{list_any, slice_get}
@@ -10,7 +10,7 @@ use Rattle.nix_names.specs.Names.{same_bytes}
 use Rattle.std.specs.Prelude.{Vec}
 use Rattle.std.specs.declared.alloc.AllocError.{AllocError}
 use Rattle.std.specs.declared.alloc.Global.{Global}
-use Rattle.nix_drv.specs.Derivation.{Drv, EnvEntry, Input, IsLooseText, Output, derivation_form, drv_value}
+use Rattle.nix_drv.specs.Derivation.{Drv, EnvEntry, Input, IsLooseText, derivation_form, drv_value}
 use Rattle.nix_drv.specs.Grammar.{text}
 use Rattle.nix_drv.specs.Parts.{bytes_of, drv_of, entry_of, input_of, output_of}
 use Rattle.nix_drv.specs.declared.derivation.Input.{Input as InputStruct}
@@ -29,9 +29,7 @@ use Rattle.nix_names.proofs.Lists.{Contains-first, Contains-later}
 any_here : (key : List ℕ) (names : List (List ℕ)) (place : ℕ) → slice_get names place ≡ Some key
     → list_any (same_bytes key) names ≡ true
 any_here key [] place e = absurd cc
-any_here key (x ∷ xs) zero e =
-    let is : x ≡ key = cc in
-    ap (λ (b : Bool). b || list_any (same_bytes key) xs) ((bytes_decides key x).1 (sym is))
+any_here key (x ∷ xs) zero e = search rules
 any_here key (x ∷ xs) (suc place) e = later (same_bytes key x) (any_here key xs place e)
   where
     later : (b : Bool) → list_any (same_bytes key) xs ≡ true → (b || list_any (same_bytes key) xs)
@@ -56,30 +54,24 @@ any_none key (x ∷ xs) none =
 -- an entry under a name has no value
 pub masked_under : (names : List (List ℕ)) (entry : EnvEntry) (place : ℕ) → slice_get names place
     ≡ Some entry.key → record { key = entry.key; value = [] } ≡ masked_entry names entry
-masked_under names entry place at =
-    sym (ap (λ (b : Bool). if b then record { key = entry.key; value = [] } else entry)
-    (any_here entry.key names place at))
+masked_under names entry place at = search (rules, any_here)
 
 -- another is as it was
 pub masked_other : (names : List (List ℕ)) (entry : EnvEntry) → (Contains names entry.key → ⊥)
     → entry ≡ masked_entry names entry
-masked_other names entry none =
-    sym (ap (λ (b : Bool). if b then record { key = entry.key; value = [] } else entry)
-    (any_none entry.key names none))
+masked_other names entry none = search (rules, any_none)
 
 -- the same by what was found
 pub masked_found : (names : List (List ℕ)) (entry : EnvEntry) (key : List ℕ) (found : Option ℕ)
     → IsPlaceOfKey names key found → key ≡ entry.key → is_some found ≡ true
     → record { key = entry.key; value = [] } ≡ masked_entry names entry
 masked_found names entry key None place same is = absurd (false≢true is)
-masked_found names entry key (Some place) at same is =
-    masked_under names entry place (at ∙ ap (λ (k : List ℕ). Some k) same)
+masked_found names entry key (Some place) at same is = search (rules, masked_under)
 
 pub masked_missing : (names : List (List ℕ)) (entry : EnvEntry) (key : List ℕ) (found : Option ℕ)
     → IsPlaceOfKey names key found → key ≡ entry.key → is_some found ≡ false
     → entry ≡ masked_entry names entry
-masked_missing names entry key None none same is =
-    masked_other names entry (λ has. none (subst (λ (k : List ℕ). Contains names k) (sym same) has))
+masked_missing names entry key None none same is = search (rules, masked_other)
 masked_missing names entry key (Some place) at same is = absurd (false≢true (sym is))
 
 -- ---- inputs with hashes
@@ -90,12 +82,7 @@ pub replaced_at : (inputs : List Input) (hashes : List (List ℕ)) (i : ℕ) (in
     (record { path = encode_lower hash; names = input.names })
 replaced_at [] hashes i input hash e h = absurd cc
 replaced_at (x ∷ xs) [] i input hash e h = absurd cc
-replaced_at (x ∷ xs) (y ∷ ys) zero input hash e h =
-    let one : x ≡ input = cc in
-    let other : y ≡ hash = cc in
-    ap (λ (n : List (List ℕ)). Some (record { path = encode_lower y; names = n }))
-    (ap (λ (i : Input). i.names) one)
-    ∙ ap (λ (z : List ℕ). Some (record { path = encode_lower z; names = input.names })) other
+replaced_at (x ∷ xs) (y ∷ ys) zero input hash e h = search rules
 replaced_at (x ∷ xs) (y ∷ ys) (suc i) input hash e h = replaced_at xs ys i input hash e h
 
 pub replaced_length : (inputs : List Input) (hashes : List (List ℕ))
@@ -106,13 +93,7 @@ replaced_length (x ∷ xs) (y ∷ ys) = let h = replaced_length xs ys in omega a
 
 pub input_parts : (x : InputStruct) (path : List ℕ) (names : List (List ℕ)) → x.path.items ≡ path
     → map bytes_of x.names.items ≡ names → input_of x ≡ record { path = path; names = names }
-input_parts x path names same_path same_names =
-    let by_path : input_of x ≡ record { path = path; names = map bytes_of x.names.items } =
-    ap (λ (p : List ℕ). record { path = p; names = map bytes_of x.names.items }) same_path in
-    let by_names : ◌≡◌ {A = Input} (record { path = path; names = map bytes_of x.names.items })
-    (record { path = path; names = names }) =
-    ap (λ (n : List (List ℕ)). record { path = path; names = n }) same_names in
-    by_path ∙ by_names
+input_parts x path names same_path same_names = search rules
 
 -- ---- texts
 
@@ -140,30 +121,4 @@ pub masked_parts : (parts : Parts) (drv : Drv) (outputs : List OutputStruct)
       env = with_items parts.env env;
     }) ≡ masked drv
 masked_parts parts drv outputs env view long_outputs long_env are_outputs are_env =
-    let whole = drv_of parts in
-    let build : List Output → List EnvEntry → Drv = λ os es.
-    record {
-      outputs = os;
-      inputs = whole.inputs;
-      sources = whole.sources;
-      system = whole.system;
-      builder = whole.builder;
-      args = whole.args;
-      env = es;
-    } in
-    let outs : map output_of (with_items parts.outputs outputs).items
-    ≡ map masked_output whole.outputs = ap (map output_of)
-    (with_items_is parts.outputs outputs long_outputs) ∙ are_outputs in
-    let entries : map entry_of (with_items parts.env env).items
-    ≡ map (masked_entry (names_of whole.outputs)) whole.env =
-    ap (map entry_of) (with_items_is parts.env env long_env) ∙ are_env
-    ∙ ap (λ (d : Drv). map (masked_entry (names_of d.outputs)) whole.env) (sym view) in
-    let first : build (map output_of (with_items parts.outputs outputs).items)
-    (map entry_of (with_items parts.env env).items)
-    ≡ build (map masked_output whole.outputs) (map entry_of (with_items parts.env env).items) =
-    ap (λ (os : List Output). build os (map entry_of (with_items parts.env env).items)) outs in
-    let second : build (map masked_output whole.outputs)
-    (map entry_of (with_items parts.env env).items)
-    ≡ masked whole = ap (λ (es : List EnvEntry). build (map masked_output whole.outputs) es)
-    entries in
-    first ∙ second ∙ ap masked view
+    search (rules, with_items_is)

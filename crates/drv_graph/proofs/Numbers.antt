@@ -1,5 +1,5 @@
 -- The numbers of paths among nodes, and the hashes of nodes, as nodes are added.
-use Rattle.std.proofs.Common.{◌≡◌, ◌∙◌, ℕ, ◌<◌, List, [], ◌∷◌, ◌++◌, length, map, sym, ap, arith, Some}
+use Rattle.std.proofs.Common.{◌≡◌, ℕ, ◌<◌, List, [], ◌∷◌, ◌++◌, length, Some, rules}
 use Rattle.std.specs.Prelude.{All, slice_get}
 use Rattle.std.proofs.lemmas.List.{length-map, map-append, map_push}
 use Rattle.std.proofs.lemmas.List.Elements.{All-cons, All-nil, Contains-append_left}
@@ -18,8 +18,7 @@ paths_append nodes more = map-append (λ (n : Node). n.path) nodes more
 pub number_grows : (nodes more : List Node) (number : ℕ) (path : List ℕ)
     → slice_get (paths_of nodes) number ≡ Some path → slice_get (paths_of (nodes ++ more)) number
     ≡ Some path
-number_grows nodes more number path is = ap (λ ps. slice_get ps number) (paths_append nodes more)
-    ∙ get_grows (paths_of nodes) (paths_of more) number path is
+number_grows nodes more number path is = search (rules, paths_append, get_grows)
 
 pub first_number : (nodes : List Node) (n : ℕ) (ns : List ℕ) (p : List ℕ) (ps : List (List ℕ))
     → AreNumbers nodes (n ∷ ns) (p ∷ ps) → slice_get (paths_of nodes) n ≡ Some p
@@ -41,24 +40,18 @@ pub numbers_grow : (nodes more : List Node) (ns : List ℕ) (ps : List (List ℕ
 numbers_grow nodes more [] ps e = e
 numbers_grow nodes more (n ∷ ns) [] e = absurd cc
 numbers_grow nodes more (n ∷ ns) (p ∷ ps) e =
-    number_first (nodes ++ more) n ns p ps
-    (number_grows nodes more n p (first_number nodes n ns p ps e))
-    (numbers_grow nodes more ns ps (later_numbers nodes n ns p ps e))
+    search (rules, number_first, number_grows, first_number, later_numbers, numbers_grow nodes more ns ps (later_numbers nodes n ns p ps e))
 
 -- one number more, at the end
 pub numbers_push : (nodes : List Node) (ns : List ℕ) (ps : List (List ℕ)) (n : ℕ) (p : List ℕ)
     → AreNumbers nodes ns ps → slice_get (paths_of nodes) n ≡ Some p
     → AreNumbers nodes (ns ++ n ∷ []) (ps ++ p ∷ [])
-numbers_push nodes ns ps n p e is =
-    map_push (λ m. slice_get (paths_of nodes) m) ns n
-    ∙ ap (λ l. l ++ slice_get (paths_of nodes) n ∷ []) e ∙ ap (λ o. map Some ps ++ o ∷ []) is
-    ∙ sym (map_push Some ps p)
+numbers_push nodes ns ps n p e is = search (rules, map_push)
 
 -- as many numbers as paths
 pub numbers_length : (nodes : List Node) (ns : List ℕ) (ps : List (List ℕ)) → AreNumbers nodes ns ps
     → length ns ≡ length ps
-numbers_length nodes ns ps e = sym (length-map ns (λ m. slice_get (paths_of nodes) m)) ∙ ap length e
-    ∙ length-map ps Some
+numbers_length nodes ns ps e = search (rules, length-map)
 
 -- each is a node's
 pub numbers_within : (nodes : List Node) (ns : List ℕ) (ps : List (List ℕ)) → AreNumbers nodes ns ps
@@ -66,10 +59,7 @@ pub numbers_within : (nodes : List Node) (ns : List ℕ) (ps : List (List ℕ)) 
 numbers_within nodes [] ps e = All-nil (λ n. n < length nodes)
 numbers_within nodes (n ∷ ns) [] e = absurd cc
 numbers_within nodes (n ∷ ns) (p ∷ ps) e =
-    let lt : n < length (paths_of nodes) = slice_get_within (paths_of nodes) n p
-    (first_number nodes n ns p ps e) in
-    All-cons (λ m. m < length nodes) n ns (omega (arith, length-map nodes (λ (x : Node). x.path)))
-    (numbers_within nodes ns ps (later_numbers nodes n ns p ps e))
+    search (rules, slice_get_within, first_number, All-cons, length-map, later_numbers, numbers_within nodes ns ps (later_numbers nodes n ns p ps e))
 
 -- hashes stay those of their paths
 pub hashes_grow : {nodes : List Node} {paths hashes : List (List ℕ)} (more : List Node)

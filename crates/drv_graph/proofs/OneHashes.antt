@@ -1,10 +1,10 @@
 -- The modulo hashes of some paths are one, where no two nodes have one path.
-use Rattle.std.proofs.Common.{◌≡◌, ℕ, false, List, [], ◌∷◌, refl, sym, ap, subst, ◌∙◌}
+use Rattle.std.proofs.Common.{◌≡◌, ℕ, false, List, ◌∷◌, refl, sym, ap, ◌∙◌, rules}
 use Rattle.sha2.specs.Sha256.{sha256}
-use Rattle.nix_drv.specs.Derivation.{Drv, Output}
+use Rattle.nix_drv.specs.Derivation.{Drv}
 use Rattle.drv_graph.specs.GraphLaws.{HaveOneHashEach, HaveOwnPaths}
 use Rattle.drv_graph.specs.Kinds.{HasKind}
-use Rattle.drv_graph.specs.Nodes.{AreHashes, IsHashBy, Node, fixed_text, inputs_of, no_hashes, one_more_hash}
+use Rattle.drv_graph.specs.Nodes.{AreHashes, IsHashBy, Node, inputs_of, no_hashes, one_more_hash}
 use Rattle.drv_graph.specs.declared.kinds.Kind.{Kind}
 use Rattle.drv_graph.specs.declared.kinds.Kind.TheVariants.{Addressed, Fixed}
 use Rattle.drv_graph.proofs.KindAnswers.{one_kind}
@@ -16,22 +16,13 @@ one_hash : (kind : Kind) (drv : Drv) (hashes : List (List ℕ)) (a b : List ℕ)
 one_hash Addressed drv hashes a b (text, is_a, a_is) (other, is_b, b_is) = a_is
     ∙ ap sha256 (one_text drv hashes false text other is_a is_b) ∙ sym b_is
 one_hash (Fixed method digest) drv hashes a b (output, only, a_is) (other, only', b_is) =
-    let lists : output ∷ [] ≡ other ∷ [] = sym only ∙ only' in
-    let same : output ≡ other = cc in
-    a_is ∙ ap (λ (o : Output). sha256 (fixed_text o)) same ∙ sym b_is
+    search rules
 
 same_hash : (a b : Node) (kind kind' : Kind) (of_a of_b : List (List ℕ)) (hash hash' : List ℕ) → a
     ≡ b → HasKind a.drv kind → HasKind b.drv kind' → of_a ≡ of_b
     → IsHashBy kind a.drv of_a hash → IsHashBy kind' b.drv of_b hash' → hash ≡ hash'
 same_hash a b kind kind' of_a of_b hash hash' same is_a is_b inputs by_a by_b =
-    let here : HasKind b.drv kind = subst (λ (n : Node). HasKind n.drv kind) same is_a in
-    let kinds : kind ≡ kind' = one_kind b.drv kind kind' here is_b in
-    let moved : IsHashBy kind b.drv of_a hash =
-    subst (λ (n : Node). IsHashBy kind n.drv of_a hash) same by_a in
-    let kinded : IsHashBy kind' b.drv of_a hash =
-    subst (λ (k : Kind). IsHashBy k b.drv of_a hash) kinds moved in
-    one_hash kind' b.drv of_b hash hash'
-    (subst (λ (hs : List (List ℕ)). IsHashBy kind' b.drv hs hash) inputs kinded) by_b
+    search (rules, one_kind, one_hash)
 
 hashes_same : (nodes : List Node) → HaveOwnPaths nodes → (paths hashes : List (List ℕ))
     → AreHashes nodes paths hashes
@@ -57,5 +48,4 @@ hashes_same nodes own paths hashes
     ap (λ (h : List ℕ). h ∷ hs) first ∙ ap (λ (t : List (List ℕ)). hash' ∷ t) all
 
 pub one_hashes : HaveOneHashEach
-one_hashes nodes paths hashes hashes' own are are' =
-    hashes_same nodes own paths hashes are paths hashes' are' refl
+one_hashes nodes paths hashes hashes' own are are' = search (rules, hashes_same)

@@ -1,5 +1,5 @@
 -- There is one modulo text, one kind, one expected path, and one list of modulo hashes.
-use Rattle.std.proofs.Common.{◌≡◌, ◌↔◌, ◌⊎◌, ℕ, true, List, [], ◌∷◌, ◌++◌, inl, inr, refl, sym, ap, subst, ◌∙◌}
+use Rattle.std.proofs.Common.{◌≡◌, ◌↔◌, ◌⊎◌, ℕ, true, List, [], ◌∷◌, ◌++◌, inl, inr, refl, sym, ap, subst, ◌∙◌, rules}
 use Rattle.std.specs.Prelude.{All, Contains, codes, if◌then◌else◌}
 use Rattle.std.proofs.lemmas.List.Elements.{All-head, All-tail}
 use Rattle.sha2.specs.Sha256.{sha256}
@@ -20,33 +20,15 @@ use Rattle.nix_names.proofs.Lists.{Contains-cons_cases, Contains-first, Contains
 
 pub named_first : (x : Input) (xs : List Input) (name : List ℕ) → Contains x.names name
     → IsNamed (x ∷ xs) x.path name
-named_first x xs name has = record {
-  input = x;
-  is_input = Contains-first x xs;
-  is_path = refl;
-  is_name = has;
-}
+named_first x xs name has = search (rules, Contains-first)
 
 pub named_later : (x : Input) (xs : List Input) (path name : List ℕ) → IsNamed xs path name
     → IsNamed (x ∷ xs) path name
-named_later x xs path name h = record {
-  input = h.input;
-  is_input = Contains-later x xs h.input h.is_input;
-  is_path = h.is_path;
-  is_name = h.is_name;
-}
+named_later x xs path name h = search (rules, Contains-later)
 
 pub named_cases : (x : Input) (xs : List Input) (path name : List ℕ) → IsNamed (x ∷ xs) path name
     → ((x.path ≡ path) × Contains x.names name) ⊎ IsNamed xs path name
-named_cases x xs path name h =
-    elim (Contains-cons_cases x xs h.input h.is_input) [
-      | inl is ↦ inl (
-        ap (λ (i : Input). i.path) is ∙ h.is_path,
-        subst (λ (i : Input). Contains i.names name) (sym is) h.is_name,
-      )
-      | inr later ↦ inr
-          (record { input = h.input; is_input = later; is_path = h.is_path; is_name = h.is_name })
-    ]
+named_cases x xs path name h = search (rules, Contains-cons_cases)
 
 pub path_of_named : (xs : List Input) (path name : List ℕ) → IsNamed xs path name
     → Contains (input_paths xs) path
@@ -57,12 +39,7 @@ path_of_named xs path name h =
 -- ---- one modulo text
 
 input_same : (x y : Input) → x.path ≡ y.path → x.names ≡ y.names → x ≡ y
-input_same x y path names =
-    let by_path : x ≡ record { path = y.path; names = x.names } =
-    ap (λ (p : List ℕ). record { path = p; names = x.names }) path in
-    let by_names : ◌≡◌ {A = Input} (record { path = y.path; names = x.names }) y =
-    ap (λ (n : List (List ℕ)). record { path = y.path; names = n }) names in
-    by_path ∙ by_names
+input_same x y path names = search rules
 
 -- inputs with rising paths and names are told by what is named
 united_same : (xs ys : List Input) → IsRising (input_paths xs) → IsRising (input_paths ys)

@@ -1,7 +1,7 @@
 -- A plan's derivations stand at the paths of derivations' files, and none has one path for two
 -- outputs: their names differ.
-use Rattle.std.proofs.Common.{◌≡◌, ◌∙◌, ℕ, Bool, true, false, List, [], ◌∷◌, ◌++◌, length, map, refl, sym, ap, subst, ⊎_elim, nat_eq, arith, Ok}
-use Rattle.std.specs.Prelude.{All, Contains, codes, if◌then◌else◌}
+use Rattle.std.proofs.Common.{◌≡◌, ◌∙◌, ℕ, Bool, true, false, List, [], ◌∷◌, ◌++◌, length, map, refl, sym, ap, nat_eq, arith, Ok, rules}
+use Rattle.std.specs.Prelude.{All, Contains, codes}
 use Rattle.std.specs.Cmp.Lexicographic.{pointwise}
 use Rattle.std.specs.List.{AllByRecursion, IsDistinct}
 use Rattle.std.proofs.lemmas.List.{append_cancel_left, length-append}
@@ -17,7 +17,7 @@ use Rattle.nix_names.proofs.RisingLists.{equal_from_eq, first_below, not_below_i
 use Rattle.nix_drv.specs.Derivation.{Drv, Output}
 use Rattle.nix_drv.specs.Places.{output_names}
 use Rattle.nix_drv.specs.Sources.{Answer}
-use Rattle.drv_graph.specs.Expected.{IsExpected, drv_name_of, path_name}
+use Rattle.drv_graph.specs.Expected.{IsExpected, path_name}
 use Rattle.drv_graph.specs.Kinds.{HasKind}
 use Rattle.drv_graph.specs.Loading.{AreDistinct}
 use Rattle.drv_graph.specs.Nodes.{Node, output_paths_of}
@@ -40,19 +40,14 @@ one_output name a b same = by (pointwise nat_eq a (codes "out")) (pointwise nat_
     refl refl
   where
     chosen : Bool → List ℕ → List ℕ
-    chosen is_out output = if is_out then name else name ++ codes "-" ++ output
+    chosen is_out output = search rules
 
     by : (x y : Bool) → pointwise nat_eq a (codes "out") ≡ x → pointwise nat_eq b (codes "out") ≡ y
         → a ≡ b
-    by true true e f = equal_from_eq a (codes "out") e ∙ sym (equal_from_eq b (codes "out") f)
-    by true false e f =
-        absurd (no_more name b (sym (ap (λ t. chosen t a) e) ∙ same ∙ ap (λ t. chosen t b) f))
-    by false true e f =
-        absurd (no_more name a (sym (ap (λ t. chosen t b) f) ∙ sym same ∙ ap (λ t. chosen t a) e))
-    by false false e f =
-        let whole : name ++ codes "-" ++ a ≡ name ++ codes "-" ++ b = sym (ap (λ t. chosen t a) e)
-        ∙ same ∙ ap (λ t. chosen t b) f in
-        append_cancel_left (name ++ codes "-") a b whole
+    by true true e f = search (rules, equal_from_eq)
+    by true false e f = search (rules, no_more, chosen)
+    by false true e f = search (rules, no_more, chosen)
+    by false false e f = search (rules, chosen, append_cancel_left)
 
 -- a store path has its name
 name_of_store_path : (kind inner dir name : List ℕ) → is_name name ≡ true
@@ -84,12 +79,7 @@ one_name dir name Addressed drv hashes has_kind named fit o p has has' same =
     let of' : name_of p.path ≡ path_name name p.name = ap name_of (at'.2 ∙ at'.1.2) ∙ title' in
     one_output name o.name p.name (sym of ∙ ap name_of same ∙ of')
 one_name dir name (Fixed method digest) drv hashes has_kind named fit o p has has' same =
-    let only : (x : Output) → Contains drv.outputs x → has_kind.0 ≡ x = λ x is.
-    ⊎_elim (λ e. e) (λ none. absurd (Contains-nothing x none))
-    (Contains-cons_cases has_kind.0 [] x
-    (subst (λ (os : List Output). Contains os x) has_kind.1.0 is))
-    in
-    ap (λ (x : Output). x.name) (sym (only o has) ∙ only p has')
+    search (rules, Contains-nothing, Contains-cons_cases)
 
 -- outputs in order have different paths, where those with one path have one name
 paths_differ : (outputs : List Output) → IsRising (map (λ (o : Output). o.name) outputs)
@@ -122,16 +112,10 @@ paths_differ (x ∷ xs) rising same =
 pub own_outputs : (dir : List ℕ) (before : List Node) (node : Node) (kind : Kind)
     → MayAnswer dir before node (Ok kind) → IsRising (output_names node.drv)
     → AreDistinct (output_paths_of node.drv)
-own_outputs dir before node kind right rising =
-    paths_differ node.drv.outputs rising
-    (one_name dir (drv_name_of node.path) kind node.drv right.hashes right.check.0.has_kind
-    right.check.0.named right.check.1)
+own_outputs dir before node kind right rising = search (rules, paths_differ, one_name)
 
 -- a plan's derivations stand at the paths of derivations' files
 pub all_named : (dir : List ℕ) (gives : List ℕ → Answer → Type 0) (nodes : List Node)
     → All (λ (n : Node). MayBeAt dir gives n.path n.drv) nodes
     → All (λ (n : Node). IsDrvPath n.path) nodes
-all_named dir gives nodes given =
-    All-from_contains (λ (n : Node). IsDrvPath n.path) nodes
-    (λ n has. (All-contains (λ (m : Node). MayBeAt dir gives m.path m.drv) nodes n given
-    has).found.read.named)
+all_named dir gives nodes given = search (rules, All-from_contains, All-contains)

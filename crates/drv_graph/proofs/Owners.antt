@@ -1,9 +1,9 @@
 -- The owners of output paths, as those of one more derivation are entered.
-use Rattle.std.proofs.Common.{◌≡◌, ◌∙◌, ℕ, ◌+◌, ◌<◌, ◌≤◌, Bool, true, false, List, [], ◌∷◌, ◌++◌, length, take, get_or, refl, sym, ap, subst, inl, inr, ⊎_elim, arith, nat_eq, not, eq-eqb, eqb-true, Option, Some, None, Err}
+use Rattle.std.proofs.Common.{◌≡◌, ◌∙◌, ℕ, ◌+◌, ◌<◌, ◌≤◌, Bool, true, false, List, [], ◌∷◌, ◌++◌, length, take, get_or, refl, sym, ap, subst, inl, inr, ⊎_elim, arith, nat_eq, not, eq-eqb, eqb-true, Option, Some, None, Err, rules}
 use Rattle.std.specs.Prelude.{◌⊎◌, All, Contains, IfSome, slice_get, unwrap_or}
 use Rattle.std.specs.Option.{option_eq}
 use Rattle.std.proofs.lemmas.Bool.{false≢true}
-use Rattle.std.proofs.lemmas.List.{length-map, take_all, take_more}
+use Rattle.std.proofs.lemmas.List.{length-map, take_more}
 use Rattle.std.proofs.lemmas.List.Elements.{All-contains, Contains-append_left, Contains-push}
 use Rattle.std.proofs.lemmas.Option.{none-some, same_Some, slice_get_read, slice_get_within}
 use Rattle.drv_graph.specs.Loading.{AreDistinct}
@@ -62,11 +62,11 @@ owners_new owners after left own right free entered =
     (record { has = has; of_each = of_each }, mine_alone)
   where
     its_own : (path : List ℕ) (n : ℕ) → Contains own path → after path ≡ Some n → length left ≡ n
-    its_own path n mine e = same_Some (length left) n (sym (entered.here path mine) ∙ e)
+    its_own path n mine e = search (rules, same_Some)
 
     as_before : (path : List ℕ) (n : ℕ) → (Contains own path → ⊥) → after path ≡ Some n
         → owners path ≡ Some n
-    as_before path n other e = sym (entered.others path other) ∙ e
+    as_before path n other e = search rules
 
     has : (path : List ℕ) (n : ℕ) → after path ≡ Some n → (outputs : List (List ℕ))
         × (slice_get (left ++ own ∷ []) n ≡ Some outputs) × Contains outputs path
@@ -96,19 +96,7 @@ owners_new owners after left own right free entered =
     before : (n : ℕ) (outputs : List (List ℕ)) → slice_get left n ≡ Some outputs → (number : ℕ)
         × (number ≤ n) × AreOwnedBy after number outputs
     before n outputs old =
-        let its = right.of_each n outputs old in
-        let low = slice_get_within left n outputs old in (
-          its.0,
-          its.1,
-          λ path. (
-            λ is.
-                let e = (its.2 path).0 is
-                in entered.others path (λ mine. none-some its.0 (sym (free path mine) ∙ e)) ∙ e,
-            λ e. ⊎_elim
-                (λ mine. absurd (omega (arith, its.1, low, its_own path its.0 mine e)))
-                (λ other. (its.2 path).1 (as_before path its.0 other e)) (known_cases own path),
-          ),
-        )
+        search (rules, slice_get_within, none-some, its_own, as_before, known_cases)
 
     of_each : (n : ℕ) (outputs : List (List ℕ)) → slice_get (left ++ own ∷ []) n ≡ Some outputs
         → (number : ℕ) × (number ≤ n) × AreOwnedBy after number outputs
@@ -136,15 +124,11 @@ owners_twin owners after left own theirs m right at once long of_them entered =
         (λ other. entered.others path other) (known_cases own path)
 
     among : (path : List ℕ) → owners path ≡ Some m → Contains theirs path
-    among path e =
-        let old = right.has path m e
-        in subst (λ l. Contains l path) (same_element left m old.0 theirs old.1 at) old.2
+    among path e = search (rules, same_element)
 
     has : (path : List ℕ) (n : ℕ) → after path ≡ Some n → (outputs : List (List ℕ))
         × (slice_get (left ++ own ∷ []) n ≡ Some outputs) × Contains outputs path
-    has path n e =
-        let old = right.has path n (sym (same path) ∙ e)
-        in (old.0, get_grows left (own ∷ []) n old.0 old.1, old.2)
+    has path n e = search (rules, same, get_grows)
 
     as_theirs : AreOwnedBy after m own
     as_theirs path = (
@@ -179,7 +163,7 @@ owners_twin owners after left own theirs m right at once long of_them entered =
 -- an item that was read and copied
 pub contains_item : (xs : List (List ℕ)) (i : ℕ) (x y : List ℕ) → i < length xs → x ≡ get_or xs i x
     → y ≡ x → Contains xs y
-contains_item xs i x y lt is same = subst (Contains xs) (sym same) (i, lt, sym is)
+contains_item xs i x y lt is same = search (rules, same)
 
 -- what a comparison of two owners said
 pub same_owner : (a b : Option ℕ) (differs : Bool) → differs ≡ not (option_eq nat_eq a b) → differs
@@ -203,13 +187,6 @@ other_owner a b differs is passed same =
     itself None = refl
     itself (Some x) = ap not (eq-eqb x x refl)
 
--- nothing is entered yet
-pub entered_none : (owners : List ℕ → Option ℕ) (number : ℕ) → AreEntered owners owners [] number
-entered_none owners number = record {
-  here = λ path has. absurd (Contains-nothing path has);
-  others = λ path none. refl;
-}
-
 -- one path more
 entered_more : (before now after : List ℕ → Option ℕ) (paths : List (List ℕ)) (path : List ℕ)
     (number : ℕ) → AreEntered before now paths number → SetsEntry now after path number
@@ -232,8 +209,7 @@ unchanged : (before now : List ℕ → Option ℕ) (paths : List (List ℕ)) (i 
     (number : ℕ) → AreDistinct paths → i < length paths → path ≡ get_or paths i path
     → AreEntered before now (take i paths) number → now path ≡ before path
 unchanged before now paths i path number once lt is entered =
-    entered.others path
-    (not_before paths i path once (slice_get_read paths (length paths) i path refl lt is))
+    search (rules, not_before, slice_get_read)
 
 -- one path more had the owner that it has to have
 pub enter_step :
@@ -278,22 +254,7 @@ pub enter_stops :
     (old ≡ owner → ⊥) →
     IsEntering before after owner paths number false
 enter_stops before now after paths i path key owner old number lt is copied once entered found
-    differs = (
-      path,
-      contains_item paths i path path lt is refl,
-      λ same. differs
-          (found ∙ ap now copied ∙ unchanged before now paths i path number once lt is entered
-          ∙ same),
-    )
-
--- all paths had it
-pub enter_all : (before after : List ℕ → Option ℕ) (paths : List (List ℕ)) (i : ℕ)
-    (owner : Option ℕ) (number : ℕ) → length paths ≤ i
-    → ((other : List ℕ) → Contains (take i paths) other → before other ≡ owner)
-    → AreEntered before after (take i paths) number
-    → IsEntering before after owner paths number true
-enter_all before after paths i owner number past were entered =
-    subst (λ l. IsEntering before after owner l number true) (take_all i paths past) (were, entered)
+    differs = search (rules, contains_item, unchanged, before)
 
 -- ---- the outputs of the next derivation
 
@@ -304,9 +265,7 @@ pub owner_within : (kept : List PlanNode) (owners : List ℕ → Option ℕ) (ow
 owner_within kept owners own None right is = tt
 owner_within kept owners [] (Some n) right is = absurd (none-some n (sym is))
 owner_within kept owners (path ∷ paths) (Some n) right is =
-    let its = right.has path n (sym is) in
-    let low = slice_get_within (outputs_of kept) n its.0 its.1 in
-    omega (arith, low, length-map kept (λ (k : PlanNode). output_paths_of k.drv))
+    search (rules, slice_get_within, length-map)
 
 -- whether a derivation that is read has so many
 pub as_many : (kept : List PlanNode) (number : Option ℕ) (n : ℕ) (node : PlanNode) (count len : ℕ)
@@ -354,8 +313,7 @@ clash_found kept owners (first ∷ rest) path right has differs =
     by (owners first) (owners path) refl refl
   where
     by : (a b : Option ℕ) → owners first ≡ a → owners path ≡ b → IsClash kept (first ∷ rest)
-    by (Some m) b e e' = clash_of kept owners (first ∷ rest) m first path right e
-        (Contains-first first rest) has differs
+    by (Some m) b e e' = search (rules, clash_of, Contains-first, has)
     by None (Some k) e e' = clash_of kept owners (first ∷ rest) k path first right e' has
         (Contains-first first rest) (λ same. differs (sym same))
     by None None e e' = absurd (differs (e' ∙ sym e))
@@ -399,8 +357,7 @@ pub clash_many : (kept : List PlanNode) (owners : List ℕ → Option ℕ) (own 
 clash_many kept owners own None answer are all right once is many failed =
     absurd (false≢true (sym failed ∙ many))
 clash_many kept owners own (Some n) answer are all right once is many failed =
-    clash_long kept owners own n many.0 are all right once (sym is) many.1
-    (λ same. false≢true (sym failed ∙ many.2.1 same))
+    search (rules, clash_long, false≢true)
 
 -- one had another owner
 pub clash_entered : (kept : List PlanNode) (owners after : List ℕ → Option ℕ) (own : List (List ℕ))
@@ -426,14 +383,7 @@ pub owning_all :
     entered ≡ true →
     AreOwners after (outputs_of kept ++ own ∷ []) × AreOwnedBy after first own
 owning_all kept owners after own None first many entered are right once many_are is next entering
-    all =
-    let both : IsEntering owners after None own first true =
-    subst (IsEntering owners after None own first) all entering in
-    let long : first ≡ length (outputs_of kept) =
-    next ∙ sym (length-map kept (λ (k : PlanNode). output_paths_of k.drv)) in
-    let made = owners_new owners after (outputs_of kept) own right both.0
-    (subst (AreEntered owners after own) long both.1) in
-    (made.0, subst (λ n. AreOwnedBy after n own) (sym long) made.1)
+    all = search (rules, length-map, owners_new)
 owning_all kept owners after own (Some m) first many entered are right once many_are is earlier
     entering all =
     let both : IsEntering owners after (Some m) own first true =

@@ -1,5 +1,5 @@
 -- Lists of paths, and of what has paths: what they contain, and at which places.
-use Rattle.std.proofs.Common.{◌≡◌, ◌∙◌, ℕ, ◌<◌, ◌≤◌, Bool, true, false, List, [], ◌∷◌, ◌++◌, length, take, get_or, refl, sym, ap, subst, inl, inr, ⊎_elim, nat_eq, arith, Some}
+use Rattle.std.proofs.Common.{◌≡◌, ◌∙◌, ℕ, ◌<◌, ◌≤◌, Bool, true, false, List, [], ◌∷◌, ◌++◌, length, take, get_or, refl, sym, ap, subst, inl, inr, ⊎_elim, nat_eq, arith, Some, rules}
 use Rattle.std.specs.Prelude.{◌⊎◌, Contains, slice_get}
 use Rattle.std.specs.Cmp.Lexicographic.{pointwise, nat_list_eq_equiv}
 use Rattle.std.specs.List.{list_any}
@@ -25,9 +25,7 @@ path_cases a b = by (pointwise nat_eq a b) refl
   where
     by : (t : Bool) → pointwise nat_eq a b ≡ t → (a ≡ b) ⊎ (a ≡ b → ⊥)
     by true e = inl (equal_from_eq a b e)
-    by false e = inr
-        (λ same. false≢true
-        (sym e ∙ subst (λ c. pointwise nat_eq a c ≡ true) same (nat_list_eq_equiv.refl a)))
+    by false e = search (rules, false≢true, nat_eq)
 
 -- a path that isn't in a list is found by no look-up
 pub unknown : (paths : List (List ℕ)) (path : List ℕ) → (Contains paths path → ⊥)
@@ -50,8 +48,7 @@ known_cases (p ∷ ps) path =
 -- one more path, which is new
 pub distinct_push : (paths : List (List ℕ)) (path : List ℕ) → AreDistinct paths
     → (Contains paths path → ⊥) → AreDistinct (paths ++ path ∷ [])
-distinct_push paths path once new = IsDistinct-push nat_list_eq_equiv paths path once
-    (unknown paths path new)
+distinct_push paths path once new = search (rules, IsDistinct-push, unknown)
 
 -- a path stands at one place
 pub same_place : (paths : List (List ℕ)) (i j : ℕ) (path : List ℕ) → AreDistinct paths

@@ -1,5 +1,5 @@
 -- Plan order: what is left has all that was asked for, and just what that reaches.
-use Rattle.std.proofs.Common.{◌≡◌, ◌∙◌, ℕ, List, [], ◌∷◌, ◌++◌, refl, sym, ap, subst, ⊎_elim, Some}
+use Rattle.std.proofs.Common.{◌≡◌, ◌∙◌, ℕ, List, [], ◌∷◌, ◌++◌, refl, sym, ap, subst, ⊎_elim, Some, rules}
 use Rattle.std.specs.Prelude.{Contains, slice_get}
 use Rattle.std.proofs.lemmas.List.Elements.{Contains-append_left, Contains-push}
 use Rattle.std.proofs.lemmas.Option.{same_Some}
@@ -71,13 +71,7 @@ closed_push nodes node inputs is_node under closed path has =
   where
     wider : (path : List ℕ) → HasNodeIn nodes inputs path
         → HasNodeIn nodes (inputs ++ node.path ∷ []) path
-    wider path has = (
-      has.0,
-      has.1,
-      has.2,
-      λ input is. Contains-append_left inputs (node.path ∷ []) input
-          (has.3 input is),
-    )
+    wider path has = search (rules, Contains-append_left)
 
 -- what is left is closed
 pub left_closed : {nodes : List Node} {before paths after : List (List ℕ)}
@@ -129,27 +123,19 @@ same_node nodes a b once has_a has_b same =
 -- one more step
 pub leads_more : (Step : List ℕ → List ℕ → Type 0) (from to next : List ℕ) (steps : List (List ℕ))
     → LeadsBy Step from to steps → Step to next → LeadsBy Step from next (steps ++ next ∷ [])
-leads_more Step from to next [] leads step = (
-  subst (λ (p : List ℕ). Step p next) (sym leads) step,
-  refl,
-)
+leads_more Step from to next [] leads step = search rules
 leads_more Step from to next (first ∷ steps) leads step =
     (leads.0, leads_more Step first to next steps leads.1 step)
 
 -- what is used by what is reached is reached
 pub reached_more : (Step : List ℕ → List ℕ → Type 0) (roots : List (List ℕ)) (path next : List ℕ)
     → IsReachedBy Step roots path → Step path next → IsReachedBy Step roots next
-reached_more Step roots path next reached step = record {
-  root = reached.root;
-  is_root = reached.is_root;
-  steps = reached.steps ++ next ∷ [];
-  leads = leads_more Step reached.root path next reached.steps reached.leads step;
-}
+reached_more Step roots path next reached step = search (rules, leads_more)
 
 -- a root is reached
 pub reached_root : (Step : List ℕ → List ℕ → Type 0) (roots : List (List ℕ)) (root : List ℕ)
     → Contains roots root → IsReachedBy Step roots root
-reached_root Step roots root has = record { root = root; is_root = has; steps = []; leads = refl }
+reached_root Step roots root has = search rules
 
 -- all that a plan has is reached from its roots
 pub plan_reached : (nodes : List Node) (roots : List (List ℕ))
@@ -167,7 +153,7 @@ plan_reached nodes roots order =
 closed_leads : (nodes : List Node) (paths : List (List ℕ)) → AreDistinct (paths_of nodes)
     → AreClosed nodes paths → (from to : List ℕ) (steps : List (List ℕ)) → Contains paths from
     → LeadsBy (Uses nodes) from to steps → Contains paths to
-closed_leads nodes paths once closed from to [] has leads = subst (Contains paths) leads has
+closed_leads nodes paths once closed from to [] has leads = search rules
 closed_leads nodes paths once closed from to (next ∷ steps) has leads =
     let own = closed from has in
     let step = leads.0 in

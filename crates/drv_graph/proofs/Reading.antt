@@ -1,10 +1,10 @@
 -- What reading, opening and meeting a path answers.
-use Rattle.std.proofs.Common.{◌≡◌, ◌∙◌, ℕ, ◌+◌, ◌<◌, List, [], ◌∷◌, ◌++◌, length, get_or, refl, sym, ap, subst, arith, Option, Some, None, Ok, Err, nat_eq, is_some, if◌then◌else◌}
+use Rattle.std.proofs.Common.{◌≡◌, ℕ, ◌+◌, ◌<◌, List, [], ◌∷◌, ◌++◌, length, get_or, Option, Some, None, Ok, Err, nat_eq, is_some, if◌then◌else◌, rules}
 use Rattle.std.specs.Prelude.{slice_get}
 use Rattle.std.specs.Cmp.Lexicographic.{pointwise}
 use Rattle.std.proofs.lemmas.List.{length-map}
 use Rattle.std.proofs.lemmas.Option.{slice_get_read}
-use Rattle.indexmap.specs.IndexMap.{IndexMap, Updates, get, index_map_len, keys}
+use Rattle.indexmap.specs.IndexMap.{IndexMap, Updates, get, index_map_len}
 use Rattle.nix_drv.specs.Checked.{IsCheck}
 use Rattle.nix_drv.specs.Derivation.{Drv}
 use Rattle.nix_drv.specs.Sources.{Answer}
@@ -12,7 +12,7 @@ use Rattle.nix_drv.specs.declared.fault.DrvFault.{DrvFault}
 use Rattle.drv_graph.specs.Nodes.{inputs_of}
 use Rattle.drv_graph.specs.Plans.{MayBeAt}
 use Rattle.drv_graph.specs.Loading.{max_nodes}
-use Rattle.drv_graph.specs.Walks.{Advances, Descends, IsMeeting, IsReadingFault, IsTextFaultAt, Opens, SetsEntry, marked}
+use Rattle.drv_graph.specs.Walks.{Advances, Descends, IsMeeting, IsReadingFault, IsTextFaultAt, Opens, marked}
 use Rattle.drv_graph.specs.declared.fault.GraphFault.{GraphFault}
 use Rattle.drv_graph.specs.declared.fault.GraphFault.TheVariants.{NoMemory, At, Draft, Name}
 use Rattle.drv_graph.specs.declared.found.Visit.{Visit}
@@ -27,8 +27,7 @@ pub reading_wrong : (dir : List ℕ) (gives : List ℕ → Answer → Type 0) (p
     → IsReadingFault dir gives path count fault
 reading_wrong dir gives path count bytes given text NoMemory room gave same check at = tt
 reading_wrong dir gives path count bytes given text (At p found) room gave same check at =
-    subst (λ f. IsReadingFault dir gives path count (At p f)) (sym at.1)
-    (at.0, at.2, room, (bytes, gave, subst (λ b. IsCheck dir path b (Err text)) same check))
+    search rules
 reading_wrong dir gives path count bytes given text (Draft fault) room gave same check at =
     absurd at
 reading_wrong dir gives path count bytes given text Name room gave same check at = absurd at
@@ -51,31 +50,12 @@ pub opens_made :
     index_map_len after ≡ index_map_len before + (if is_some old then 0 else 1) →
     Opens dir gives before after path visit
 opens_made dir gives before after path key drv visit old count is_path read is_drv inputs none same
-    updates new counted found more =
-    let long : length (keys before) ≡ length before.entries =
-    length-map before.entries (λ (e : List ℕ × Option ℕ). e.0) in
-    let long_after : length (keys after) ≡ length after.entries =
-    length-map after.entries (λ (e : List ℕ × Option ℕ). e.0) in
-    let absent : old ≡ None = found ∙ ap (get (pointwise nat_eq) before) same ∙ new in
-    let one : length after.entries ≡ length before.entries + 1 = more
-    ∙ ap (λ o. length before.entries + (if is_some o then 0 else 1)) absent in
-    record {
-      is_path = is_path;
-      stands = subst (MayBeAt dir gives path) (sym is_drv) read.0;
-      inputs = inputs ∙ ap (λ d. inputs_of d) (sym is_drv);
-      none = none;
-      room = omega (arith, read.1, counted, long);
-      marks = subst (λ k. SetsEntry (marked before) (marked after) k None) same
-          (sets_entry before after key None updates);
-      is_new = new;
-      count = omega (arith, one, long, long_after);
-    }
+    updates new counted found more = search (rules, length-map, nat_eq, is_some, sets_entry)
 
 -- an input was read
 pub input_read : (items : List (List ℕ)) (i n : ℕ) (x : List ℕ) → x ≡ get_or items i x → i ≡ n → n
     < length items → slice_get items n ≡ Some x
-input_read items i n x is same lt = slice_get_read items (length items) n x refl lt
-    (subst (λ k. x ≡ get_or items k x) same is)
+input_read items i n x is same lt = search (rules, slice_get_read)
 
 -- the next input was left before
 pub advances_made : {S : Type 0} (dir : List ℕ) (gives : List ℕ → Answer → Type 0)
@@ -85,17 +65,7 @@ pub advances_made : {S : Type 0} (dir : List ℕ) (gives : List ℕ → Answer �
     ≡ visit.drv → next.inputs ≡ visit.inputs → next.numbers.items ≡ visit.numbers.items ++ number
     ∷ [] → Advances before after visit next
 advances_made dir gives before after visit next input number is_input met path drv inputs numbers =
-    record {
-      input = input;
-      number = number;
-      is_input = is_input;
-      is_number = met.1;
-      marks = met.0;
-      path = path;
-      drv = drv;
-      inputs = inputs;
-      numbers = numbers;
-    }
+    search rules
 
 -- the next input was opened
 pub descends_made : {S : Type 0} (dir : List ℕ) (gives : List ℕ → Answer → Type 0)
@@ -103,5 +73,4 @@ pub descends_made : {S : Type 0} (dir : List ℕ) (gives : List ℕ → Answer �
     → slice_get visit.inputs.items (length visit.numbers.items) ≡ Some input
     → IsMeeting dir gives before after input (Ok (New child)) → next ≡ visit
     → Descends dir gives before after visit next child
-descends_made dir gives before after visit next child input is_input met same =
-    record { input = input; is_input = is_input; opens = met; same = same }
+descends_made dir gives before after visit next child input is_input met same = search rules

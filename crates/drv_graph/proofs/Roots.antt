@@ -1,7 +1,6 @@
 -- The roots of a plan, each at its first place, and their numbers.
-use Rattle.std.proofs.Common.{◌≡◌, ◌∙◌, ℕ, Bool, true, false, not, cond, List, [], ◌∷◌, ◌++◌, filter, refl, sym, ap, subst, inl, inr, ⊎_elim, nat_eq, Some, if◌then◌else◌}
+use Rattle.std.proofs.Common.{◌≡◌, ◌∙◌, ℕ, Bool, true, false, not, cond, List, [], ◌∷◌, ◌++◌, filter, refl, sym, ap, subst, inl, inr, ⊎_elim, nat_eq, Some, rules}
 use Rattle.std.specs.Prelude.{◌⊎◌, Contains, slice_get}
-use Rattle.std.specs.Cmp.Lexicographic.{nat_list_eq_equiv}
 use Rattle.std.specs.List.{list_any}
 use Rattle.std.proofs.lemmas.Bool.{false≢true}
 use Rattle.std.proofs.lemmas.List.{append-nil}
@@ -22,8 +21,7 @@ module _ {X : Type 0} (test : X → Bool) where
   source_step : (b : Bool) (y x : X) (ys : List X) → (Contains (filter test ys) x → Contains ys x)
       → Contains (cond b (y ∷ filter test ys) (filter test ys)) x → Contains (y ∷ ys) x
   source_step true y x ys later has =
-      ⊎_elim (λ same. subst (Contains (y ∷ ys)) same (Contains-first y ys))
-      (λ rest. Contains-later y ys x (later rest)) (Contains-cons_cases y (filter test ys) x has)
+      search (rules, Contains-first, Contains-later, Contains-cons_cases, filter)
   source_step false y x ys later has = Contains-later y ys x (later has)
 
   filter_source : (xs : List X) (x : X) → Contains (filter test xs) x → Contains xs x
@@ -34,11 +32,8 @@ module _ {X : Type 0} (test : X → Bool) where
       → (Contains ys x → Contains (filter test ys) x) → Contains (y ∷ ys) x
       → Contains (cond b (y ∷ filter test ys) (filter test ys)) x
   has_step true y x ys passes later has =
-      ⊎_elim (λ same. subst (Contains (y ∷ filter test ys)) same
-      (Contains-first y (filter test ys)))
-      (λ rest. Contains-later y (filter test ys) x (later rest)) (Contains-cons_cases y ys x has)
-  has_step false y x ys passes later has = ⊎_elim (λ same. absurd (false≢true (passes same)))
-      (λ rest. later rest) (Contains-cons_cases y ys x has)
+      search (rules, filter, Contains-first, Contains-later, Contains-cons_cases)
+  has_step false y x ys passes later has = search (rules, false≢true, Contains-cons_cases)
 
   filter_has : (xs : List X) (x : X) → Contains xs x → test x ≡ true → Contains (filter test xs) x
   filter_has [] x has passes = has
@@ -79,35 +74,11 @@ once_push (y ∷ ys) x = by (path_cases y x) (once_push ys x)
         → (Contains (y ∷ ys) x × (each_once (y ∷ (ys ++ x ∷ [])) ≡ each_once (y ∷ ys)))
         ⊎ ((Contains (y ∷ ys) x → ⊥)
         × (each_once (y ∷ (ys ++ x ∷ [])) ≡ each_once (y ∷ ys) ++ x ∷ []))
-    by (inl same) (inl old) = inl (
-      subst (Contains (y ∷ ys)) same (Contains-first y ys),
-      ap (λ l. y ∷ filter (λ z. not (same_bytes y z)) l) old.1,
-    )
-    by (inl same) (inr new) =
-        let gone : filter (λ z. not (same_bytes y z)) (x ∷ [])
-        ≡ [] = ap (λ b. cond (not b) (x ∷ []) [])
-        (subst (λ z. same_bytes y z ≡ true) same (nat_list_eq_equiv.refl y)) in
-        inl (
-          subst (Contains (y ∷ ys)) same (Contains-first y ys),
-          ap (λ l. y ∷ filter (λ z. not (same_bytes y z)) l) new.1
-              ∙ ap (λ l. y ∷ l) (filter-append (λ z. not (same_bytes y z)) (each_once ys) (x ∷ [])
-              ∙ ap (λ l. filter (λ z. not (same_bytes y z)) (each_once ys) ++ l) gone
-              ∙ append-nil (filter (λ z. not (same_bytes y z)) (each_once ys))),
-        )
-    by (inr differs) (inl old) = inl (
-      Contains-later y ys x old.0,
-      ap (λ l. y ∷ filter (λ z. not (same_bytes y z)) l) old.1,
-    )
+    by (inl same) (inl old) = search (rules, Contains-first, filter, not)
+    by (inl same) (inr new) = search (rules, filter, not, Contains-first, filter-append, append-nil)
+    by (inr differs) (inl old) = search (rules, Contains-later, filter, not)
     by (inr differs) (inr new) =
-        let stays : filter (λ z. not (same_bytes y z)) (x ∷ []) ≡ x
-        ∷ [] = ap (λ b. cond (not b) (x ∷ []) []) (other_path y x differs) in
-        inr (
-          λ has. ⊎_elim (λ same. differs same) (λ later. new.0 later)
-              (Contains-cons_cases y ys x has),
-          ap (λ l. y ∷ filter (λ z. not (same_bytes y z)) l) new.1
-              ∙ ap (λ l. y ∷ l) (filter-append (λ z. not (same_bytes y z)) (each_once ys) (x ∷ [])
-              ∙ ap (λ l. filter (λ z. not (same_bytes y z)) (each_once ys) ++ l) stays),
-        )
+        search (rules, filter, not, other_path, Contains-cons_cases, filter-append)
 
 -- a number is that of one of the paths, and each path has one
 pub number_source : (nodes : List Node) (ns : List ℕ) (ps : List (List ℕ)) (n : ℕ)
@@ -154,9 +125,7 @@ roots_more nodes ns roots root n distinct right is =
         ⊎ ((Contains roots root → ⊥)
         × (each_once (roots ++ root ∷ []) ≡ each_once roots ++ root ∷ []))
         → AreNumbers nodes (insert_key nat_eq ns n) (each_once (roots ++ root ∷ []))
-    by true e (inl old) =
-        subst (λ b. AreNumbers nodes (if b then ns else ns ++ n ∷ [])
-        (each_once (roots ++ root ∷ []))) (sym e) (subst (AreNumbers nodes ns) (sym old.1) right)
+    by true e (inl old) = search rules
     by true e (inr new) =
         let source = number_source nodes ns (each_once roots) n right
         (Contains-from_any exact_unsigned_eq n ns e) in
@@ -168,8 +137,4 @@ roots_more nodes ns roots root n distinct right is =
         let one : its.0 ≡ n = same_place (paths_of nodes) its.0 n root distinct its.2 is in
         absurd (false≢true
         (sym e ∙ list_any-from_Contains nat_eq_equiv n ns (subst (Contains ns) one its.1)))
-    by false e (inr new) =
-        subst (λ b. AreNumbers nodes (if b then ns else ns ++ n ∷ [])
-        (each_once (roots ++ root ∷ []))) (sym e)
-        (subst (AreNumbers nodes (ns ++ n ∷ [])) (sym new.1)
-        (numbers_push nodes ns (each_once roots) n root right is))
+    by false e (inr new) = search (rules, numbers_push)

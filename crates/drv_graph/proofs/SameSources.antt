@@ -1,5 +1,5 @@
 -- Sources that give the same answers: what is true by one of them is true by the other.
-use Rattle.std.proofs.Common.{ℕ, List, [], ◌∷◌, inl, inr, ⊎_elim, Ok, Err, Result}
+use Rattle.std.proofs.Common.{ℕ, List, [], ◌∷◌, Ok, Err, Result, rules}
 use Rattle.std.specs.Prelude.{All}
 use Rattle.std.proofs.lemmas.List.Elements.{All-weaker}
 use Rattle.nix_drv.specs.Derivation.{Drv}
@@ -16,7 +16,7 @@ use Rattle.drv_graph.specs.declared.kinds.Kind.{Kind}
 use Rattle.drv_graph.specs.declared.found.Found.{Found}
 
 pub gives_back : (G H : List ℕ → Answer → Type 0) → GivesSame G H → GivesSame H G
-gives_back G H same path answer = ((same path answer).1, (same path answer).0)
+gives_back G H same path answer = search rules
 
 leads_by : (Step Other : List ℕ → List ℕ → Type 0) → ((a b : List ℕ) → Step a b → Other a b)
     → (from to : List ℕ) (steps : List (List ℕ)) → LeadsBy Step from to steps
@@ -27,86 +27,36 @@ leads_by Step Other on from to (next ∷ steps) leads =
 
 module _ (dir : List ℕ) (G H : List ℕ → Answer → Type 0) (same : GivesSame G H) where
   stands_by : (path : List ℕ) (drv : Drv) → MayBeAt dir H path drv → MayBeAt dir G path drv
-  stands_by path drv stands = record {
-    bytes = stands.bytes;
-    given = (same path (Ok stands.bytes)).1 stands.given;
-    found = stands.found;
-  }
+  stands_by path drv stands = search rules
 
   uses_by : (a b : List ℕ) → MayUse dir H a b → MayUse dir G a b
-  uses_by a b step = record {
-    drv = step.drv;
-    stands = stands_by a step.drv step.stands;
-    is_input = step.is_input;
-  }
+  uses_by a b step = search (rules, stands_by)
 
   reached_by : (roots : List (List ℕ)) (path : List ℕ) → IsReachedBy (MayUse dir H) roots path
       → IsReachedBy (MayUse dir G) roots path
-  reached_by roots path reached = record {
-    root = reached.root;
-    is_root = reached.is_root;
-    steps = reached.steps;
-    leads = leads_by (MayUse dir H) (MayUse dir G) uses_by reached.root path reached.steps
-        reached.leads;
-  }
+  reached_by roots path reached = search (rules, leads_by, uses_by)
 
   given_by : (nodes : List Node) → All (λ (n : Node). MayBeAt dir H n.path n.drv) nodes
       → All (λ (n : Node). MayBeAt dir G n.path n.drv) nodes
-  given_by nodes all = All-weaker (λ (n : Node). MayBeAt dir H n.path n.drv)
-      (λ (n : Node). MayBeAt dir G n.path n.drv) (λ n. stands_by n.path n.drv) nodes all
+  given_by nodes all = search (rules, All-weaker, stands_by)
 
   checked_by : (path : List ℕ) (answer : Result Kind OutputFault) → MayCheck dir H path answer
       → MayCheck dir G path answer
-  checked_by path answer checked = record {
-    drv = checked.drv;
-    stands = stands_by path checked.drv checked.stands;
-    nodes = checked.nodes;
-    distinct = checked.distinct;
-    given = given_by checked.nodes checked.given;
-    lawful = checked.lawful;
-    few = checked.few;
-    check = checked.check;
-  }
+  checked_by path answer checked = search (rules, stands_by, given_by)
 
   -- what was left and is open is right by the other source too
   pub walked_by : (roots : List (List ℕ)) (found : Found) (pending : List (List ℕ))
       → IsWalked dir H roots found pending → IsWalked dir G roots found pending
-  walked_by roots found pending walked = record {
-    right = walked.right;
-    given = given_by _ walked.given;
-    reached = All-weaker (IsReachedBy (MayUse dir H) roots) (IsReachedBy (MayUse dir G) roots)
-        (reached_by roots) _ walked.reached;
-    marks = walked.marks;
-    count = walked.count;
-    few = walked.few;
-  }
+  walked_by roots found pending walked = search (rules, given_by, All-weaker, reached_by)
 
   -- a fault is true by the other source too
   pub fault_by : (roots : List (List ℕ)) (fault : GraphFault) → IsLoading dir H roots (Err fault)
       → IsLoading dir G roots (Err fault)
   unfolding checked_by
   fault_by roots NoMemory at = tt
-  fault_by roots (At p Unreadable) at = (
-    reached_by roots p at.0,
-    ⊎_elim (λ missing. inl ((same p _).1 missing)) (λ device. inr ((same p _).1 device)) at.1,
-  )
-  fault_by roots (At p TooMany) at = (
-    reached_by roots p at.0,
-    (
-      (at.1.0.0, (same p (Ok at.1.0.0)).1 at.1.0.1),
-      record {
-        paths = at.1.1.paths;
-        distinct = at.1.1.distinct;
-        many = at.1.1.many;
-        reached = All-weaker (IsReachedBy (MayUse dir H) roots) (IsReachedBy (MayUse dir G) roots)
-            (reached_by roots) at.1.1.paths at.1.1.reached;
-      },
-    ),
-  )
-  fault_by roots (At p (Text text)) at = (
-    reached_by roots p at.0,
-    (at.1.0, (at.1.1.0, (same p (Ok at.1.1.0)).1 at.1.1.1, at.1.1.2)),
-  )
+  fault_by roots (At p Unreadable) at = search (rules, reached_by)
+  fault_by roots (At p TooMany) at = search (rules, reached_by, All-weaker)
+  fault_by roots (At p (Text text)) at = search (rules, reached_by)
   fault_by roots (At p Cycle) at = (
     reached_by roots p at.0,
     record {
@@ -116,10 +66,7 @@ module _ (dir : List ℕ) (G H : List ℕ → Answer → Type 0) (same : GivesSa
       closes = uses_by at.1.user p at.1.closes;
     },
   )
-  fault_by roots (At p (Outputs outputs)) at = (
-    reached_by roots p at.0,
-    (at.1.0, checked_by p (Err outputs) at.1.1),
-  )
+  fault_by roots (At p (Outputs outputs)) at = search (rules, reached_by, checked_by)
   fault_by roots (At p OutputClash) at = (
     reached_by roots p at.0,
     record {

@@ -1,5 +1,5 @@
 -- Twins of a sound plan: two derivations that share an output path.
-use Rattle.std.proofs.Common.{◌≡◌, ◌∙◌, ℕ, ◌<◌, zero, suc, List, [], ◌∷◌, length, take, drop, refl, sym, ap, subst, ⊎_elim, arith, Some}
+use Rattle.std.proofs.Common.{◌≡◌, ◌∙◌, ℕ, ◌<◌, zero, suc, List, [], ◌∷◌, length, take, refl, sym, ap, subst, ⊎_elim, arith, Some, rules}
 use Rattle.std.specs.Prelude.{Contains, slice_get}
 use Rattle.std.proofs.lemmas.List.{length-map}
 use Rattle.std.proofs.lemmas.List.Elements.{All-contains}
@@ -30,8 +30,7 @@ get_taken (y ∷ ys) (suc n) (suc k) x low at = get_taken ys n k x (omega (arith
 -- a derivation at a place is lawful behind those before it
 lawful_at : (dir : List ℕ) (nodes : List Node) (n : ℕ) (node : Node) → AreLawful dir nodes
     → slice_get nodes n ≡ Some node → IsLawful dir (take n nodes) node
-lawful_at dir nodes n node lawful at = lawful (take n nodes) (drop (suc n) nodes) node
-    (split_get nodes n node at)
+lawful_at dir nodes n node lawful at = search (rules, split_get)
 
 -- an earlier one that shares an output path is a twin
 twin_before : (dir : List ℕ) (nodes : List Node) (i j : ℕ) (a b : Node) → AreLawful dir nodes
@@ -46,7 +45,7 @@ flipped : (a b : Drv) → AreTwins a b → AreTwins b a
 flipped a b twins path = ((twins path).1, (twins path).0)
 
 itself : (a b : Node) → a ≡ b → AreTwins a.drv b.drv
-itself a b same = subst (λ (n : Node). AreTwins a.drv n.drv) same (λ path. (λ is. is, λ is. is))
+itself a b same = search rules
 
 pub sharers_are_twins : SharersAreTwins
 sharers_are_twins graph a b sound has has' shares =
@@ -73,8 +72,7 @@ some_element (o ∷ os) some = (o, Contains-first o os)
 pub some_output : (drv : Drv) (kind : Kind) → HasKind drv kind → (o : Output)
     × Contains drv.outputs o
 some_output drv Addressed has = some_element drv.outputs has.0
-some_output drv (Fixed method digest) has =
-    (has.0, subst (λ (os : List Output). Contains os has.0) (sym has.1.0) (Contains-first has.0 []))
+some_output drv (Fixed method digest) has = search (rules, Contains-first)
 
 -- twins of which one has an output share it
 shared : (a b : Drv) (o : Output) → AreTwins a b → Contains a.outputs o → ShareOutput a b
@@ -102,16 +100,12 @@ twins_share_outputs graph a b sound has has' twins =
 -- ---- the modulo hash of twins with one fixed output
 
 only_one : (drv : Drv) (x y : Output) → drv.outputs ≡ x ∷ [] → drv.outputs ≡ y ∷ [] → x ≡ y
-only_one drv x y is is' =
-    let lists : x ∷ [] ≡ y ∷ [] = sym is ∙ is' in
-    let same : x ≡ y = cc in
-    same
+only_one drv x y is is' = search rules
 
 -- the only output is fixed
 only_fixed : (drv : Drv) (method : Method) (digest : Digest) (x : Output)
     → HasKind drv (Fixed method digest) → drv.outputs ≡ x ∷ [] → IsFixed x method digest
-only_fixed drv method digest x has is = subst (λ (o : Output). IsFixed o method digest)
-    (only_one drv has.0 x has.1.0 is) has.2
+only_fixed drv method digest x has is = search (rules, only_one)
 
 -- the only outputs of twins have one path
 one_path : (a b : Drv) (x y : Output) → AreTwins a b → a.outputs ≡ x ∷ [] → b.outputs ≡ y ∷ []

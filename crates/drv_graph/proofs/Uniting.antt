@@ -1,7 +1,7 @@
 -- Inputs are united: gathered by their paths, and their names sorted.
-use Rattle.std.proofs.Common.{◌≡◌, ◌≢◌, ◌⊎◌, ℕ, false, List, [], ◌∷◌, ◌++◌, take, get_or, nat_eq, Some, inl, inr, refl, sym, ap, subst, ◌∙◌, arith}
+use Rattle.std.proofs.Common.{◌≡◌, ◌≢◌, ◌⊎◌, ℕ, false, List, [], ◌∷◌, ◌++◌, take, get_or, nat_eq, Some, inl, inr, refl, sym, ap, subst, ◌∙◌, arith, rules}
 use Rattle.std.specs.Prelude.{All, Contains}
-use Rattle.std.specs.Cmp.Lexicographic.{bytes_decides, pointwise, slice_cmp}
+use Rattle.std.specs.Cmp.Lexicographic.{pointwise, slice_cmp}
 use Rattle.std.specs.List.{AllZip, slice_get}
 use Rattle.std.specs.List.Sorted.{IsPermutation, IsSorted}
 use Rattle.std.specs.Ordering.{is_lt, nat_cmp}
@@ -27,17 +27,14 @@ sorted_paths : (given sorted : List Input) → AllZip IsNameSorted given sorted 
 sorted_paths [] [] zipped = refl
 sorted_paths [] (y ∷ ys) zipped = absurd zipped
 sorted_paths (x ∷ xs) [] zipped = absurd zipped
-sorted_paths (x ∷ xs) (y ∷ ys) zipped =
-    ap (λ (p : List ℕ). p ∷ input_paths ys) zipped.0.path
-    ∙ ap (λ (ps : List (List ℕ)). x.path ∷ ps) (sorted_paths xs ys zipped.1)
+sorted_paths (x ∷ xs) (y ∷ ys) zipped = search (rules, sorted_paths xs ys zipped.1)
 
 sorted_rise : (given sorted : List Input) → AllZip IsNameSorted given sorted
     → All (λ (i : Input). IsRising i.names) sorted
 sorted_rise [] [] zipped = All-nil (λ (i : Input). IsRising i.names)
 sorted_rise [] (y ∷ ys) zipped = absurd zipped
 sorted_rise (x ∷ xs) [] zipped = absurd zipped
-sorted_rise (x ∷ xs) (y ∷ ys) zipped = All-cons (λ (i : Input). IsRising i.names) y ys
-    zipped.0.rising (sorted_rise xs ys zipped.1)
+sorted_rise (x ∷ xs) (y ∷ ys) zipped = search (rules, All-cons, sorted_rise xs ys zipped.1)
 
 sorted_named : (given sorted : List Input) → AllZip IsNameSorted given sorted → (path name : List ℕ)
     → IsNamed sorted path name → IsNamed given path name
@@ -85,12 +82,7 @@ united_from given gathered united are zipped =
 
 named_moved : (xs ys : List Input) → IsPermutation xs ys → (path name : List ℕ)
     → IsNamed xs path name → IsNamed ys path name
-named_moved xs ys moved path name h = record {
-  input = h.input;
-  is_input = Contains-permutation xs ys h.input moved h.is_input;
-  is_path = h.is_path;
-  is_name = h.is_name;
-}
+named_moved xs ys moved path name h = search (rules, Contains-permutation)
 
 pub gathered_moved : (given moved gathered : List Input) → IsPermutation given moved
     → IsGathered moved gathered → IsGathered given gathered
@@ -115,21 +107,11 @@ gathered_moved given moved gathered order are =
 
 named_left : (xs ys : List Input) (path name : List ℕ) → IsNamed xs path name
     → IsNamed (xs ++ ys) path name
-named_left xs ys path name h = record {
-  input = h.input;
-  is_input = Contains-append_left xs ys h.input h.is_input;
-  is_path = h.is_path;
-  is_name = h.is_name;
-}
+named_left xs ys path name h = search (rules, Contains-append_left)
 
 named_last : (xs : List Input) (x : Input) (path name : List ℕ) → x.path ≡ path
     → Contains x.names name → IsNamed (xs ++ x ∷ []) path name
-named_last xs x path name at has = record {
-  input = x;
-  is_input = Contains-push xs x;
-  is_path = at;
-  is_name = has;
-}
+named_last xs x path name at has = search (rules, Contains-push)
 
 named_push_cases : (xs : List Input) (x : Input) (path name : List ℕ)
     → IsNamed (xs ++ x ∷ []) path name → IsNamed xs path name
@@ -146,7 +128,7 @@ named_push_cases xs x path name h =
 
 paths_push : (xs : List Input) (x : Input) → input_paths (xs ++ x ∷ []) ≡ input_paths xs ++ x.path
     ∷ []
-paths_push xs x = map-append (λ (i : Input). i.path) xs (x ∷ [])
+paths_push xs x = search (rules, map-append)
 
 -- the path of an input among some and one more
 path_push_cases : (xs : List Input) (x : Input) (path : List ℕ)
@@ -226,8 +208,7 @@ ends (x ∷ xs) =
     ]
 
 different : (x y : List ℕ) → x ≢ y → pointwise nat_eq x y ≡ false
-different x y other = elim (cases_Bool (pointwise nat_eq x y))
-    [ inl same ↦ absurd (other ((bytes_decides x y).0 same)) | inr unlike ↦ unlike ]
+different x y other = search (rules, cases_Bool, nat_eq)
 
 gathered_appended : (given gathered : List Input) (input : Input) → IsGathered given gathered
     → ((path : List ℕ) → Contains (input_paths given) path

@@ -1,5 +1,5 @@
 -- Inputs as they are used: their paths, their derivations and their hashes.
-use Rattle.std.proofs.Common.{◌≡◌, ◌∙◌, ℕ, ◌+◌, ◌<◌, List, [], ◌∷◌, ◌++◌, length, take, get_or, refl, sym, subst, arith, Some, Ok, Err, Result}
+use Rattle.std.proofs.Common.{◌≡◌, ◌∙◌, ℕ, ◌+◌, ◌<◌, List, [], ◌∷◌, ◌++◌, length, take, get_or, refl, sym, subst, Some, Ok, Err, Result, rules}
 use Rattle.std.specs.Prelude.{All, Contains, slice_get}
 use Rattle.std.specs.List.{AllZip}
 use Rattle.std.proofs.lemmas.List.{length-map, take_more}
@@ -52,9 +52,7 @@ used_paths kept [] (u ∷ us) ps zip e = absurd zip
 used_paths kept (n ∷ ns) [] ps zip e = absurd zip
 used_paths kept (n ∷ ns) (u ∷ us) [] zip e = absurd cc
 used_paths kept (n ∷ ns) (u ∷ us) (p ∷ ps) zip e =
-    let first = used_path kept n u p zip.0 (first_number (nodes_of kept) n ns p ps e) in
-    let rest = used_paths kept ns us ps zip.1 (later_numbers (nodes_of kept) n ns p ps e) in
-    cc
+    search (rules, used_path, first_number, later_numbers, used_paths kept ns us ps zip.1 (later_numbers (nodes_of kept) n ns p ps e))
 
 -- the derivations that are used are those of the inputs
 pub used_drvs : (kept : List PlanNode) (ns : List ℕ) (us : List UsedInput)
@@ -116,19 +114,13 @@ used_more kept numbers i node us one lt within is path drv hash zip =
 -- numbers of nodes are numbers of what is kept
 pub kept_within : (kept : List PlanNode) (ns : List ℕ) (ps : List (List ℕ))
     → AreNumbers (nodes_of kept) ns ps → All (λ n. n < length kept) ns
-kept_within kept ns ps e k d lt =
-    let below : get_or ns k d < length (nodes_of kept) =
-    numbers_within (nodes_of kept) ns ps e k d lt
-    in omega (arith, below, length-map kept node_of)
+kept_within kept ns ps e k d lt = search (rules, numbers_within, length-map)
 
 hashes_are : (kept : List PlanNode) (visit : Visit) (us : List UsedInput) → AreKept kept
     → AreNumbers (nodes_of kept) visit.numbers.items (inputs_of visit.drv)
     → AllZip (IsUsed kept) visit.numbers.items us
     → AreHashes (nodes_of kept) (inputs_of visit.drv) (hashes_of us)
-hashes_are kept visit us right numbers zip =
-    subst (λ paths. AreHashes (nodes_of kept) paths (hashes_of us))
-    (used_paths kept visit.numbers.items us (inputs_of visit.drv) zip numbers)
-    (used_hashes kept visit.numbers.items us right zip)
+hashes_are kept visit us right numbers zip = search (rules, used_paths, used_hashes)
 
 -- what the check of the outputs of an open derivation answers
 pub answer_is :
@@ -141,19 +133,8 @@ pub answer_is :
     given ≡ us →
     IsOutputsCheck IsThePath dir name visit.drv (drvs_of_uses given) (hashes_of given) answer →
     MayAnswer dir (nodes_of kept) (visited visit) answer
-answer_is dir kept visit us given name answer right numbers zip named same checked = record {
-  used = drvs_of_uses us;
-  hashes = hashes_of us;
-  are_used = subst (λ paths. AreDrvsOf (nodes_of kept) paths (drvs_of_uses us))
-      (used_paths kept visit.numbers.items us (inputs_of visit.drv) zip numbers)
-      (used_drvs kept visit.numbers.items us zip);
-  are_hashes = hashes_are kept visit us right numbers zip;
-  check = subst (λ l. IsOutputsCheck IsThePath dir (drv_name_of visit.path) visit.drv
-      (drvs_of_uses l)
-      (hashes_of l) answer) same
-      (subst (λ n. IsOutputsCheck IsThePath dir n visit.drv (drvs_of_uses given) (hashes_of given)
-      answer) named checked);
-}
+answer_is dir kept visit us given name answer right numbers zip named same checked =
+    search (rules, used_paths, used_drvs, hashes_are)
 
 -- what the check of the outputs answers where it finds nothing wrong
 pub check_right :

@@ -1,5 +1,5 @@
 -- A walk over derivations: how one is left, and why its faults are true.
-use Rattle.std.proofs.Common.{◌≡◌, ◌∙◌, ℕ, ◌+◌, ◌≤◌, List, [], ◌∷◌, ◌++◌, length, take, drop, refl, sym, ap, subst, inl, inr, ⊎_elim, arith, Option, Some, None, Ok, Err, Result, is_some}
+use Rattle.std.proofs.Common.{◌≡◌, ◌∙◌, ℕ, ◌+◌, ◌≤◌, List, [], ◌∷◌, ◌++◌, length, take, drop, refl, sym, ap, subst, inl, inr, ⊎_elim, arith, Option, Some, None, Ok, Err, Result, is_some, rules}
 use Rattle.std.specs.Prelude.{All, Contains}
 use Rattle.std.specs.Cmp.Lexicographic.{nat_list_eq_equiv}
 use Rattle.std.proofs.lemmas.Bool.{false≢true}
@@ -13,7 +13,7 @@ use Rattle.drv_graph.specs.Loading.{AreDistinct, IsLoading, IsOnCycle, MayCheck,
 use Rattle.drv_graph.specs.Nodes.{Node, inputs_of, paths_of}
 use Rattle.drv_graph.specs.Plans.{AreLeft, IsReachedBy, LeadsBy, MayAnswer, MayBeAt, MayUse}
 use Rattle.drv_graph.specs.Plans.AreLeft.{none_left}
-use Rattle.drv_graph.specs.PlanNodes.{node_of, nodes_of}
+use Rattle.drv_graph.specs.PlanNodes.{nodes_of}
 use Rattle.drv_graph.specs.Walks.{AreMarks, HasAllNumbers, IsFaultAt, IsLeavingFault, IsMeetingFault, IsReadingFault, LeavesVisit, SetsEntry, marked, pending_of, visited}
 use Rattle.drv_graph.specs.declared.fault.GraphFault.{GraphFault}
 use Rattle.drv_graph.specs.declared.fault.GraphFault.TheVariants.{NoMemory, At, Draft, Name}
@@ -103,29 +103,16 @@ walk_leaves dir gives roots root start found after visit visits walk all leaves 
 
     paths_grown : paths_of (nodes_of after.nodes.items) ≡ paths_of (nodes_of found.nodes.items)
         ++ visit.path ∷ []
-    paths_grown = ap paths_of leaves.nodes ∙ map_push (λ (n : Node). n.path)
-        (nodes_of found.nodes.items) (visited visit)
+    paths_grown = search (rules, map_push)
 
     long : length (paths_of (nodes_of found.nodes.items)) ≡ length found.nodes.items
-    long = length-map (nodes_of found.nodes.items) (λ (n : Node). n.path)
-        ∙ length-map found.nodes.items _
+    long = search (rules, length-map)
 
     left_grown : length after.nodes.items ≡ length found.nodes.items + 1
-    left_grown =
-        let grown : length (nodes_of after.nodes.items) ≡ length (nodes_of found.nodes.items)
-        + 1 = ap length leaves.nodes ∙ length_push (nodes_of found.nodes.items) (visited visit)
-        in
-        omega (
-          arith,
-          grown,
-          length-map after.nodes.items node_of,
-          length-map found.nodes.items node_of,
-        )
+    left_grown = search (rules, length_push, length-map)
 
     not_left : Contains (paths_of (nodes_of found.nodes.items)) visit.path → ⊥
-    not_left = pending_not_left (marked found.marks) (paths_of (nodes_of found.nodes.items))
-        (pending_of (visit ∷ visits)) visit.path walk.walked.marks
-        (Contains-first visit.path (pending_of visits))
+    not_left = search (rules, pending_not_left, Contains-first)
 
     ended : (nodes : List Node) → AreLeft nodes (paths_of (nodes_of found.nodes.items))
         (drop (length visit.numbers.items) (inputs_of visit.drv))
@@ -196,8 +183,7 @@ met_reached dir gives roots root start found visits walk path has =
         (false≢true
         (sym (ap is_some is)
         ∙ (hash_map_contains_key_iff nat_list_eq_equiv equal_from_eq found.marks path).1 has))
-    by (Some None) is = pending_reached dir gives roots root (nodes_of found.nodes.items) visits
-        path walk.pending ((walk.walked.marks.is_pending path).0 is)
+    by (Some None) is = search (rules, pending_reached, is)
     by (Some (Some n)) is =
         All-contains (IsReachedBy (MayUse dir gives) roots) (paths_of (nodes_of found.nodes.items))
         path walk.walked.reached
@@ -236,33 +222,23 @@ meeting_fault dir gives roots root start found visits path fault has_root walk w
     by fault cycle.0
   where
     reached : IsReachedBy (MayUse dir gives) roots path
-    reached = wanted_reached dir gives roots root (nodes_of found.nodes.items) visits path has_root
-        walk.pending wanted
+    reached = search (rules, wanted_reached)
 
     by : (f : GraphFault) → IsFaultAt path Cycle f → IsLoading dir gives roots (Err f)
     by NoMemory at = tt
-    by (At p found_fault) at =
-        subst (λ f. IsLoading dir gives roots (Err (At p f))) (sym at.1)
-        (subst (λ q. IsReachedBy (MayUse dir gives) roots q × IsOnCycle (MayUse dir gives) q)
-        (sym at.0) (
-          reached,
-          on_cycle dir gives roots root (nodes_of found.nodes.items) visits path
-              walk.pending wanted ((walk.walked.marks.is_pending path).0 cycle.1),
-        ))
+    by (At p found_fault) at = search (rules, reached, on_cycle)
     by (Draft found_fault) at = absurd at
     by Name at = absurd at
 meeting_fault dir gives roots root start found visits path fault has_root walk wanted
     (inr reading) = by fault reading.0
   where
     reached : IsReachedBy (MayUse dir gives) roots path
-    reached = wanted_reached dir gives roots root (nodes_of found.nodes.items) visits path has_root
-        walk.pending wanted
+    reached = search (rules, wanted_reached)
 
     by : (f : GraphFault) → IsReadingFault dir gives path (length (keys found.marks)) f
         → IsLoading dir gives roots (Err f)
     by NoMemory at = tt
-    by (At p Unreadable) at = subst (λ q. IsLoading dir gives roots (Err (At q Unreadable)))
-        (sym at.0) (reached, at.1)
+    by (At p Unreadable) at = search (rules, reached)
     by (At p TooMany) at = subst (λ q. IsLoading dir gives roots (Err (At q TooMany))) (sym at.0) (
       reached,
       (
@@ -287,21 +263,8 @@ checked_behind :
     IsWalk dir gives roots root start found (visit ∷ visits) →
     MayAnswer dir (nodes_of found.nodes.items) (visited visit) answer →
     MayCheck dir gives visit.path answer
-checked_behind dir gives roots root start found visit visits answer walk check = record {
-  drv = visit.drv;
-  stands = walk.pending.0.stands;
-  nodes = nodes_of found.nodes.items;
-  distinct = walk.walked.right.distinct;
-  given = walk.walked.given;
-  lawful = walk.walked.right.lawful;
-  few = omega (
-    arith,
-    length-map found.nodes.items node_of,
-    walk.walked.count,
-    walk.walked.few,
-  );
-  check = check;
-}
+checked_behind dir gives roots root start found visit visits answer walk check =
+    search (rules, length-map)
 
 -- a fault of the innermost open derivation is true
 pub leaving_fault :

@@ -1,5 +1,5 @@
 -- The steps of a walk over derivations, as its loop takes them.
-use Rattle.std.proofs.Common.{◌≡◌, ◌∙◌, ℕ, ◌+◌, ◌-◌, ◌*◌, ◌^◌, ◌<◌, List, [], ◌∷◌, ◌++◌, length, get_or, reverse, refl, sym, ap, subst, inl, inr, ⊎_elim, arith, Option, Some, None, Ok, Err}
+use Rattle.std.proofs.Common.{◌≡◌, ◌∙◌, ℕ, ◌+◌, ◌-◌, ◌*◌, ◌^◌, ◌<◌, List, [], ◌∷◌, ◌++◌, length, get_or, reverse, refl, sym, ap, subst, inl, inr, arith, Option, Some, None, Ok, Err, rules}
 use Rattle.std.specs.Prelude.{⊤, All, Contains, slice_get}
 use Rattle.std.specs.Global.{Vec}
 use Rattle.std.proofs.lemmas.List.{length_push, reverse-append}
@@ -28,49 +28,27 @@ use Rattle.nix_names.proofs.Lists.{Contains-first, Contains-from_get}
 
 -- sources that give the same
 pub gives_trans : (G H K : List ℕ → Answer → Type 0) → GivesSame G H → GivesSame H K → GivesSame G K
-gives_trans G H K first second path answer = (
-  λ g. (second path answer).0 ((first path answer).0 g),
-  λ k. (first path answer).1 ((second path answer).1 k),
-)
+gives_trans G H K first second path answer = search rules
 
 pub gives_itself : (G : List ℕ → Answer → Type 0) → GivesSame G G
 gives_itself G path answer = (λ g. g, λ g. g)
 
 same_stands : (dir : List ℕ) (G H : List ℕ → Answer → Type 0) (path : List ℕ) (drv : Drv)
     → GivesSame G H → MayBeAt dir H path drv → MayBeAt dir G path drv
-same_stands dir G H path drv same stands = record {
-  bytes = stands.bytes;
-  given = (same path (Ok stands.bytes)).1 stands.given;
-  found = stands.found;
-}
+same_stands dir G H path drv same stands = search rules
 
 same_opens : {S : Type 0} (dir : List ℕ) (G H : List ℕ → Answer → Type 0)
     (before after : IndexMap (List ℕ) (Option ℕ) S) (path : List ℕ) (child : Visit) → GivesSame G H
     → Opens dir H before after path child → Opens dir G before after path child
-same_opens dir G H before after path child same opens = record {
-  is_path = opens.is_path;
-  stands = same_stands dir G H path child.drv same opens.stands;
-  inputs = opens.inputs;
-  none = opens.none;
-  room = opens.room;
-  marks = opens.marks;
-  is_new = opens.is_new;
-  count = opens.count;
-}
+same_opens dir G H before after path child same opens = search (rules, same_stands)
 
 same_reading : (dir : List ℕ) (G H : List ℕ → Answer → Type 0) (path : List ℕ) (count : ℕ)
     (fault : GraphFault) → GivesSame G H → IsReadingFault dir H path count fault
     → IsReadingFault dir G path count fault
 same_reading dir G H path count NoMemory same at = tt
-same_reading dir G H path count (At p Unreadable) same at = (
-  at.0,
-  ⊎_elim (λ missing. inl ((same path _).1 missing))
-      (λ device. inr ((same path _).1 device)) at.1,
-)
-same_reading dir G H path count (At p TooMany) same at =
-    (at.0, (at.1.0, (same path (Ok at.1.0)).1 at.1.1), at.2)
-same_reading dir G H path count (At p (Text text)) same at =
-    (at.0, at.1, at.2, (at.3.0, (same path (Ok at.3.0)).1 at.3.1, at.3.2))
+same_reading dir G H path count (At p Unreadable) same at = search rules
+same_reading dir G H path count (At p TooMany) same at = search rules
+same_reading dir G H path count (At p (Text text)) same at = search rules
 same_reading dir G H path count (At p Cycle) same at = absurd at
 same_reading dir G H path count (At p (Outputs outputs)) same at = absurd at
 same_reading dir G H path count (At p OutputClash) same at = absurd at
@@ -81,12 +59,7 @@ same_meeting : {S : Type 0} (dir : List ℕ) (G H : List ℕ → Answer → Type
     (before : IndexMap (List ℕ) (Option ℕ) S) (path : List ℕ) (fault : GraphFault) → GivesSame G H
     → IsMeetingFault dir H before path fault → IsMeetingFault dir G before path fault
 same_meeting dir G H before path fault same (inl cycle) = inl cycle
-same_meeting dir G H before path fault same (inr reading) =
-    inr (
-      same_reading dir G H path (length (keys before)) fault same reading.0,
-      reading.1,
-      reading.2,
-    )
+same_meeting dir G H before path fault same (inr reading) = search (rules, same_reading)
 
 -- open derivations, innermost first, where one is put on top
 pub reverse_push : (below : List Visit) (visit : Visit) → reverse (below ++ visit ∷ []) ≡ visit
@@ -98,8 +71,7 @@ module _ (dir : List ℕ) (G H : List ℕ → Answer → Type 0) (roots : List (
   popped : (found : Found) (before below : List Visit) (visit : Visit)
       → IsWalk dir G roots root start found (reverse before) → before ≡ below ++ visit ∷ []
       → IsWalk dir G roots root start found (visit ∷ reverse below)
-  popped found before below visit walk parts =
-      subst (IsWalk dir G roots root start found) (ap reverse parts ∙ reverse_push below visit) walk
+  popped found before below visit walk parts = search (rules, reverse, reverse_push)
 
   -- what is asked of the innermost open derivation
   pub popped_is : (found : Found) (before below : List Visit) (visit : Visit)
@@ -128,9 +100,7 @@ module _ (dir : List ℕ) (G H : List ℕ → Answer → Type 0) (roots : List (
       → IsWalk dir G roots root start found (visit ∷ below)
       → slice_get visit.inputs.items (length visit.numbers.items) ≡ Some input
       → IsWanted root (visit ∷ below) input
-  wanted_input found visit below input walk is =
-      subst (λ l. slice_get l (length visit.numbers.items) ≡ Some input)
-      walk.pending.0.is_visit.inputs is
+  wanted_input found visit below input walk is = search rules
 
   -- the walk goes on
   pub walk_goes_on :
@@ -171,7 +141,7 @@ module _ (dir : List ℕ) (G H : List ℕ → Answer → Type 0) (roots : List (
       IsGoingOn dir H found after below visit rest (Err fault) →
       IsLoading dir G roots (Err fault)
   walk_stops found after before below rest visit fault has_root same walk parts (inl refused) =
-      subst (λ f. IsLoading dir G roots (Err f)) (sym refused) tt
+      search rules
   walk_stops found after before below rest visit fault has_root same walk parts (inr (inl left)) =
       leaving_fault dir G roots root start found visit (reverse below) fault
       (popped found before below visit walk parts) left.1
@@ -238,16 +208,13 @@ to_do count visits = (65536 - count) * 36893488147419103232 + work visits
 
 pub less_left : (count after : ℕ) (visit : Visit) (below : List Visit) → after ≡ count
     → to_do after below < to_do count (visit ∷ below)
-less_left count after visit below same = subst (λ n. to_do n below < to_do count (visit ∷ below))
-    (sym same) (omega arith)
+less_left count after visit below same = search (rules, to_do)
 
 pub less_advanced : (count after : ℕ) (visit next : Visit) (below : List Visit) → after ≡ count
     → length visit.numbers.items < length visit.inputs.items → length next.inputs.items
     ≡ length visit.inputs.items → length next.numbers.items ≡ length visit.numbers.items + 1
     → to_do after (next ∷ below) < to_do count (visit ∷ below)
-less_advanced count after visit next below same lt inputs numbers =
-    subst (λ n. to_do n (next ∷ below) < to_do count (visit ∷ below)) (sym same)
-    (omega (arith, lt, inputs, numbers))
+less_advanced count after visit next below same lt inputs numbers = search (rules, to_do)
 
 pub less_opened : (count after : ℕ) (child : Visit) (visits : List Visit) → after ≡ count + 1
     → count < 65536 → length child.inputs.items < 2 ^ 64 → to_do after (child ∷ visits)
@@ -273,27 +240,11 @@ less_going dir H found after before below rest visit made parts going =
     by : IsGoingOn dir H found after below visit rest (Ok made)
         → to_do (length (keys after.marks)) (reverse rest)
         < to_do (length (keys found.marks)) (visit ∷ reverse below)
-    by (inl left) =
-        subst (λ vs. to_do (length (keys after.marks)) (reverse vs)
-        < to_do (length (keys found.marks)) (visit ∷ reverse below)) (sym left.2)
-        (less_left (length (keys found.marks)) (length (keys after.marks)) visit (reverse below)
-        left.1.count)
+    by (inl left) = search (rules, to_do, reverse, less_left)
     by (inr (inl (next, none, step, is))) =
-        subst (λ vs. to_do (length (keys after.marks)) vs
-        < to_do (length (keys found.marks)) (visit ∷ reverse below))
-        (sym (ap reverse is ∙ reverse_push below next))
-        (less_advanced (length (keys found.marks)) (length (keys after.marks)) visit next
-        (reverse below) (ap (λ m. length (keys m)) step.marks)
-        (slice_get_within visit.inputs.items (length visit.numbers.items) step.input
-        step.is_input) (ap (λ v. length v.items) step.inputs)
-        (ap length step.numbers ∙ length_push visit.numbers.items step.number))
+        search (rules, to_do, reverse, reverse_push, less_advanced, slice_get_within, length_push)
     by (inr (inr (child, none, step, is))) =
-        subst (λ vs. to_do (length (keys after.marks)) vs
-        < to_do (length (keys found.marks)) (visit ∷ reverse below))
-        (sym (ap reverse is ∙ reverse_push (below ++ visit ∷ []) child
-        ∙ ap (λ l. child ∷ l) (reverse_push below visit)))
-        (less_opened (length (keys found.marks)) (length (keys after.marks)) child
-        (visit ∷ reverse below) step.opens.count step.opens.room (vec_fits child.inputs))
+        search (rules, to_do, reverse, reverse_push, less_opened, vec_fits)
 
 -- only what is pushed is open
 pub reverse_one : (below : List Visit) (visits : List Visit) (visit : Visit) → length below ≡ 0
@@ -304,5 +255,4 @@ reverse_one (v ∷ vs) visits visit none is = absurd (omega (arith, none))
 -- a root that was read
 pub root_read : (roots : List (List ℕ)) (place : ℕ) (root other : List ℕ) → place < length roots
     → root ≡ get_or roots place root → slice_get roots place ≡ Some other → root ≡ other
-root_read roots place root other lt is at = same_Some root other
-    (sym (slice_get_read roots (length roots) place root refl lt is) ∙ at)
+root_read roots place root other lt is at = search (rules, same_Some, slice_get_read)

@@ -1,16 +1,14 @@
 -- A walk over derivations, by what was left and what is open: how each of its steps keeps it right.
-use Rattle.std.proofs.Common.{◌≡◌, ◌∙◌, ℕ, suc, List, [], ◌∷◌, ◌++◌, length, map, take, drop, refl, sym, ap, subst, arith, Some}
+use Rattle.std.proofs.Common.{◌≡◌, ◌∙◌, ℕ, suc, List, [], ◌∷◌, ◌++◌, length, map, take, drop, sym, ap, subst, arith, Some, rules}
 use Rattle.std.specs.Prelude.{⊤, All, Contains, slice_get}
 use Rattle.std.proofs.lemmas.List.{length_push}
 use Rattle.std.proofs.lemmas.List.Elements.{All-head, All-tail, Contains-push}
 use Rattle.indexmap.specs.IndexMap.{keys}
 use Rattle.nix_drv.specs.Sources.{Answer}
-use Rattle.drv_graph.specs.Loading.{AreDistinct}
-use Rattle.drv_graph.specs.Nodes.{Node, inputs_of, output_paths_of, paths_of}
-use Rattle.drv_graph.specs.Owners.{AreOwners, outputs_of, owned}
-use Rattle.drv_graph.specs.Plans.{AreLawful, AreLeft, AreNumbers, IsReachedBy, MayBeAt, MayUse}
+use Rattle.drv_graph.specs.Nodes.{Node, inputs_of, paths_of}
+use Rattle.drv_graph.specs.Plans.{AreLeft, AreNumbers, IsReachedBy, MayBeAt, MayUse}
 use Rattle.drv_graph.specs.Plans.AreLeft.{passed_over, left_behind_inputs}
-use Rattle.drv_graph.specs.PlanNodes.{AreKept, nodes_of}
+use Rattle.drv_graph.specs.PlanNodes.{nodes_of}
 use Rattle.drv_graph.specs.Walks.{Advances, AreMarks, IsWalkSoFar, IsVisit, IsWalked, LeavesNone, Opens, marked, pending_of, visited}
 use Rattle.drv_graph.specs.declared.found.Found.{Found}
 use Rattle.drv_graph.specs.declared.found.Visit.{Visit}
@@ -109,26 +107,14 @@ pub wanted_reached : (dir : List ℕ) (gives : List ℕ → Answer → Type 0) (
     (root : List ℕ) (nodes : List Node) (visits : List Visit) (path : List ℕ) → Contains roots root
     → AreOpen dir gives roots root nodes visits → IsWanted root visits path
     → IsReachedBy (MayUse dir gives) roots path
-wanted_reached dir gives roots root nodes [] path has_root are wanted =
-    record { root = root; is_root = has_root; steps = []; leads = sym wanted }
+wanted_reached dir gives roots root nodes [] path has_root are wanted = search rules
 wanted_reached dir gives roots root nodes (v ∷ vs) path has_root are wanted =
-    reached_more (MayUse dir gives) roots v.path path are.0.reached
-    (uses_input dir gives roots nodes v path (length v.numbers.items) are.0 wanted)
+    search (rules, reached_more, uses_input)
 
 -- what was left stays right where nothing is left
 found_same : (dir : List ℕ) (found after : Found) → LeavesNone found after → IsWalkSoFar dir found
     → IsWalkSoFar dir after
-found_same dir found after none right = record {
-  kept = subst (λ l. AreKept l.items) (sym none.nodes) right.kept;
-  distinct = subst (λ l. AreDistinct (paths_of (nodes_of l.items))) (sym none.nodes) right.distinct;
-  lawful = subst (λ l. AreLawful dir (nodes_of l.items)) (sym none.nodes) right.lawful;
-  own_outputs = subst
-      (λ l. All (λ (n : Node). AreDistinct (output_paths_of n.drv)) (nodes_of l.items))
-      (sym none.nodes) right.own_outputs;
-  owners = subst (λ o. AreOwners (owned o) (outputs_of after.nodes.items)) (sym none.owners)
-      (subst (λ l. AreOwners (owned found.owners) (outputs_of l.items)) (sym none.nodes)
-      right.owners);
-}
+found_same dir found after none right = search rules
 
 -- what is wanted is opened
 pub walk_opens :
@@ -199,11 +185,7 @@ walk_opens dir gives roots root start found after visits path child has_root wal
   where
     begun : (ns : List Node) (v : Visit) → v.inputs.items ≡ inputs_of v.drv → v.numbers.items ≡ []
         → IsVisit ns v
-    begun ns v inputs none_yet = record {
-      inputs = inputs;
-      numbers = subst (λ l. AreNumbers ns l (take (length l) (inputs_of v.drv))) (sym none_yet)
-          refl;
-    }
+    begun ns v inputs none_yet = search rules
 
     goes_on : (nodes : List Node) (last : List (List ℕ)) → Contains nodes (visited child)
         → Remains nodes root (paths_of (nodes_of found.nodes.items)) (child ∷ visits) last
@@ -211,12 +193,7 @@ walk_opens dir gives roots root start found after visits path child has_root wal
         → IsWanted root visits child.path → Remains nodes root
         (paths_of (nodes_of found.nodes.items)) visits last
     goes_on nodes last has (inputs, left, free, rest) new wanted_child =
-        let whole : AreLeft nodes (paths_of (nodes_of found.nodes.items)) (inputs_of child.drv)
-        inputs =
-        subst (λ l. AreLeft nodes (paths_of (nodes_of found.nodes.items))
-        (drop (length l) (inputs_of child.drv)) inputs) opens.none left in
-        remains_wanted nodes root visits child (paths_of (nodes_of found.nodes.items)) last inputs
-        wanted_child has new whole free rest
+        search (rules, remains_wanted)
 
 -- the innermost open derivation gets the number of its next input
 pub walk_advances :
