@@ -1,11 +1,10 @@
 -- What the state of a derivation follows from, its own events aside.
-use Rattle.std.proofs.Common.{◌≡◌, ◌∙◌, ℕ, true, List, [], ◌∷◌, None, refl, ap}
+use Rattle.std.proofs.Common.{◌≡◌, ℕ, true, List, [], ◌∷◌, None, refl, rules}
 use Rattle.std.specs.Prelude.{Contains, find}
 use Rattle.std.specs.List.{list_all}
 use Rattle.nix_names.proofs.Lists.{Contains-first, Contains-later}
 use Rattle.sched_core.specs.States.{IsInOrder, Phase, Rows, by_hindrance, by_inputs, by_phase, by_twins, by_validity, is_bad, is_done, is_good, is_open, state, table}
 use Rattle.sched_core.specs.declared.reason.State.{State}
-use Rattle.sched_core.specs.declared.reason.State.TheVariants.{Refused}
 use Rattle.sched_core.specs.declared.standing.Standing.{Standing}
 use Rattle.sched_core.specs.declared.standing.Standing.TheVariants.{AllValid, Hindered, Free}
 use Rattle.sched_core.proofs.ClosedStates.{good_not_bad}
@@ -24,13 +23,12 @@ table_is rows f d = refl
 -- its state, by its last event
 pub state_aside : (rows : Rows) → IsInOrder rows → (d : ℕ) (p : Phase) → rows.phase d ≡ p
     → state rows d ≡ by_phase p (aside rows (state rows) d)
-state_aside rows order d p is = states_agree rows d order ∙ table_is rows (state rows) d
-    ∙ ap (λ (q : Phase). by_phase q (aside rows (state rows) d)) is
+state_aside rows order d p is = search (rules, states_agree, table_is, aside)
 
 -- two ways to give states that agree where a derivation reads give the same
 by_inputs_same : (f g : ℕ → State) (inputs : List ℕ)
     → ((i : ℕ) → Contains inputs i → f i ≡ g i) → by_inputs f inputs ≡ by_inputs g inputs
-by_inputs_same f g inputs same = rw (find_same f g inputs same, all_same f g inputs same) refl
+by_inputs_same f g inputs same = search (rules, find_same, all_same)
 
 by_twins_same : (f g : ℕ → State) (twins : List ℕ) (other : State)
     → ((t : ℕ) → Contains twins t → f t ≡ g t) → by_twins f twins other ≡ by_twins g twins other
@@ -47,9 +45,8 @@ aside_same rows f g d inputs twins = by (rows.standing d) refl
         → by_validity s (by_twins f (rows.twins d) (by_hindrance s (by_inputs f (rows.inputs d))))
         ≡ by_validity s (by_twins g (rows.twins d) (by_hindrance s (by_inputs g (rows.inputs d))))
     by AllValid is = refl
-    by (Hindered cause) is = by_twins_same f g (rows.twins d) (Refused cause) twins
-    by Free is = by_twins_same f g (rows.twins d) (by_inputs f (rows.inputs d)) twins
-        ∙ ap (by_twins g (rows.twins d)) (by_inputs_same f g (rows.inputs d) (inputs is))
+    by (Hindered cause) is = search (rules, by_twins_same)
+    by Free is = search (rules, by_twins_same, by_inputs_same)
 
 -- ---- of some numbers
 

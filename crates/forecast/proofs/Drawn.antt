@@ -1,5 +1,5 @@
 -- The picture of a forecast, by what the code writes and by what it holds.
-use Rattle.std.proofs.Common.{◌≡◌, ◌∙◌, ◌<◌, ⊎_elim, inr, ℕ, zero, suc, Bool, true, false, List, [], ◌∷◌, ◌++◌, Some, codes, length, map, replicate, refl, sym, ap, if◌then◌else◌}
+use Rattle.std.proofs.Common.{◌≡◌, ◌∙◌, ◌<◌, ⊎_elim, inr, ℕ, zero, suc, Bool, true, false, List, [], ◌∷◌, ◌++◌, Some, codes, length, map, replicate, sym, ap, rules}
 use Rattle.std.specs.Prelude.{Vec, flat_map, slice_get}
 use Rattle.std.specs.declared.alloc.Global.{Global}
 use Rattle.std.specs.List.{slice_index_or}
@@ -36,17 +36,14 @@ node_from : (nodes : List Node) (number : ℕ) (path : List ℕ)
     → slice_get (paths_of nodes) number ≡ Some path
     → (node : Node) × (slice_get nodes number ≡ Some node) × (node.path ≡ path)
 node_from [] number path at = absurd cc
-node_from (n ∷ ns) zero path at = let same : n.path ≡ path = cc in (n, refl, same)
+node_from (n ∷ ns) zero path at = search rules
 node_from (n ∷ ns) (suc k) path at = node_from ns k path at
 
 -- the node of a derivation of a plan
 pub node_told : (nodes : List Node) (number : ℕ) (path : List ℕ) (state : State) (is_root : Bool)
     → slice_get (paths_of nodes) number ≡ Some path
     → node_line path state is_root ≡ node_at nodes (λ _. state) (λ _. is_root) number
-node_told nodes number path state is_root at =
-    let found = node_from nodes number path at in
-    ap (λ p. node_line p state is_root) (sym found.2)
-    ∙ sym (ap (lines_if_some (λ node. node_line node.path state is_root)) found.1)
+node_told nodes number path state is_root at = search (rules, node_from, number)
 
 -- the edges of a derivation of a plan that waits for its inputs
 pub edges_told : (nodes : List Node) (number : ℕ) (path : List ℕ) (drv : Drv)
@@ -56,25 +53,14 @@ pub edges_told : (nodes : List Node) (number : ℕ) (path : List ℕ) (drv : Drv
     → flat_map (λ (i : InputStruct). edge_line path (input_of i)) inputs
     ≡ edges_at nodes (λ _. state) number
 edges_told nodes number path drv inputs state at is_drv are waits =
-    let found = node_from nodes number path at in
-    let node = found.0 in
-    let same_drv : drv ≡ node.drv = drv_is nodes number drv node found.1 is_drv in
-    sym (flat_map-map (edge_line path) input_of inputs)
-    ∙ ap (flat_map (edge_line path)) (are ∙ ap (λ (d : Drv). d.inputs) same_drv)
-    ∙ ap (λ p. flat_map (edge_line p) node.drv.inputs) (sym found.2)
-    ∙ sym (ap (lines_if_some (λ n. edge_lines n state)) found.1
-    ∙ ap (λ b. if b then flat_map (edge_line node.path) node.drv.inputs else []) waits)
+    search (rules, node_from, number, drv_is, flat_map-map)
 
 -- names with a comma between each two, the first apart
 pub names_listed : (names : List (Vec ℕ Global)) (first : Vec ℕ Global)
     (others : List (Vec ℕ Global)) (text : List ℕ) → names ≡ first ∷ others → text ≡ first.items
     → text ++ flat_map (λ (v : Vec ℕ Global). codes ", " ++ v.items) others
     ≡ listed_names (map bytes_of names)
-names_listed names first others text is same =
-    ap (λ (t : List ℕ). t ++ flat_map (λ (v : Vec ℕ Global). codes ", " ++ v.items) others) same
-    ∙ ap (λ (l : List ℕ). first.items ++ l)
-    (sym (flat_map-map (λ (o : List ℕ). codes ", " ++ o) bytes_of others))
-    ∙ sym (ap (λ (ns : List (Vec ℕ Global)). listed_names (map bytes_of ns)) is)
+names_listed names first others text is same = search (rules, codes, flat_map-map)
 
 -- ---- what is drawn
 
@@ -92,7 +78,7 @@ roots_are graph old new none marks = record {
 }
   where
     unmarked : (d : ℕ) → slice_index_or old d false ≡ false
-    unmarked d = ap (λ l. slice_index_or l d false) none ∙ none_marked (length graph.nodes) d
+    unmarked d = search (rules, none_marked)
 
 -- what is written of listed derivations is drawn of their numbers
 pub drawn : (graph : Graph) (state : ℕ → State) (marks : List Bool) (listed : List Listed)

@@ -1,14 +1,12 @@
 -- The table of foretold states has one solution, in which each derivation is built, reused or
 -- refused.
-use Rattle.std.proofs.Common.{◌≡◌, ◌∙◌, ◌⊎◌, inl, inr, ℕ, zero, suc, ◌<◌, Bool, true, false, List, [], ◌∷◌, Option, Some, None, refl, sym, ap, subst, arith, if◌then◌else◌}
+use Rattle.std.proofs.Common.{◌≡◌, ◌∙◌, ◌⊎◌, inl, inr, ℕ, zero, suc, ◌<◌, Bool, true, false, List, [], ◌∷◌, Option, Some, None, refl, sym, ap, subst, arith, if◌then◌else◌, rules}
 use Rattle.std.specs.Prelude.{Contains, cond, find}
 use Rattle.std.specs.List.{list_all, list_any}
 use Rattle.std.proofs.lemmas.Bool.{and_from, false≢true, true≢false}
 use Rattle.nix_names.proofs.Lists.{Contains-first, Contains-later}
-use Rattle.sched_core.specs.Runs.{rows_of}
-use Rattle.sched_core.specs.States.{Idle, IsInOrder, Rows, by_first, by_hindrance, by_inputs, by_phase, by_twins, by_validity, is_bad, is_done, is_good, is_open}
+use Rattle.sched_core.specs.States.{Idle, IsInOrder, Rows, by_first, by_hindrance, by_inputs, by_phase, by_twins, by_validity, is_bad, is_good, is_open}
 use Rattle.sched_core.specs.declared.reason.Refusal.{Refusal}
-use Rattle.sched_core.specs.declared.reason.Refusal.TheVariants.{InputNotRealised}
 use Rattle.sched_core.specs.declared.reason.State.{State}
 use Rattle.sched_core.specs.declared.reason.State.TheVariants.{Blocked, Done, Refused, Reused}
 use Rattle.sched_core.specs.declared.standing.Standing.{Standing}
@@ -50,8 +48,7 @@ below_same rows order f g d same =
     ∙ sym (built_is rows g d)
 
 pub forecasts_agree : ForecastsAgree
-forecasts_agree rows d order = foretold_by rows d
-    ∙ below_same rows order (reads_at (built_table rows) d) (forecast rows) d (read_is rows d)
+forecasts_agree rows d order = search (rules, foretold_by, below_same, reads_at, read_is)
 
 one_below : (rows : Rows) (other : ℕ → State) (count : ℕ) → IsInOrder rows
     → ((d : ℕ) → d < count → other d ≡ built_table rows other d)
@@ -91,16 +88,14 @@ all_unless_bad f (n ∷ ns) closed none =
         → cond bad (Some n) (find (λ i. is_bad (f i)) ns) ≡ None
         → (find (λ i. is_bad (f i)) ns ≡ None → list_all (λ i. is_good (f i)) ns ≡ true)
         → list_all (λ i. is_good (f i)) (n ∷ ns) ≡ true
-    by true is none_here rest = let clash : Some n ≡ None = none_here in absurd cc
+    by true is none_here rest = search rules
     by false is none_here rest =
-        and_from (is_good (f n)) (list_all (λ i. is_good (f i)) ns)
-        (closed_is_good (f n) (is_not_open (f n) (closed n (Contains-first n ns))) is)
-        (rest none_here)
+        search (rules, and_from, closed_is_good, is_not_open, Contains-first)
 
 -- what can be begun is built, and behind closed inputs nothing is blocked
 closed_first : (first : Option ℕ) (all : Bool) → (first ≡ None → all ≡ true)
     → IsClosed (built_if_ready (by_first first all))
-closed_first (Some i) all good = inr (inr (InputNotRealised i, refl))
+closed_first (Some i) all good = search rules
 closed_first None true good = inl refl
 closed_first None false good = absurd (false≢true (good refl))
 
@@ -118,22 +113,19 @@ closed_aside : (rows : Rows) (f : ℕ → State) (d : ℕ)
 closed_aside rows f d inputs twins = by (rows.standing d)
   where
     behind : IsClosed (built_if_ready (by_inputs f (rows.inputs d)))
-    behind = closed_first (find (λ i. is_bad (f i)) (rows.inputs d))
-        (list_all (λ i. is_good (f i)) (rows.inputs d)) (all_unless_bad f (rows.inputs d) inputs)
+    behind = search (rules, closed_first, all_unless_bad)
 
     none_open : list_any (λ t. is_open (f t)) (rows.twins d) ≡ false
-    none_open = none_from (λ t. is_open (f t)) (rows.twins d)
-        (λ t has. is_not_open (f t) (twins t has))
+    none_open = search (rules, none_from, is_not_open)
 
     beside : (other : State) → IsClosed (built_if_ready other)
         → IsClosed (built_if_ready (by_twins f (rows.twins d) other))
-    beside other closed = closed_by_twins (list_any (λ t. is_done (f t)) (rows.twins d))
-        (list_any (λ t. is_open (f t)) (rows.twins d)) other none_open closed
+    beside other closed = search (rules, closed_by_twins, none_open)
 
     by : (s : Standing) → IsClosed (built_if_ready (by_validity s (by_twins f (rows.twins d)
         (by_hindrance s (by_inputs f (rows.inputs d))))))
     by AllValid = inr (inl refl)
-    by (Hindered cause) = beside (Refused cause) (inr (inr (cause, refl)))
+    by (Hindered cause) = search (rules, beside)
     by Free = beside (by_inputs f (rows.inputs d)) behind
 
 closed_below : (rows : Rows) → IsInOrder rows → ((d : ℕ) → rows.phase d ≡ Idle)
@@ -150,6 +142,4 @@ closed_below rows order idle (suc bound) d low =
     (let less : t < d = order.twins d t has in omega arith)))
 
 pub forecasts_are_closed : ForecastsAreClosed
-forecasts_are_closed run opening d sound =
-    closed_below (rows_of run opening []) (rows_in_order run opening [] sound) (λ e. refl) (suc d) d
-    (omega arith)
+forecasts_are_closed run opening d sound = search (rules, closed_below, rows_in_order)

@@ -1,7 +1,7 @@
 -- What is held of a forecast says what is foretold.
-use Rattle.std.proofs.Common.{◌≡◌, ◌∙◌, ⊎_elim, ℕ, zero, suc, ◌<◌, ◌≤◌, ◌++◌, Bool, true, false, List, [], ◌∷◌, length, get_or, refl, sym, ap, subst, arith}
+use Rattle.std.proofs.Common.{◌≡◌, ◌∙◌, ℕ, zero, suc, ◌<◌, ◌≤◌, ◌++◌, Bool, true, false, List, [], ◌∷◌, length, get_or, sym, ap, subst, arith, rules}
 use Rattle.std.specs.Prelude.{All, flat_map, slice_get}
-use Rattle.std.specs.List.{list_all, slice_index_or}
+use Rattle.std.specs.List.{list_all}
 use Rattle.std.proofs.lemmas.Bool.{and_left, and_right, cases_lt}
 use Rattle.std.proofs.lemmas.List.{length-map}
 use Rattle.std.proofs.lemmas.Option.{slice_get_past}
@@ -11,17 +11,16 @@ use Rattle.valid_table.specs.declared.entry.Entry.{Entry}
 use Rattle.sched_core.specs.Courses.{AreStandings, AreWanted}
 use Rattle.sched_core.specs.Listing.{IsMarked}
 use Rattle.sched_core.specs.Reports.{lines_if_some, output_lines, outputs_at}
-use Rattle.sched_core.specs.Runs.{IsWanted, Run, rows_of}
+use Rattle.sched_core.specs.Runs.{IsWanted, Run}
 use Rattle.sched_core.specs.States.{is_good}
 use Rattle.sched_core.specs.declared.reason.State.{State}
-use Rattle.sched_core.specs.declared.reason.State.TheVariants.{Blocked}
 use Rattle.sched_core.specs.declared.standing.Standing.{Standing}
 use Rattle.sched_core.proofs.RunReports.{by_path_moved, marks_told, same_texts}
 use Rattle.sched_core.proofs.StateLaws.{length_states, state_at as state_among}
 use Rattle.sched_core.proofs.Tests.{all_pass}
 use Rattle.sched_core.proofs.Wanting.{any_default}
-use Rattle.forecast.specs.Forecasts.{built_table, forecast, foretold}
-use Rattle.forecast.specs.Holding.{AreForetold, IsHeld, state_at, state_of}
+use Rattle.forecast.specs.Forecasts.{forecast, foretold}
+use Rattle.forecast.specs.Holding.{AreForetold, IsHeld, state_at}
 use Rattle.forecast.specs.Texts.{IsForecast, IsForecastText, line_at, line_of}
 use Rattle.forecast.specs.declared.prospect.Prospect.{Prospect}
 use Rattle.forecast.proofs.Passing.{AreGood}
@@ -34,21 +33,11 @@ module _ (run : Run) (opening : List Entry) (wanted : List Bool) (prospects : Li
   nodes = run.graph.nodes
 
   pub held_count : length prospects ≡ length nodes
-  held_count =
-      let rule = built_table (rows_of run opening []) in
-      omega (
-        arith,
-        length-map prospects state_of,
-        ap length held.are_foretold,
-        length_states rule (length nodes),
-      )
+  held_count = search (rules, length-map, length_states, nodes)
 
   pub held_state : (d : ℕ) → d < length nodes → state_at prospects d ≡ foretold run opening d
   unfolding forecast
-  held_state d low =
-      let rule = built_table (rows_of run opening []) in
-      ap (λ ss. slice_index_or ss d Blocked) held.are_foretold
-      ∙ state_among rule (length nodes) d low
+  held_state d low = search (rules, state_among, nodes)
 
   -- ---- whether all roots are good
 
@@ -81,10 +70,7 @@ module _ (run : Run) (opening : List Entry) (wanted : List Bool) (prospects : Li
       → get_or roots place 0 < length run.graph.nodes
       → is_good (state_at prospects (get_or roots place 0)) ≡ false
       → false ≡ list_all (λ root. is_good (foretold run opening root)) roots
-  not_whole roots place low below not =
-      sym (all_but (λ root. is_good (foretold run opening root)) roots place low
-      (sym (ap is_good (held_state run opening wanted prospects held (get_or roots place 0) below))
-      ∙ not))
+  not_whole roots place low below not = search (rules, all_but, held_state)
 
 -- ---- the text
 
@@ -92,12 +78,7 @@ module _ (run : Run) (opening : List Entry) (wanted : List Bool) (prospects : Li
 pub same_at : (nodes : List Node) (lines : State → Node → List ℕ) (s t : State) (d : ℕ)
     → (d < length nodes → s ≡ t)
     → lines_if_some (lines s) (slice_get nodes d) ≡ lines_if_some (lines t) (slice_get nodes d)
-same_at nodes lines s t d same = ⊎_elim
-    (λ low. ap (λ u. lines_if_some (lines u) (slice_get nodes d)) (same low))
-    (λ past.
-    ap (lines_if_some (lines s)) (slice_get_past nodes d past)
-    ∙ sym (ap (lines_if_some (lines t)) (slice_get_past nodes d past)))
-    (cases_lt d (length nodes))
+same_at nodes lines s t d same = search (rules, nodes, slice_get_past, cases_lt)
 
 -- the text by what is held is the forecast
 pub held_text : (run : Run) (opening : List Entry) (wanted : List Bool)
@@ -133,7 +114,4 @@ pub are_held : (graph : Graph) (system : List ℕ) (opening : List Entry)
     → AreStandings run.system first graph.nodes standings → AreWanted run first wanted
     → AreForetold run first prospects)
     → IsHeld (record { graph = graph; system = system }) opening wanted prospects
-are_held graph system opening standings wanted prospects stand want told =
-    let run : Run = record { graph = graph; system = system } in
-    let are = want run opening refl stand in
-    record { are_wanted = are; are_foretold = told run opening refl stand are }
+are_held graph system opening standings wanted prospects stand want told = search rules

@@ -1,7 +1,7 @@
 -- What is known on the way through a plan, of the prospects and of the twins that are built.
-use Rattle.std.proofs.Common.{◌≡◌, ◌∙◌, ◌⊎◌, inl, inr, ⊎_elim, ℕ, zero, suc, ◌<◌, ◌≤◌, Bool, true, false, List, [], ◌∷◌, ◌++◌, length, replicate, get_or, Some, refl, sym, ap, subst, arith, if◌then◌else◌}
+use Rattle.std.proofs.Common.{◌≡◌, ◌∙◌, ◌⊎◌, inl, inr, ⊎_elim, ℕ, zero, suc, ◌<◌, ◌≤◌, Bool, true, false, List, [], ◌∷◌, ◌++◌, length, replicate, get_or, Some, refl, sym, ap, subst, arith, if◌then◌else◌, rules}
 use Rattle.std.specs.Prelude.{Contains, cond, find, slice_get}
-use Rattle.std.specs.List.{list_all, list_any, slice_index_or}
+use Rattle.std.specs.List.{list_any, slice_index_or}
 use Rattle.std.proofs.Math.ListN.{get_or-append, length-append, length-set, set}
 use Rattle.std.proofs.Math.Seq.{get_or-append_seam}
 use Rattle.std.proofs.lemmas.Bool.{and_from, cases_eq, cases_lt, eq-eqb, eqb-true, false≢true, true≢false}
@@ -13,7 +13,7 @@ use Rattle.drv_graph.specs.Twins.{are_twins_at, first_twin_of}
 use Rattle.valid_table.specs.declared.entry.Entry.{Entry}
 use Rattle.sched_core.specs.Courses.{AreStandings, AreWanted}
 use Rattle.sched_core.specs.Runs.{Run, earlier_twins, inputs_at, is_wanted, rows_of, standing_at}
-use Rattle.sched_core.specs.States.{by_first, by_hindrance, by_inputs, by_twins, by_validity, is_bad, is_done, is_good, is_open, states_by}
+use Rattle.sched_core.specs.States.{by_hindrance, by_inputs, by_twins, by_validity, is_bad, is_done, is_good, is_open, states_by}
 use Rattle.sched_core.specs.declared.reason.State.{State}
 use Rattle.sched_core.specs.declared.reason.State.TheVariants.{Blocked, Done, Refused, Reused}
 use Rattle.sched_core.specs.declared.reason.Refusal.TheVariants.{InputNotRealised}
@@ -36,12 +36,11 @@ use Rattle.forecast.proofs.Foretelling.{built_is}
 
 pub read_state : (prospects : List Prospect) (i : ℕ) → i < length prospects
     → state_of (slice_index_or prospects i Build) ≡ state_at prospects i
-read_state prospects i low = sym (get_or-map state_of prospects i Build Blocked low)
+read_state prospects i low = search (rules, get_or-map)
 
 pub state_past : (prospects : List Prospect) (i : ℕ) → length prospects ≤ i
     → state_at prospects i ≡ Blocked
-state_past prospects i past =
-    get_or_past (states_of prospects) i Blocked (omega (arith, length-map prospects state_of))
+state_past prospects i past = search (rules, get_or_past, length-map)
 
 pub bad_unless_good : (p : Prospect) → is_good (state_of p) ≡ false → is_bad (state_of p) ≡ true
 bad_unless_good Build is_not = absurd (true≢false is_not)
@@ -72,8 +71,7 @@ first_bad : (f : ℕ → State) (inputs : List ℕ) (place : ℕ) → place < le
     → is_bad (f (get_or inputs place 0)) ≡ true
     → find (λ i. is_bad (f i)) inputs ≡ Some (get_or inputs place 0)
 first_bad f [] place low before here = absurd (omega arith)
-first_bad f (i ∷ is) zero low before here =
-    ap (λ b. cond b (Some i) (find (λ j. is_bad (f j)) is)) here
+first_bad f (i ∷ is) zero low before here = search (rules, here)
 first_bad f (i ∷ is) (suc place) low before here =
     ap (λ b. cond b (Some i) (find (λ j. is_bad (f j)) is)) (before 0 (omega arith))
     ∙ first_bad f is place (omega arith) (λ k less. before (suc k) (omega arith)) here
@@ -85,12 +83,7 @@ pub refused_behind : (prospects : List Prospect) (inputs : List ℕ) (place inpu
     → ◌≡◌ {A = State} (Refused (InputNotRealised input))
     (built_if_ready (by_inputs (state_at prospects) inputs))
 refused_behind prospects inputs place input low is good bad =
-    let f = state_at prospects in
-    let found = first_bad f inputs place low
-    (λ k less. good_not_bad (f (get_or inputs k 0)) (good k less))
-    (subst (λ i. is_bad (f i) ≡ true) is bad) in
-    sym (ap (λ o. built_if_ready (by_first o (list_all (λ i. is_good (f i)) inputs)))
-    (found ∙ ap Some (sym is)))
+    search (rules, first_bad, inputs, good_not_bad)
 
 -- behind good ones it is built
 pub built_behind : (prospects : List Prospect) (inputs : List ℕ) (place : ℕ)
@@ -133,7 +126,7 @@ none_built nodes wanted built prospects n all none start = record {
 }
   where
     unmarked : (first : ℕ) → slice_index_or built first false ≡ false
-    unmarked first = ap (λ l. slice_index_or l first false) none ∙ none_marked n first
+    unmarked first = search (rules, none_marked)
 
 module _ (nodes : List Node) (wanted : List Bool) (prospects : List Prospect) (p : Prospect) where
   abbrev more : List Prospect
@@ -147,15 +140,10 @@ module _ (nodes : List Node) (wanted : List Bool) (prospects : List Prospect) (p
   states_more = map-append state_of prospects (p ∷ [])
 
   state_before : (t : ℕ) → t < d → state_at more t ≡ state_at prospects t
-  state_before t low = ap (λ ss. slice_index_or ss t Blocked) states_more
-      ∙ get_or-append (states_of prospects) (state_of p ∷ []) Blocked t
-      (omega (arith, low, length-map prospects state_of))
+  state_before t low = search (rules, states_more, get_or-append, length-map)
 
   state_here : state_at more d ≡ state_of p
-  state_here = ap (λ ss. slice_index_or ss d Blocked) states_more
-      ∙ subst (λ n. slice_index_or (states_of prospects ++ state_of p ∷ []) n Blocked
-      ≡ state_of p) (length-map prospects state_of)
-      (get_or-append_seam (states_of prospects) (state_of p) [] Blocked)
+  state_here = search (rules, d, states_more, length-map, get_or-append_seam)
 
   twin_stays : (first t : ℕ) → IsBuiltTwin nodes wanted prospects first t
       → IsBuiltTwin nodes wanted more first t
@@ -208,17 +196,11 @@ module _ (nodes : List Node) (wanted : List Bool) (prospects : List Prospect) (p
     where
       here : (first : ℕ) → first ≡ first_twin_of nodes d
           → slice_index_or (set built (first_twin_of nodes d) true) first false ≡ true
-      here first same =
-          let within : first_twin_of nodes d ≤ d = first_within nodes d low in
-          ap (λ n. slice_index_or (set built (first_twin_of nodes d) true) n false) same
-          ∙ get_or-set_same built (first_twin_of nodes d) true false
-          (omega (arith, within, low, are.size))
+      here first same = search (rules, nodes, d, first_within, set, get_or-set_same)
 
       kept : (first : ℕ) → slice_index_or built first false ≡ true
           → slice_index_or (set built (first_twin_of nodes d) true) first false ≡ true
-      kept first marked = ⊎_elim (here first)
-          (λ apart. get_or-set_other built (first_twin_of nodes d) first true false apart ∙ marked)
-          (cases_eq first (first_twin_of nodes d))
+      kept first marked = search (rules, here, get_or-set_other, nodes, d, cases_eq)
 
   -- another leaves the marks as they were
   pub built_kept : (built : List Bool)
@@ -391,14 +373,7 @@ pub first_next : (graph : Graph) (standings : List Standing) (wanted : List Bool
     → AreBuilt graph.nodes wanted prospects built → AreFirst graph standings wanted prospects
     → AreFirst graph standings wanted more
 first_next graph standings wanted prospects more built d p standing marked inputs sound count low
-    stands marks used is added are_built are =
-    subst (AreFirst graph standings wanted) (sym added)
-    (first_more graph standings wanted prospects built p standing marked inputs sound
-    (subst (λ n. n < length graph.nodes) (sym count) low)
-    (stands ∙ ap (λ n. slice_index_or standings n Free) (sym count))
-    (marks ∙ ap (λ n. slice_index_or built (first_twin_of graph.nodes n) false) (sym count))
-    (used ∙ ap (λ n. inputs_at graph.nodes (slice_get graph.nodes n)) (sym count))
-    is are_built are)
+    stands marks used is added are_built are = search (rules, first_more, inputs)
 
 pub marked_next : (nodes : List Node) (wanted : List Bool) (prospects more : List Prospect)
     (built after : List Bool) (d first : ℕ) (p : Prospect) → length prospects ≡ d
@@ -432,7 +407,4 @@ pub all_first : (graph : Graph) (standings : List Standing) (wanted : List Bool)
     → (run : Run) (opening : List Entry) → run.graph ≡ graph
     → AreStandings run.system opening graph.nodes standings → AreWanted run opening wanted
     → AreForetold run opening prospects
-all_first graph standings wanted prospects count are run opening same stand want =
-    are.each run opening same stand want
-    ∙ ap (states_by (built_table (rows_of run opening [])))
-    (count ∙ ap (λ (g : Graph). length g.nodes) (sym same))
+all_first graph standings wanted prospects count are run opening same stand want = search rules

@@ -1,5 +1,5 @@
 -- What no failure reaches ends as was foretold.
-use Rattle.std.proofs.Common.{◌≡◌, ◌∙◌, inl, inr, ℕ, zero, suc, ◌<◌, Bool, true, false, List, [], ◌∷◌, length, refl, sym, ap, subst, arith, if◌then◌else◌}
+use Rattle.std.proofs.Common.{◌≡◌, ◌∙◌, inl, inr, ℕ, zero, suc, ◌<◌, Bool, true, false, List, [], ◌∷◌, length, refl, sym, ap, subst, arith, if◌then◌else◌, rules}
 use Rattle.std.specs.Prelude.{Contains}
 use Rattle.std.proofs.Math.Dec.{eqb}
 use Rattle.std.proofs.lemmas.List.Elements.{All-contains}
@@ -40,8 +40,8 @@ module _ (d : ℕ) (reason : Reason) where
   not_broken false p other is = absurd cc
 
   own_event : (e : Event) (events : List Event) → phase_by e d ≡ Broken reason → Fails (e ∷ events)
-  own_event (Begin k n) events is = absurd (not_broken (eqb k d) (Begun n) (λ clash. absurd cc) is)
-  own_event (Finish k n) events is = absurd (not_broken (eqb k d) Ended (λ clash. absurd cc) is)
+  own_event (Begin k n) events is = search (rules, not_broken, eqb)
+  own_event (Finish k n) events is = search (rules, not_broken, eqb)
   own_event (Fail k n why) events is = by (eqb k d) refl is
     where
       by : (same : Bool) → eqb k d ≡ same → (if same then Broken why else Idle) ≡ Broken reason
@@ -65,17 +65,14 @@ module _ (d : ℕ) (reason : Reason) where
       by Idle at there rest = own_event e events there
       by (Begun n) at there rest = absurd cc
       by Ended at there rest = absurd cc
-      by (Broken why) at there rest =
-          let found = rest (at ∙ there) in
-          (found.0, Contains-later e events (Fail d found.0 reason) found.1)
+      by (Broken why) at there rest = search (rules, Contains-later)
 
 -- ---- what is wanted
 
 -- a wanted derivation is one of the plan's
 pub wanted_within : (run : Run) (opening : List Entry) → IsSound run.graph → (d : ℕ)
     → IsWanted run opening d → d < length run.graph.nodes
-wanted_within run opening sound d (wanted_root _ has) =
-    All-contains (λ root. root < length run.graph.nodes) run.graph.roots d sound.roots_within has
+wanted_within run opening sound d (wanted_root _ has) = search (rules, All-contains)
 wanted_within run opening sound d (wanted_input user _ by_user free has) =
     let low : user < length run.graph.nodes = wanted_within run opening sound user by_user in
     let before : d < user = inputs_first run.graph sound user d has in
@@ -114,7 +111,7 @@ module _ (run : Run) (history : History) (ended : HasEnded run history) where
       (state_aside rows (rows_in_order run history.opening history.events ended.plan) d p at)
     where
       within : d < length run.graph.nodes
-      within = wanted_within run history.opening ended.plan d wanted
+      within = search (rules, wanted_within)
 
       closed : IsOpen (state_in run history d) → ⊥
       closed = ended.settled d within wanted
@@ -122,15 +119,12 @@ module _ (run : Run) (history : History) (ended : HasEnded run history) where
       by : (q : Phase) → phase_of history.events d ≡ q
           → state_in run history d ≡ by_phase q (aside rows (state_in run history) d)
           → state_in run history d ≡ built_if_ready (aside rows (state_in run history) d)
-      by Idle is there = there ∙ built_already (aside rows (state_in run history) d)
-          (λ still. closed (subst IsOpen (sym there) still))
-      by (Begun lease) is there = absurd (closed (inr (inr (lease, there))))
+      by Idle is there = search (rules, built_already, aside, rows, closed)
+      by (Begun lease) is there = search (rules, closed)
       by Ended is there = there ∙ sym (ap built_if_ready (unhindered_ready rows d
           (begun_unhindered run ended.plan history ended.legal d
           (λ idle. let clash : Ended ≡ Idle = sym is ∙ idle in cc))))
-      by (Broken reason) is there =
-          let found = fails d reason history.events is in
-          absurd (none (found.0, (reason, found.1)))
+      by (Broken reason) is there = search (rules, fails)
 
   foretold_aside : (d : ℕ)
       → (rows.standing d ≡ Free → (i : ℕ) → Contains (rows.inputs d) i
@@ -172,10 +166,7 @@ module _ (run : Run) (history : History) (ended : HasEnded run history) where
       all_spared none bound t (omega arith))
 
 pub spared_come_true : SparedComeTrue
-spared_come_true run history ended d wanted is =
-    spared_below run history ended (suc d) d (omega arith) wanted is
+spared_come_true run history ended d wanted is = search (rules, spared_below)
 
 pub states_come_true : StatesComeTrue
-states_come_true run history ended none d wanted =
-    spared_come_true run history ended d wanted
-    (all_spared run history ended none (suc d) d (omega arith))
+states_come_true run history ended none d wanted = search (rules, spared_come_true, all_spared)

@@ -1,5 +1,5 @@
 -- A report tells what the forecast told, line by line.
-use Rattle.std.proofs.Common.{◌≡◌, ◌∙◌, inl, inr, ℕ, Bool, true, false, List, [], ◌∷◌, ◌++◌, map, codes, Option, Some, None, refl, sym, ap, subst, if◌then◌else◌}
+use Rattle.std.proofs.Common.{◌≡◌, ◌∙◌, inl, inr, ℕ, Bool, true, false, List, [], ◌∷◌, ◌++◌, map, codes, Option, Some, None, refl, sym, ap, if◌then◌else◌, rules}
 use Rattle.std.specs.Prelude.{Contains, flat_map, slice_get}
 use Rattle.std.proofs.lemmas.Grind.{flat_map-append}
 use Rattle.std.proofs.lemmas.List.{append-nil}
@@ -7,7 +7,7 @@ use Rattle.std.proofs.lemmas.List.Folds.{flat_map-map}
 use Rattle.nix_names.proofs.Lists.{Contains-first, Contains-later}
 use Rattle.drv_graph.specs.Nodes.{Node}
 use Rattle.drv_graph.specs.PlanNodes.{output_paths_of}
-use Rattle.sched_core.specs.Reports.{lines_if_some, line_of as report_line_of, line_at as report_line_at, output_lines, outputs_at, path_line}
+use Rattle.sched_core.specs.Reports.{lines_if_some, line_of as report_line_of, line_at as report_line_at, outputs_at, path_line}
 use Rattle.sched_core.specs.Runs.{History, IsWanted, Run, state_in, wanted_root}
 use Rattle.sched_core.specs.States.{is_good}
 use Rattle.sched_core.specs.Words.{refusal_words}
@@ -52,8 +52,7 @@ foretold_line : (nodes : List Node) (node : Node) (s : State)
     → line_of nodes node s ≡ flat_map foretelling (told nodes node s)
 foretold_line nodes node Done = line_alone foretelling (Build node.path)
 foretold_line nodes node Reused = line_alone foretelling (Reuse node.path)
-foretold_line nodes node (Refused cause) =
-    line_alone foretelling (Refuse node.path (refusal_words nodes node.drv cause))
+foretold_line nodes node (Refused cause) = search (rules, line_alone, nodes)
 foretold_line nodes node (Failed reason) = refl
 foretold_line nodes node (Building lease) = refl
 foretold_line nodes node Ready = refl
@@ -61,15 +60,9 @@ foretold_line nodes node Blocked = refl
 
 reported_line : (nodes : List Node) (node : Node) (s : State) → IsClosed s
     → report_line_of nodes node s ≡ flat_map reporting (told nodes node s)
-reported_line nodes node s (inl is) =
-    subst (λ t. report_line_of nodes node t ≡ flat_map reporting (told nodes node t)) (sym is)
-    (line_alone reporting (Build node.path))
-reported_line nodes node s (inr (inl is)) =
-    subst (λ t. report_line_of nodes node t ≡ flat_map reporting (told nodes node t)) (sym is)
-    (line_alone reporting (Reuse node.path))
-reported_line nodes node s (inr (inr (cause, is))) =
-    subst (λ t. report_line_of nodes node t ≡ flat_map reporting (told nodes node t)) (sym is)
-    (line_alone reporting (Refuse node.path (refusal_words nodes node.drv cause)))
+reported_line nodes node s (inl is) = search (rules, nodes, told, line_alone)
+reported_line nodes node s (inr (inl is)) = search (rules, nodes, told, line_alone)
+reported_line nodes node s (inr (inr (cause, is))) = search (rules, nodes, told, line_alone)
 
 foretold_outputs : (paths : List (List ℕ)) (good : Bool)
     → (if good then flat_map (path_line (codes "output ")) paths else [])
@@ -119,32 +112,22 @@ module _ (run : Run) (history : History) (ended : HasEnded run history)
   same d wanted = states_come_true run history ended none d wanted
 
   foretold_here : (d : ℕ) → line_at nodes before d ≡ flat_map foretelling (told_at nodes before d)
-  foretold_here d = told_of_node foretelling (λ node. line_of nodes node (before d))
-      (λ node. told nodes node (before d)) (slice_get nodes d)
-      (λ node. foretold_line nodes node (before d))
+  foretold_here d = search (rules, told_of_node, nodes, before, told, foretold_line)
 
   foretold_outputs_here : (d : ℕ) → outputs_at nodes before d
       ≡ flat_map foretelling (outputs_told_at nodes before d)
-  foretold_outputs_here d = told_of_node foretelling (λ node. output_lines node (before d))
-      (λ node. outputs_told node (before d)) (slice_get nodes d)
-      (λ node. foretold_outputs (output_paths_of node.drv) (is_good (before d)))
+  foretold_outputs_here d =
+      search (rules, told_of_node, before, outputs_told, nodes, foretold_outputs)
 
   reported_here : (d : ℕ) → IsWanted run history.opening d
       → report_line_at nodes after d ≡ flat_map reporting (told_at nodes before d)
   reported_here d wanted =
-      ap (λ s. report_line_at nodes (λ _. s) d) (same d wanted)
-      ∙ told_of_node reporting (λ node. report_line_of nodes node (before d))
-      (λ node. told nodes node (before d)) (slice_get nodes d)
-      (λ node. reported_line nodes node (before d)
-      (forecasts_are_closed run history.opening d ended.plan))
+      search (rules, nodes, same, told_of_node, before, told, reported_line, forecasts_are_closed)
 
   reported_outputs_here : (d : ℕ) → IsWanted run history.opening d
       → outputs_at nodes after d ≡ flat_map reporting (outputs_told_at nodes before d)
   reported_outputs_here d wanted =
-      ap (λ s. outputs_at nodes (λ _. s) d) (same d wanted)
-      ∙ told_of_node reporting (λ node. output_lines node (before d))
-      (λ node. outputs_told node (before d)) (slice_get nodes d)
-      (λ node. reported_outputs (output_paths_of node.drv) (is_good (before d)))
+      search (rules, nodes, same, told_of_node, before, outputs_told, reported_outputs)
 
 pub reports_come_true : ReportsComeTrue
 reports_come_true run history ended none text report forecast is_report =

@@ -1,5 +1,5 @@
 -- A derivation that has begun was wanted, and nothing has come in its way since.
-use Rattle.std.proofs.Common.{◌≡◌, ◌∙◌, ◌⊎◌, inl, inr, ℕ, Bool, true, false, List, [], ◌∷◌, ◌++◌, refl, sym, ap, subst, ⊎_elim, arith, if◌then◌else◌}
+use Rattle.std.proofs.Common.{◌≡◌, ◌∙◌, ◌⊎◌, ℕ, Bool, true, false, List, [], ◌∷◌, ◌++◌, refl, sym, ap, subst, ⊎_elim, if◌then◌else◌, rules}
 use Rattle.std.specs.Prelude.{Contains, find}
 use Rattle.std.specs.List.{list_all, list_any}
 use Rattle.std.proofs.Math.Dec.{eqb}
@@ -7,7 +7,7 @@ use Rattle.nix_names.proofs.Lists.{either_side}
 use Rattle.drv_graph.specs.SoundGraphs.{IsSound}
 use Rattle.sched_core.specs.Legal.{IsLegal, begins, legal_begin, legal_done, legal_fail, legal_opening}
 use Rattle.sched_core.specs.Runs.{History, Run, rows_of, state_in}
-use Rattle.sched_core.specs.States.{Begun, Broken, Ended, Idle, Phase, Rows, by_inputs, is_bad, is_done, is_good, is_open, later, phase_by, phase_of, state}
+use Rattle.sched_core.specs.States.{Begun, Broken, Ended, Idle, Phase, Rows, by_inputs, is_bad, is_done, is_good, is_open, phase_by, phase_of, state}
 use Rattle.sched_core.specs.declared.reason.Event.{Event}
 use Rattle.sched_core.specs.declared.reason.Event.TheVariants.{Begin, Done as Finish, Fail}
 use Rattle.sched_core.specs.declared.reason.State.TheVariants.{Ready}
@@ -30,16 +30,7 @@ pub record IsUnhindered (rows : Rows) (d : ℕ) : Type 0 where
 pub unhindered_ready : (rows : Rows) (d : ℕ) → IsUnhindered rows d
     → aside rows (state rows) d ≡ Ready
 unhindered_ready rows d un =
-    let f = state rows in
-    rw (
-      un.free,
-      none_from (λ t. is_done (f t)) (rows.twins d)
-          (λ t has. bad_is_not_done (f t) (un.spent t has)),
-      none_from (λ t. is_open (f t)) (rows.twins d)
-          (λ t has. bad_is_closed (f t) (un.spent t has)),
-      none_bad f (rows.inputs d) un.good,
-      all_from f (rows.inputs d) un.good,
-    ) refl
+    search (rules, rows, none_from, bad_is_not_done, bad_is_closed, none_bad, all_from)
 
 -- and back
 ready_unhindered : (run : Run) (history : History) → IsSound run.graph → (d : ℕ)
@@ -71,8 +62,7 @@ module _ (rows : Rows) (phase : ℕ → Phase)
 
   good_stays : (i : ℕ) → is_good (state rows i) ≡ true → is_good (state behind i) ≡ true
   good_stays i good =
-      let stays = states_stay rows phase moves i (good_is_closed (state rows i) good) in
-      closed_is_good (state behind i) stays.0 (stays.2 ∙ good_not_bad (state rows i) good)
+      search (rules, states_stay, rows, moves, good_is_closed, good, closed_is_good, behind, good_not_bad)
 
   bad_stays : (i : ℕ) → is_bad (state rows i) ≡ true → is_bad (state behind i) ≡ true
   bad_stays i bad =
@@ -94,9 +84,7 @@ number_of (Finish d lease) = d
 number_of (Fail d lease reason) = d
 
 same_or_other : (d e : ℕ) → (d ≡ e) ⊎ (d ≡ e → ⊥)
-same_or_other d e =
-    ⊎_elim inl (λ apart. inr (λ same. ⊎_elim (λ less. absurd (omega arith))
-    (λ more. absurd (omega arith)) apart)) (either_side d e)
+same_or_other d e = search (rules, either_side)
 
 idle_unless : (p : Phase) (e d : ℕ) → (e ≡ d → ⊥) → (if eqb e d then p else Idle) ≡ Idle
 idle_unless p e d other = by (eqb e d) refl
@@ -112,8 +100,7 @@ phase_by_other (Fail e n reason) d other = idle_unless (Broken reason) e d other
 
 phase_other : (events : List Event) (x : Event) (d : ℕ) → (number_of x ≡ d → ⊥)
     → phase_of (events ++ x ∷ []) d ≡ phase_of events d
-phase_other events x d other = phase_push events x d
-    ∙ ap (later (phase_of events d)) (phase_by_other x d other)
+phase_other events x d other = search (rules, phase_push, phase_by_other)
 
 -- an event of an open derivation leaves what is unhindered so
 module _ (run : Run) (opening : _) (events : List Event) (x : Event)
@@ -123,10 +110,7 @@ module _ (run : Run) (opening : _) (events : List Event) (x : Event)
 
   moves : (d : ℕ) → (phase_of (events ++ x ∷ []) d ≡ phase_of events d)
       ⊎ (is_open (state rows d) ≡ true)
-  moves d = ⊎_elim
-      (λ same. inr (ap (λ n. is_open (state rows n)) (sym same) ∙ still))
-      (λ other. inl (phase_other events x d other))
-      (same_or_other (number_of x) d)
+  moves d = search (rules, rows, phase_other, same_or_other, number_of)
 
   behind_event : (d : ℕ) → IsUnhindered rows d
       → IsUnhindered (rows_of run opening (events ++ x ∷ [])) d
@@ -141,7 +125,7 @@ building_is_open run sound history d lease phase =
     (rows_in_order run history.opening history.events sound) d (Begun lease) phase)
 
 begun_not_idle : (p : Phase) (lease : ℕ) → p ≡ Begun lease → p ≡ Idle → ⊥
-begun_not_idle p lease is idle = let clash : Begun lease ≡ Idle = sym is ∙ idle in cc
+begun_not_idle p lease is idle = search rules
 
 module _ (run : Run) (sound : IsSound run.graph) where
   -- nothing but its own events is in the way of a derivation that has begun
