@@ -1,5 +1,5 @@
 -- What waits to be shown.
-use Rattle.std.proofs.Common.{◌≡◌, ◌∙◌, Bool, true, false, List, [], ◌∷◌, ◌++◌, Ok, append_assoc, ap, refl, subst, sym}
+use Rattle.std.proofs.Common.{◌≡◌, ◌∙◌, Bool, true, false, List, [], ◌∷◌, ◌++◌, Ok, append_assoc, ap, refl, subst, sym, rules}
 use Rattle.std.specs.Prelude.{All}
 use Rattle.logbook.specs.Pages.{Book}
 use Rattle.nix_names.specs.Rising.{IsRising}
@@ -16,9 +16,7 @@ use Rattle.valid_view.proofs.Showable.{showable_front, showable_push}
 -- what is shown and what waits is what is in the one list, and the queue
 pub all_of : (shown handed held queue : List Entry)
     → shown ++ (handed ++ (held ++ queue)) ≡ ((shown ++ handed) ++ held) ++ queue
-all_of shown handed held queue =
-    sym (append_assoc shown handed (held ++ queue))
-    ∙ sym (append_assoc (shown ++ handed) held queue)
+all_of shown handed held queue = search (rules, append_assoc)
 
 -- one more entry waits
 pub feed_push :

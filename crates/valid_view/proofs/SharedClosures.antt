@@ -1,5 +1,5 @@
 -- Closures by lists that go on from one list.
-use Rattle.std.proofs.Common.{◌≡◌, ℕ, List, ◌++◌, ◌∙◌, All, ap, subst, sym}
+use Rattle.std.proofs.Common.{◌≡◌, ℕ, List, ◌++◌, ◌∙◌, All, ap, subst, sym, rules}
 use Rattle.std.proofs.lemmas.List.Elements.{All-contains, Contains-append_left}
 use Rattle.valid_table.proofs.ClosureLaws.{closure_stays_behind, leads_before, leads_behind}
 use Rattle.valid_table.proofs.Following.{one_info}
@@ -36,14 +36,12 @@ closure_before first more roots all closed once valid is = record {
 -- what two lists register, one behind the other, repeats no path
 once_parts : (entries more : List Entry) → IsShowable (entries ++ more)
     → IsOnce (registered entries ++ registered more)
-once_parts entries more showable =
-    subst IsOnce (registered-append entries more) showable.once
+once_parts entries more showable = search (rules, registered-append)
 
 -- in a list that may be shown each reference is valid
 references_valid : (entries more : List Entry) → IsShowable (entries ++ more)
     → AreReferencesValid (registered entries)
-references_valid entries more showable =
-    closed_references_valid entries (showable_front entries more showable).closed
+references_valid entries more showable = search (rules, closed_references_valid, showable_front)
 
 -- the law
 pub closure_is_shared : ClosureIsShared

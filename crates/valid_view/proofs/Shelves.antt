@@ -1,5 +1,5 @@
 -- Steps that keep the rule of a view.
-use Rattle.std.proofs.Common.{◌≡◌, ◌≢◌, ◌∙◌, ℕ, List, [], ◌∷◌, ◌++◌, MatchResult, OnOk, Result, Ok, Err, fold, refl, sym, ap, subst, ⊎_elim, append_assoc}
+use Rattle.std.proofs.Common.{◌≡◌, ◌≢◌, ◌∙◌, ℕ, List, [], ◌∷◌, ◌++◌, MatchResult, OnOk, Result, Ok, Err, fold, refl, sym, ap, subst, ⊎_elim, append_assoc, rules}
 use Rattle.std.proofs.lemmas.List.{append-nil}
 use lib.ListN.{get_elem?}
 use mathlib.Core.List.{IsPrefix}
@@ -78,11 +78,7 @@ pub follows_push : (book : Book) (entries : List Entry) (ops : List Op) (op : Op
     → Follows book entries ops → op.front.book ≡ book
     → op.front.entries ≡ (entries ++ entries_of ops) ++ op.entry ∷ []
     → Follows book entries (ops ++ op ∷ [])
-follows_push book entries [] op follows named next = (
-  named,
-  next ∙ ap (λ l. l ++ op.entry ∷ []) (append-nil entries),
-  tt,
-)
+follows_push book entries [] op follows named next = search (rules, append-nil)
 follows_push book entries (first ∷ ops) op follows named next = (
   follows.0,
   follows.1,
@@ -95,12 +91,7 @@ follows_push book entries (first ∷ ops) op follows named next = (
 pub shows : (book : Book) (seat : ℕ) (had : List Entry) (s next : Shelved) (ops : List Op)
     → IsShelf book s → Follows book s.front.entries ops → next ≡ fold with_op s ops
     → TurnsAt (Holds book) seat had s next (SeesAll book)
-shows book seat had s next ops shelf follows is =
-    grows book seat had s next
-    (subst (IsShelf book) (sym is) (shelf_all book s ops shelf follows)) (
-      entries_of ops,
-      sym (entries_all book s ops follows) ∙ ap (λ (t : Shelved). t.front.entries) (sym is),
-    )
+shows book seat had s next ops shelf follows is = search (rules, grows, shelf_all, entries_all)
 
 -- what the writer's end keeps
 abbrev pub IsLined : Book → Shelved → List Op → Type 0
@@ -116,8 +107,7 @@ pub appended :
     op.front.book ≡ book →
     op.front.entries ≡ (s.front.entries ++ entries_of ops) ++ op.entry ∷ [] →
     IsLined book s' ops'
-appended book s s' ops ops' op (Ok a) same is lined named next =
-    rw (same, is) (lined.0, follows_push book s.front.entries ops op lined.1 named next)
+appended book s s' ops ops' op (Ok a) same is lined named next = search (rules, follows_push)
 appended book s s' ops ops' op (Err x) same is lined named next = rw (same, is.1) lined
 
 -- what is told once the writer was to show all that was handed over
@@ -132,8 +122,7 @@ pub shown_lined :
     Told s s' ops ops' result →
     IsLined book s ops →
     IsLined book s' ops'
-shown_lined book s s' ops ops' (Ok a) is lined =
-    rw (is.0, is.1) (shelf_all book s ops lined.0 lined.1, tt)
+shown_lined book s s' ops ops' (Ok a) is lined = search (rules, shelf_all)
 shown_lined book s s' ops ops' (Err b) is lined = rw (is.0, is.1) lined
 
 -- and where it did, all is shown
@@ -143,8 +132,5 @@ pub shown_ok :
     IsLined book s ops →
     OnOk result
     ((s'.front.entries ≡ s.front.entries ++ entries_of ops) × (entries_of ops' ≡ []))
-shown_ok book s s' ops ops' (Ok a) is lined = (
-  ap (λ (t : Shelved). t.front.entries) is.0 ∙ entries_all book s ops lined.1,
-  ap entries_of is.1,
-)
+shown_ok book s s' ops ops' (Ok a) is lined = search (rules, entries_all)
 shown_ok book s s' ops ops' (Err b) is lined = tt

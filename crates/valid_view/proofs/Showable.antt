@@ -1,11 +1,11 @@
 -- Which lists of entries may be shown.
-use Rattle.std.proofs.Common.{List, [], ◌∷◌, ◌++◌, sym, subst}
+use Rattle.std.proofs.Common.{List, [], ◌∷◌, ◌++◌, rules}
 use Rattle.std.specs.Prelude.{All}
 use Rattle.std.specs.List.{IsDistinct}
 use Rattle.nix_names.specs.Rising.{IsRising}
 use Rattle.valid_table.specs.Adding.{IsNew, IsValidWith}
-use Rattle.valid_table.specs.Entries.{paths_registered, registered, registered_by}
-use Rattle.valid_table.specs.Valid.{IsClosedBehind, IsOnce, references_of}
+use Rattle.valid_table.specs.Entries.{paths_registered, registered_by}
+use Rattle.valid_table.specs.Valid.{IsClosedBehind, references_of}
 use Rattle.valid_table.specs.declared.entry.Entry.{Entry}
 use Rattle.valid_table.specs.declared.entry.Registration.{Registration}
 use Rattle.valid_table.proofs.AddedEntries.{closed_push, registered_push}
@@ -17,7 +17,7 @@ use Rattle.valid_view.specs.Shown.{IsShowable}
 -- the list without entries
 pub showable_none : IsShowable []
 unfolding IsDistinct
-showable_none = record { closed = tt; once = tt }
+showable_none = search rules
 
 -- a beginning of a closed list is closed
 closed_front : (earlier : List Registration) (entries more : List Entry)
@@ -29,14 +29,8 @@ closed_front earlier (entry ∷ entries) more closed =
 -- a beginning of a list that may be shown may be shown
 pub showable_front : (entries more : List Entry) → IsShowable (entries ++ more)
     → IsShowable entries
-showable_front entries more showable = record {
-  closed = closed_front [] entries more showable.closed;
-  once = once_front (paths_registered (registered entries)) (paths_registered (registered more))
-      (rw (
-        ← paths_of-append (registered entries) (registered more),
-        ← registered-append entries more,
-      ) showable.once);
-}
+showable_front entries more showable =
+    search (rules, closed_front, once_front, paths_of-append, registered-append)
 
 -- and so may a list with an entry more whose paths are new and whose references are valid
 pub showable_push :
@@ -46,8 +40,5 @@ pub showable_push :
     IsNew entries entry →
     All (IsValidWith entries entry) (references_of (registered_by entry)) →
     IsShowable (entries ++ entry ∷ [])
-showable_push entries entry showable rising new closed = record {
-  closed = closed_push [] entries entry showable.closed closed;
-  once = subst IsOnce (sym (registered_push entries entry))
-      (once_more (registered entries) (registered_by entry) showable.once rising new);
-}
+showable_push entries entry showable rising new closed =
+    search (rules, closed_push, registered_push, once_more)
