@@ -1,5 +1,5 @@
 -- Two whole runs over one opening are alike, derivation by derivation in plan order.
-use Rattle.std.proofs.Common.{◌≡◌, ◌∙◌, inl, inr, ◌<◌, length, ℕ, zero, suc, true, false, List, [], ◌++◌, Result, Ok, Err, Option, Some, refl, sym, ap, subst, ⊎_elim, arith}
+use Rattle.std.proofs.Common.{◌≡◌, ◌∙◌, inl, inr, ◌<◌, length, ℕ, zero, suc, true, false, List, [], ◌++◌, Result, Ok, Err, Option, Some, refl, sym, ap, subst, ⊎_elim, arith, rules}
 use Rattle.std.specs.Prelude.{Contains, flat_map, slice_get}
 use Rattle.std.specs.List.{position_or_len}
 use Rattle.std.proofs.lemmas.List.Elements.{Contains-append_cases, Contains-append_left}
@@ -119,7 +119,7 @@ module _ (may : Job → Result Answer Reason → Type 0) (run : Run) (sound : Is
       where
         by : IsGoodBy run history d
             → IsCarried (registered history.entries) (registered other.entries) path
-        by (good_ended ends) = let clash : Idle ≡ Ended = sym idle ∙ ends in absurd cc
+        by (good_ended ends) = search (rules, idle)
         by (good_reused rests stands) =
             opening_carried path
             (output_of_reused run.system history.opening node.drv
@@ -177,8 +177,7 @@ module _ (may : Job → Result Answer Reason → Type 0) (run : Run) (history : 
     (once : IsOnce (registered history.entries)) (d : ℕ) (node : Node)
     (at : slice_get run.graph.nodes d ≡ Some node) (made : WasMade may run history d) where
   its_entry : IsEntryOf node made.infos made.entry
-  its_entry = subst (λ (n : Node). IsEntryOf n made.infos made.entry)
-      (same_element run.graph.nodes d made.node node made.is_node at) made.is_entry
+  its_entry = search (rules, same_element)
 
   -- each output is registered with its record
   record_registered : (n : ℕ) (path : List ℕ) (info : PathInfo)
@@ -259,10 +258,7 @@ module _ (may : Job → Result Answer Reason → Type 0) (run : Run) (sound : Is
       → (v w : Result (List PathInfo) Reason) → CameTo may run history d v
       → CameTo may run other d w → v ≡ w
   verdicts_same moved moved' v w came came' =
-      let node = came.behind.is_job.node in
-      let at = came.behind.is_job.is_node in
-      one_verdict may run outcome history other end.once end'.once d node at
-      (seeds_there moved node at) (seeds_back moved' node at) v w came came'
+      search (rules, one_verdict, seeds_there, moved, seeds_back)
 
   both_idle : phase_of history.events d ≡ Idle → phase_of other.events d ≡ Idle
       → IsAlikeAt run history other d
@@ -351,14 +347,11 @@ module _ (may : Job → Result Answer Reason → Type 0) (run : Run) (sound : Is
       by Ended (Broken why) is is' = absurd (ended_and_broken why is is')
       by (Broken why) Ended is is' = absurd (broken_and_ended why is is')
       by (Begun lease) q is is' = absurd (turn.over lease is)
-      by p (Begun lease) is is' = absurd (turn.over_there lease is')
-      by Idle Ended is is' =
-          let clash : Ended ≡ Idle = sym is' ∙ turn.idle_there is in absurd cc
-      by Idle (Broken why) is is' =
-          let clash : Broken why ≡ Idle = sym is' ∙ turn.idle_there is in absurd cc
-      by Ended Idle is is' = let clash : Ended ≡ Idle = sym is ∙ turn.idle is' in absurd cc
-      by (Broken why) Idle is is' =
-          let clash : Broken why ≡ Idle = sym is ∙ turn.idle is' in absurd cc
+      by p (Begun lease) is is' = search rules
+      by Idle Ended is is' = search rules
+      by Idle (Broken why) is is' = search rules
+      by Ended Idle is is' = search rules
+      by (Broken why) Idle is is' = search rules
 
 -- ---- all of them
 
@@ -386,7 +379,7 @@ module _ (may : Job → Result Answer Reason → Type 0) (run : Run) (sound : Is
   record_there alike path info has = by (end.from path info has)
     where
       valid : IsValid (registered history.entries) path
-      valid = valid_from_registers (registered history.entries) path info has
+      valid = search (rules, valid_from_registers)
 
       by : IsFrom run history path info → Registers (registered other.entries) path info
       by (from_opening first) =
@@ -429,15 +422,13 @@ module _ (may : Job → Result Answer Reason → Type 0) (run : Run) (sound : Is
   idle_too d above idle = by (phase_of other.events d) refl
     where
       moved : (phase_of other.events d ≡ Idle → ⊥) → phase_of other.events d ≡ Idle
-      moved has =
-          let was = end'.begun d has in
-          absurd (not_idle d above idle was.within was.wanted was.unhindered)
+      moved has = search (rules, not_idle, above, idle)
 
       by : (p : Phase) → phase_of other.events d ≡ p → phase_of other.events d ≡ Idle
       by Idle is = is
-      by (Begun lease) is = moved (λ i. let clash : Begun lease ≡ Idle = sym is ∙ i in cc)
-      by Ended is = moved (λ i. let clash : Ended ≡ Idle = sym is ∙ i in cc)
-      by (Broken why) is = moved (λ i. let clash : Broken why ≡ Idle = sym is ∙ i in cc)
+      by (Begun lease) is = search (rules, moved)
+      by Ended is = search (rules, moved)
+      by (Broken why) is = search (rules, moved)
 
 pub are_alike : (may : Job → Result Answer Reason → Type 0) (run : Run)
     (sound : IsSound run.graph) (outcome : HasOneOutcome may run.graph) (history other : History)

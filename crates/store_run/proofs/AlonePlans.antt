@@ -1,19 +1,19 @@
 -- The plan of two derivations without inputs is sound.
-use Rattle.std.proofs.Common.{◌≡◌, ◌<◌, ◌∙◌, ℕ, zero, suc, true, List, [], ◌∷◌, ◌++◌, length, Ok, refl, sym, ap, subst, ◌⊎◌, inl, ⊎_elim, arith}
+use Rattle.std.proofs.Common.{◌≡◌, ◌<◌, ◌∙◌, ℕ, zero, suc, true, List, [], ◌∷◌, ◌++◌, length, Ok, refl, sym, ap, subst, ◌⊎◌, inl, arith, rules}
 use Rattle.std.specs.Prelude.{All, Contains, codes, ◌-◌, take}
 use Rattle.std.specs.List.{IsDistinct}
 use Rattle.std.proofs.lemmas.List.{length-append}
 use Rattle.std.proofs.lemmas.List.Elements.{All-cons, All-nil}
 use Rattle.sha2.specs.Sha256.{sha256}
-use Rattle.nix_names.specs.Names.{is_dotted, is_drv_name, is_name, is_name_char}
+use Rattle.nix_names.specs.Names.{is_dotted, is_name, is_name_char}
 use Rattle.nix_names.specs.StorePaths.{IsDrvPath, name_of, path_text, store_path}
 use Rattle.nix_names.proofs.Lists.{All-from_contains, Contains-cons_cases, Contains-nothing}
 use Rattle.nix_names.proofs.PathDigests.{hash_part_of_fold}
 use Rattle.nix_names.proofs.PathTexts.{hash_part_len, name_of_path}
 use Rattle.nix_drv.specs.Derivation.{Drv, EnvEntry, Output}
-use Rattle.nix_drv.specs.OwnPath.{text_kind, text_path}
+use Rattle.nix_drv.specs.OwnPath.{text_path}
 use Rattle.drv_graph.specs.Expected.{IsExpected}
-use Rattle.drv_graph.specs.Kinds.{HasKind, IsAddressed}
+use Rattle.drv_graph.specs.Kinds.{HasKind}
 use Rattle.drv_graph.specs.Loading.{AreDistinct}
 use Rattle.drv_graph.specs.Modulo.{IsModuloText}
 use Rattle.drv_graph.specs.Nodes.{Node, no_hashes}
@@ -31,8 +31,7 @@ abbrev pub store : List ℕ
 store = codes "/nix/store"
 
 pub one_of : {X : Type 0} (x y : X) → Contains (x ∷ []) y → x ≡ y
-one_of x y has = ⊎_elim (λ same. same) (λ none. absurd (Contains-nothing y none))
-    (Contains-cons_cases x [] y has)
+one_of x y has = search (rules, Contains-nothing, Contains-cons_cases)
 
 all_one : {X : Type 0} (P : X → Type 0) (x : X) → P x → All P (x ∷ [])
 all_one P x is = All-cons P x [] is (All-nil P)
@@ -49,13 +48,12 @@ named_path kind inner name named = name_of_path store _ name (hash_part_of_fold 
 pub text_named : (name bytes : List ℕ) → is_name name ≡ true
     → name_of (text_path store name bytes []) ≡ name
 unfolding text_path
-text_named name bytes named = named_path (text_kind []) (sha256 bytes) name named
+text_named name bytes named = search (rules, named_path)
 
 -- an output's path isn't long
 pub path_short : (hash name : List ℕ) → length hash ≡ 32 → length name < 256
     → length (path_text store hash name) < 1000
-path_short hash name long short =
-    omega (arith, length-append store (47 ∷ hash ++ (45 ∷ name)), length-append hash (45 ∷ name))
+path_short hash name long short = search (rules, length-append, store)
 
 pub out_short : (recipe : Recipe) → length recipe.name < 256 → length (out_alone recipe) < 1000
 unfolding store_path
@@ -79,16 +77,10 @@ module _ (recipe : Recipe) (out algo hash : List ℕ) where
   -- the entry of its environment under the output's name is the output's path
   env_value : (entry : EnvEntry) → Contains drv_with.env entry → entry.key ≡ codes "out"
       → entry.value ≡ out
-  env_value entry (zero, low, is) key =
-      let clash : codes "builder" ≡ codes "out" = ap (λ (e : EnvEntry). e.key) is ∙ key in
-      absurd cc
-  env_value entry (suc zero, low, is) key =
-      let clash : codes "name" ≡ codes "out" = ap (λ (e : EnvEntry). e.key) is ∙ key in
-      absurd cc
-  env_value entry (suc (suc zero), low, is) key = sym (ap (λ (e : EnvEntry). e.value) is)
-  env_value entry (suc (suc (suc zero)), low, is) key =
-      let clash : codes "system" ≡ codes "out" = ap (λ (e : EnvEntry). e.key) is ∙ key in
-      absurd cc
+  env_value entry (zero, low, is) key = search rules
+  env_value entry (suc zero, low, is) key = search rules
+  env_value entry (suc (suc zero), low, is) key = search rules
+  env_value entry (suc (suc (suc zero)), low, is) key = search rules
   env_value entry (suc (suc (suc (suc k))), low, is) key = absurd (omega arith)
 
   out_is_name : is_name (codes "out") ≡ true
@@ -102,15 +94,12 @@ module _ (recipe : Recipe) (out algo hash : List ℕ) where
     Expected = IsExpected store recipe.name kind drv_with []
 
     expected_at : (o : Output) → Contains drv_with.outputs o → Expected o out
-    expected_at o has = subst (λ (p : Output). Expected p out) (one_of output o has) expected
+    expected_at o has = search (rules, one_of, output)
 
     none_other : (o : Output) → Contains drv_with.outputs o
         → HasOtherEntry IsThePath Expected drv_with o → ⊥
     none_other o has (entry, path, among, key, is, unfit) =
-        let named : o.name ≡ codes "out" =
-        sym (ap (λ (p : Output). p.name) (one_of output o has)) in
-        unfit (env_value entry among (key ∙ named)
-        ∙ one_path store recipe.name kind drv_with [] o out path (expected_at o has) is)
+        search (rules, one_of, output, env_value, one_path, store, drv_with, expected_at)
 
     check_with : is_name recipe.name ≡ true
         → IsOutputsCheck IsThePath store recipe.name drv_with [] [] (Ok kind)
@@ -163,7 +152,7 @@ module _ (recipe : Recipe) where
   drv = drv_alone recipe (out_alone recipe)
 
   pub kind_alone : HasKind drv Addressed
-  kind_alone = ((λ none. cc), all_one IsAddressed _ (refl, refl))
+  kind_alone = search (rules, all_one)
 
   -- its output's path is the expected one
   expected_alone : IsExpected store recipe.name Addressed drv []
@@ -171,20 +160,11 @@ module _ (recipe : Recipe) where
   expected_alone = (text_of (drv_alone recipe []), modulo, refl)
     where
       modulo : IsModuloText drv [] true (text_of (drv_alone recipe []))
-      modulo = record {
-        inputs = [];
-        united = record {
-          rising = tt;
-          names_rise = All-nil _;
-          paths = λ path. (λ has. has, λ has. has);
-          names = λ path named. (λ is. is, λ is. is);
-        };
-        is_text = refl;
-      }
+      modulo = search (rules, All-nil)
 
   pub node_name : is_name (recipe.name ++ codes ".drv") ≡ true
       → name_of (node_alone recipe).path ≡ recipe.name ++ codes ".drv"
-  node_name filed = text_named (recipe.name ++ codes ".drv") (text_of drv) filed
+  node_name filed = search (rules, text_named, drv)
 
   pub lawful_alone : (before : List Node) → is_name (recipe.name ++ codes ".drv") ≡ true
       → is_name recipe.name ≡ true
@@ -238,8 +218,7 @@ files_differ same =
     cc
 
 lawful_left : IsLawful store [] left
-lawful_left = lawful_alone failing [] left_filed left_named refl
-    (λ earlier none. absurd (Contains-nothing earlier none))
+lawful_left = search (rules, lawful_alone, left_filed, left_named, Contains-nothing)
 
 lawful_right : IsLawful store (left ∷ []) right
 lawful_right =
@@ -248,21 +227,16 @@ lawful_right =
     (subst (λ (n : Node). ShareOutput n.drv right.drv) (sym (one_of left earlier has)) share))
 
 pub lawful_both : AreLawful store both.graph.nodes
-lawful_both [] after node parts =
-    let same : left ≡ node = cc in subst (IsLawful store []) same lawful_left
-lawful_both (x ∷ []) after node parts =
-    let first : left ≡ x = cc in
-    let same : right ≡ node = cc in
-    subst (λ (n : Node). IsLawful store (x ∷ []) n) same
-    (subst (λ (n : Node). IsLawful store (n ∷ []) right) first lawful_right)
+lawful_both [] after node parts = search (rules, store, lawful_left)
+lawful_both (x ∷ []) after node parts = search (rules, store, lawful_right)
 lawful_both (x ∷ y ∷ []) after node parts = absurd cc
 lawful_both (x ∷ y ∷ z ∷ before) after node parts = absurd cc
 
 pub left_file : IsDrvPath left.path
-left_file = subst (λ (n : List ℕ). is_drv_name n ≡ true) (sym (node_name failing left_filed)) refl
+left_file = search (rules, node_name, left_filed)
 
 pub right_file : IsDrvPath right.path
-right_file = subst (λ (n : List ℕ). is_drv_name n ≡ true) (sym (node_name making right_filed)) refl
+right_file = search (rules, node_name, right_filed)
 
 pub both_sound : IsSound both.graph
 unfolding IsDistinct

@@ -1,5 +1,5 @@
 -- What keeps a book's history answered.
-use Rattle.std.proofs.Common.{◌≡◌, ◌∙◌, ◌⊎◌, inl, inr, ℕ, List, [], Option, Some, None, Result, Ok, Err, ap}
+use Rattle.std.proofs.Common.{◌≡◌, ◌∙◌, ◌⊎◌, inl, inr, ℕ, List, Option, Some, None, Result, Ok, Err, rules}
 use Rattle.std.specs.Prelude.{MatchOption}
 use Rattle.valid_table.specs.PathInfos.{PathInfo}
 use Rattle.valid_table.specs.declared.entry.Entry.{Entry}
@@ -38,11 +38,7 @@ verdict_behind : (may : Job → Result Answer Reason → Type 0) (run : Run) (en
     (job : Job) (verdict : Result (List PathInfo) Reason)
     → IsJob run.graph job.derivation job → MayComeTo may entries job verdict
     → IsVerdictBehind may run entries job.derivation verdict
-verdict_behind may run entries job verdict is_job came = record {
-  job = job;
-  is_job = is_job;
-  comes_to = came;
-}
+verdict_behind may run entries job verdict is_job came = search rules
 
 pub after_finishing : (may : Job → Result Answer Reason → Type 0) (before after : Ledger)
     (job : Job) (number : ℕ) (infos : List PathInfo)
@@ -81,8 +77,7 @@ after_failing may before after job number reason answered why fails =
 outcome_may_refer : (entries : List Entry) (job : Job) (outcome : Result Answer Reason)
     (infos : List PathInfo) → IsOutcomeVerdict entries job outcome (Ok infos)
     → MayAllRefer entries job infos
-outcome_may_refer entries job (Ok answer) infos is =
-    verdicts_may_refer entries job is.0 answer infos is.1 is.2
+outcome_may_refer entries job (Ok answer) infos is = search (rules, verdicts_may_refer)
 outcome_may_refer entries job (Err reason) infos is = let no = is.2 in absurd cc
 
 pub came_may_refer : (may : Job → Result Answer Reason → Type 0) (entries : List Entry)
@@ -110,11 +105,7 @@ examined_comes {P} may seen entries job verdict found stays = by found.outcome f
         → (verdict ≡ Err OutOfMemory) ⊎ (P → MayComeTo may entries job verdict)
     by (Ok answer) (inl refused) is = absurd cc
     by (Ok answer) (inr given) (inl refused) = inl refused
-    by (Ok answer) (inr given) (inr seen) = inr (λ p. (
-      Ok answer,
-      given,
-      (seen.is.0, stays p seen.showable seen.seeds seen.is.0 seen.is.1, seen.is.2),
-    ))
+    by (Ok answer) (inr given) (inr seen) = search rules
     by (Err reason) given is = absurd is
 
 -- so does the reason of a builder that gave no answer
@@ -129,8 +120,7 @@ unanswered_comes {P} may seen entries job reason found = by found.outcome found.
         → (reason ≡ OutOfMemory) ⊎ (P → MayComeTo may entries job (Err reason))
     by (Ok answer) given is = absurd is
     by (Err why) (inl refused) is = inl (is ∙ same_reason why refused)
-    by (Err why) (inr given) is =
-        inr (λ p. (Err why, given, ([], tt, ap (λ (r : Reason). Err r) is)))
+    by (Err why) (inr given) is = search rules
 
 -- records come of an outcome
 pub records_come : {P : Type 0} (may : Job → Result Answer Reason → Type 0) (entries : List Entry)

@@ -1,6 +1,6 @@
 -- Paths whose records stand in another list of registrations too, with those of all that they
 -- reach.
-use Rattle.std.proofs.Common.{◌≡◌, inl, inr, ℕ, List, [], ◌∷◌, ◌++◌, refl, sym, subst, ⊎_elim}
+use Rattle.std.proofs.Common.{◌≡◌, inl, inr, ℕ, List, [], ◌∷◌, ◌++◌, refl, subst, ⊎_elim, rules}
 use Rattle.std.specs.Prelude.{Contains}
 use Rattle.std.proofs.lemmas.List.Elements.{Contains-append_left}
 use Rattle.nix_names.proofs.Lists.{Contains-map}
@@ -28,8 +28,7 @@ IsCarried all other from = (to : List ℕ) (info : PathInfo) → Reaches all fro
 leads_on : (all : List Registration) (a b c : List ℕ) (there on : List (List ℕ))
     → LeadsByReferences all a b there → LeadsByReferences all b c on
     → LeadsByReferences all a c (there ++ on)
-leads_on all a b c [] on there leads =
-    subst (λ (x : List ℕ). LeadsByReferences all x c on) (sym there.1) leads
+leads_on all a b c [] on there leads = search rules
 leads_on all a b c (next ∷ there) on leads more =
     (leads.0, leads_on all next b c there on leads.1 more)
 
@@ -92,8 +91,7 @@ module _ (all other : List Registration) (seeds outputs : List (List ℕ))
     output_leads : (from to : List ℕ) (steps : List (List ℕ)) → Contains outputs from
         → LeadsByReferences all from to steps → (info : PathInfo) → Registers all to info
         → Registers other to info
-    output_leads from to [] own leads info has =
-        records to info (subst (Contains outputs) leads.1 own) has
+    output_leads from to [] own leads info has = search rules
     output_leads from to (next ∷ steps) own leads info has =
         ⊎_elim
         (λ reached. carried reached.0 reached.1 to info (

@@ -1,6 +1,6 @@
 -- What the jobs of the two derivations come to.
-use Rattle.std.proofs.Common.{◌≡◌, ◌∙◌, ◌<◌, ◌^◌, ℕ, zero, suc, true, false, List, [], ◌∷◌, length, map, Some, None, Result, Ok, Err, refl, sym, ap, subst, arith}
-use Rattle.std.specs.Prelude.{Contains, codes, pos, slice_get}
+use Rattle.std.proofs.Common.{◌≡◌, ◌∙◌, ◌<◌, ◌^◌, ℕ, zero, suc, true, false, List, [], ◌∷◌, length, map, Some, None, Result, Ok, Err, refl, sym, subst, arith, rules}
+use Rattle.std.specs.Prelude.{codes, pos, slice_get}
 use Rattle.std.specs.declared.alloc.Global.{Global}
 use Rattle.std.specs.declared.vec.Vec.{Vec}
 use Rattle.std.proofs.Math.Nat.{le_refl}
@@ -18,7 +18,6 @@ use Rattle.drv_graph.specs.Plans.{Graph, LeadsBy}
 use Rattle.drv_graph.specs.declared.kinds.Kind.{Kind}
 use Rattle.drv_graph.specs.declared.kinds.Kind.TheVariants.{Addressed}
 use Rattle.drv_graph.proofs.KindAnswers.{one_kind}
-use Rattle.ref_scan.specs.Scan.{IsFoundIn}
 use Rattle.ref_scan.specs.Trees.{Fits, depth_among, entry_count_among, file_bytes_among, pieces, pieces_among}
 use Rattle.ref_scan.specs.declared.tree.Tree.{Tree, File, Pieces, Dir', Row_of-Member, end_of-Member, more_of-Member}
 use Rattle.valid_table.specs.PathInfos.{PathInfo}
@@ -58,11 +57,7 @@ empty_pieces (Dir' shape entries) is = no_pieces entries is.1
 pub empty_fits : (tree : Tree) → IsEmptyFolder tree → Fits tree
 empty_fits (File bytes) is = absurd (let clash = is.0 in cc)
 empty_fits (Pieces parts) is = absurd (let clash = is.0 in cc)
-empty_fits (Dir' shape entries) is = record {
-  depth = omega (arith, no_depth entries is.1);
-  entries = omega (arith, is.1);
-  bytes = omega (arith, no_bytes entries is.1);
-}
+empty_fits (Dir' shape entries) is = search (rules, no_depth, no_bytes)
 
 -- its record
 abbrev pub nothing_in : PathInfo
@@ -70,17 +65,7 @@ nothing_in = record { references = []; digest = None }
 
 record_of_empty : (permitted : List (List ℕ)) (tree : Tree) → IsEmptyFolder tree
     → IsRecordOf Sha256 permitted tree nothing_in
-record_of_empty permitted tree is = record {
-  found = subst (λ (lists : List (List ℕ)). IsFoundIn lists permitted [])
-      (sym (empty_pieces tree is)) (record {
-        rising = tt;
-        each = λ path. (
-          λ none. absurd (Contains-nothing path none),
-          λ some. absurd (Contains-nothing some.1.1 (some.1.0, some.1.2, some.1.3)),
-        );
-      });
-  digest = sym is.0;
-}
+record_of_empty permitted tree is = search (rules, empty_pieces, Contains-nothing)
 
 no_fault : (tree : Tree) → IsEmptyFolder tree → (why : Reason) → IsTreeFault Addressed tree why → ⊥
 no_fault tree is TooLarge unfit = unfit (empty_fits tree is)
@@ -107,9 +92,7 @@ module _ (info : PathInfo) (none : info.references ≡ []) where
       by : (steps : List (List ℕ)) → LeadsBy (OutputRefersTo outputs (info ∷ [])) a b steps → ⊥
       by [] same = apart same
       by (next ∷ steps) ((n, other, from, at, refers, to), rest) =
-          Contains-nothing next
-          (subst (λ (l : List (List ℕ)). Contains l next)
-          (ap (λ (i : PathInfo). i.references) (sym (info_is n other at)) ∙ none) refers)
+          search (rules, Contains-nothing, info_is)
 
 -- ---- the verdicts
 
@@ -123,7 +106,7 @@ module _ (job : Job) (one_output : length job.outputs.items ≡ 1) (answer : Ans
     (sound : (why : Reason) → IsTreeFault job.kind tree why → ⊥) where
   taken_at : (n : ℕ) → n < length job.outputs.items → tree_at answer n ≡ Some tree
   taken_at zero low = tree_first answer tree trees
-  taken_at (suc n) low = absurd (omega (arith, one_output, low))
+  taken_at (suc n) low = search rules
 
   pub one_verdict : (permitted : List (List ℕ)) (info : PathInfo) → info.references ≡ []
       → IsRecordOf (algorithm_for job.kind) permitted tree info
@@ -141,32 +124,23 @@ module _ (job : Job) (one_output : length job.outputs.items ≡ 1) (answer : Ans
     where
       records : (n : ℕ) (other : PathInfo) → slice_get (info ∷ []) n ≡ Some other
           → IsRecordAt (algorithm_for job.kind) permitted answer n other
-      records zero other at = (
-        tree,
-        tree_first answer tree trees,
-        subst (IsRecordOf (algorithm_for job.kind) permitted tree) (info_is info none 0 other at)
-            is_record,
-      )
+      records zero other at = search (rules, tree_first, info_is)
       records (suc n) other at = absurd cc
 
 -- on what right made, wherever it stands in a plan
 module _ (graph : Graph) (d : ℕ) (at : slice_get graph.nodes d ≡ Some right) (job : Job)
     (is_job : IsJob graph d job) where
   right_node : is_job.node ≡ right
-  right_node = same_element graph.nodes d is_job.node right is_job.is_node at
+  right_node = search (rules, same_element)
 
   right_one_output : length job.outputs.items ≡ 1
-  right_one_output = sym (length-map job.outputs.items (λ (o : JobOutput). o.path))
-      ∙ ap length is_job.paths
-      ∙ ap (λ (n : Node). length (output_paths_of n.drv)) right_node
+  right_one_output = search (rules, length-map, right_node)
 
   right_kind : job.kind ≡ Addressed
-  right_kind = one_kind right.drv job.kind Addressed
-      (subst (λ (n : Node). HasKind n.drv job.kind) right_node is_job.kind)
-      (kind_alone making)
+  right_kind = search (rules, one_kind, right_node, kind_alone)
 
   pub right_builder : job.builder.items ≡ codes "/bin/sh"
-  right_builder = is_job.builder ∙ ap (λ (n : Node). n.drv.builder) right_node
+  right_builder = search (rules, right_node)
 
   pub right_verdict : (answer : Answer) → Leaves false answer → (permitted : List (List ℕ))
       → IsVerdict job permitted answer (Ok (nothing_in ∷ []))
@@ -184,9 +158,7 @@ pub left_verdict : (job : Job) (permitted : List (List ℕ)) (answer : Answer)
 left_verdict job permitted answer left_behind = (left_behind.0, λ same. cc)
 
 left_builder : (job : Job) → IsJob both.graph 0 job → job.builder.items ≡ codes "/bin/false"
-left_builder job is =
-    let node : is.node ≡ left = same_element both.graph.nodes 0 is.node left is.is_node refl in
-    is.builder ∙ ap (λ (n : Node). n.drv.builder) node
+left_builder job is = search (rules, same_element)
 
 -- what each derivation comes to
 abbrev pub comes_to : ℕ → Result (List PathInfo) Reason
@@ -198,16 +170,13 @@ comes : (d : ℕ) (job : Job) (permitted : List (List ℕ)) (x : Result Answer R
     → IsVerdictOn job permitted x a → a ≡ comes_to d
 comes d job permitted (Err reason) a is may on = absurd may
 comes zero job permitted (Ok answer) a is may on =
-    has_one_verdict job permitted answer a (comes_to 0) on
-    (left_verdict job permitted answer
-    (subst (λ (b : List ℕ). Leaves (same_bytes b (codes "/bin/false")) answer)
-    (left_builder job is) may))
+    search (rules, has_one_verdict, comes_to, left_verdict, left_builder)
 comes (suc zero) job permitted (Ok answer) a is may on =
     has_one_verdict job permitted answer a (comes_to 1) on
     (right_verdict both.graph 1 refl job is answer
     (subst (λ (b : List ℕ). Leaves (same_bytes b (codes "/bin/false")) answer)
     (right_builder both.graph 1 refl job is) may) permitted)
-comes (suc (suc d)) job permitted (Ok answer) a is may on = absurd (let none = is.is_node in cc)
+comes (suc (suc d)) job permitted (Ok answer) a is may on = search rules
 
 pub both_outcome : HasOneOutcome may_leave both.graph
 both_outcome d job again permitted x y a b is is' may may' on on' =
@@ -294,10 +263,7 @@ job_of_right d = job_of making (omega arith) (omega arith) making_args (omega ar
 pub is_job_of_right : (graph : Graph) (d : ℕ) → slice_get graph.nodes d ≡ Some right
     → IsJob graph d (job_of_right d)
 unfolding job_of_right
-is_job_of_right graph d at =
-    is_job_of making (omega arith) (omega arith) making_args (omega arith)
-    (out_alone making) (out_short making (omega arith)) Addressed d graph right at refl refl refl
-    refl refl (kind_alone making) refl
+is_job_of_right graph d at = search (rules, is_job_of, making_args, out_short, kind_alone)
 
 -- ---- of the two
 
@@ -333,8 +299,7 @@ unfolding right_answer
 right_leaves = (refl, (no_members, (refl, refl), refl))
 
 pub left_may : may_leave left_job (Ok left_answer)
-left_may = subst (λ (b : List ℕ). Leaves (same_bytes b (codes "/bin/false")) left_answer)
-    (sym (left_builder left_job left_is_job)) left_leaves
+left_may = search (rules, left_answer, left_builder, left_job, left_is_job, left_leaves)
 
 pub right_may : may_leave (job_of_right 1) (Ok right_answer)
 right_may = subst (λ (b : List ℕ). Leaves (same_bytes b (codes "/bin/false")) right_answer)

@@ -1,5 +1,5 @@
 -- The plan of the two derivations is what loading gives from their files.
-use Rattle.std.proofs.Common.{◌≡◌, ◌<◌, ◌≤◌, ◌*◌, ℕ, true, List, [], ◌∷◌, ◌++◌, length, flat_map, Option, Some, None, refl, sym, ap, subst, ⊎_elim, arith, rules}
+use Rattle.std.proofs.Common.{◌≡◌, ◌<◌, ◌≤◌, ◌*◌, ℕ, true, List, [], ◌∷◌, ◌++◌, length, flat_map, Option, Some, None, refl, sym, ap, subst, arith, rules}
 use Rattle.std.specs.Prelude.{Contains, codes}
 use Rattle.std.proofs.lemmas.List.{length-append}
 use Rattle.std.specs.Cmp.Lexicographic.{nat_list_eq_equiv}
@@ -14,7 +14,7 @@ use Rattle.nix_drv.specs.Order.{InOrder, KeysRise}
 use Rattle.nix_drv.specs.Outcome.{max_len}
 use Rattle.nix_drv.specs.OwnPath.{referenced_paths, text_path}
 use Rattle.nix_drv.specs.Sources.{listing_gives}
-use Rattle.nix_drv.specs.Strings.{letter, spelled, spelling}
+use Rattle.nix_drv.specs.Strings.{spelled, spelling}
 use Rattle.nix_drv.proofs.Rising.{order_means_rising}
 use Rattle.drv_graph.specs.Nodes.{Node, inputs_of}
 use Rattle.drv_graph.specs.Plans.{AreLeft, IsPlan, IsReachedBy, LeadsBy, MayBeAt, Uses, left_behind_inputs, none_left}
@@ -29,13 +29,7 @@ spelled_few byte None = omega arith
 pub spelling_few : (bytes : List ℕ) → length (flat_map spelling bytes) ≤ 2 * length bytes
 unfolding spelling
 spelling_few [] = omega arith
-spelling_few (b ∷ bs) =
-    omega (
-      arith,
-      length-append (spelled b (letter b)) (flat_map spelling bs),
-      spelled_few b (letter b),
-      spelling_few bs,
-    )
+spelling_few (b ∷ bs) = search (rules, length-append, flat_map, spelled_few, spelling_few bs)
 
 left_few : (out : List ℕ) → length out < 1000 → length (text_of (drv_alone failing out)) ≤ 4194304
 unfolding text spelling
@@ -101,22 +95,14 @@ right_found = found_with making (out_alone making) [] [] right_filed right_file
     (in_order_by right.drv (right_keys (out_alone making)))
 
 right_stands : MayBeAt store (listing_gives two_files) right.path right.drv
-right_stands = record {
-  bytes = text_of right.drv;
-  given = rw (
-    other_path right.path left.path (λ same. files_differ (sym same)),
-    nat_list_eq_equiv.refl right.path,
-  ) refl;
-  found = right_found;
-}
+right_stands = search (rules, other_path, files_differ, right_found)
 
 -- ---- plan order
 
 -- of nodes without inputs just the roots are reached
 module _ (nodes : List Node) (alone : (n : Node) → Contains nodes n → inputs_of n.drv ≡ []) where
   uses_none : (from next : List ℕ) → Uses nodes from next → ⊥
-  uses_none from next uses = Contains-nothing next
-      (subst (λ l. Contains l next) (alone uses.node uses.is_node) uses.is_input)
+  uses_none from next uses = search (rules, Contains-nothing)
 
   pub reached_root : (roots : List (List ℕ)) (path : List ℕ) → IsReachedBy (Uses nodes) roots path
       → Contains roots path
@@ -128,10 +114,7 @@ module _ (nodes : List Node) (alone : (n : Node) → Contains nodes n → inputs
       by root is (next ∷ steps) leads = absurd (uses_none root next leads.0)
 
 without_inputs : (n : Node) → Contains both.graph.nodes n → inputs_of n.drv ≡ []
-without_inputs n has =
-    ⊎_elim (λ is_left. sym (ap (λ (m : Node). inputs_of m.drv) is_left))
-    (λ later. sym (ap (λ (m : Node). inputs_of m.drv) (one_of right n later)))
-    (Contains-cons_cases left (right ∷ []) n has)
+without_inputs n has = search (rules, one_of, Contains-cons_cases)
 
 in_order : AreLeft both.graph.nodes [] (left.path ∷ right.path ∷ []) (left.path ∷ right.path ∷ [])
 in_order =

@@ -1,5 +1,5 @@
 -- What builders gave in a run decides what the run leaves behind.
-use Rattle.std.proofs.Common.{◌≡◌, ◌∙◌, ◌⊎◌, inl, inr, ℕ, Bool, true, false, List, Result, Ok, Err, refl, sym, ap, subst, ⊎_elim}
+use Rattle.std.proofs.Common.{◌≡◌, ◌∙◌, ◌⊎◌, inl, inr, ℕ, Bool, true, false, List, Result, Ok, Err, refl, sym, ap, subst, ⊎_elim, rules}
 use Rattle.std.specs.Prelude.{if◌then◌else◌}
 use Rattle.std.proofs.Math.Dec.{eqb}
 use Rattle.nix_drv.proofs.Fixed.{eqb_same}
@@ -90,8 +90,7 @@ module _ (excused : Reason → Type 0) (may : Job → Result Answer Reason → T
     -- of an event the outcome is that of its derivation, and the others keep theirs
     here : (d : ℕ) (given rest : Result Answer Reason)
         → (if eqb d d then given else rest) ≡ outcomes d → given ≡ outcomes d
-    here d given rest is =
-        sym (ap (λ (same : Bool). if same then given else rest) (eqb_same d)) ∙ is
+    here d given rest is = search (rules, given, eqb_same)
 
     elsewhere : (e d : ℕ) (given rest : Result Answer Reason) → (e ≡ d → ⊥)
         → (if eqb e d then given else rest) ≡ outcomes d → rest ≡ outcomes d
@@ -167,23 +166,18 @@ one_outcome may outcomes graph d job again permitted x y a b is is' gives gives'
     by x on (subst (λ (o : Result Answer Reason). IsVerdictOn again permitted o b) (sym same) on')
   where
     same : x ≡ y
-    same = gives.1 ∙ ap outcomes (is.derivation ∙ sym is'.derivation) ∙ sym gives'.1
+    same = search (rules, outcomes)
 
     by : (outcome : Result Answer Reason) → IsVerdictOn job permitted outcome a
         → IsVerdictOn again permitted outcome b → a ≡ b
-    by (Ok answer) on on' = has_one_verdict again permitted answer a b
-        (verdict_too job again (same_outputs graph d job again is is')
-        (same_kind graph d job again is is') answer permitted a on) on'
+    by (Ok answer) on on' = search (rules, has_one_verdict, verdict_too, same_outputs, same_kind)
     by (Err reason) on on' = on ∙ sym on'
 
 -- such a run is a whole one
 whole_by : (may : Job → Result Answer Reason → Type 0) (run : Run) (history : History)
     (outcomes : ℕ → Result Answer Reason) → IsEndedRun (GivesEach may outcomes) run history
     → IsWholeRun (GivesEach may outcomes) run history
-whole_by may run history outcomes end = record {
-  end = end;
-  outcome = one_outcome may outcomes run.graph;
-}
+whole_by may run history outcomes end = search (rules, one_outcome, outcomes)
 
 pub outcomes_decide : (may : Job → Result Answer Reason → Type 0) → OutcomesDecide may
 outcomes_decide may run history end = (
@@ -198,7 +192,7 @@ outcomes_decide may run history end = (
 )
   where
     told : IsTold (λ reason. reason ≡ OutOfMemory) may run history
-    told = told_from may run history end.legal end.answered
+    told = search (rules, told_from)
 
     outcomes : ℕ → Result Answer Reason
     outcomes = outcomes_in (λ reason. reason ≡ OutOfMemory) may run history told
@@ -211,16 +205,9 @@ outcomes_decide may run history end = (
         (given_in (λ reason. reason ≡ OutOfMemory) may run outcomes history told (λ d over. refl))
 
     whole : IsWholeRun (GivesEach may outcomes) run history
-    whole = whole_by may run history outcomes (record {
-      plan = end.plan;
-      legal = end.legal;
-      settled = end.settled;
-      answered = given;
-      memory = end.memory;
-    })
+    whole = search (rules, whole_by, outcomes, given)
 
 pub equal_outcomes_are_alike : (may : Job → Result Answer Reason → Type 0)
     → EqualOutcomesAreAlike may
 equal_outcomes_are_alike may run history other outcomes end end' opening =
-    whole_runs_are_alike (GivesEach may outcomes) run history other
-    (whole_by may run history outcomes end) (whole_by may run other outcomes end') opening
+    search (rules, whole_runs_are_alike, outcomes, whole_by)

@@ -1,6 +1,6 @@
 -- A derivation that came to a verdict in two histories came to the same, where its seeds are
 -- carried both ways.
-use Rattle.std.proofs.Common.{◌≡◌, ◌∙◌, ◌↔◌, ℕ, List, [], ◌++◌, length, Result, Ok, Err, Some, sym, ap, subst}
+use Rattle.std.proofs.Common.{◌≡◌, ◌∙◌, ◌↔◌, ℕ, List, ◌++◌, length, Result, Ok, Err, Some, sym, ap, subst, rules}
 use Rattle.std.specs.Prelude.{Contains, slice_get}
 use Rattle.std.proofs.lemmas.List.{length-map}
 use Rattle.nix_names.proofs.Lists.{same_element}
@@ -34,15 +34,11 @@ use Rattle.store_run.proofs.Telling.{CameTo}
 
 pub job_seeds : (graph : Graph) (d : ℕ) (job : Job) (node : Node) → IsJob graph d job
     → slice_get graph.nodes d ≡ Some node → job.seeds.items ≡ seeds_of graph.nodes node.drv
-job_seeds graph d job node is at =
-    is.seeds ∙ ap (λ (n : Node). seeds_of graph.nodes n.drv)
-    (same_element graph.nodes d is.node node is.is_node at)
+job_seeds graph d job node is at = search (rules, same_element)
 
 pub job_outputs : (graph : Graph) (d : ℕ) (job : Job) (node : Node) → IsJob graph d job
     → slice_get graph.nodes d ≡ Some node → outputs_of job ≡ output_paths_of node.drv
-job_outputs graph d job node is at =
-    is.paths ∙ ap (λ (n : Node). output_paths_of n.drv)
-    (same_element graph.nodes d is.node node is.is_node at)
+job_outputs graph d job node is at = search (rules, same_element)
 
 -- what is permitted to the job is permitted to the derivation
 pub permitted_job : (graph : Graph) (d : ℕ) (job : Job) (node : Node) (entries : List Entry)
@@ -50,11 +46,7 @@ pub permitted_job : (graph : Graph) (d : ℕ) (job : Job) (node : Node) (entries
     → ArePermittedPaths entries job permitted
     → ArePermitted (registered entries) (seeds_of graph.nodes node.drv) (output_paths_of node.drv)
     permitted
-permitted_job graph d job node entries permitted is at are =
-    subst (λ (seeds : List (List ℕ)). ArePermitted (registered entries) seeds
-    (output_paths_of node.drv) permitted) (job_seeds graph d job node is at)
-    (subst (λ (outputs : List (List ℕ)). ArePermitted (registered entries) job.seeds.items outputs
-    permitted) (job_outputs graph d job node is at) are)
+permitted_job graph d job node entries permitted is at are = search (rules, job_seeds, job_outputs)
 
 -- each reference of what a derivation came to is permitted there
 pub refers_behind : (may : Job → Result Answer Reason → Type 0) (run : Run) (entries : List Entry)
@@ -165,12 +157,6 @@ module _ (may : Job → Result Answer Reason → Type 0) (run : Run)
           came'.behind.is_job may_a may_b is.2
           (subst (λ (ps : List (List ℕ)). IsVerdict came'.behind.job ps b w)
           (sym (same_permitted v w came came' is.0 is'.0 is.1 is'.1)) is'.2)
-      by (Ok a) (Err r) may_a may_b is is' =
-          outcome d came.behind.job came'.behind.job is.0 (Ok a) (Err r) v w came.behind.is_job
-          came'.behind.is_job may_a may_b is.2 is'.2
-      by (Err r) (Ok b) may_a may_b is is' =
-          outcome d came.behind.job came'.behind.job is'.0 (Err r) (Ok b) v w came.behind.is_job
-          came'.behind.is_job may_a may_b is.2 is'.2
-      by (Err r) (Err s) may_a may_b is is' =
-          outcome d came.behind.job came'.behind.job [] (Err r) (Err s) v w came.behind.is_job
-          came'.behind.is_job may_a may_b is.2 is'.2
+      by (Ok a) (Err r) may_a may_b is is' = search rules
+      by (Err r) (Ok b) may_a may_b is is' = search rules
+      by (Err r) (Err s) may_a may_b is is' = search rules

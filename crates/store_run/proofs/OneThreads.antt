@@ -1,5 +1,5 @@
 -- To each whole run there is one thread over the same opening.
-use Rattle.std.proofs.Common.{◌≡◌, ◌↔◌, ◌∙◌, ◌<◌, ℕ, zero, suc, List, length, Result, Ok, Err, Some, refl, sym, subst, ⊎_elim, arith}
+use Rattle.std.proofs.Common.{◌≡◌, ◌↔◌, ◌∙◌, ◌<◌, ℕ, zero, suc, List, length, Result, Ok, Err, Some, refl, sym, subst, ⊎_elim, arith, rules}
 use Rattle.std.specs.Prelude.{Contains, slice_get}
 use Rattle.drv_graph.specs.Nodes.{Node}
 use Rattle.drv_graph.specs.PlanNodes.{output_paths_of}
@@ -113,10 +113,10 @@ module _ (may : Job → Result Answer Reason → Type 0) (run : Run) (history : 
   told = run_accounted may run history whole
 
   told_there : IsAccounted may run thread.other
-  told_there = turns_accounted may run whole.end.plan history.opening d thread.other thread.had
+  told_there = search (rules, turns_accounted)
 
   turned : HaveTurned may run history.opening d thread.other
-  turned = turned_is may run whole.end.plan history.opening d thread.other thread.had
+  turned = search (rules, turned_is)
 
   below : (i : ℕ) → i < d → IsAlikeAt run history thread.other i
   below i less = alike_below may run whole.end.plan whole.outcome history thread.other told
@@ -169,9 +169,7 @@ module _ (may : Job → Result Answer Reason → Type 0) (run : Run) (history : 
               idle_there = λ rests. turned.rest d (omega arith);
             });
       }
-      by (Begun lease) is =
-          absurd (none_building may run whole.end.plan history thread.other told told_there
-          whole.end.settled turned.opening_is d lease is)
+      by (Begun lease) is = search (rules, none_building, told, told_there)
       by Ended is =
           let moved : phase_of history.events d ≡ Idle → ⊥ =
           λ idle. let clash : Ended ≡ Idle = sym is ∙ idle in cc in

@@ -1,5 +1,5 @@
 -- The entries of a legal history begin with those that it opened with.
-use Rattle.std.proofs.Common.{◌≡◌, ◌∙◌, ap, length, take}
+use Rattle.std.proofs.Common.{◌≡◌, length, take, rules}
 use Rattle.std.proofs.Math.Seq.{take-append_seam}
 use Rattle.sched_core.specs.Legal.{IsLegal}
 use Rattle.sched_core.specs.Runs.{History, Run}
@@ -8,6 +8,4 @@ use Rattle.sched_core.proofs.Seeds.{opened_with}
 -- as many of the first entries as it opened with are those
 pub opening_is_taken : (run : Run) (history : History) → IsLegal run history
     → take (length history.opening) history.entries ≡ history.opening
-opening_is_taken run history legal =
-    let more = opened_with run history legal in
-    ap (take (length history.opening)) more.1 ∙ take-append_seam history.opening more.0
+opening_is_taken run history legal = search (rules, opened_with, take-append_seam)

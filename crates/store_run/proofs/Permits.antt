@@ -1,5 +1,5 @@
 -- What is permitted to a job by lists of entries that go on from one list.
-use Rattle.std.proofs.Common.{◌≡◌, ◌↔◌, inl, inr, ℕ, List, [], ◌∷◌, ◌++◌, All, Contains, None, Result, Ok, Err, refl, subst, sym}
+use Rattle.std.proofs.Common.{◌≡◌, ◌↔◌, inl, inr, ℕ, List, [], ◌∷◌, ◌++◌, All, None, Result, Ok, Err, refl, subst, sym, rules}
 use Rattle.std.specs.Prelude.{IsTrue, slice_get}
 use Rattle.std.specs.Result.{is_ok}
 use Rattle.std.proofs.lemmas.List.Elements.{All-contains}
@@ -38,8 +38,7 @@ seeds_stay before after job goes valid =
 pub closure_and_outputs : (entries : List Entry) (job : Job) (reached all : List (List ℕ))
     → IsClosure (registered entries) job.seeds.items reached → IsUnion reached (outputs_of job) all
     → ArePermittedPaths entries job all
-closure_and_outputs entries job reached all closure union =
-    are_permitted (registered entries) job.seeds.items (outputs_of job) reached all closure union
+closure_and_outputs entries job reached all closure union = search (rules, are_permitted)
 
 -- a job's outputs may refer to the same in a list and behind it, where the seeds are valid
 same_behind : (before after : List Entry) (job : Job) (path : List ℕ) → IsPrefix before after
@@ -89,19 +88,13 @@ stays_by_view seen now shown entries job from_seen from_shown goes_on showable j
 -- from no seeds nothing is reached
 no_seeds : (a b : List Registration) (seeds outputs : List (List ℕ)) (path : List ℕ) → seeds ≡ []
     → MayRefer a seeds outputs path → MayRefer b seeds outputs path
-no_seeds a b seeds outputs path none (inl reached) =
-    absurd (Contains-nothing reached.0
-    (subst (λ (paths : List (List ℕ)). Contains paths reached.0) none reached.1))
+no_seeds a b seeds outputs path none (inl reached) = search (rules, Contains-nothing)
 no_seeds a b seeds outputs path none (inr own) = inr own
 
 -- so the same is permitted whatever is valid
 pub stays_without_seeds : (before after : List Entry) (job : Job) → job.seeds.items ≡ []
     → StaysPermitted before after job
-stays_without_seeds before after job none =
-    permitted_by_both before after job (λ path. (
-      no_seeds (registered before) (registered after) job.seeds.items (outputs_of job) path none,
-      no_seeds (registered after) (registered before) job.seeds.items (outputs_of job) path none,
-    ))
+stays_without_seeds before after job none = search (rules, permitted_by_both, no_seeds)
 
 -- no first seed, none at all
 pub none_first : (paths : List (List ℕ)) → slice_get paths 0 ≡ None → paths ≡ []
@@ -116,4 +109,4 @@ where_answered (Err fault) given fact = absurd cc
 
 -- the entries of a journal may be shown
 pub journal_showable : (entries : List Entry) → IsJournal entries → IsShowable entries
-journal_showable entries journal = record { closed = journal.closed; once = journal.once }
+journal_showable entries journal = search rules

@@ -1,5 +1,5 @@
 -- How a run ends, by how its book ends.
-use Rattle.std.proofs.Common.{◌≡◌, ◌≤◌, IfErr, IfOk, Some, ℕ, List, arith, false, subst, sym}
+use Rattle.std.proofs.Common.{◌≡◌, ◌≤◌, IfErr, IfOk, Some, ℕ, List, arith, false, rules}
 use Rattle.std.specs.Bool.{◌==◌}
 use Rattle.std.proofs.lemmas.Bool.Decides.{nat_tests}
 use Rattle.std.specs.Prelude.{Option, None, Result, Ok, Err}
@@ -27,12 +27,7 @@ module _ (may : Job → Result Answer Reason → Type 0) (plan : Graph) (system 
   pub went_to_its_end : (result : Result Ledger (RunFault × Option Ledger))
       → IsRun may plan system opening result → IfOk result
       (IsRealised may plan system opening count)
-  went_to_its_end (Ok kept) run = subst (IsRealised may plan system opening count) (sym run.end.0)
-      (record {
-        workers = workers;
-        left = record { over = run.end.1; legal = run.legal; answered = run.answered };
-        settled = run.end.2;
-      })
+  went_to_its_end (Ok kept) run = search rules
   went_to_its_end (Err e) run = tt
 
   cut_off : (fault : RunFault) (kept : Option Ledger) (book : Ledger) (stop : Option BookFault)
@@ -44,20 +39,12 @@ module _ (may : Job → Result Answer Reason → Type 0) (plan : Graph) (system 
     where
       handed : IsHandedOut plan system opening book kept
           → IsCutOff may plan system opening count kept
-      handed out = subst (IsCutOff may plan system opening count) (sym out.same) (record {
-        workers = workers;
-        left = record { over = out.over; legal = legal; answered = answered };
-        unsettled = out.unsettled;
-      })
+      handed out = search rules
   cut_off ThreadFault (Some kept) book stop legal answered end = handed end.0
     where
       handed : IsHandedOut plan system opening book kept
           → IsCutOff may plan system opening count kept
-      handed out = subst (IsCutOff may plan system opening count) (sym out.same) (record {
-        workers = workers;
-        left = record { over = out.over; legal = legal; answered = answered };
-        unsettled = out.unsettled;
-      })
+      handed out = search rules
   cut_off ForeignPlan (Some kept) book stop legal answered end = absurd end
   cut_off NoMemory None book stop legal answered end = absurd end
   cut_off ThreadFault None book stop legal answered end = absurd end
@@ -69,4 +56,4 @@ module _ (may : Job → Result Answer Reason → Type 0) (plan : Graph) (system 
       → IsRun may plan system opening result
       → IfErr result (λ e. IsRunFault may plan system opening count e.0 e.1)
   was_cut_off (Ok kept) run = tt
-  was_cut_off (Err e) run = cut_off e.0 e.1 run.book run.stop run.legal run.answered run.end
+  was_cut_off (Err e) run = search (rules, cut_off)

@@ -1,20 +1,16 @@
 -- The verdict on an answer is one for all jobs of a derivation.
-use Rattle.std.proofs.Common.{◌≡◌, ◌∙◌, ◌<◌, ℕ, pos, List, length, Some, None, Result, Ok, Err, sym, ap, subst}
+use Rattle.std.proofs.Common.{◌≡◌, ◌<◌, ℕ, List, length, Some, Result, Ok, Err, subst, rules}
 use Rattle.std.proofs.lemmas.List.{length-map}
 use Rattle.nix_names.proofs.Lists.{same_element}
-use Rattle.drv_graph.specs.Kinds.{HasKind}
-use Rattle.drv_graph.specs.Nodes.{Node}
-use Rattle.drv_graph.specs.PlanNodes.{output_paths_of}
 use Rattle.drv_graph.specs.Plans.{Graph}
 use Rattle.drv_graph.specs.declared.kinds.Kind.{Kind}
 use Rattle.drv_graph.proofs.KindAnswers.{one_kind}
 use Rattle.ref_scan.specs.declared.tree.Tree.{Tree}
 use Rattle.valid_table.specs.PathInfos.{PathInfo}
 use Rattle.sched_core.specs.Jobs.{IsJob}
-use Rattle.sched_core.specs.Verdicts.{AreRecords, IsCyclic, IsFirstFault, IsFirstNumber, IsRecordAt, IsTaken, AreOutputsThere, IsTreeFault, IsVerdict, algorithm_for, outputs_of, tree_at}
+use Rattle.sched_core.specs.Verdicts.{AreRecords, IsCyclic, IsFirstFault, IsFirstNumber, IsTaken, AreOutputsThere, IsTreeFault, IsVerdict, outputs_of, tree_at}
 use Rattle.sched_core.specs.declared.job.Answer.{Answer}
 use Rattle.sched_core.specs.declared.job.Job.{Job}
-use Rattle.sched_core.specs.declared.job.JobOutput.{JobOutput}
 use Rattle.sched_core.specs.declared.reason.Reason.{Reason}
 use Rattle.sched_core.specs.declared.reason.Reason.TheVariants.{ExitStatus, NoStart, MissingOutput, NotFlatFile, HashMismatch, OutputCycle, TooLarge, ReadFault, OutOfMemory, Killed}
 
@@ -31,12 +27,10 @@ FirstFaultFor kind count answer reason =
 module _ (job again : Job) (outputs : outputs_of job ≡ outputs_of again)
     (kinds : job.kind ≡ again.kind) (answer : Answer) where
   counts : length job.outputs.items ≡ length again.outputs.items
-  counts = sym (length-map job.outputs.items (λ (o : JobOutput). o.path)) ∙ ap length outputs
-      ∙ length-map again.outputs.items (λ (o : JobOutput). o.path)
+  counts = search (rules, length-map)
 
   there_too : AreOutputsThere job answer → AreOutputsThere again answer
-  there_too there = subst (λ (count : ℕ). (answer.status ≡ Some (pos 0))
-      × ((n : ℕ) → n < count → tree_at answer n ≡ None → ⊥)) counts there
+  there_too there = search (rules, counts)
 
   first_too : (reason : Reason) → IsFirstFault job answer reason
       → IsFirstFault again answer reason
@@ -55,12 +49,7 @@ module _ (job again : Job) (outputs : outputs_of job ≡ outputs_of again)
 
   records_too : (permitted : List (List ℕ)) (infos : List PathInfo)
       → AreRecords job permitted answer infos → AreRecords again permitted answer infos
-  records_too permitted infos are = record {
-    count = are.count ∙ counts;
-    each = λ n info at. subst (λ (kind : Kind). IsRecordAt (algorithm_for kind) permitted answer n
-        info)
-        kinds (are.each n info at);
-  }
+  records_too permitted infos are = search (rules, counts)
 
   pub verdict_too : (permitted : List (List ℕ)) (verdict : Result (List PathInfo) Reason)
       → IsVerdict job permitted answer verdict → IsVerdict again permitted answer verdict
@@ -71,10 +60,7 @@ module _ (job again : Job) (outputs : outputs_of job ≡ outputs_of again)
   )
   verdict_too permitted (Err Killed) is = is
   verdict_too permitted (Err (ExitStatus n)) is = is
-  verdict_too permitted (Err (MissingOutput n)) is = (
-    is.0,
-    subst (λ (count : ℕ). IsFirstNumber (λ m. tree_at answer m ≡ None) count n) counts is.1,
-  )
+  verdict_too permitted (Err (MissingOutput n)) is = search (rules, counts)
   verdict_too permitted (Err TooLarge) is = (there_too is.0, first_too TooLarge is.1)
   verdict_too permitted (Err NotFlatFile) is = (there_too is.0, first_too NotFlatFile is.1)
   verdict_too permitted (Err HashMismatch) is = (there_too is.0, first_too HashMismatch is.1)
@@ -94,11 +80,10 @@ module _ (job again : Job) (outputs : outputs_of job ≡ outputs_of again)
 module _ (graph : Graph) (d : ℕ) (job again : Job) (is : IsJob graph d job)
     (is' : IsJob graph d again) where
   same_node : is.node ≡ is'.node
-  same_node = same_element graph.nodes d is.node is'.node is.is_node is'.is_node
+  same_node = search (rules, same_element)
 
   pub same_outputs : outputs_of job ≡ outputs_of again
-  same_outputs = is.paths ∙ ap (λ (n : Node). output_paths_of n.drv) same_node ∙ sym is'.paths
+  same_outputs = search (rules, same_node)
 
   pub same_kind : job.kind ≡ again.kind
-  same_kind = one_kind is'.node.drv job.kind again.kind
-      (subst (λ (n : Node). HasKind n.drv job.kind) same_node is.kind) is'.kind
+  same_kind = search (rules, one_kind, same_node)

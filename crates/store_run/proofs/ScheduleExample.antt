@@ -1,5 +1,5 @@
 -- Two builds that overlap, of which one fails, are a whole run.
-use Rattle.std.proofs.Common.{◌≡◌, ◌∙◌, ◌<◌, inl, inr, ℕ, zero, suc, true, List, [], ◌∷◌, Some, None, Ok, Err, refl, sym, ap, subst, ⊎_elim, arith}
+use Rattle.std.proofs.Common.{◌≡◌, ◌∙◌, ◌<◌, inl, inr, ℕ, zero, suc, true, List, [], ◌∷◌, Some, Ok, Err, refl, sym, subst, arith, rules}
 use Rattle.std.specs.Prelude.{Contains, pos, slice_get}
 use Rattle.std.specs.List.{IsDistinct}
 use Rattle.std.proofs.lemmas.List.Elements.{All-nil}
@@ -11,23 +11,21 @@ use Rattle.drv_graph.specs.PlanNodes.{output_paths_of}
 use Rattle.drv_graph.specs.Plans.{Graph}
 use Rattle.drv_graph.specs.declared.kinds.Kind.TheVariants.{Addressed, Fixed}
 use Rattle.drv_graph.proofs.KindAnswers.{one_kind}
-use Rattle.valid_table.specs.Entries.{registered}
 use Rattle.valid_table.specs.PathInfos.{PathInfo}
-use Rattle.valid_table.specs.Valid.{HasDrvPath, IsJournal}
+use Rattle.valid_table.specs.Valid.{IsJournal}
 use Rattle.valid_table.specs.declared.entry.Entry.{Entry}
 use Rattle.valid_table.specs.declared.entry.Entry.TheVariants.{Done as Entered}
 use Rattle.valid_table.specs.declared.entry.Registration.{Registration}
 use Rattle.sched_core.specs.Books.{ArePermittedPaths, IsRunSettled, opened}
 use Rattle.sched_core.specs.Courses.{IsOpen}
 use Rattle.sched_core.specs.Jobs.{IsJob, seeds_of}
-use Rattle.sched_core.specs.Legal.{AreNewOutputs, AreOutputRecords, ArePermitted, IsAllowed, IsEntryOf, IsLegal, begun, ended, failed, legal_begin, legal_done, legal_fail, legal_opening}
+use Rattle.sched_core.specs.Legal.{AreNewOutputs, AreOutputRecords, IsAllowed, IsEntryOf, IsLegal, begun, ended, failed, legal_begin, legal_done, legal_fail, legal_opening}
 use Rattle.sched_core.specs.Runs.{History, IsWanted, earlier_twins, state_in, wanted_root}
 use Rattle.sched_core.specs.States.{Broken, Ended}
-use Rattle.sched_core.specs.Verdicts.{outputs_of}
 use Rattle.sched_core.specs.declared.job.Job.{Job}
 use Rattle.sched_core.specs.declared.reason.Event.TheVariants.{Begin, Done as Finish, Fail}
 use Rattle.sched_core.specs.declared.reason.Reason.{Reason}
-use Rattle.sched_core.specs.declared.reason.Reason.TheVariants.{ExitStatus, OutOfMemory}
+use Rattle.sched_core.specs.declared.reason.Reason.TheVariants.{ExitStatus}
 use Rattle.sched_core.specs.declared.reason.State.{State}
 use Rattle.sched_core.specs.declared.reason.State.TheVariants.{Done, Failed, Ready}
 use Rattle.sched_core.specs.declared.standing.Standing.TheVariants.{Free}
@@ -50,18 +48,7 @@ pub permitted_own : (graph : Graph) (entries : List Entry) (d : ℕ) (job : Job)
     → (path : List ℕ) → output_paths_of node.drv ≡ path ∷ []
     → ArePermittedPaths entries job (path ∷ [])
 permitted_own graph entries d job node is at none path one =
-    let seeds : job.seeds.items ≡ [] = job_seeds graph d job node is at ∙ none in
-    let outputs : outputs_of job ≡ path ∷ [] = job_outputs graph d job node is at ∙ one in
-    subst (λ (ss : List (List ℕ)). ArePermitted (registered entries) ss (outputs_of job)
-    (path ∷ [])) (sym seeds)
-    (subst (λ (os : List (List ℕ)). ArePermitted (registered entries) [] os (path ∷ []))
-    (sym outputs) (record {
-      rising = tt;
-      each = λ p. (
-        λ has. inr has,
-        λ may. ⊎_elim (λ seed. absurd (Contains-nothing seed.0 seed.1)) (λ own. own) may,
-      );
-    }))
+    search (rules, job_seeds, job_outputs, Contains-nothing)
 
 left_behind : (entries : List Entry)
     → IsVerdictBehind may_leave both entries 0 (Err (ExitStatus (pos 1)))
@@ -101,7 +88,7 @@ right_behind entries = record {
 
 pub journal : IsJournal []
 unfolding IsDistinct
-journal = record { closed = tt; once = tt; derived = All-nil HasDrvPath }
+journal = search (rules, All-nil)
 
 wanted : (opening : List Entry) (d : ℕ) → d < 2 → IsWanted both opening d
 wanted opening zero low = wanted_root 0 (Contains-first 0 (1 ∷ []))
@@ -114,10 +101,7 @@ wanted opening (suc (suc d)) low = absurd (omega arith)
 module _ (info : PathInfo) (none : info.references ≡ []) where
   none_refers : (other : PathInfo) (path : List ℕ) → Contains (info ∷ []) other
       → Contains other.references path → ⊥
-  none_refers other path has refers =
-      Contains-nothing path
-      (subst (λ (l : List (List ℕ)). Contains l path)
-      (ap (λ (i : PathInfo). i.references) (sym (one_of info other has)) ∙ none) refers)
+  none_refers other path has refers = search (rules, Contains-nothing, one_of)
 
   pub one_allowed : (graph : Graph) (entries : List Entry) (node : Node)
       → AreOutputRecords node.drv (info ∷ []) → AreNewOutputs entries node.drv
@@ -135,36 +119,24 @@ module _ (node : Node) (own : List ℕ) (info : PathInfo)
   registration = record { path = own; info = info }
 
   first_path : slice_get (output_paths_of node.drv) 0 ≡ Some own
-  first_path = ap (λ (l : List (List ℕ)). slice_get l 0) one
+  first_path = search rules
 
   there : (path : List ℕ) (other : PathInfo)
       → Contains (registration ∷ []) (record { path = path; info = other })
       → (n : ℕ) × (slice_get (output_paths_of node.drv) n ≡ Some path)
       × (slice_get (info ∷ []) n ≡ Some other)
-  there path other (zero, low, is) = (
-    0,
-    first_path ∙ ap (λ (r : Registration). Some r.path) is,
-    ap (λ (r : Registration). Some r.info) is,
-  )
+  there path other (zero, low, is) = search (rules, first_path)
   there path other (suc k, low, is) = absurd (omega arith)
 
   back : (path : List ℕ) (other : PathInfo)
       → (n : ℕ) × (slice_get (output_paths_of node.drv) n ≡ Some path)
       × (slice_get (info ∷ []) n ≡ Some other)
       → Contains (registration ∷ []) (record { path = path; info = other })
-  back path other (zero, at, at') =
-      let paths : own ≡ path = let both_at = sym first_path ∙ at in cc in
-      let infos : info ≡ other = cc in
-      (0, omega arith, λ i. record { path = paths i; info = infos i })
+  back path other (zero, at, at') = search (rules, first_path)
   back path other (suc n, at, at') = absurd cc
 
   pub one_entry : IsEntryOf node (info ∷ []) (Entered node.path (registration ∷ []))
-  one_entry = record {
-    outputs = registration ∷ [];
-    is_done = refl;
-    rising = tt;
-    each = λ path other. (there path other, back path other);
-  }
+  one_entry = search (rules, registration, there, back)
 
 -- what right made may be registered
 pub right_allowed : (graph : Graph) (entries : List Entry) → AreNewOutputs entries right.drv
@@ -203,11 +175,7 @@ no_twin opening d t has =
         let other = Contains-from_map path_in right.drv.outputs (out_alone failing)
         (twins_path left.drv right.drv (out_alone failing) twins own) in
         outputs_differ (one.0, other.0, one.1, other.1, one.2 ∙ sym other.2)
-    by (suc (suc d)) t low twins =
-        let there = is_there None (slice_get both.graph.nodes t)
-        (turned (slice_get both.graph.nodes t) None twins) in
-        let clash : None ≡ Some there.0 = there.1 in
-        cc
+    by (suc (suc d)) t low twins = search (rules, is_there, turned)
 
 -- so each of them is ready until it begins
 unhindered : (history : History) (d : ℕ) → standing_in both history d ≡ Free
@@ -219,12 +187,10 @@ unhindered history d free none = record {
 }
 
 first_ready : state_in both (opened []) 0 ≡ Ready
-first_ready =
-    unhindered_ready both (opened []) both_sound 0 (unhindered (opened []) 0 refl refl) refl
+first_ready = search (rules, unhindered_ready, both_sound, unhindered)
 
 second_ready : state_in both (begun (opened []) 0) 1 ≡ Ready
-second_ready = unhindered_ready both (begun (opened []) 0) both_sound 1
-    (unhindered (begun (opened []) 0) 1 refl refl) refl
+second_ready = search (rules, unhindered_ready, both_sound, unhindered)
 
 pub left_failed : state_in both side_by_side 0 ≡ Failed (ExitStatus (pos 1))
 left_failed = state_by both side_by_side both_sound 0 (Broken (ExitStatus (pos 1))) refl
@@ -268,23 +234,12 @@ settled (suc zero) low is = closed_done _ right_built
 settled (suc (suc d)) low is = absurd (omega arith)
 
 memory : HasMemory both side_by_side
-memory zero low is failed =
-    let clash : Failed (ExitStatus (pos 1)) ≡ Failed OutOfMemory = sym left_failed ∙ failed in cc
-memory (suc zero) low is failed =
-    let clash : Done ≡ Failed OutOfMemory = sym right_built ∙ failed in cc
+memory zero low is failed = search (rules, left_failed)
+memory (suc zero) low is failed = search (rules, right_built)
 memory (suc (suc d)) low is failed = absurd (omega arith)
 
 pub whole : IsWholeRun may_leave both side_by_side
-whole = record {
-  end = record {
-    plan = both_sound;
-    legal = legal;
-    settled = settled;
-    answered = answered;
-    memory = memory;
-  };
-  outcome = both_outcome;
-}
+whole = search (rules, both_sound, legal, settled, answered, memory, both_outcome)
 
 pub overlap : Overlap side_by_side 0 1
 overlap = record {
@@ -300,9 +255,7 @@ overlap = record {
 -- ---- in turn
 
 right_ready : state_in both (failed (begun (opened []) 0) 0 0 (ExitStatus (pos 1))) 1 ≡ Ready
-right_ready =
-    unhindered_ready both (failed (begun (opened []) 0) 0 0 (ExitStatus (pos 1))) both_sound 1
-    (unhindered (failed (begun (opened []) 0) 0 0 (ExitStatus (pos 1))) 1 refl refl) refl
+right_ready = search (rules, unhindered_ready, both_sound, unhindered)
 
 pub thread : IsOneThread may_leave both [] in_turn
 thread =

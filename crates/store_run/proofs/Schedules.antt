@@ -1,5 +1,5 @@
 -- *Any schedule*: a whole run and one thread over the same opening are alike.
-use Rattle.std.proofs.Common.{◌≡◌, ◌∙◌, ℕ, length, List, Result, sym, subst, ⊎_elim}
+use Rattle.std.proofs.Common.{◌≡◌, ◌∙◌, ℕ, length, List, Result, sym, subst, ⊎_elim, rules}
 use Rattle.drv_graph.specs.SoundGraphs.{IsSound}
 use Rattle.valid_table.specs.Valid.{IsJournal}
 use Rattle.valid_table.specs.declared.entry.Entry.{Entry}
@@ -57,7 +57,7 @@ module _ (excused : Reason → Type 0) (may : Job → Result Answer Reason → T
 module _ (may : Job → Result Answer Reason → Type 0) (run : Run) (history : History)
     (whole : IsWholeRun may run history) where
   pub run_told : IsTold (λ reason. reason ≡ OutOfMemory) may run history
-  run_told = told_from may run history whole.end.legal whole.end.answered
+  run_told = search (rules, told_from)
 
   -- no derivation failed for want of memory
   none_excused : (d : ℕ) (why : Reason) → phase_of history.events d ≡ Broken why
@@ -70,23 +70,14 @@ module _ (may : Job → Result Answer Reason → Type 0) (run : Run) (history : 
       (state_by run history whole.end.plan d (Broken why) at))
 
   pub run_accounted : IsAccounted may run history
-  run_accounted = accounted (λ reason. reason ≡ OutOfMemory) may run whole.end.plan history run_told
-      whole.end.legal none_excused
+  run_accounted = search (rules, accounted, run_told, none_excused)
 
 pub whole_runs_are_alike : (may : Job → Result Answer Reason → Type 0) → WholeRunsAreAlike may
 whole_runs_are_alike may run history other whole whole' opening =
-    are_alike may run whole.end.plan whole.outcome history other
-    (run_accounted may run history whole)
-    (run_accounted may run other whole') whole.end.settled whole'.end.settled opening
+    search (rules, are_alike, run_accounted)
 
 pub realised_is_ended : (may : Job → Result Answer Reason → Type 0) → RealisedIsEnded may
-realised_is_ended may plan system opening count book sound realised memory = record {
-  plan = subst IsSound (sym realised.left.over.plan_is) sound;
-  legal = realised.left.legal;
-  settled = realised.settled;
-  answered = realised.left.answered;
-  memory = memory;
-}
+realised_is_ended may plan system opening count book sound realised memory = search rules
 
 pub realised_is_whole : (may : Job → Result Answer Reason → Type 0) → RealisedIsWhole may
 realised_is_whole may plan system opening count book sound outcome realised memory = record {
@@ -133,19 +124,11 @@ alike_report_the_same run history other alike opening text = (there, back)
     states = λ i d. alike.states d i
 
     there : IsReportIn run history text → IsReportIn run other text
-    there is = subst (λ (s : ℕ → State). IsReport run.graph (IsWanted run other.opening) s text)
-        states
-        (subst (λ (opens : List Entry). IsReport run.graph (IsWanted run opens)
-        (state_in run history)
-        text) (sym opening) is)
+    there is = search (rules, states)
 
     back : IsReportIn run other text → IsReportIn run history text
-    back is = subst (λ (s : ℕ → State). IsReport run.graph (IsWanted run history.opening) s text)
-        (sym states)
-        (subst (λ (opens : List Entry). IsReport run.graph (IsWanted run opens) (state_in run other)
-        text) opening is)
+    back is = search (rules, states)
 
 pub same_reports : (may : Job → Result Answer Reason → Type 0) → SameReports may
 same_reports may run history other whole one =
-    alike_report_the_same run history other (any_schedule may run history other whole one)
-    (turned_is may run whole.end.plan history.opening (length run.graph.nodes) other one).opening_is
+    search (rules, alike_report_the_same, any_schedule, turned_is)

@@ -1,14 +1,13 @@
 -- What a derivation's standing says of its sources and its outputs.
-use Rattle.std.proofs.Common.{◌≡◌, ℕ, true, false, List, Option, Some, None, refl}
-use Rattle.std.specs.Prelude.{Contains, not, if◌then◌else◌}
+use Rattle.std.proofs.Common.{◌≡◌, ℕ, true, false, List, Option, Some, None, refl, rules}
+use Rattle.std.specs.Prelude.{Contains, not}
 use Rattle.std.specs.List.{list_all, position}
-use Rattle.nix_names.specs.Names.{same_bytes}
 use Rattle.nix_drv.specs.Derivation.{Drv}
 use Rattle.drv_graph.specs.PlanNodes.{output_paths_of}
 use Rattle.valid_table.specs.declared.entry.Entry.{Entry}
-use Rattle.sched_core.specs.Runs.{cause_at, is_unsupported, is_valid, or_else, own_cause, standing_of}
+use Rattle.sched_core.specs.Runs.{cause_at, is_valid, or_else, own_cause, standing_of}
 use Rattle.sched_core.specs.declared.reason.Refusal.{Refusal}
-use Rattle.sched_core.specs.declared.reason.Refusal.TheVariants.{MissingSource, PartlyValid, Unsupported, WrongSystem}
+use Rattle.sched_core.specs.declared.reason.Refusal.TheVariants.{MissingSource, PartlyValid}
 use Rattle.sched_core.specs.declared.standing.Standing.TheVariants.{AllValid, Free}
 use Rattle.sched_core.proofs.Seeds.{cause_none, none_found, not_false, or_else_none, standing_all, standing_free}
 use Rattle.sched_core.proofs.Tests.{list_all_has}
@@ -31,12 +30,7 @@ module _ (system : List ℕ) (opening : List Entry) (drv : Drv) where
   last_causes : standing_of system opening drv ≡ Free
       → or_else (cause_at PartlyValid (position (is_valid opening) (output_paths_of drv)))
       (cause_at MissingSource (position (λ path. not (is_valid opening path)) drv.sources)) ≡ None
-  last_causes free =
-      or_else_none (if is_unsupported drv then Some Unsupported else None) _
-      (or_else_none (if same_bytes drv.system system then None else Some WrongSystem) _
-      (standing_free (list_all (is_valid opening) (output_paths_of drv))
-      (own_cause system opening drv)
-      free))
+  last_causes free = search (rules, or_else_none, standing_free)
 
   -- the sources of one that is free are valid
   pub source_of_free : standing_of system opening drv ≡ Free → (path : List ℕ)

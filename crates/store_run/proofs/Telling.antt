@@ -1,10 +1,9 @@
 -- What a told history says of each derivation that has an event.
-use Rattle.std.proofs.Common.{◌≡◌, ◌∙◌, ◌⊎◌, inl, inr, ◌<◌, ℕ, Bool, true, false, List, [], ◌∷◌, ◌++◌, length, Result, Ok, Err, Some, refl, sym, ap, subst, ⊎_elim, append_assoc, arith}
+use Rattle.std.proofs.Common.{◌≡◌, ◌∙◌, ◌⊎◌, inl, inr, ◌<◌, ℕ, Bool, true, false, List, [], ◌∷◌, ◌++◌, length, Result, Ok, Err, Some, refl, sym, ap, subst, ⊎_elim, append_assoc, rules}
 use Rattle.std.specs.Prelude.{Contains, slice_get, if◌then◌else◌}
 use Rattle.std.proofs.Math.Dec.{eqb}
 use Rattle.std.proofs.lemmas.List.{append-nil}
 use Rattle.std.proofs.lemmas.List.Elements.{All-contains, Contains-append_cases, Contains-append_left, Contains-append_right}
-use Rattle.nix_names.specs.StorePaths.{IsDrvPath}
 use Rattle.nix_names.proofs.Lists.{either_side}
 use Rattle.nix_drv.proofs.Fixed.{eqb_same}
 use Rattle.drv_graph.specs.Nodes.{Node}
@@ -21,7 +20,7 @@ use Rattle.sched_core.specs.Headline.{AreDrvPaths}
 use Rattle.sched_core.specs.Jobs.{seeds_of}
 use Rattle.sched_core.specs.Legal.{IsEntryOf, IsLegal, begins, begun, ended, failed}
 use Rattle.sched_core.specs.Runs.{History, IsWanted, Run, earlier_twins, rows_of, standing_at, state_in}
-use Rattle.sched_core.specs.States.{Phase, Idle, Begun, Ended, Broken, is_bad, is_good, is_open, later, phase_by, phase_of, state}
+use Rattle.sched_core.specs.States.{Phase, Idle, Begun, Ended, Broken, is_bad, is_good, is_open, phase_by, phase_of, state}
 use Rattle.sched_core.specs.declared.job.Answer.{Answer}
 use Rattle.sched_core.specs.declared.job.Job.{Job}
 use Rattle.sched_core.specs.declared.reason.Event.{Event}
@@ -48,9 +47,7 @@ number_of (Finish d lease) = d
 number_of (Fail d lease reason) = d
 
 pub same_or_other : (d e : ℕ) → (d ≡ e) ⊎ (d ≡ e → ⊥)
-same_or_other d e =
-    ⊎_elim inl (λ apart. inr (λ same. ⊎_elim (λ less. absurd (omega arith))
-    (λ more. absurd (omega arith)) apart)) (either_side d e)
+same_or_other d e = search (rules, either_side)
 
 phase_by_other : (x : Event) (d : ℕ) → (number_of x ≡ d → ⊥) → phase_by x d ≡ Idle
 phase_by_other (Begin e n) d other = by (eqb e d) refl
@@ -71,26 +68,19 @@ phase_by_other (Fail e n reason) d other = by (eqb e d) refl
 
 pub phase_other : (events : List Event) (x : Event) (d : ℕ) → (number_of x ≡ d → ⊥)
     → phase_of (events ++ x ∷ []) d ≡ phase_of events d
-phase_other events x d other = phase_push events x d
-    ∙ ap (later (phase_of events d)) (phase_by_other x d other)
+phase_other events x d other = search (rules, phase_push, phase_by_other)
 
 pub phase_begun : (events : List Event) (d lease : ℕ)
     → phase_of (events ++ Begin d lease ∷ []) d ≡ Begun lease
-phase_begun events d lease = phase_push events (Begin d lease) d
-    ∙ ap (later (phase_of events d))
-    (ap (λ (same : Bool). if same then Begun lease else Idle) (eqb_same d))
+phase_begun events d lease = search (rules, phase_push, eqb_same)
 
 pub phase_ended : (events : List Event) (d lease : ℕ)
     → phase_of (events ++ Finish d lease ∷ []) d ≡ Ended
-phase_ended events d lease = phase_push events (Finish d lease) d
-    ∙ ap (later (phase_of events d))
-    (ap (λ (same : Bool). if same then Ended else Idle) (eqb_same d))
+phase_ended events d lease = search (rules, phase_push, eqb_same)
 
 pub phase_broken : (events : List Event) (d lease : ℕ) (reason : Reason)
     → phase_of (events ++ Fail d lease reason ∷ []) d ≡ Broken reason
-phase_broken events d lease reason = phase_push events (Fail d lease reason) d
-    ∙ ap (later (phase_of events d))
-    (ap (λ (same : Bool). if same then Broken reason else Idle) (eqb_same d))
+phase_broken events d lease reason = search (rules, phase_push, eqb_same)
 
 -- ---- a derivation that has begun was wanted, and nothing was in its way
 
@@ -115,10 +105,7 @@ module _ (run : Run) (sound : IsSound run.graph) (history after : History) (x : 
   -- a derivation that isn't open has no event
   phase : (i : ℕ) → is_open (state_in run history i) ≡ false
       → phase_of after.events i ≡ phase_of history.events i
-  phase i closed = ap (λ (es : List Event). phase_of es i) events
-      ∙ phase_other history.events x i (λ same.
-      let clash : false ≡ true =
-      sym closed ∙ ap (λ n. is_open (state_in run history n)) (sym same) ∙ still in cc)
+  phase i closed = search (rules, phase_other, closed)
 
   -- an event of an open derivation leaves the good ones good
   good_stays : (i : ℕ) → is_good (state_in run history i) ≡ true
@@ -130,9 +117,7 @@ module _ (run : Run) (sound : IsSound run.graph) (history after : History) (x : 
 
       by : IsGoodBy run history i → IsGoodBy run after i
       by (good_ended at) = good_ended (here ∙ at)
-      by (good_reused at stands) = good_reused (here ∙ at)
-          (ap (λ (opens : List Entry). standing_at run.system opens (slice_get run.graph.nodes i))
-          opening ∙ stands)
+      by (good_reused at stands) = search (rules, good_reused, here)
       by (good_twin t at has ends) = good_twin t (here ∙ at)
           (subst (λ (opens : List Entry). Contains (earlier_twins run opens i) t) (sym opening) has)
           (phase t (ap is_open (state_by run history sound t Ended ends)) ∙ ends)
@@ -176,18 +161,17 @@ building_is_open run sound history d lease phase =
 
 -- one phase is no other
 begun_not_idle : (p : Phase) (lease : ℕ) → p ≡ Begun lease → p ≡ Idle → ⊥
-begun_not_idle p lease is idle = let clash : Begun lease ≡ Idle = sym is ∙ idle in cc
+begun_not_idle p lease is idle = search rules
 
 begun_not_ended : (p : Phase) (lease : ℕ) → p ≡ Begun lease → p ≡ Ended → ⊥
-begun_not_ended p lease is ends = let clash : Begun lease ≡ Ended = sym is ∙ ends in cc
+begun_not_ended p lease is ends = search rules
 
 begun_not_broken : (p : Phase) (lease : ℕ) (reason : Reason) → p ≡ Begun lease → p ≡ Broken reason
     → ⊥
-begun_not_broken p lease reason is breaks =
-    let clash : Begun lease ≡ Broken reason = sym is ∙ breaks in cc
+begun_not_broken p lease reason is breaks = search rules
 
 ended_not_broken : (p : Phase) (reason : Reason) → p ≡ Ended → p ≡ Broken reason → ⊥
-ended_not_broken p reason is breaks = let clash : Ended ≡ Broken reason = sym is ∙ breaks in cc
+ended_not_broken p reason is breaks = search rules
 
 module _ (excused : Reason → Type 0) (may : Job → Result Answer Reason → Type 0) (run : Run)
     (sound : IsSound run.graph) where
@@ -282,8 +266,7 @@ module _ (excused : Reason → Type 0) (may : Job → Result Answer Reason → T
   }
 
   pub drv_paths : AreDrvPaths run
-  drv_paths node has = All-contains (λ (n : Node). IsDrvPath n.path) run.graph.nodes node
-      sound.named has
+  drv_paths node has = search (rules, All-contains, node)
 
   came_here : (history : History) → IsLegal run history → (d lease : ℕ)
       (verdict : Result (List PathInfo) Reason)
@@ -347,8 +330,7 @@ module _ (excused : Reason → Type 0) (may : Job → Result Answer Reason → T
       → excused reason ⊎ CameTo may run history d (Err reason)
       → excused reason ⊎ CameTo may run after d (Err reason)
   why_more history after more d reason is (inl excuse) = inl excuse
-  why_more history after more d reason is (inr came) =
-      inr (came_more history after more d (Err reason) is came)
+  why_more history after more d reason is (inr came) = search (rules, came_more, more, came)
 
   why_here : (history : History) → IsLegal run history → (d lease : ℕ) (reason : Reason)
       → phase_of history.events d ≡ Begun lease
@@ -356,7 +338,7 @@ module _ (excused : Reason → Type 0) (may : Job → Result Answer Reason → T
       → excused reason ⊎ CameTo may run history d (Err reason)
   why_here history legal d lease reason phase (inl excuse) = inl excuse
   why_here history legal d lease reason phase (inr behind) =
-      inr (came_here history legal d lease (Err reason) phase behind)
+      search (rules, came_here, phase, behind)
 
   pub broke_is : (history : History) → IsTold excused may run history → (d : ℕ) (why : Reason)
       → phase_of history.events d ≡ Broken why → excused why ⊎ CameTo may run history d (Err why)
@@ -412,9 +394,7 @@ module _ (excused : Reason → Type 0) (may : Job → Result Answer Reason → T
       → after.opening ≡ history.opening
       → ((d : ℕ) → phase_of history.events d ≡ Ended → phase_of after.events d ≡ Ended)
       → IsFrom run history path info → IsFrom run after path info
-  from_more history after path info opening stays (from_opening has) =
-      from_opening (subst (λ (es : List Entry). Registers (registered es) path info) (sym opening)
-      has)
+  from_more history after path info opening stays (from_opening has) = search (rules, from_opening)
   from_more history after path info opening stays (from_built d node at ends own) =
       from_built d node at (stays d ends) own
 
@@ -422,21 +402,17 @@ module _ (excused : Reason → Type 0) (may : Job → Result Answer Reason → T
   ended_stays : (events : List Event) (x : Event)
       → (phase_of events (number_of x) ≡ Ended → ⊥) → (d : ℕ) → phase_of events d ≡ Ended
       → phase_of (events ++ x ∷ []) d ≡ Ended
-  ended_stays events x not_ended d ends =
-      phase_other events x d (λ same. not_ended (ap (phase_of events) same ∙ ends)) ∙ ends
+  ended_stays events x not_ended d ends = search (rules, phase_other)
 
   idle_not_ended : (p : Phase) → p ≡ Idle → p ≡ Ended → ⊥
-  idle_not_ended p is ends = let clash : Idle ≡ Ended = sym is ∙ ends in cc
+  idle_not_ended p is ends = search rules
 
   pub from_is : (history : History) → IsTold excused may run history → (path : List ℕ)
       (info : PathInfo) → Registers (registered history.entries) path info
       → IsFrom run history path info
   from_is _ (told_opening entries journal) path info has = from_opening has
   from_is _ (told_begin history e told legal can) path info has =
-      from_more history (begun history e) path info refl
-      (ended_stays history.events (Begin e (begins history.events))
-      (idle_not_ended (phase_of history.events e) (ready_is_idle run history e can.ready)))
-      (from_is history told path info has)
+      search (rules, from_more, ended_stays, idle_not_ended, ready_is_idle, from_is history told path info has)
   from_is _ (told_done history e lease node infos entry told legal phase is_node came is_entry) path
       info has =
       ⊎_elim
@@ -453,7 +429,4 @@ module _ (excused : Reason → Type 0) (may : Job → Result Answer Reason → T
       (subst (λ (rs : List Registration). Registers rs path info)
       (registered_push history.entries entry) has))
   from_is _ (told_fail history e lease reason told legal phase why) path info has =
-      from_more history (failed history e lease reason) path info refl
-      (ended_stays history.events (Fail e lease reason)
-      (begun_not_ended (phase_of history.events e) lease phase))
-      (from_is history told path info has)
+      search (rules, from_more, ended_stays, begun_not_ended, phase, from_is history told path info has)

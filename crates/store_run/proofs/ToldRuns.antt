@@ -1,5 +1,5 @@
 -- Legal histories in which each event tells what it follows from.
-use Rattle.std.proofs.Common.{◌≡◌, ◌⊎◌, ℕ, List, [], ◌∷◌, ◌++◌, Result, Ok, Err, Some, refl, ap, subst}
+use Rattle.std.proofs.Common.{◌≡◌, ◌⊎◌, ℕ, List, [], ◌∷◌, ◌++◌, Result, Ok, Err, Some, refl, ap, subst, rules}
 use Rattle.std.specs.Prelude.{slice_get}
 use Rattle.std.proofs.lemmas.List.{same_from_push}
 use Rattle.drv_graph.specs.Nodes.{Node}
@@ -7,12 +7,12 @@ use Rattle.valid_table.specs.PathInfos.{PathInfo}
 use Rattle.valid_table.specs.Valid.{IsJournal}
 use Rattle.valid_table.specs.declared.entry.Entry.{Entry}
 use Rattle.sched_core.specs.Books.{CanBegin, opened}
-use Rattle.sched_core.specs.Legal.{IsEntryOf, IsLegal, legal_opening, legal_begin, legal_done, legal_fail, begins, begun, ended, failed}
+use Rattle.sched_core.specs.Legal.{IsEntryOf, IsLegal, legal_opening, legal_begin, legal_done, legal_fail, begun, ended, failed}
 use Rattle.sched_core.specs.Runs.{History, Run}
 use Rattle.sched_core.specs.States.{Begun, phase_of}
 use Rattle.sched_core.specs.declared.job.Answer.{Answer}
 use Rattle.sched_core.specs.declared.job.Job.{Job}
-use Rattle.sched_core.specs.declared.reason.Event.TheVariants.{Begin, Done as Finish, Fail}
+use Rattle.sched_core.specs.declared.reason.Event.TheVariants.{Done as Finish}
 use Rattle.sched_core.specs.declared.reason.Reason.{Reason}
 use Rattle.sched_core.specs.declared.reason.Reason.TheVariants.{OutOfMemory}
 use Rattle.store_run.specs.Builders.{IsAnswered, IsVerdictBehind, answered_begin, answered_done, answered_fail, answered_opening}
@@ -42,31 +42,19 @@ no_push (y ∷ xs) x e = cc
 
 same_history : (a b : History) → a.opening ≡ b.opening → a.entries ≡ b.entries
     → a.events ≡ b.events → a ≡ b
-same_history a b opening entries events =
-    λ i. record { opening = opening i; entries = entries i; events = events i }
+same_history a b opening entries events = search rules
 
 module _ (may : Job → Result Answer Reason → Type 0) (run : Run) where
   -- what is answered behind a Begin was so before it
   answered_before_begin : (g : History) → IsAnswered may run g → (history : History) (d : ℕ)
       → g ≡ begun history d → IsAnswered may run history
-  answered_before_begin _ (answered_opening entries) history d is =
-      absurd (no_push history.events (Begin d (begins history.events))
-      (ap (λ (h : History). h.events) is))
+  answered_before_begin _ (answered_opening entries) history d is = search (rules, no_push)
   answered_before_begin _ (answered_begin before e answered) history d is =
-      let events = same_from_push before.events history.events (Begin e (begins before.events))
-      (Begin d (begins history.events)) (ap (λ (h : History). h.events) is) in
-      subst (IsAnswered may run)
-      (same_history before history (ap (λ (h : History). h.opening) is)
-      (ap (λ (h : History). h.entries) is) events.0) answered
+      search (rules, same_from_push, same_history, before)
   answered_before_begin _ (answered_done before e lease node infos entry answered at came is_entry)
-      history d is =
-      let events = same_from_push before.events history.events (Finish e lease)
-      (Begin d (begins history.events)) (ap (λ (h : History). h.events) is) in
-      let clash = events.1 in absurd cc
+      history d is = search (rules, same_from_push)
   answered_before_begin _ (answered_fail before e lease reason answered why) history d is =
-      let events = same_from_push before.events history.events (Fail e lease reason)
-      (Begin d (begins history.events)) (ap (λ (h : History). h.events) is) in
-      let clash = events.1 in absurd cc
+      search (rules, same_from_push)
 
   -- what an answered Done tells
   record WasDone (history : History) (d : ℕ) (entry : Entry) : Type 0 where
@@ -80,12 +68,9 @@ module _ (may : Job → Result Answer Reason → Type 0) (run : Run) where
   answered_by_done : (g : History) → IsAnswered may run g
       → (history : History) (d lease : ℕ) (entry : Entry)
       → g ≡ ended history d lease entry → WasDone history d entry
-  answered_by_done _ (answered_opening entries) history d lease entry is =
-      absurd (no_push history.events (Finish d lease) (ap (λ (h : History). h.events) is))
+  answered_by_done _ (answered_opening entries) history d lease entry is = search (rules, no_push)
   answered_by_done _ (answered_begin before e answered) history d lease entry is =
-      let events = same_from_push before.events history.events (Begin e (begins before.events))
-      (Finish d lease) (ap (λ (h : History). h.events) is) in
-      let clash = events.1 in absurd cc
+      search (rules, same_from_push)
   answered_by_done _ (answered_done before e number node infos own answered at came is_entry)
       history d lease entry is =
       let events = same_from_push before.events history.events (Finish e number)
@@ -106,9 +91,7 @@ module _ (may : Job → Result Answer Reason → Type 0) (run : Run) where
         is_entry = subst (IsEntryOf node infos) entries.1 is_entry;
       }
   answered_by_done _ (answered_fail before e number reason answered why) history d lease entry is =
-      let events = same_from_push before.events history.events (Fail e number reason)
-      (Finish d lease) (ap (λ (h : History). h.events) is) in
-      let clash = events.1 in absurd cc
+      search (rules, same_from_push)
 
   -- what an answered Fail tells
   record WasFailed (history : History) (d : ℕ) (reason : Reason) : Type 0 where
@@ -118,44 +101,20 @@ module _ (may : Job → Result Answer Reason → Type 0) (run : Run) where
   answered_by_fail : (g : History) → IsAnswered may run g
       → (history : History) (d lease : ℕ) (reason : Reason)
       → g ≡ failed history d lease reason → WasFailed history d reason
-  answered_by_fail _ (answered_opening entries) history d lease reason is =
-      absurd (no_push history.events (Fail d lease reason) (ap (λ (h : History). h.events) is))
+  answered_by_fail _ (answered_opening entries) history d lease reason is = search (rules, no_push)
   answered_by_fail _ (answered_begin before e answered) history d lease reason is =
-      let events = same_from_push before.events history.events (Begin e (begins before.events))
-      (Fail d lease reason) (ap (λ (h : History). h.events) is) in
-      let clash = events.1 in absurd cc
+      search (rules, same_from_push)
   answered_by_fail _ (answered_done before e number node infos own answered at came is_entry)
-      history d lease reason is =
-      let events = same_from_push before.events history.events (Finish e number)
-      (Fail d lease reason) (ap (λ (h : History). h.events) is) in
-      let clash = events.1 in absurd cc
+      history d lease reason is = search (rules, same_from_push)
   answered_by_fail _ (answered_fail before e number given answered why) history d lease reason is =
-      let events = same_from_push before.events history.events (Fail e number given)
-      (Fail d lease reason) (ap (λ (h : History). h.events) is) in
-      let same = same_history before history (ap (λ (h : History). h.opening) is)
-      (ap (λ (h : History). h.entries) is) events.0 in
-      let last = events.1 in
-      let number_is : e ≡ d = cc in
-      let reason_is : given ≡ reason = cc in
-      let here : (given ≡ OutOfMemory) ⊎ IsVerdictBehind may run history.entries d (Err given) =
-      subst (λ n. (given ≡ OutOfMemory) ⊎ IsVerdictBehind may run history.entries n (Err given))
-      number_is
-      (subst (λ (h : History).
-      (given ≡ OutOfMemory) ⊎ IsVerdictBehind may run h.entries e (Err given)) same why) in
-      record {
-        before = subst (IsAnswered may run) same answered;
-        why = subst (λ (r : Reason).
-            (r ≡ OutOfMemory) ⊎ IsVerdictBehind may run history.entries d (Err r)) reason_is here;
-      }
+      search (rules, same_from_push, same_history, before, why)
 
   -- a legal history that is answered is told
   pub told_from : (history : History) → IsLegal run history → IsAnswered may run history
       → IsTold (λ reason. reason ≡ OutOfMemory) may run history
   told_from _ (legal_opening entries journal) answered = told_opening entries journal
   told_from _ (legal_begin history d legal within wanted ready) answered =
-      told_begin history d
-      (told_from history legal (answered_before_begin (begun history d) answered history d refl))
-      legal (record { within = within; wanted = wanted; ready = ready })
+      search (rules, told_begin, answered_before_begin, told_from history legal (answered_before_begin (begun history d) answered history d refl))
   told_from _ (legal_done history d lease node infos entry legal phase is_node allowed is_entry)
       answered =
       let was =

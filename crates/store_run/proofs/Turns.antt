@@ -1,6 +1,6 @@
 -- A history in which all derivations had their turns is a legal one that is settled, and tells what
 -- each event follows from, without an excuse.
-use Rattle.std.proofs.Common.{◌≡◌, ◌&&◌, cond, ◌∙◌, ◌⊎◌, inl, inr, ◌<◌, ◌≤◌, ℕ, zero, suc, Bool, true, false, List, [], ◌∷◌, length, Result, Ok, Err, Option, Some, None, refl, sym, ap, subst, ⊎_elim, arith}
+use Rattle.std.proofs.Common.{◌≡◌, ◌&&◌, cond, ◌∙◌, ◌⊎◌, inl, inr, ◌<◌, ◌≤◌, ℕ, zero, suc, Bool, true, false, List, [], ◌∷◌, length, Result, Ok, Err, Option, Some, None, refl, sym, ap, subst, ⊎_elim, arith, rules}
 use Rattle.std.specs.Prelude.{Contains, find, if◌then◌else◌, slice_get}
 use Rattle.std.specs.List.{list_all, list_any}
 use Rattle.std.proofs.lemmas.Bool.{and_from, false≢true}
@@ -108,7 +108,7 @@ never_blocked : (first : Option ℕ) (all : Bool) → (first ≡ None → all �
     → by_first first all ≡ Blocked → ⊥
 never_blocked (Some i) all closed is = cc
 never_blocked None true closed is = cc
-never_blocked None false closed is = let clash : false ≡ true = closed refl in cc
+never_blocked None false closed is = search (rules, closed)
 
 -- a derivation without an event is open only where it is ready, or an earlier twin or an input of
 -- it is open
@@ -178,10 +178,7 @@ module _ (may : Job → Result Answer Reason → Type 0) (run : Run) (sound : Is
           made_once : (e : ℕ) → phase_of history.events e ≡ Ended
               → are_twins_at (slice_get run.graph.nodes d) (slice_get run.graph.nodes e) ≡ true
               → (d ≡ e) ⊎ ((d < e) ⊎ (e < d)) → ⊥
-          made_once e ends twins (inl same) =
-              let clash : Idle ≡ Ended = sym (ready_is_idle run history d can.ready)
-              ∙ ap (phase_of history.events) same ∙ ends in
-              cc
+          made_once e ends twins (inl same) = search (rules, ready_is_idle)
           made_once e ends twins (inr (inl less)) =
               let moved : phase_of history.events e ≡ Idle → ⊥ =
               λ idle. let clash : Idle ≡ Ended = sym idle ∙ ends in cc in
@@ -221,8 +218,7 @@ module _ (may : Job → Result Answer Reason → Type 0) (run : Run) (sound : Is
               let clash : false ≡ true = sym none ∙ some in
               cc
           by info (from_built e other at' ends own') =
-              made_once e ends (sharers run.graph sound d e node other path at at' own own')
-              (either_side d e)
+              search (rules, made_once, sharers, either_side)
 
       registrable : (permitted : List (List ℕ)) × AreRegistrable node permitted infos
       registrable = by behind.comes_to.0 behind.comes_to.2
@@ -381,7 +377,4 @@ module _ (may : Job → Result Answer Reason → Type 0) (run : Run) (sound : Is
 
   pub turned_settled : (history : History) → IsOneThread may run opening history
       → IsRunSettled run history
-  turned_settled history had d within wanted still =
-      let turned = turned_is (length run.graph.nodes) history had in
-      turned.closed d within within
-      (subst (λ (opens : List Entry). IsWanted run opens d) turned.opening_is wanted) still
+  turned_settled history had d within wanted still = search (rules, turned_is)

@@ -1,6 +1,6 @@
 -- A derivation that is built after its twin failed, beside a third, is part of a whole run.
-use Rattle.std.proofs.Common.{◌≡◌, ◌∙◌, ◌<◌, inr, ℕ, zero, suc, true, false, List, [], ◌∷◌, Some, Ok, Err, refl, sym, ap, subst, arith}
-use Rattle.std.specs.Prelude.{Contains, codes, pos, slice_get}
+use Rattle.std.proofs.Common.{◌≡◌, ◌∙◌, ◌<◌, inr, ℕ, zero, suc, true, false, List, [], ◌∷◌, Some, Ok, Err, refl, sym, ap, subst, arith, rules}
+use Rattle.std.specs.Prelude.{Contains, pos, slice_get}
 use Rattle.std.proofs.lemmas.Bool.{and_from}
 use Rattle.nix_names.specs.declared.digest.Digest.{Digest}
 use Rattle.nix_names.proofs.Lists.{Contains-first, Contains-later, Contains-nothing}
@@ -16,12 +16,12 @@ use Rattle.valid_table.specs.PathInfos.{PathInfo}
 use Rattle.valid_table.specs.declared.entry.Entry.{Entry}
 use Rattle.sched_core.specs.Books.{CanBegin, IsRunSettled, opened}
 use Rattle.sched_core.specs.Legal.{AreNewOutputs, IsAllowed, IsEntryOf, IsLegal, begun, ended, failed, legal_begin, legal_done, legal_fail, legal_opening}
-use Rattle.sched_core.specs.Runs.{History, IsWanted, earlier_twins, is_wanted, state_in, wanted_root}
+use Rattle.sched_core.specs.Runs.{History, IsWanted, earlier_twins, state_in, wanted_root}
 use Rattle.sched_core.specs.States.{Begun, Broken, Ended, is_bad, is_done, is_open, phase_of}
 use Rattle.sched_core.specs.declared.reason.Event.{Event}
 use Rattle.sched_core.specs.declared.reason.Event.TheVariants.{Begin, Done as Finish, Fail}
 use Rattle.sched_core.specs.declared.reason.Reason.{Reason}
-use Rattle.sched_core.specs.declared.reason.Reason.TheVariants.{ExitStatus, OutOfMemory}
+use Rattle.sched_core.specs.declared.reason.Reason.TheVariants.{ExitStatus}
 use Rattle.sched_core.specs.declared.reason.State.TheVariants.{Blocked, Building, Done, Failed, Ready}
 use Rattle.sched_core.proofs.EarlierTwins.{twins_from}
 use Rattle.sched_core.proofs.TwinLaws.{is_earlier_twin, twins_path}
@@ -30,7 +30,7 @@ use Rattle.store_run.specs.Builders.{IsAnswered, IsVerdictBehind, answered_begin
 use Rattle.store_run.specs.OneThread.{IsOneThread, turn_done, turn_failed, turn_opening}
 use Rattle.store_run.specs.Scheduling.{HasMemory, IsWholeRun}
 use Rattle.store_run.specs.ScheduleExample.{Overlap, made, making, out_alone, right}
-use Rattle.store_run.specs.TwinExample.{empty_digest, first_twin, freed, made_file, making_twin, may_leave_file, one_by_one, out_empty, second_twin, three, tried_again, waiting}
+use Rattle.store_run.specs.TwinExample.{empty_digest, first_twin, freed, made_file, making_twin, may_leave_file, one_by_one, second_twin, three, tried_again, waiting}
 use Rattle.store_run.proofs.AlonePlans.{one_of}
 use Rattle.store_run.proofs.ExampleJobs.{is_job_of_right, job_of_right, left_answer, left_leaves, left_verdict, nothing_in, right_answer, right_leaves, right_verdict}
 use Rattle.store_run.proofs.ScheduleExample.{closed_done, closed_failed, journal, none_valid, one_allowed, one_entry, permitted_own, right_allowed, right_entry}
@@ -110,10 +110,10 @@ second_allowed =
     }) (none_valid second_twin)
 
 second_entry : IsEntryOf second_twin (file_in ∷ []) made_file
-second_entry = one_entry second_twin (out_empty (codes "src")) file_in refl
+second_entry = search (rules, one_entry, file_in)
 
 new_third : AreNewOutputs (made_file ∷ []) right.drv
-new_third path own valid = outs_differ (one_of _ path valid ∙ sym (one_of _ path own))
+new_third path own valid = search (rules, outs_differ, one_of)
 
 -- ---- the twins
 
@@ -132,10 +132,7 @@ twin_is_first t has = let low = (is_earlier_twin three [] 1 t has).earlier in om
 
 first_is_twin : Contains (earlier_twins three [] 1) 0
 first_is_twin =
-    twins_from three [] 1 0 (omega arith)
-    (and_from (is_wanted three [] 0) _
-    ((wanted_told three [] 0 three_sound).1 (wanted 0 (omega arith)))
-    ((twins_are_told first_twin.drv second_twin.drv).1 are_twins))
+    search (rules, twins_from, and_from, wanted_told, three_sound, wanted, twins_are_told, are_twins)
 
 -- the first and the third have none
 first_no_twin : (t : ℕ) → Contains (earlier_twins three [] 0) t → ⊥
@@ -144,19 +141,14 @@ first_no_twin t has = let low = (is_earlier_twin three [] 0 t has).earlier in om
 -- a twin of the third would share its output
 not_twins : (node : Node) (path : List ℕ) → output_paths_of node.drv ≡ path ∷ []
     → (path ≡ out_alone making → ⊥) → are_twins_at (Some node) (Some right) ≡ true → ⊥
-not_twins node path one differs twins =
-    differs (sym (one_of _ path
-    (twins_path node.drv right.drv path twins
-    (subst (λ (l : List (List ℕ)). Contains l path) (sym one) (Contains-first path [])))))
+not_twins node path one differs twins = search (rules, one_of, twins_path, Contains-first)
 
 third_no_twin : (t : ℕ) → Contains (earlier_twins three [] 2) t → ⊥
 third_no_twin t has = let is = is_earlier_twin three [] 2 t has in by t is.earlier is.twins
   where
     by : (t : ℕ) → t < 2 → are_twins_at (slice_get three.graph.nodes t) (Some right) ≡ true → ⊥
-    by zero low twins =
-        not_twins first_twin (out_empty (codes "src")) refl outs_differ twins
-    by (suc zero) low twins =
-        not_twins second_twin (out_empty (codes "src")) refl outs_differ twins
+    by zero low twins = search (rules, not_twins, outs_differ)
+    by (suc zero) low twins = search (rules, not_twins, outs_differ)
     by (suc (suc t)) low twins = absurd (omega arith)
 
 -- ---- states
@@ -211,9 +203,7 @@ second_waits =
     first_builds = state_by three waiting three_sound 0 (Begun 0) refl
 
 pub second_freed : state_in three freed 1 ≡ Ready
-second_freed =
-    unhindered_ready three freed three_sound 1
-    (second_unhindered [] freed.events (failed_by [] freed.events refl)) refl
+second_freed = search (rules, unhindered_ready, three_sound, second_unhindered, failed_by)
 
 pub first_failed : state_in three tried_again 0 ≡ Failed ends
 first_failed = state_by three tried_again three_sound 0 (Broken ends) refl
@@ -227,8 +217,7 @@ third_built = state_by three tried_again three_sound 2 Ended refl
 -- ---- two workers
 
 third_can : state_in three (begun (opened []) 0) 2 ≡ Ready
-third_can = unhindered_ready three (begun (opened []) 0) three_sound 2
-    (third_unhindered [] (Begin 0 0 ∷ [])) refl
+third_can = search (rules, unhindered_ready, three_sound, third_unhindered)
 
 legal_waiting : IsLegal three waiting
 legal_waiting =
@@ -268,26 +257,13 @@ settled (suc (suc zero)) low is = closed_done _ third_built
 settled (suc (suc (suc d))) low is = absurd (omega arith)
 
 memory : HasMemory three tried_again
-memory zero low is failed = let clash : Failed ends ≡ Failed OutOfMemory =
-    sym first_failed ∙ failed in
-    cc
-memory (suc zero) low is failed =
-    let clash : Done ≡ Failed OutOfMemory = sym second_built ∙ failed in cc
-memory (suc (suc zero)) low is failed =
-    let clash : Done ≡ Failed OutOfMemory = sym third_built ∙ failed in cc
+memory zero low is failed = search (rules, ends, first_failed)
+memory (suc zero) low is failed = search (rules, second_built)
+memory (suc (suc zero)) low is failed = search (rules, third_built)
 memory (suc (suc (suc d))) low is failed = absurd (omega arith)
 
 pub whole : IsWholeRun may_leave_file three tried_again
-whole = record {
-  end = record {
-    plan = three_sound;
-    legal = legal;
-    settled = settled;
-    answered = answered;
-    memory = memory;
-  };
-  outcome = three_outcome;
-}
+whole = search (rules, three_sound, legal, settled, answered, memory, three_outcome)
 
 pub beside_first : Overlap tried_again 0 2
 beside_first = record {
@@ -321,20 +297,11 @@ abbrev two_tried : History
 two_tried = ended (begun one_tried 1) 1 1 made_file
 
 second_can : CanBegin three one_tried 1
-second_can = record {
-  within = omega arith;
-  wanted = wanted 1 (omega arith);
-  ready = unhindered_ready three one_tried three_sound 1
-      (second_unhindered [] one_tried.events (failed_by [] one_tried.events refl)) refl;
-}
+second_can =
+    search (rules, wanted, unhindered_ready, one_tried, three_sound, second_unhindered, failed_by)
 
 last_can : CanBegin three two_tried 2
-last_can = record {
-  within = omega arith;
-  wanted = wanted 2 (omega arith);
-  ready = unhindered_ready three two_tried three_sound 2
-      (third_unhindered (made_file ∷ []) two_tried.events) refl;
-}
+last_can = search (rules, wanted, unhindered_ready, two_tried, three_sound, third_unhindered)
 
 pub thread : IsOneThread may_leave_file three [] one_by_one
 thread =

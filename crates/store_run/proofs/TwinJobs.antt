@@ -1,5 +1,5 @@
 -- What the jobs of the three derivations come to.
-use Rattle.std.proofs.Common.{◌≡◌, ◌∙◌, ℕ, zero, suc, true, false, List, [], ◌∷◌, ◌++◌, length, map, Some, None, Ok, Err, refl, sym, ap, subst, arith}
+use Rattle.std.proofs.Common.{◌≡◌, ℕ, zero, suc, true, false, List, [], ◌∷◌, ◌++◌, length, map, Some, None, Ok, Err, refl, sym, ap, subst, arith, rules}
 use Rattle.std.specs.Prelude.{codes, pos, slice_get}
 use Rattle.std.specs.List.{list_any}
 use Rattle.std.specs.declared.alloc.Global.{Global}
@@ -15,18 +15,16 @@ use Rattle.nix_names.proofs.PathTexts.{hash_part_len, hash_part_of_path}
 use Rattle.nix_drv.specs.Parts.{bytes_of}
 use Rattle.drv_graph.specs.Kinds.{HasKind}
 use Rattle.drv_graph.specs.Nodes.{Node}
-use Rattle.drv_graph.specs.PlanNodes.{output_paths_of}
 use Rattle.drv_graph.specs.declared.kinds.Kind.{Kind}
 use Rattle.drv_graph.proofs.KindAnswers.{one_kind}
 use Rattle.ref_scan.specs.Scan.{IsFoundIn, OccursIn}
-use Rattle.ref_scan.specs.Trees.{Fits, joined}
+use Rattle.ref_scan.specs.Trees.{Fits}
 use Rattle.ref_scan.specs.declared.tree.Tree.{Tree, File, Pieces, Dir'}
 use Rattle.valid_table.specs.PathInfos.{PathInfo}
 use Rattle.sched_core.specs.Jobs.{IsJob}
 use Rattle.sched_core.specs.Verdicts.{IsRecordOf, IsTreeFault, IsVerdict, algorithm_for, digest_by, digest_of, tree_at}
 use Rattle.sched_core.specs.declared.job.Answer.{Answer}
 use Rattle.sched_core.specs.declared.job.Job.{Job}
-use Rattle.sched_core.specs.declared.job.JobOutput.{JobOutput}
 use Rattle.sched_core.specs.declared.reason.Reason.{Reason}
 use Rattle.sched_core.specs.declared.reason.Reason.TheVariants.{ExitStatus, HashMismatch, Killed, MissingOutput, NoStart, NotFlatFile, OutOfMemory, OutputCycle, ReadFault, TooLarge}
 use Rattle.store_run.specs.SameOutcomes.{AllowsOneOutcome, AreSameAnswers, AreSameTrees, HaveSameBytes}
@@ -41,12 +39,8 @@ use Rattle.store_run.proofs.TwinPlans.{empty_kind, kind_empty, output_short, src
 -- ---- a file of no bytes
 
 file_fits : (tree : Tree) → IsEmptyFile tree → Fits tree
-file_fits (File bytes) is =
-    let none : bytes.items ≡ [] = let same = is.1 in cc in
-    record { depth = omega arith; entries = omega arith; bytes = omega (arith, ap length none) }
-file_fits (Pieces parts) is =
-    let none : joined parts.items ≡ [] = let same = is.1 in cc in
-    record { depth = omega arith; entries = omega arith; bytes = omega (arith, ap length none) }
+file_fits (File bytes) is = search rules
+file_fits (Pieces parts) is = search rules
 file_fits (Dir' shape entries) is = absurd (let clash = is.0 in cc)
 
 -- its record
@@ -55,10 +49,8 @@ file_in = record { references = []; digest = Some empty_digest }
 
 no_fault : (tree : Tree) → IsEmptyFile tree → (why : Reason) → IsTreeFault empty_kind tree why → ⊥
 no_fault tree is TooLarge unfit = unfit (file_fits tree is)
-no_fault tree is NotFlatFile fault = let clash : None ≡ Some empty_digest = sym fault.1 ∙ is.0 in cc
-no_fault tree is HashMismatch fault =
-    let same : Some fault.1.0 ≡ Some empty_digest = sym fault.1.1 ∙ is.0 in
-    fault.1.2 (let digests : fault.1.0 ≡ empty_digest = cc in digests)
+no_fault tree is NotFlatFile fault = search rules
+no_fault tree is HashMismatch fault = search rules
 no_fault tree is (ExitStatus n) none = none
 no_fault tree is NoStart none = none
 no_fault tree is (MissingOutput n) none = none
@@ -70,8 +62,7 @@ no_fault tree is Killed none = none
 -- the output's path has a hash part, which stands in no empty file
 hash_long : length (hash_part_of (out_empty (codes "src"))) ≡ 32
 unfolding store_path
-hash_long = ap length (hash_part_of_path store _ (codes "src") (hash_part_of_fold _) src_named)
-    ∙ hash_part_len _ (hash_part_of_fold _)
+hash_long = search (rules, hash_part_of_path, store, hash_part_of_fold, src_named, hash_part_len)
 
 none_within : (part before after : List ℕ) → length part ≡ 32 → [] ≡ before ++ (part ++ after) → ⊥
 none_within part before after long is =
@@ -79,8 +70,7 @@ none_within part before after long is =
     omega (arith, sum, long, length-append before (part ++ after), length-append part after)
 
 none_occurs : (part : List ℕ) → length part ≡ 32 → OccursIn part ([] ∷ []) → ⊥
-none_occurs part long (k, bytes, low, is, within) =
-    none_within part within.0 within.1 long (one_of [] bytes (k, low, is) ∙ within.2)
+none_occurs part long (k, bytes, low, is, within) = search (rules, none_within, one_of)
 
 record_of_file : (tree : Tree) → IsEmptyFile tree
     → IsRecordOf Sha256 (out_empty (codes "src") ∷ []) tree file_in
@@ -104,12 +94,10 @@ record_of_file tree is = record {
 
 module _ (job : Job) (is_job : IsJob three.graph 1 job) where
   second_node : is_job.node ≡ second_twin
-  second_node = same_element three.graph.nodes 1 is_job.node second_twin is_job.is_node refl
+  second_node = search (rules, same_element)
 
   second_one_output : length job.outputs.items ≡ 1
-  second_one_output = sym (length-map job.outputs.items (λ (o : JobOutput). o.path))
-      ∙ ap length is_job.paths
-      ∙ ap (λ (n : Node). length (output_paths_of n.drv)) second_node
+  second_one_output = search (rules, length-map, second_node)
 
   second_kind : job.kind ≡ empty_kind
   second_kind = one_kind second_twin.drv job.kind empty_kind
@@ -133,29 +121,23 @@ module _ (job : Job) (is_job : IsJob three.graph 1 job) where
 module _ (d : ℕ) (node : Node) (at : slice_get three.graph.nodes d ≡ Some node) (job : Job)
     (is_job : IsJob three.graph d job) (answer : Answer) where
   is_node : is_job.node ≡ node
-  is_node = same_element three.graph.nodes d is_job.node node is_job.is_node at
-
-  abbrev LeavesBy : (args : List (List ℕ)) → (builder : List ℕ) → Type 0
-  LeavesBy args builder = LeavesWith (list_any (same_bytes script) args)
-      (same_bytes builder (codes "/bin/false")) answer
+  is_node = search (rules, same_element)
 
   args_are : map bytes_of job.args.items ≡ node.drv.args
-  args_are = is_job.args ∙ ap (λ (n : Node). n.drv.args) is_node
+  args_are = search (rules, is_node)
 
   builder_is : job.builder.items ≡ node.drv.builder
-  builder_is = is_job.builder ∙ ap (λ (n : Node). n.drv.builder) is_node
+  builder_is = search (rules, is_node)
 
   leaves : may_leave_file job (Ok answer)
       → LeavesWith (list_any (same_bytes script) node.drv.args)
       (same_bytes node.drv.builder (codes "/bin/false")) answer
-  leaves may = subst (λ (b : List ℕ). LeavesBy node.drv.args b) builder_is
-      (subst (λ (all : List (List ℕ)). LeavesBy all job.builder.items) args_are may)
+  leaves may = search (rules, builder_is, args_are)
 
   pub may_leave_by : LeavesWith (list_any (same_bytes script) node.drv.args)
       (same_bytes node.drv.builder (codes "/bin/false")) answer
       → may_leave_file job (Ok answer)
-  may_leave_by left_behind = subst (λ (all : List (List ℕ)). LeavesBy all job.builder.items)
-      (sym args_are) (subst (λ (b : List ℕ). LeavesBy node.drv.args b) (sym builder_is) left_behind)
+  may_leave_by left_behind = search (rules, args_are, builder_is)
 
 -- ---- one outcome for each
 
@@ -172,18 +154,14 @@ same_one : (x y : Answer) (a b : Tree) → x.status ≡ y.status → x.trees.ite
 same_one x y a b status at_x at_y same = record { status = status; trees = each }
   where
     each : (n : ℕ) → AreSameTrees (tree_at x n) (tree_at y n)
-    each zero = rw (tree_first x a at_x, tree_first y b at_y) same
-    each (suc n) = rw (tree_later x a n at_x, tree_later y b n at_y) tt
+    each zero = search (rules, tree_first)
+    each (suc n) = search (rules, tree_later)
 
 -- an empty file's digest by each algorithm is that of no bytes
 digest_of_file : (algorithm : Algorithm) (tree : Tree) → IsEmptyFile tree
     → digest_of algorithm tree ≡ Some (digest_by algorithm [])
-digest_of_file algorithm (File bytes) is =
-    let none : bytes.items ≡ [] = let same = is.1 in cc in
-    ap (λ (l : List ℕ). Some (digest_by algorithm l)) none
-digest_of_file algorithm (Pieces parts) is =
-    let none : joined parts.items ≡ [] = let same = is.1 in cc in
-    ap (λ (l : List ℕ). Some (digest_by algorithm l)) none
+digest_of_file algorithm (File bytes) is = search rules
+digest_of_file algorithm (Pieces parts) is = search rules
 digest_of_file algorithm (Dir' shape entries) is = absurd (let clash = is.0 in cc)
 
 -- an empty folder has none by any
@@ -194,48 +172,29 @@ digest_of_folder algorithm (Pieces parts) is = absurd (let clash = is.0 in cc)
 digest_of_folder algorithm (Dir' shape entries) is = refl
 
 same_files : (a b : Tree) → IsEmptyFile a → IsEmptyFile b → HaveSameBytes a b
-same_files a b is is' = record {
-  bytes = is.1 ∙ sym is'.1;
-  digest = λ algorithm. digest_of_file algorithm a is ∙ sym (digest_of_file algorithm b is');
-  fits = (λ fits. file_fits b is', λ fits. file_fits a is);
-}
+same_files a b is is' = search (rules, digest_of_file, file_fits)
 
 same_folders : (a b : Tree) → IsEmptyFolder a → IsEmptyFolder b → HaveSameBytes a b
-same_folders a b is is' = record {
-  bytes = empty_pieces a is ∙ sym (empty_pieces b is');
-  digest = λ algorithm. digest_of_folder algorithm a is ∙ sym (digest_of_folder algorithm b is');
-  fits = (λ fits. empty_fits b is', λ fits. empty_fits a is);
-}
+same_folders a b is is' = search (rules, empty_pieces, digest_of_folder, empty_fits)
 
 none_twice : (x y : Answer) → Leaves true x → Leaves true y → AreSameAnswers x y
-none_twice x y one other = record {
-  status = one.0 ∙ sym other.0;
-  trees = λ n. rw (tree_none x n one.1, tree_none y n other.1) tt;
-}
+none_twice x y one other = search (rules, tree_none)
 
 file_twice : (x y : Answer) → LeavesWith true false x → LeavesWith true false y
     → AreSameAnswers x y
-file_twice x y one other = same_one x y one.1.0 other.1.0 (one.0 ∙ sym other.0) one.1.2 other.1.2
-    (same_files one.1.0 other.1.0 one.1.1 other.1.1)
+file_twice x y one other = search (rules, same_one, same_files)
 
 folder_twice : (x y : Answer) → Leaves false x → Leaves false y → AreSameAnswers x y
-folder_twice x y one other =
-    same_one x y one.1.0 other.1.0 (one.0 ∙ sym other.0) one.1.2 other.1.2
-    (same_folders one.1.0 other.1.0 one.1.1 other.1.1)
+folder_twice x y one other = search (rules, same_one, same_folders)
 
 allows_one : AllowsOneOutcome may_leave_file three.graph
 allows_one d job again (Err reason) y is is' may may' = absurd may
 allows_one d job again (Ok x) (Err reason) is is' may may' = absurd may'
-allows_one zero job again (Ok x) (Ok y) is is' may may' =
-    none_twice x y (leaves 0 first_twin refl job is x may)
-    (leaves 0 first_twin refl again is' y may')
-allows_one (suc zero) job again (Ok x) (Ok y) is is' may may' =
-    file_twice x y (leaves 1 second_twin refl job is x may)
-    (leaves 1 second_twin refl again is' y may')
+allows_one zero job again (Ok x) (Ok y) is is' may may' = search (rules, none_twice, leaves)
+allows_one (suc zero) job again (Ok x) (Ok y) is is' may may' = search (rules, file_twice, leaves)
 allows_one (suc (suc zero)) job again (Ok x) (Ok y) is is' may may' =
     folder_twice x y (leaves 2 right refl job is x may) (leaves 2 right refl again is' y may')
-allows_one (suc (suc (suc d))) job again (Ok x) (Ok y) is is' may may' =
-    absurd (let none = is.is_node in cc)
+allows_one (suc (suc (suc d))) job again (Ok x) (Ok y) is is' may may' = search rules
 
 pub three_outcome : HasOneOutcome may_leave_file three.graph
 three_outcome = allowed_is_one may_leave_file three.graph allows_one
@@ -275,7 +234,7 @@ second_answer = record {
 
 pub second_leaves : LeavesWith true false second_answer
 unfolding second_answer
-second_leaves = (refl, (File (vec_of [] (omega arith)), (refl, refl), refl))
+second_leaves = search (rules, vec_of)
 
 pub first_may : may_leave_file first_job (Ok left_answer)
 first_may = may_leave_by 0 first_twin refl first_job first_is_job left_answer left_leaves

@@ -1,5 +1,5 @@
 -- The plan of the three derivations is what loading gives from their files.
-use Rattle.std.proofs.Common.{◌≡◌, ◌<◌, ◌≤◌, ℕ, List, [], ◌∷◌, length, refl, sym, ap, ⊎_elim, arith, rules}
+use Rattle.std.proofs.Common.{◌≡◌, ◌<◌, ◌≤◌, ℕ, List, [], ◌∷◌, length, refl, sym, ⊎_elim, arith, rules}
 use Rattle.std.specs.Prelude.{Contains, codes}
 use Rattle.std.proofs.lemmas.List.{length-append}
 use Rattle.std.specs.Cmp.Lexicographic.{nat_list_eq_equiv}
@@ -33,14 +33,12 @@ hash_short = omega arith
 first_few : (out hash : List ℕ) → length out < 1000 → length hash < 1000
     → length (text_of (drv_with failing_twin out (codes "sha256") hash)) ≤ 4194304
 unfolding text spelling
-first_few out hash few few' =
-    simp length-append (omega (arith, few, few', spelling_few out, spelling_few hash))
+first_few out hash few few' = search (rules, length-append, spelling_few, hash)
 
 second_few : (out hash : List ℕ) → length out < 1000 → length hash < 1000
     → length (text_of (drv_with making_twin out (codes "sha256") hash)) ≤ 4194304
 unfolding text spelling
-second_few out hash few few' =
-    simp length-append (omega (arith, few, few', spelling_few out, spelling_few hash))
+second_few out hash few few' = search (rules, length-append, spelling_few, hash)
 
 first_keys : (out hash : List ℕ)
     → KeysRise derivation_form (drv_value (drv_with failing_twin out (codes "sha256") hash))
@@ -94,16 +92,10 @@ abbrev roots : List (List ℕ)
 roots = first_twin.path ∷ second_twin.path ∷ right.path ∷ []
 
 without_inputs : (n : Node) → Contains three.graph.nodes n → inputs_of n.drv ≡ []
-without_inputs n has =
-    ⊎_elim (λ is_first. sym (ap (λ (m : Node). inputs_of m.drv) is_first))
-    (λ later.
-    ⊎_elim (λ is_second. sym (ap (λ (m : Node). inputs_of m.drv) is_second))
-    (λ last. sym (ap (λ (m : Node). inputs_of m.drv) (one_of right n last)))
-    (Contains-cons_cases second_twin (right ∷ []) n later))
-    (Contains-cons_cases first_twin (second_twin ∷ right ∷ []) n has)
+without_inputs n has = search (rules, one_of, Contains-cons_cases)
 
 second_not_left : Contains (first_twin.path ∷ []) second_twin.path → ⊥
-second_not_left has = twins_differ (one_of first_twin.path second_twin.path has)
+second_not_left has = search (rules, twins_differ, one_of)
 
 right_not_left : Contains (first_twin.path ∷ second_twin.path ∷ []) right.path → ⊥
 right_not_left has =

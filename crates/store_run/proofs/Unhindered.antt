@@ -1,5 +1,5 @@
 -- What the state of a derivation follows from, in a history of a run.
-use Rattle.std.proofs.Common.{◌≡◌, ◌∙◌, ℕ, Bool, true, false, List, [], ◌∷◌, Option, Some, None, refl, sym, ap, if◌then◌else◌}
+use Rattle.std.proofs.Common.{◌≡◌, ◌∙◌, ℕ, Bool, true, false, List, [], ◌∷◌, Option, Some, None, refl, sym, ap, if◌then◌else◌, rules}
 use Rattle.std.specs.Prelude.{Contains, find, slice_get}
 use Rattle.std.specs.List.{list_all, list_any}
 use Rattle.drv_graph.specs.SoundGraphs.{IsSound}
@@ -43,10 +43,7 @@ pub state_by : (run : Run) (history : History) → IsSound run.graph → (d : �
     → phase_of history.events d ≡ p
     → state_in run history d ≡ by_phase p (state_aside run history d)
 unfolding table
-state_by run history sound d p is =
-    states_agree (rows_of run history.opening history.events) d
-    (rows_in_order run history.opening history.events sound)
-    ∙ ap (λ (q : Phase). by_phase q (state_aside run history d)) is
+state_by run history sound d p is = search (rules, states_agree, rows_in_order, state_aside)
 
 -- Nothing but its own events is in the way of a derivation.
 pub record IsUnhindered (run : Run) (history : History) (d : ℕ) : Type 0 where
@@ -93,15 +90,7 @@ none_passes f (n ∷ ns) none =
 pub aside_ready : (run : Run) (history : History) (d : ℕ) → IsUnhindered run history d
     → state_aside run history d ≡ Ready
 aside_ready run history d un =
-    let f = state_in run history in
-    let twins = twins_in run history d in
-    rw (
-      un.free,
-      none_passes (λ t. is_done (f t)) twins (λ t has. bad_is_not_done (f t) (un.spent t has)),
-      none_passes (λ t. is_open (f t)) twins (λ t has. bad_is_closed (f t) (un.spent t has)),
-      none_bad f (inputs_in run d) un.good,
-      all_from f (inputs_in run d) un.good,
-    ) refl
+    search (rules, twins_in, none_passes, bad_is_not_done, bad_is_closed, none_bad, inputs_in, all_from)
 
 -- and ready where it has no event
 pub unhindered_ready : (run : Run) (history : History) → IsSound run.graph → (d : ℕ)
