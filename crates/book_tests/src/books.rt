@@ -119,6 +119,14 @@ pub(crate) fn has_journal<O: Outlet>(
     Ok(book.journal().write(alloc)? == joined(alloc, text)?)
 }
 
+/// The report of a book that is settled.
+pub(crate) fn report<O: Outlet>(book: &Book<O>) -> Result<Vec<u8>, Fail> {
+    if !book.settled() {
+        return Err("it isn't settled".into());
+    }
+    Ok(book.report()?)
+}
+
 /// Whether a book is settled and has this report.
 pub(crate) fn has_report<O: Outlet>(
     alloc: Global,

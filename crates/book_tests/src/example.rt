@@ -6,6 +6,7 @@ ghost use Rattle.store_run.specs.GivenOutcomes.{IsDecided};
 ghost use Rattle.store_run.specs.ScheduleExample.{both, in_turn, may_leave, side_by_side};
 ghost use Rattle.store_run.specs.Scheduling.{AreAlike};
 
+use crate::books::report;
 use drv_graph::Plan;
 use nix_drv::{ListSource, ListedFile};
 use nix_names::{StoreDir, StorePath, parse_path};
@@ -117,14 +118,6 @@ fn programs(alloc: Global, count: usize) -> Result<Vec<Program>, AllocError> {
         programs.push(Program { alloc })?;
     }
     Ok(programs)
-}
-
-// The report of a run.
-fn report<O: Outlet>(book: &Book<O>) -> Result<Vec<u8>, Fail> {
-    if !book.settled() {
-        return Err("it isn't settled".into());
-    }
-    Ok(book.report()?)
 }
 
 // The report of a run that went to its end. Its book is closed, and so is the book of any other

@@ -54,6 +54,8 @@ pub(crate) const FLAT_OUT: &[u8] = b"/nix/store/jafr3l9gcgc9kss6avik01b7k153scmh
 /// With the source `SRC`.
 pub(crate) const SOURCED: &[u8] = b"/nix/store/p8aybn13ahfa1kqwybh131bvza4i7sai-sourced.drv";
 
+pub(crate) const SOURCED_OUT: &[u8] = b"/nix/store/bf3gvr9lp9av44m7krgy1wf8l3pprbww-sourced";
+
 /// For another system.
 pub(crate) const FOREIGN: &[u8] = b"/nix/store/l55pa4jc6x77irz0il0lflaw8fj7wqi1-foreign.drv";
 

@@ -9,6 +9,9 @@ pub(crate) struct Hindered {
     pub output: &'static [u8],
 }
 
+/// With a builder of the kind that is left out.
+pub(crate) const ASKING: &[u8] = b"/nix/store/k0x39cs30b55w0ja2ssc40fa54qrnfbn-builtin.drv";
+
 pub(crate) static HINDERED: [Hindered; 9] = [
     Hindered {
         label: "the key __json",
@@ -69,7 +72,7 @@ pub(crate) static HINDERED: [Hindered; 9] = [
     Hindered {
         label: "a builder of the kind that is left out",
         file: File {
-            path: b"/nix/store/k0x39cs30b55w0ja2ssc40fa54qrnfbn-builtin.drv",
+            path: ASKING,
             text: b"Derive([(\"out\",\"/nix/store/0pgk7hcpwfayn38kajyn25ck5czdbgg2-builtin\",\"\",\"\")],[],[],\"x86_64-linux\",\"builtin:fetchurl\",[],[])",
         },
         output: b"/nix/store/0pgk7hcpwfayn38kajyn25ck5czdbgg2-builtin",

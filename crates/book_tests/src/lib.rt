@@ -1,11 +1,13 @@
-//! Tests of books and of runs by workers, for what no contract says: that calls succeed, the texts
-//! of reports and journals, and whole runs, whose builders follow scripts.
+//! Tests of books, of forecasts and of runs by workers, for what no contract says: that calls
+//! succeed, the texts of reports, forecasts and journals, and whole runs, whose builders follow
+//! scripts.
 //!
 //! | Module | What is tested |
 //! |---|---|
 //! | `rows`, `twin_rows`, `digests` | runs, with their reports, journals and counts of events |
 //! | `runs` | these runs on one thread |
 //! | `workers` | these runs and others by workers, over a view |
+//! | `forecasts` | forecasts, each beside the report of a run whose builders make their outputs |
 //! | `causes` | derivations that ask for a feature that is left out |
 //! | `calls` | leases, and what a book answers about itself |
 //! | `verdicts` | the verdict on an answer |
@@ -43,6 +45,8 @@ mod digests;
 mod example;
 #[cfg(test)]
 mod files;
+#[cfg(test)]
+mod forecasts;
 #[cfg(test)]
 mod growths;
 #[cfg(test)]

@@ -21,6 +21,8 @@ pub(crate) const STRANGE: &[u8] = b"/nix/store/xqxcbynh1vy3j3jmqfjvcg6kdjwlsdp5-
 /// A user of `BROKEN` and `MADE`, in this order.
 pub(crate) const USER: &[u8] = b"/nix/store/qv0kiyvbqlnklicxpbvdz7z32xirck31-u.drv";
 
+pub(crate) const USER_OUT: &[u8] = b"/nix/store/shwh4gdybk0vwjjbk0q614jqk0cxk4av-u";
+
 /// A user of `BROKEN`, with two outputs.
 pub(crate) const PAIR: &[u8] = b"/nix/store/gygvcim3b47913il7nz3r7dxpwnzn7la-pair.drv";
 

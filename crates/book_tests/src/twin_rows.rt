@@ -6,7 +6,7 @@ use crate::twin_files::*;
 
 const ONE_STATUS: &[u8] = b": ExitStatus(1)\n";
 
-const WRONG_SYSTEM: &[u8] = b": WrongSystem\n";
+pub(crate) const WRONG_SYSTEM: &[u8] = b": WrongSystem\n";
 
 static TWINS: [Row; 18] = [
     Row {

@@ -1,38 +1,32 @@
-//! Plans and their forecasts.
+//! Forecasts, each beside the report of a run whose builders make their outputs.
+use crate::books::{Pieces, joined, journal, open, plan, report, system};
+use crate::builders::{Script, build_all};
 use crate::files::*;
+use crate::hindered::ASKING;
+use crate::rows::{BEHIND, CLOSED, END, NONE, OUTPUT, VERSION};
+use crate::twin_files::*;
+use crate::twin_rows::WRONG_SYSTEM;
+use drv_graph::Plan;
+use forecast::Forecast;
+use sched_core::Book;
+use std::alloc::{AllocError, Global};
+use std::test::*;
+use valid_table::{Journal, ListOutlet};
 
-/// A text, in pieces.
-pub(crate) type Pieces = &'static [&'static [u8]];
-
-/// A run: its roots, the lines of its journal, its forecast, and whether the forecast is whole.
-pub(crate) struct Row {
-    pub label: &'static str,
-    pub roots: &'static [&'static [u8]],
-    pub before: Pieces,
-    pub told: Pieces,
-    pub whole: bool,
+// A run: its roots, the lines of its journal, its forecast, and whether the forecast is whole.
+struct Row {
+    label: &'static str,
+    roots: &'static [&'static [u8]],
+    before: Pieces,
+    told: Pieces,
+    whole: bool,
 }
 
-pub(crate) const BUILD: &[u8] = b"build ";
+const BUILD: &[u8] = b"build ";
 
-pub(crate) const REUSE: &[u8] = b"reuse ";
+const REUSE: &[u8] = b"reuse ";
 
-pub(crate) const REFUSE: &[u8] = b"refuse ";
-
-const OUTPUT: &[u8] = b"output ";
-
-const END: &[u8] = b"\n";
-
-const BEHIND: &[u8] = b": InputNotRealised(";
-
-const CLOSED: &[u8] = b")\n";
-
-const STRANGE_SYSTEM: &[u8] = b": WrongSystem\n";
-
-const VERSION: &[u8] = b"realiser-journal 2\n";
-
-// A folder's digest.
-const NONE: &[u8] = b" -\n";
+const REFUSE: &[u8] = b"refuse ";
 
 static ROWS: [Row; 15] = [
     Row {
@@ -110,7 +104,7 @@ static ROWS: [Row; 15] = [
             END,
             REFUSE,
             FOREIGN,
-            STRANGE_SYSTEM,
+            WRONG_SYSTEM,
             OUTPUT,
             APART_OUT,
             END,
@@ -149,7 +143,7 @@ static ROWS: [Row; 15] = [
         told: &[
             REFUSE,
             STRANGE,
-            STRANGE_SYSTEM,
+            WRONG_SYSTEM,
             BUILD,
             MADE,
             END,
@@ -185,7 +179,7 @@ static ROWS: [Row; 15] = [
         told: &[
             REFUSE,
             ABROAD,
-            STRANGE_SYSTEM,
+            WRONG_SYSTEM,
             BUILD,
             MADE,
             END,
@@ -206,6 +200,74 @@ static ROWS: [Row; 15] = [
     },
 ];
 
-pub(crate) fn rows() -> &'static [Row] {
-    &ROWS
+// With it every builder makes its outputs, also that of `BROKEN`.
+static MAKING: [Script; 1] = [Script {
+    output: MADE_OUT,
+    status: Some(0),
+    files: &[Some(b"")],
+}];
+
+// The forecast of a run over a plan that opens with a journal.
+fn forecast_of(alloc: Global, plan: Plan, journal: Journal) -> Result<Forecast, Fail> {
+    let system = system(alloc)?;
+    Ok(Forecast::open(alloc, plan, journal, system)?)
+}
+
+// The forecast of a row.
+fn forecast(alloc: Global, row: &Row) -> Result<Forecast, Fail> {
+    forecast_of(alloc, plan(alloc, row.roots)?, journal(alloc, row.before)?)
+}
+
+// A report's piece in place of this piece of a forecast.
+fn reported(piece: &'static [u8]) -> &'static [u8] {
+    if piece == BUILD {
+        return b"built ";
+    }
+    if piece == REUSE {
+        return b"reused ";
+    }
+    if piece == REFUSE { b"refused " } else { piece }
+}
+
+// The report that is forecast.
+fn report_of(alloc: Global, told: Pieces) -> Result<Vec<u8>, AllocError> {
+    let mut text = Vec::new(alloc);
+    for piece in told {
+        text.extend_from_slice(reported(piece))?;
+    }
+    Ok(text)
+}
+
+// The report of a book, when every derivation that can be built is built.
+fn report_at_end(alloc: Global, book: &mut Book<ListOutlet>) -> Result<Vec<u8>, Fail> {
+    build_all(alloc, book, &MAKING)?;
+    report(book)
+}
+
+// The report of a run whose builders make their outputs.
+fn run(alloc: Global, row: &Row) -> Result<Vec<u8>, Fail> {
+    let mut book = open(alloc, row.roots, row.before)?;
+    let report = report_at_end(alloc, &mut book);
+    book.close();
+    report
+}
+
+#[test]
+fn texts_of_forecasts(rt: HostRuntime) -> Result<(), Fail> {
+    for row in &ROWS {
+        let forecast = forecast(rt.alloc(), row)?;
+        let told = joined(rt.alloc(), row.told)?;
+        assert_eq!(rt; forecast.text()?, told, "{}", row.label);
+        assert_eq!(rt; forecast.is_whole(), row.whole, "{}", row.label);
+    }
+    Ok(())
+}
+
+#[test]
+fn runs_end_as_foretold(rt: HostRuntime) -> Result<(), Fail> {
+    for row in &ROWS {
+        let report = report_of(rt.alloc(), row.told)?;
+        assert_eq!(rt; run(rt.alloc(), row)?, report, "{}", row.label);
+    }
+    Ok(())
 }
