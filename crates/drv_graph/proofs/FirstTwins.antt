@@ -23,14 +23,14 @@ use Rattle.drv_graph.specs.declared.node.PlanNode.{PlanNode}
 
 -- ---- the test of twins
 
-among_has : (paths others : List (List ℕ)) (path : List ℕ) → are_among paths others ≡ true
+pub among_has : (paths others : List (List ℕ)) (path : List ℕ) → are_among paths others ≡ true
     → Contains paths path → Contains others path
 among_has paths others path all has =
     let known : List ℕ → Bool = λ p. list_any (same_bytes p) others in
     Contains-from_any equal_from_eq path others
     (All-contains (λ p. known p ≡ true) paths path (AllPass-from_list_all known paths all) has)
 
-among_from : (paths others : List (List ℕ))
+pub among_from : (paths others : List (List ℕ))
     → ((path : List ℕ) → Contains paths path → Contains others path) → are_among paths others
     ≡ true
 among_from paths others each =

@@ -57,7 +57,7 @@ all_ascii test passes (b ∷ bytes) h =
     All-cons IsAsciiByte b bytes (passes b parts.0) (all_ascii test passes bytes parts.1)
 
 -- the bytes of a hash part, of a name and of a component pass their tests
-hash_passes : (hash : List ℕ) → is_hash_part hash ≡ true → list_all is_digit hash ≡ true
+pub hash_passes : (hash : List ℕ) → is_hash_part hash ≡ true → list_all is_digit hash ≡ true
 unfolding is_hash_part
 hash_passes hash h = (and_parts _ _ h).1
 

@@ -38,7 +38,7 @@ one_list n a b are_a are_b same =
 -- ---- digests
 
 -- a digest is told by its algorithm and its bytes
-made_again : (digest : Digest) → digest_with (algorithm_of digest) (bytes_of digest) ≡ digest
+pub made_again : (digest : Digest) → digest_with (algorithm_of digest) (bytes_of digest) ≡ digest
 made_again (OfMd5 bytes) = refl
 made_again (OfSha1 bytes) = refl
 made_again (OfSha256 bytes) = refl

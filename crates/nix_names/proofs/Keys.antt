@@ -11,7 +11,7 @@ use Rattle.std.proofs.lemmas.List.{append_assoc, append-nil, length-take-le, tak
 use Rattle.nix_names.specs.Base32.{is_digit}
 use Rattle.nix_names.specs.Keys.{key_of}
 use Rattle.nix_names.specs.StorePaths.{IsPathOf, IsStorePath, hash_part_of, is_hash_part}
-use Rattle.nix_names.proofs.AsciiPaths.{digit_is_ascii}
+use Rattle.nix_names.proofs.AsciiPaths.{digit_is_ascii, hash_passes}
 use Rattle.nix_names.proofs.PathTexts.{hash_part_is, hash_part_len, hash_part_of_is}
 
 -- ---- numbers of equally many bytes compare as these do
@@ -99,11 +99,6 @@ small_first (suc n) (b ∷ hash) digits =
     let parts = and_parts (is_digit b) (list_all is_digit hash) digits in
     let ascii = digit_is_ascii b parts.0 in (omega (arith, ascii), small_first n hash parts.1)
 
--- the bytes of a hash part are base-32 digits
-all_digits : (hash : List ℕ) → is_hash_part hash ≡ true → list_all is_digit hash ≡ true
-unfolding is_hash_part
-all_digits hash is = (and_parts _ _ is).1
-
 -- texts that begin with hash parts compare as the keys of these do, where they differ
 pub lesser_hash : (p q rest others : List ℕ) → is_hash_part p ≡ true → is_hash_part q ≡ true
     → from_be_bytes w64 (take 8 p) < from_be_bytes w64 (take 8 q)
@@ -112,7 +107,7 @@ lesser_hash p q rest others of_p of_q less =
     ap₂ (slice_cmp nat_cmp) (split p rest) (split q others)
     ∙ bytes_less 0 (take 8 p) (take 8 q) (drop 8 p ++ rest) (drop 8 q ++ others)
     (eight p of_p ∙ sym (eight q of_q))
-    (small_first 8 p (all_digits p of_p)) (small_first 8 q (all_digits q of_q))
+    (small_first 8 p (hash_passes p of_p)) (small_first 8 q (hash_passes q of_q))
     (omega (
       arith,
       less,

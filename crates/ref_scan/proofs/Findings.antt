@@ -49,8 +49,3 @@ found_no_more lists seen found path before none = record {
         (Contains-push_cases seen path x h.0),
   );
 }
-
--- the paths up to and with the one at hand
-pub taken_with : {X : Type 0} (xs : List X) (i : ℕ) (x : X) → i < length xs → x ≡ get_or xs i x
-    → take (i + 1) xs ≡ take i xs ++ x ∷ []
-taken_with xs i x lt is = search (rules, take_more)

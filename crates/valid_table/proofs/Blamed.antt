@@ -1,5 +1,5 @@
 -- The registration that is to blame, and how that is told.
-use Rattle.std.proofs.Common.{◌≡◌, ℕ, ◌<◌, List, ◌++◌, length, take, get_or, refl, sym, subst, ap, ◌∙◌, rules}
+use Rattle.std.proofs.Common.{◌≡◌, ℕ, ◌<◌, List, ◌++◌, length, take, get_or, refl, sym, ap, ◌∙◌, rules}
 use Rattle.std.specs.Prelude.{All, Contains, Err, MatchOption, Option, Result, Some, None, ⊤, slice_get}
 use Rattle.std.proofs.lemmas.Option.{slice_get-get_or}
 use Rattle.valid_table.specs.Adding.{AreClosed, AreNew, IsTakingIn}
@@ -50,9 +50,7 @@ pub blamed_read :
     IsBlamed known some blame →
     slice_get some blame.registration ≡ Some r →
     IsBlamedFor known some r blame.reference
-blamed_read known some blame r (one, at, blamed) read =
-    subst (λ (x : Registration). IsBlamedFor known some x blame.reference)
-    (same_element some blame.registration one r at read) blamed
+blamed_read known some blame r (one, at, blamed) read = search (rules, same_element)
 
 -- and the fault is what is answered
 pub taking_refused :
@@ -65,8 +63,7 @@ pub taking_refused :
 taking_refused known some taken same r None (AlreadyValid path) blamed told kept =
     rw told (blamed, kept)
 taking_refused known some taken same r (Some place) (Unclosed path) (first, read, new, is) told
-    kept =
-    rw (same_element r.info.references place path first told read) (new, is, kept)
+    kept = search (rules, same_element)
 taking_refused known some taken same r reference fault blamed told kept = absurd told
 
 -- memory was refused, where nothing stands against them

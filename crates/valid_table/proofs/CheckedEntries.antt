@@ -9,7 +9,7 @@ use Rattle.nix_names.specs.declared.digest.Digest.{Digest}
 use Rattle.valid_table.specs.Checking.{IsEntryCheck, IsLineCheck, IsRight, RegistersKnown, header}
 use Rattle.valid_table.specs.Entering.{AreUnknown, IsNewFront, IsNotKnown}
 use Rattle.valid_table.specs.Entries.{paths_registered, registered_by}
-use Rattle.valid_table.specs.Texts.{Line, Added, Deriver, Output, Reference, entry_lines}
+use Rattle.valid_table.specs.Texts.{Line, Added, Output, Reference, entry_lines}
 use Rattle.valid_table.specs.Valid.{references_of}
 use Rattle.valid_table.specs.declared.entry.Entry.{Entry}
 use Rattle.valid_table.specs.declared.entry.Entry.TheVariants.{Add, Done}
@@ -84,7 +84,7 @@ module _ (known all : List (List ℕ)) where
   -- the lines before those of what an entry registers are right
   header_right : (entry : Entry) → All Right (header entry)
   header_right (Add r) = All-nil Right
-  header_right (Done deriver outputs) = All-cons Right (Deriver deriver) [] tt (All-nil Right)
+  header_right (Done deriver outputs) = search (rules, All-cons, All-nil)
 
   -- the line of a new path is right
   start_right : (entry : Entry) (path : List ℕ) (digest : Option Digest) → IsNotKnown known path

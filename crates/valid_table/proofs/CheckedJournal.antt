@@ -122,13 +122,7 @@ split_two (z ∷ a) x xs (w ∷ b) y ys same =
 -- entries with another behind them, and more, have at least its lines more
 lines_behind : (entries : List Entry) (entry : Entry) (more : List Entry) → length (lines entries)
     + length (entry_lines entry) ≤ length (lines (entries ++ entry ∷ more))
-lines_behind entries entry more =
-    omega (
-      arith,
-      ap length (flat_map-append entry_lines entries (entry ∷ more)),
-      length-append (flat_map entry_lines entries) (flat_map entry_lines (entry ∷ more)),
-      length-append (entry_lines entry) (flat_map entry_lines more),
-    )
+lines_behind entries entry more = search (rules, flat_map-append, entry, length-append, flat_map)
 
 -- Line m of a journal is wrong.
 pub record IsWrongAt (entries : List Entry) (m : ℕ) : Type 0 where
@@ -307,7 +301,7 @@ module _ (entries : List Entry) (i : ℕ) (entry : Entry) (lt : i < length entri
         least_fault entries (take i entries) entry (drop (i + 1) entries) line place n
             (parts_at entries i entry lt is) right up at,
       )
-  first_fault first NoMemory right number check = λ none. absurd (omega (arith, lt, ap length none))
+  first_fault first NoMemory right number check = search rules
   first_fault first other right number check = check
 
   -- its lines and those before it are no more than all

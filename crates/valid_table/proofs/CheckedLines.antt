@@ -1,6 +1,6 @@
 -- The lines of registrations, counted and checked.
 use Rattle.std.proofs.lemmas.Grind.{common_steps}
-use Rattle.std.proofs.Common.{◌≡◌, ◌∙◌, ℕ, ◌+◌, ◌<◌, ◌≤◌, List, ◌∷◌, ◌++◌, length, flat_map, take, drop, get_or, ap, subst, arith, length-append}
+use Rattle.std.proofs.Common.{◌≡◌, ◌∙◌, ℕ, ◌+◌, ◌<◌, ◌≤◌, List, ◌++◌, length, flat_map, take, drop, get_or, ap, subst, arith, length-append, rules}
 use Rattle.std.specs.Prelude.{All, Contains, Err, Ok}
 use Rattle.std.proofs.lemmas.List.{append-nil, length-map, length-take-le, take_all, take_more}
 use Rattle.std.proofs.lemmas.List.Concat.{flat_map-append}
@@ -20,8 +20,7 @@ line_count rs = length (flat_map output_lines rs)
 
 -- those of two lists of them
 line_count-append : (a b : List Registration) → line_count (a ++ b) ≡ line_count a + line_count b
-line_count-append a b = ap length (flat_map-append output_lines a b)
-    ∙ length-append (flat_map output_lines a) (flat_map output_lines b)
+line_count-append a b = search (rules, flat_map-append, length-append, flat_map)
 
 -- those of one more
 pub line_count_more :
@@ -49,8 +48,7 @@ line_count_fits rs i r lt is =
 -- the place of an unknown path is within the list
 pub unknown_within : (all paths : List (List ℕ)) (at : ℕ) → IsFirstUnknownAt all paths at → at
     < length paths
-unknown_within all paths at (path, first, is) =
-    omega (arith, ap length first.parts, length-append first.before (path ∷ first.after))
+unknown_within all paths at (path, first, is) = search (rules, length-append)
 
 -- the registration behind the new ones is known
 pub twice_here :

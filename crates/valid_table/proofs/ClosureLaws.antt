@@ -51,15 +51,8 @@ registers_from_valid registrations path valid =
 pub leads_behind : (first more : List Registration) (from to : List ℕ) (steps : List (List ℕ))
     → LeadsByReferences first from to steps → LeadsByReferences (first ++ more) from to steps
 leads_behind first more from to [] leads = (still_valid first more from leads.0, leads.1)
-leads_behind first more from to (next ∷ steps) leads = (
-  (
-    leads.0.0,
-    Contains-append_left first more (record { path = from; info = leads.0.0 })
-        leads.0.1,
-    leads.0.2,
-  ),
-  leads_behind first more next to steps leads.1,
-)
+leads_behind first more from to (next ∷ steps) leads =
+    search (rules, Contains-append_left, leads_behind first more next to steps leads.1)
 
 -- from a valid path, more registrations lead nowhere else
 pub leads_before : (first more : List Registration) → AreReferencesValid first

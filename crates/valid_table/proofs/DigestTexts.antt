@@ -1,5 +1,5 @@
 -- Which bytes are a digest's text in a version.
-use Rattle.std.proofs.Common.{◌≡◌, ◌≢◌, ℕ, List, Option, Some, None}
+use Rattle.std.proofs.Common.{◌≡◌, ◌≢◌, ℕ, List, Option, Some, None, rules}
 use Rattle.std.specs.Prelude.{MatchOption, codes}
 use Rattle.nix_names.specs.Digests.{IsDigest, algorithm_of, digits_of}
 use Rattle.nix_names.specs.declared.digest.Algorithm.TheVariants.{Sha256}
@@ -24,5 +24,5 @@ pub in_one : (text : List ℕ) (found : Option Digest)
     → MatchOption found
     ((digest : Digest) → IsDigestOf One (Some digest) → text ≢ digest_text One (Some digest))
     (λ digest. IsDigestOf One (Some digest) × (text ≡ digest_text One (Some digest)))
-in_one text None none = λ digest is. none digest is.1 is.0
+in_one text None none = search rules
 in_one text (Some digest) found = ((found.1, found.0), found.2)

@@ -1,5 +1,5 @@
 -- Registrations whose paths and references are looked up among known ones.
-use Rattle.std.proofs.Common.{◌≡◌, ◌∙◌, ℕ, ◌+◌, ◌<◌, ◌≤◌, List, ◌∷◌, ◌++◌, length, take, drop, get_or, sym, ap, subst, arith}
+use Rattle.std.proofs.Common.{◌≡◌, ◌∙◌, ℕ, ◌+◌, ◌<◌, ◌≤◌, List, ◌∷◌, ◌++◌, length, take, drop, get_or, sym, ap, subst, arith, rules}
 use Rattle.std.specs.Prelude.{All, Contains, IfSome, Some, slice_get}
 use Rattle.std.proofs.lemmas.List.{get_or_at, length-append, length-take-le, take_all}
 use Rattle.std.proofs.lemmas.List.Elements.{All-append, All-more}
@@ -17,7 +17,7 @@ use Rattle.nix_names.proofs.Lists.{element_at, get_mapped, parts_at}
 -- the path of the registration at a place
 pub path_at : (rs : List Registration) (i : ℕ) (r : Registration) (d : List ℕ) → i < length rs → r
     ≡ get_or rs i r → get_or (paths_registered rs) i d ≡ r.path
-path_at rs i r d lt is = path_read rs i r d lt ∙ ap (λ (x : Registration). x.path) (sym is)
+path_at rs i r d lt is = search (rules, path_read)
 
 -- all paths were new
 pub front_all : (known : List (List ℕ)) (rs : List Registration) (n : ℕ) → length rs ≤ n

@@ -1,5 +1,5 @@
 -- Registrations that are put among the rows of a table before their lines are checked.
-use Rattle.std.proofs.Common.{◌≡◌, ◌∙◌, ℕ, ◌+◌, ◌<◌, ◌≤◌, Bool, true, false, List, [], ◌∷◌, ◌++◌, length, take, drop, get_or, sym, ap, subst, arith, refl, inl, inr, nat_eq}
+use Rattle.std.proofs.Common.{◌≡◌, ◌∙◌, ℕ, ◌+◌, ◌<◌, ◌≤◌, Bool, true, false, List, [], ◌∷◌, ◌++◌, length, take, drop, get_or, sym, ap, subst, arith, refl, inl, inr, nat_eq, rules}
 use Rattle.std.specs.Prelude.{Contains, IfSome, OnOk, Some, Result, Ok, Err, is_some}
 use Rattle.std.specs.List.{IsDistinct, take-map}
 use Rattle.std.specs.Cmp.Lexicographic.{pointwise}
@@ -126,15 +126,11 @@ put_twice known rs now new i r rising is_front unknown lt is put = (
 -- all were put behind them
 pub put_all : (known rs new : List Registration) (n : ℕ) → length rs ≤ n → new ≡ front known rs n
     → new ≡ known ++ rs
-put_all known rs new n long is = is ∙ ap (λ l. known ++ l) (take_all n rs long)
+put_all known rs new n long is = search (rules, take_all)
 
 pub put_paths : (known rs new : List Registration) (n : ℕ) → length rs ≤ n → new ≡ front known rs n
     → paths_registered new ≡ paths_registered known ++ take (length rs) (paths_registered rs)
-put_paths known rs new n long is =
-    ap paths_registered (put_all known rs new n long is)
-    ∙ paths_of-append known rs
-    ∙ ap (λ l. paths_registered known ++ l)
-    (sym (take_all (length rs) (paths_registered rs) (omega (arith, path_count rs))))
+put_paths known rs new n long is = search (rules, put_all, paths_of-append, take_all, path_count)
 
 -- ---- lines that were checked behind more rows with the same paths
 

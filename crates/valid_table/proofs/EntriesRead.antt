@@ -1,6 +1,5 @@
 -- The entries of a journal, read one after another.
 use Rattle.std.proofs.Common.{◌≡◌, true, ℕ, List, [], ◌∷◌, ◌++◌, length, ◌==◌, inl, ap, sym, ◌∙◌, rules}
-use Rattle.std.specs.List.{flat_map}
 use Rattle.std.proofs.lemmas.Bool.{eqb-true}
 use Rattle.std.proofs.lemmas.List.{append-nil, append_assoc, nil_from_length}
 use Rattle.std.proofs.lemmas.List.Concat.{flat_map-append}
@@ -62,25 +61,12 @@ pub text_read : (version : Version) (dir bytes : List ℕ) (entries : List Entry
     → IsJournalText dir entries bytes
 unfolding text
 text_read version dir bytes entries rest so_far empty =
-    let none = nil_from_length rest (eqb-true (length rest) 0 empty) in
-    inl (
-      version,
-      record {
-        of_dir = so_far.of_dir;
-        bytes_are = so_far.parts ∙ ap (λ r. lines_text version (lines entries) ++ r) none
-            ∙ append-nil (lines_text version (lines entries));
-      },
-    )
+    search (rules, nil_from_length, eqb-true, append-nil)
 
 -- the bytes begin with the line of their version
 pub version_begins : (version : Version) (dir bytes : List ℕ) (entries : List Entry)
     (rest : List ℕ) → SoFarEntries version dir bytes entries rest → BeginsVersion version bytes
-version_begins version dir bytes entries rest so_far = (
-  lines_text version (flat_map entry_lines entries) ++ rest,
-  so_far.parts
-      ∙ append_assoc (version_line version) (lines_text version (flat_map entry_lines entries))
-      rest,
-)
+version_begins version dir bytes entries rest so_far = search (rules, append_assoc)
 
 -- where the lines of an entry stop, so do those of the text
 pub text_stops : (version : Version) (dir bytes : List ℕ) (entries : List Entry) (rest : List ℕ)

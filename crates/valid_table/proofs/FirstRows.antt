@@ -1,6 +1,6 @@
 -- Rows that were found, in another order: those of the first rows of a table, and those behind
 -- them.
-use Rattle.std.proofs.Common.{◌≡◌, ◌⊎◌, Contains, ◌∙◌, ◌≤◌, ◌<◌, ◌+◌, ℕ, List, [], ◌∷◌, ◌++◌, All, Bool, true, false, cond, not, ◌&&◌, ◌||◌, length, nat_eq, nat_lt, inl, inr, refl, sym, ap, subst, arith}
+use Rattle.std.proofs.Common.{◌≡◌, ◌⊎◌, Contains, ◌∙◌, ◌≤◌, ◌<◌, ◌+◌, ℕ, List, [], ◌∷◌, ◌++◌, All, Bool, true, false, cond, not, ◌&&◌, ◌||◌, length, nat_eq, nat_lt, inl, inr, refl, sym, ap, subst, arith, rules}
 use Rattle.std.specs.List.{AllByRecursion, IsDistinct, filter, list_any}
 use Rattle.std.specs.List.Sorted.{IsPermutation}
 use Rattle.std.proofs.lemmas.Bool.{cases_lt, eq-eqb, eqb-true, false≢true, le-ltb, lt-ltb, ltb-true}
@@ -46,8 +46,7 @@ none_from_apart x (y ∷ ys) apart = rw apart.0 (none_from_apart x ys apart.1)
 -- a list's numbers of which a test holds
 pub kept_same : (p : ℕ → Bool) (x : ℕ) (xs : List ℕ) → list_any (nat_eq x) (filter p xs)
     ≡ (p x && list_any (nat_eq x) xs)
-kept_same p x xs = any-filter_same (nat_eq x) p (p x)
-    (λ k same. ap p (sym (eqb-true x k same))) xs
+kept_same p x xs = search (rules, any-filter_same, nat_eq, eqb-true)
 
 kept_or_not : (b : Bool) (x : ℕ) (xs : List ℕ) → AllByRecursion (λ y. nat_eq x y ≡ false) xs
     → IsDistinct nat_eq xs → IsDistinct nat_eq (cond b (x ∷ xs) xs)
@@ -60,12 +59,7 @@ distinct_kept : (p : ℕ → Bool) (xs : List ℕ) → IsDistinct nat_eq xs
 unfolding IsDistinct
 distinct_kept p [] distinct = tt
 distinct_kept p (x ∷ xs) distinct =
-    let apart : list_any (nat_eq x) (filter p xs) ≡ false =
-    kept_same p x xs
-    ∙ ap (λ b. p x && b) (none_from_apart x xs distinct.0)
-    ∙ and_none (p x) in
-    kept_or_not (p x) x (filter p xs) (apart_from_none x (filter p xs) apart)
-    (distinct_kept p xs distinct.1)
+    search (rules, nat_eq, kept_same, none_from_apart, and_none, kept_or_not, apart_from_none, distinct_kept p xs distinct.1)
 
 distinct_both : (xs ys : List ℕ) → IsDistinct nat_eq xs → IsDistinct nat_eq ys
     → ((x : ℕ) → list_any (nat_eq x) xs ≡ true → list_any (nat_eq x) ys ≡ false)
@@ -94,11 +88,7 @@ distinct_both (x ∷ xs) ys first second apart = (
 
 pub none_first : (count : ℕ) → AreFirst count []
 unfolding IsDistinct
-none_first count = record {
-  few = omega arith;
-  distinct = tt;
-  there = λ row. sym (le-ltb row 0 (omega arith));
-}
+none_first count = search (rules, le-ltb)
 
 -- they are rows of the table
 pub first_below : (count : ℕ) (rows : List ℕ) → AreFirst count rows → All (λ r. r < count) rows
@@ -107,16 +97,12 @@ first_below count rows are =
     (λ r has. within r (sym (are.there r) ∙ list_any-from_Contains nat_eq_equiv r rows has))
   where
     within : (r : ℕ) → nat_lt r (length rows) ≡ true → r < count
-    within r is = omega (arith, are.few, ltb-true r (length rows) is)
+    within r is = search (rules, ltb-true)
 
 -- they stay so when more is registered
 pub first_stay : (count more : ℕ) (rows : List ℕ) → AreFirst count rows → count ≤ more
     → AreFirst more rows
-first_stay count more rows are fewer = record {
-  few = omega (arith, are.few, fewer);
-  distinct = are.distinct;
-  there = are.there;
-}
+first_stay count more rows are fewer = search rules
 
 -- and when they are put in another order
 pub first_moved : (count : ℕ) (keyed moved : List (ℕ × ℕ)) → IsPermutation keyed moved
@@ -162,9 +148,7 @@ first_more count rows are below = record {
       where
         split : (b : Bool) → nat_eq row (length rows) ≡ b
             → (nat_eq row (length rows) || false) ≡ nat_lt row (length rows + 1)
-        split true is = rw is
-            (sym (lt-ltb row (length rows + 1)
-            (omega (arith, eqb-true row (length rows) is))))
+        split true is = search (rules, lt-ltb, eqb-true)
         split false is = rw is
             (sym (le-ltb row (length rows + 1) (beyond (cases_lt row (length rows + 1)))))
           where
@@ -269,25 +253,12 @@ pub kept : {A : Type 0} (p : A → Bool) (rows more start old new : List A) (row
     → more ≡ rows ++ row ∷ [] → old ≡ start ++ filter p rows → p row ≡ true → new ≡ old ++ row ∷ []
     → new ≡ start ++ filter p more
 kept p rows more start old new row more_is before is pushed =
-    let one : filter p more ≡ filter p rows ++ row ∷ [] =
-    ap (filter p) more_is
-    ∙ filter-append p rows (row ∷ [])
-    ∙ ap (λ b. filter p rows ++ cond b (row ∷ []) []) is in
-    pushed
-    ∙ ap (λ l. l ++ row ∷ []) before
-    ∙ append_assoc start (filter p rows) (row ∷ [])
-    ∙ ap (λ l. start ++ l) (sym one)
+    search (rules, filter-append, append_assoc)
 
 pub left_out : {A : Type 0} (p : A → Bool) (rows more start old : List A) (row : A)
     → more ≡ rows ++ row ∷ [] → old ≡ start ++ filter p rows → p row ≡ false
     → old ≡ start ++ filter p more
-left_out p rows more start old row more_is before is =
-    let one : filter p more ≡ filter p rows =
-    ap (filter p) more_is
-    ∙ filter-append p rows (row ∷ [])
-    ∙ ap (λ b. filter p rows ++ cond b (row ∷ []) []) is
-    ∙ append-nil (filter p rows) in
-    before ∙ ap (λ l. start ++ l) (sym one)
+left_out p rows more start old row more_is before is = search (rules, filter-append, append-nil)
 
 -- the rows behind those keys of whose rows a test holds
 pub behind_kept : (p : ℕ → Bool) (keyed : List (ℕ × ℕ)) → rows_behind (filter (λ k. p k.1) keyed)
@@ -304,15 +275,11 @@ behind_kept p (k ∷ keyed) = split (p k.1) (behind_kept p keyed)
 pub behind_added : (p : ℕ → Bool) (ordered start pushed : List (ℕ × ℕ))
     → pushed ≡ start ++ filter (λ k. p k.1) ordered
     → rows_behind pushed ≡ rows_behind start ++ filter p (rows_behind ordered)
-behind_added p ordered start pushed is =
-    ap rows_behind is
-    ∙ map-append (λ (k : ℕ × ℕ). k.1) start (filter (λ k. p k.1) ordered)
-    ∙ ap (λ l. rows_behind start ++ l) (behind_kept p ordered)
+behind_added p ordered start pushed is = search (rules, map-append, behind_kept)
 
 pub behind_pushed : (keyed pushed : List (ℕ × ℕ)) (item : ℕ × ℕ) → pushed ≡ keyed ++ item ∷ []
     → rows_behind pushed ≡ rows_behind keyed ++ item.1 ∷ []
-behind_pushed keyed pushed item is = ap rows_behind is
-    ∙ map-append (λ (k : ℕ × ℕ). k.1) keyed (item ∷ [])
+behind_pushed keyed pushed item is = search (rules, map-append)
 
 pub keys_swept : (P : ℕ × ℕ → Type 0) (p : ℕ × ℕ → Bool) (all ordered start pushed
     : List (ℕ × ℕ)) → (ordered ≡ []) ⊎ (ordered ≡ all) → start ≡ []
@@ -321,7 +288,7 @@ keys_swept P p all ordered start pushed swept none is of =
     rw (is, none) (All-filter p P ordered (of_ordered swept))
   where
     of_ordered : (ordered ≡ []) ⊎ (ordered ≡ all) → All P ordered
-    of_ordered (inl empty) = rw empty (λ i d below. absurd (omega (arith, below)))
+    of_ordered (inl empty) = search rules
     of_ordered (inr same) = subst (All P) (sym same) of
 
 -- ---- the same rows have the same paths
@@ -353,8 +320,7 @@ same_paths registrations chosen found paths same are =
 pub swept_first : (count : ℕ) (all ordered : List (ℕ × ℕ)) → (ordered ≡ []) ⊎ (ordered ≡ all)
     → AreFirst count (rows_behind all) → AreFirst count (rows_behind ordered)
 swept_first count all ordered (inl none) are = first_none count ordered none
-swept_first count all ordered (inr same) are = subst (λ ks. AreFirst count (rows_behind ks))
-    (sym same) are
+swept_first count all ordered (inr same) are = search rules
 
 pub regrouped_is : (found : List ℕ) (ordered start middle new : List (ℕ × ℕ)) → start ≡ []
     → rows_behind middle ≡ rows_behind start
@@ -363,13 +329,7 @@ pub regrouped_is : (found : List ℕ) (ordered start middle new : List (ℕ × �
     ++ filter (λ row. not (nat_lt row (length ordered))) found
     → rows_behind new ≡ regrouped (rows_behind ordered) found
 regrouped_is found ordered start middle new none first late =
-    late
-    ∙ ap (λ l. l ++ filter (λ row. not (nat_lt row (length ordered))) found)
-    (first ∙ ap (λ ks. rows_behind ks
-    ++ filter (λ row. list_any (nat_eq row) found) (rows_behind ordered)) none)
-    ∙ ap (λ n. filter (λ row. list_any (nat_eq row) found) (rows_behind ordered)
-    ++ filter (λ row. not (nat_lt row n)) found)
-    (sym (length-map ordered (λ (k : ℕ × ℕ). k.1)))
+    search (rules, not, nat_lt, nat_eq, length-map)
 
 pub chosen_rows : (rows : List (List ℕ × PathInfo)) (first found chosen : List ℕ)
     → AreFirst (length rows) first → AreRows (registrations_of rows) found

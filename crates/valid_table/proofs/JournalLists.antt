@@ -19,7 +19,7 @@ paths_of-append a b = map-append (λ (r : Registration). r.path) a b
 -- and their references
 pub references_of-append : (a b : List Registration) → references_of (a ++ b) ≡ references_of a
     ++ references_of b
-references_of-append a b = flat_map-append (λ (r : Registration). r.info.references) a b
+references_of-append a b = search (rules, flat_map-append)
 
 -- what some entries register, and then others
 pub registered-append : (a b : List Entry) → registered (a ++ b) ≡ registered a ++ registered b

@@ -1,11 +1,10 @@
 -- Keys that rise strictly: the texts that they stand for do.
-use Rattle.std.proofs.Common.{◌≡◌, ◌⊎◌, ◌<◌, ◌≤◌, ◌+◌, ℕ, List, [], ◌∷◌, ◌++◌, All, Option, Some, ap, ap₂, arith, drop, get_or, inl, inr, is_some, length, nat_eq, refl, subst, suc, sym, take, true, zero, ◌∙◌}
+use Rattle.std.proofs.Common.{◌≡◌, ◌⊎◌, ◌<◌, ◌≤◌, ◌+◌, ℕ, List, [], ◌∷◌, ◌++◌, All, Some, ap, ap₂, arith, drop, get_or, inl, inr, is_some, length, nat_eq, refl, subst, suc, sym, take, true, zero, ◌∙◌, rules}
 use Rattle.std.specs.Cmp.Lexicographic.{pointwise, slice_cmp}
 use Rattle.std.specs.Int.{from_be_bytes, w64}
 use Rattle.std.specs.List.{AllByRecursion, slice_get}
 use Rattle.std.specs.List.Sorted.{IsPermutation}
 use Rattle.std.specs.Map.{keys_of}
-use Rattle.std.specs.Option.{unwrap_or}
 use Rattle.std.specs.Ordering.{nat_cmp}
 use Rattle.std.specs.declared.cmp.Ordering.TheVariants.{Less}
 use Rattle.std.proofs.lemmas.Bool.{false≢true}
@@ -17,7 +16,6 @@ use Rattle.nix_names.specs.Rising.{IsRising}
 use Rattle.nix_names.proofs.Keys.{bytes_less, eight_spelt, same_front}
 use Rattle.nix_names.proofs.RisingLists.{equal_from_eq}
 use Rattle.valid_table.specs.Closing.{path_at, paths_at}
-use Rattle.valid_table.specs.Entries.{paths_registered}
 use Rattle.valid_table.specs.FirstRows.{AreFirst, rows_behind}
 use Rattle.valid_table.specs.Keys.{AreKeyed, IsKey, KeysRiseAbove, folder_of, folder_part}
 use Rattle.valid_table.specs.PathInfos.{PathInfo}
@@ -32,24 +30,12 @@ use Rattle.valid_table.proofs.RowNumbers.{paths_are_keys, row_count}
 lesser_key : (folder text other : List ℕ) (k l : ℕ) → IsKey folder text k → IsKey folder other l
     → k < l → slice_cmp nat_cmp text other ≡ Less
 lesser_key folder text other k l of_k of_l less =
-    ap₂ (slice_cmp nat_cmp) (of_k.parts ∙ append_assoc folder of_k.bytes of_k.rest)
-    (of_l.parts ∙ append_assoc folder of_l.bytes of_l.rest)
-    ∙ (same_front folder (of_k.bytes ++ of_k.rest) (of_l.bytes ++ of_l.rest)
-    ∙ bytes_less 0 of_k.bytes of_l.bytes of_k.rest of_l.rest
-    (of_k.eight ∙ sym of_l.eight)
-    (recursion_from_All (λ b. b < 256) of_k.bytes of_k.small)
-    (recursion_from_All (λ b. b < 256) of_l.bytes of_l.small)
-    (omega (
-      arith,
-      less,
-      of_k.number ∙ eight_spelt of_k.bytes of_k.eight,
-      of_l.number ∙ eight_spelt of_l.bytes of_l.eight,
-    )))
+    search (rules, ap₂, append_assoc, folder, same_front, bytes_less, recursion_from_All, eight_spelt)
 
 -- a key above a bound isn't 0
 is_key : (folder text : List ℕ) (key bound : ℕ) → (key ≡ 0) ⊎ (IsKey folder text key)
     → bound < key → IsKey folder text key
-is_key folder text key bound (inl none) above = absurd (omega (arith, none, above))
+is_key folder text key bound (inl none) above = search rules
 is_key folder text key bound (inr is) above = is
 
 rising_by : (registrations : List Registration) (folder : List ℕ) (bound : ℕ)
@@ -79,14 +65,11 @@ paths_rise registrations keyed keys rise =
 
 pub none_keyed : (registrations : List Registration) (keyed : List (ℕ × ℕ)) → keyed ≡ []
     → AreKeyed registrations keyed
-none_keyed registrations keyed none i d below = absurd (omega (arith, below, ap length none))
+none_keyed registrations keyed none i d below = search rules
 
 pub keyed_moved : (registrations : List Registration) (keyed moved : List (ℕ × ℕ))
     → IsPermutation keyed moved → AreKeyed registrations keyed → AreKeyed registrations moved
-keyed_moved registrations keyed moved is keys =
-    All-permutation
-    (λ (k : ℕ × ℕ). (k.0 ≡ 0) ⊎ (IsKey (folder_of registrations) (path_at registrations k.1) k.0))
-    keyed moved is keys
+keyed_moved registrations keyed moved is keys = search (rules, All-permutation)
 
 -- one more row behind its key
 pub one_more_keyed : (registrations : List Registration) (key row : ℕ) (path folder : List ℕ)
@@ -100,7 +83,7 @@ one_more_keyed registrations key row path folder keyed more keys of_folder of_pa
     P k = (k.0 ≡ 0) ⊎ (IsKey (folder_of registrations) (path_at registrations k.1) k.0)
 
     here : P (key, row)
-    here = rw (sym of_folder, sym of_path) is
+    here = search rules
 
     one : All P ((key, row) ∷ [])
     one zero d below = here
@@ -138,17 +121,14 @@ keyed_with_more registrations added keyed first keys i d below = rw (folder, pat
 pub keyed_of_more : (rows : List (List ℕ × PathInfo)) (added : List Registration)
     (keyed : List (ℕ × ℕ)) → AreFirst (length rows) (rows_behind keyed)
     → AreKeyed (registrations_of rows) keyed → AreKeyed (registrations_of rows ++ added) keyed
-keyed_of_more rows added keyed first keys =
-    keyed_with_more (registrations_of rows) added keyed
-    (subst (λ n. AreFirst n (rows_behind keyed)) (sym (row_count rows)) first) keys
+keyed_of_more rows added keyed first keys = search (rules, keyed_with_more, row_count)
 
 -- the path of a row, as it was looked up
 pub path_looked_up : (rows : List (List ℕ × PathInfo)) (keys : List (List ℕ)) (row : ℕ)
     (path : List ℕ) → keys ≡ keys_of rows → slice_get keys row ≡ Some path
     → path ≡ path_at (registrations_of rows) row
 path_looked_up rows keys row path are at =
-    sym (get_or_from_slice_get (paths_registered (registrations_of rows)) row path []
-    (ap (λ ks. slice_get ks row) (paths_are_keys rows ∙ sym are) ∙ at))
+    search (rules, get_or_from_slice_get, row, path, paths_are_keys)
 
 -- ---- how a key is read
 
@@ -192,17 +172,15 @@ pub first_row_folder : (rows : List (List ℕ × PathInfo)) (path : List ℕ) (i
     → Some (path, info) ≡ slice_get rows 0
     → folder_part path ≡ folder_of (registrations_of rows)
 first_row_folder [] path info is = absurd (false≢true (sym (ap is_some is)))
-first_row_folder (row ∷ rows) path info is =
-    ap (λ (o : Option (List ℕ × PathInfo)). folder_part (unwrap_or o row).0) is
+first_row_folder (row ∷ rows) path info is = search (rules, row)
 
 -- ---- one more key is looked at
 
 pub keys_go_on : (keyed : List (ℕ × ℕ)) (i last : ℕ) (all : Type 0) → i < length keyed
     → (KeysRiseAbove last (drop i keyed) → all) → last < (get_or keyed i (0, 0)).0
     → KeysRiseAbove (get_or keyed i (0, 0)).0 (drop (i + 1) keyed) → all
-keys_go_on keyed i last all below before above rest =
-    before (subst (KeysRiseAbove last) (sym (drop_more keyed i (0, 0) below)) (above, rest))
+keys_go_on keyed i last all below before above rest = search (rules, drop_more)
 
 pub keys_at_end : (keyed : List (ℕ × ℕ)) (i last : ℕ) → length keyed ≤ i
     → KeysRiseAbove last (drop i keyed)
-keys_at_end keyed i last past = subst (KeysRiseAbove last) (sym (drop_all i keyed past)) tt
+keys_at_end keyed i last past = search (rules, drop_all)

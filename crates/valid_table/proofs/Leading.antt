@@ -52,8 +52,7 @@ pub leads_some : (version : Version) (dir : List ℕ) (X : Type 0) (Is : X → P
     × LeadsTo version dir (Is x) from a
 leads_some version dir X Is from [] leads = leads
 leads_some version dir X Is from (line ∷ a) leads =
-    let later = leads_some version dir X Is (behind from line) a leads.1 in
-    (later.0, (leads.0, later.1))
+    search (rules, leads_some version dir X Is (behind from line) a leads.1)
 
 pub leads_end : (version : Version) (dir : List ℕ) (Is : Place → Type 0) (from : Place)
     (a : List Line)
@@ -94,8 +93,7 @@ pub lines_of : (version : Version) (dir : List ℕ) (Is : Place → Type 0) (fro
     → LeadsTo version dir Is from lines → All (IsLineOf version dir) lines
 lines_of version dir Is from [] leads = All-nil (IsLineOf version dir)
 lines_of version dir Is from (line ∷ more) leads =
-    All-cons (IsLineOf version dir) line more (line_of version dir from line leads.0)
-    (lines_of version dir Is (behind from line) more leads.1)
+    search (rules, All-cons, line_of, lines_of version dir Is (behind from line) more leads.1)
 
 -- ---- bytes tell lines
 
@@ -206,7 +204,7 @@ one_more version dir Is Also from a b x y weaker one two long e =
   where
     on : (c : List Line) → b ≡ a ++ c → x ≡ lines_text version c ++ y
         → GoesOn version dir Is from a x
-    on [] is rest = absurd (omega (arith, ap length (is ∙ append-nil a)))
+    on [] is rest = search (rules, append-nil)
     on (line ∷ c) is rest = (
       line,
       lines_text version c ++ y,

@@ -279,17 +279,15 @@ comes_back : (version : Version) (dir : List ℕ) (place : Place) (line : Line) 
     → MayBeLine version dir place line → ToCome version dir (behind place line) come
     → ToCome version dir place (line ∷ come)
 comes_back version dir Start line come may c = tt
-comes_back version dir Begun (Added path digest) come may c =
-    one_added version dir Begun path digest come (refl, refl) may c
-comes_back version dir Begun (Deriver path) come may c =
-    one_done version dir Begun path come (refl, refl) may c
+comes_back version dir Begun (Added path digest) come may c = search (rules, one_added, may)
+comes_back version dir Begun (Deriver path) come may c = search (rules, one_done, may)
 comes_back version dir Opened (Output path digest) come may c =
     one_output version dir Opened path digest come may.0 may.1 c
     (refl, λ none. cc none, (tt, c.may.1))
 comes_back version dir (Within output last) (Added path digest) come may c =
     search (rules, one_added, none_behind)
 comes_back version dir (Within output last) (Deriver path) come may c =
-    one_done version dir (Within output last) path come (tt, none_behind output) may c
+    search (rules, one_done, none_behind, may)
 comes_back version dir (Within (Some before) last) (Output path digest) come may c =
     one_output version dir (Within (Some before) last) path digest come may.0 may.1 c
     (tt, (may.2, c.may.1))
@@ -302,15 +300,13 @@ ends_come : (version : Version) (dir : List ℕ) (place : Place) (come : List Li
     → Ends version dir place come
     → ToCome version dir place come
 ends_come version dir Start [] ends = tt
-ends_come version dir Begun [] ends = entries_come version dir Begun [] [] (refl, refl)
-    (All-nil (IsEntryIn version dir))
-    refl
+ends_come version dir Begun [] ends = search (rules, entries_come, All-nil)
 ends_come version dir Opened [] ends = absurd ends
 ends_come version dir (Within output last) [] ends =
     entries_come version dir (Within output last) [] []
     (tt, none_behind output) (All-nil (IsEntryIn version dir)) refl
-ends_come version dir place (line ∷ come) ends = comes_back version dir place line come ends.0
-    (ends_come version dir (behind place line) come ends.1)
+ends_come version dir place (line ∷ come) ends =
+    search (rules, comes_back, ends_come version dir (behind place line) come ends.1)
 
 -- ---- the texts of journals
 
@@ -341,14 +337,12 @@ text_of_lines version dir (line ∷ come) ends = absurd ends.0
 -- the lines of entries of the store folder end a journal from its start
 pub lines_end : (version : Version) (dir : List ℕ) (entries : List Entry)
     → All (IsEntryIn version dir) entries → Ends version dir Start (lines entries)
-lines_end version dir entries each =
-    (tt, entries_end version dir Begun entries (λ line may. may, tt) each)
+lines_end version dir entries each = search (rules, entries_end, entries)
 
 -- a text is that of such lines
 pub lines_of_text : (dir bytes : List ℕ) (entries : List Entry) → IsJournalText dir entries bytes
     → (version : Version) × (come : List Line) × Ends version dir Start come
     × (bytes ≡ lines_text version come)
 unfolding text
-lines_of_text dir bytes entries (inl (version, is)) =
-    (version, lines entries, lines_end version dir entries is.of_dir, is.bytes_are)
+lines_of_text dir bytes entries (inl (version, is)) = search (rules, entries, lines_end)
 lines_of_text dir bytes entries (inr none) = (One, [], tt, none.1)

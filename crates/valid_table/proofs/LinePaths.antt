@@ -24,7 +24,7 @@ no_path dir text fault (inr memory) other is = other memory.1
 -- without a newline there is no line with a path
 pub no_path_line : (dir bytes path rest : List ℕ) → Lacks 10 bytes → IsPathLine dir bytes path rest
     → ⊥
-no_path_line dir bytes path rest none is = lacks_not 10 path rest (subst (Lacks 10) is.parts none)
+no_path_line dir bytes path rest none is = search (rules, lacks_not)
 
 -- where what stands before the first newline is no path, there is no line with a path
 pub other_path_line : (dir bytes line behind path rest : List ℕ) → IsStoreDir dir → Lacks 10 line

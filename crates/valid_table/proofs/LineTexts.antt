@@ -6,13 +6,13 @@ use Rattle.std.proofs.lemmas.List.{append_assoc, append_cancel_left, length-appe
 use Rattle.std.proofs.lemmas.List.Elements.{All-append, All-cons, All-head, All-tail}
 use Rattle.hex.specs.Hex.{lower_digits}
 use Rattle.hex.proofs.HexLemmas.{length-encode_with}
-use Rattle.nix_names.specs.Digests.{algorithm_of, bytes_of, digits_of, name_of, size_of}
+use Rattle.nix_names.specs.Digests.{algorithm_of, bytes_of, size_of}
 use Rattle.nix_names.specs.StorePaths.{IsDrvPath, IsPathOf}
 use Rattle.nix_names.specs.declared.digest.Algorithm.{Algorithm}
 use Rattle.nix_names.specs.declared.digest.Algorithm.TheVariants.{Md5, Sha1, Sha256, Sha512}
 use Rattle.nix_names.specs.declared.digest.Digest.{Digest}
 use Rattle.valid_table.specs.BadLines.{AreLines}
-use Rattle.valid_table.specs.LineTexts.{fields_text, lines_text, path_line, references_text}
+use Rattle.valid_table.specs.LineTexts.{fields_text, lines_text, references_text}
 use Rattle.valid_table.specs.Readers.{IsFieldsLine, IsPathLine}
 use Rattle.valid_table.specs.Texts.{IsDigestOf, Line, First, Added, Deriver, Output, Reference, digest_text, line_text, version_line}
 use Rattle.valid_table.specs.declared.version.Version.{Version}
@@ -45,14 +45,7 @@ no_dash One digest is e = absurd (omega (
   is.1.0,
   some_bytes (algorithm_of digest),
 ))
-no_dash Two digest is e = absurd (omega (
-  arith,
-  ap length e,
-  length-append (name_of (algorithm_of digest)) (58 ∷ digits_of digest),
-  length-encode_with lower_digits (bytes_of digest),
-  is.0,
-  some_bytes (algorithm_of digest),
-))
+no_dash Two digest is e = search (rules, length-append, length-encode_with, some_bytes)
 
 -- a digest has one text
 same_digest : (version : Version) (a b : Option Digest) → IsDigestOf version a
@@ -125,8 +118,7 @@ version_letter Two rest = refl
 pub same_lines : (version : Version) (dir : List ℕ) (a b : Line) (x y : List ℕ)
     → IsLineOf version dir a → IsLineOf version dir b
     → line_text version a ++ x ≡ line_text version b ++ y → (a ≡ b) × (x ≡ y)
-same_lines version dir First First x y one two e =
-    (refl, append_cancel_left (line_text version First) x y e)
+same_lines version dir First First x y one two e = search (rules, append_cancel_left)
 same_lines version dir (Added p a) (Added q b) x y one two e =
     let same = same_fields version dir p q a b x y one two (ap (drop 2) e) in
     (ap (λ path. Added path a) same.0 ∙ ap (Added q) same.1, same.2)
@@ -139,15 +131,13 @@ same_lines version dir (Output p a) (Output q b) x y one two e =
 same_lines version dir (Reference p) (Reference q) x y one two e =
     let same = same_lone_path dir p q x y one two (ap (drop 2) e) in
     (ap Reference same.0, same.1)
-same_lines version dir a b x y one two e =
-    absurd (omega (arith, ap first e, version_letter version x, version_letter version y))
+same_lines version dir a b x y one two e = search (rules, first, version_letter)
 
 -- the lines of references are the same in each version
 pub references_are : (version : Version) (paths : List (List ℕ))
     → lines_text version (map Reference paths) ≡ references_text paths
 references_are version [] = refl
-references_are version (path ∷ paths) =
-    ap (λ (t : List ℕ). path_line 82 path ++ t) (references_are version paths)
+references_are version (path ∷ paths) = search (rules, references_are version paths)
 
 -- ---- lines and newlines
 

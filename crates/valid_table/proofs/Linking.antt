@@ -1,5 +1,5 @@
 -- Rows whose references are known by number.
-use Rattle.std.proofs.Common.{◌≡◌, ◌∙◌, ℕ, ◌+◌, ◌-◌, ◌<◌, ◌≤◌, List, [], ◌∷◌, ◌++◌, inl, inr, length, take, drop, get_or, refl, sym, ap, subst, arith, add-one, All, Option, Some, None, Result, Ok, Err, Bor, MatchOption, IfSome}
+use Rattle.std.proofs.Common.{◌≡◌, ◌∙◌, ℕ, ◌+◌, ◌<◌, ◌≤◌, List, [], ◌∷◌, ◌++◌, inl, inr, length, get_or, refl, sym, ap, subst, arith, add-one, All, Option, Some, None, Result, Ok, Err, Bor, MatchOption, IfSome, rules}
 use Rattle.std.specs.List.{slice_range}
 use Rattle.std.specs.Result.{OkIff, result_ok}
 use Rattle.std.proofs.Math.Seq.{drop-append_seam, get_or-append_seam}
@@ -8,7 +8,6 @@ use Rattle.std.proofs.lemmas.List.{drop-append-le, get_or_append_left, length-ap
 use Rattle.std.proofs.lemmas.Option.{none-some, same_Some}
 use Rattle.std.proofs.lemmas.List.Elements.{All-head, All-tail, All-weaker, Contains-append_left}
 use Rattle.valid_table.specs.Closing.{path_at, paths_at}
-use Rattle.valid_table.specs.Entries.{paths_registered}
 use Rattle.valid_table.specs.Linking.{AreLinked, AreRowsOf, IsLinkedRow, numbers_of, start_of}
 use Rattle.valid_table.specs.PathInfos.{PathInfo}
 use Rattle.valid_table.specs.Valid.{Registers}
@@ -20,27 +19,22 @@ use Rattle.valid_table.proofs.RowNumbers.{path_count}
 
 -- they end at the row's own end
 pub end_is : (ends : List ℕ) (row : ℕ) → start_of ends (row + 1) ≡ get_or ends row 0
-end_is ends row = ap (λ k. get_or (0 ∷ ends) k 0) (add-one row)
+end_is ends row = search (rules, add-one)
 
 start_kept : (ends : List ℕ) (end row : ℕ) → row ≤ length ends → start_of (ends ++ end ∷ []) row
     ≡ start_of ends row
-start_kept ends end row within = get_or_append_left (0 ∷ ends) (end ∷ []) 0 row (omega arith)
+start_kept ends end row within = search (rules, get_or_append_left)
 
 start_last : (ends : List ℕ) (end : ℕ) → start_of (ends ++ end ∷ []) (length ends + 1) ≡ end
-start_last ends end = end_is (ends ++ end ∷ []) (length ends) ∙ get_or-append_seam ends end [] 0
+start_last ends end = search (rules, end_is, get_or-append_seam)
 
 range_kept : (xs ys : List ℕ) (i j : ℕ) → i ≤ j → j ≤ length xs → slice_range (xs ++ ys) i j
     ≡ slice_range xs i j
-range_kept xs ys i j rises within =
-    ap (take (j - i)) (drop-append-le i xs ys (omega arith))
-    ∙ take-append-le (j - i) (drop i xs) ys (omega (arith, length-drop i xs))
+range_kept xs ys i j rises within = search (rules, drop-append-le, take-append-le, length-drop)
 
 range_behind : (xs ys : List ℕ) (i j : ℕ) → i ≡ length xs → j ≡ length xs + length ys
     → slice_range (xs ++ ys) i j ≡ ys
-range_behind xs ys i j first last =
-    ap (λ k. take (j - k) (drop k (xs ++ ys))) first
-    ∙ ap (take (j - length xs)) (drop-append_seam xs ys)
-    ∙ take_all (j - length xs) ys (omega arith)
+range_behind xs ys i j first last = search (rules, drop-append_seam, take_all)
 
 -- ---- the rows of paths
 
@@ -48,9 +42,7 @@ range_behind xs ys i j first last =
 pub path_stays : (registrations added : List Registration) (row : ℕ) → row < length registrations
     → path_at (registrations ++ added) row ≡ path_at registrations row
 path_stays registrations added row below =
-    ap (λ (paths : List (List ℕ)). get_or paths row []) (paths_of-append registrations added)
-    ∙ get_or_append_left (paths_registered registrations) (paths_registered added) [] row
-    (omega (arith, below, path_count registrations))
+    search (rules, paths_of-append, get_or_append_left, path_count)
 
 paths_stay : (registrations added : List Registration) (rows : List ℕ)
     → All (λ r. r < length registrations) rows → paths_at (registrations ++ added) rows
@@ -66,11 +58,8 @@ paths_stay registrations added (row ∷ rows) below =
 
 rows_stay : (registrations added : List Registration) (paths : List (List ℕ)) (numbers : List ℕ)
     → AreRowsOf registrations paths numbers → AreRowsOf (registrations ++ added) paths numbers
-rows_stay registrations added paths numbers are = record {
-  below = All-weaker (λ r. r < length registrations) (λ r. r < length (registrations ++ added))
-      (λ r low. omega (arith, low, length-append registrations added)) numbers are.below;
-  same = paths_stay registrations added numbers are.below ∙ are.same;
-}
+rows_stay registrations added paths numbers are =
+    search (rules, All-weaker, length-append, paths_stay)
 
 -- ---- linked rows
 
@@ -99,20 +88,7 @@ row_kept : (registrations : List Registration) (ends numbers more : List ℕ) (e
     → IsLinkedRow registrations ends numbers row → row < length ends
     → IsLinkedRow registrations (ends ++ end ∷ []) (numbers ++ more) row
 row_kept registrations ends numbers more end row linked below =
-    let first = start_kept ends end row (omega arith) in
-    let last = start_kept ends end (row + 1) (omega arith) in
-    let same : numbers_of (ends ++ end ∷ []) (numbers ++ more) row ≡ numbers_of ends numbers row =
-    ap (λ k. slice_range (numbers ++ more) k (start_of (ends ++ end ∷ []) (row + 1))) first
-    ∙ ap (λ k. slice_range (numbers ++ more) (start_of ends row) k) last
-    ∙ range_kept numbers more (start_of ends row) (start_of ends (row + 1)) linked.rises
-    linked.within in
-    record {
-      rises = omega (arith, first, last, linked.rises);
-      within = omega (arith, last, linked.within, length-append numbers more);
-      info = linked.info;
-      registers = linked.registers;
-      links = subst (AreRowsOf registrations linked.info.references) (sym same) linked.links;
-    }
+    search (rules, start_kept, range_kept, length-append)
 
 row_added : (registrations : List Registration) (ends numbers more : List ℕ) (end : ℕ)
     (info : PathInfo) → start_of ends (length ends) ≡ length numbers → end
@@ -121,16 +97,7 @@ row_added : (registrations : List Registration) (ends numbers more : List ℕ) (
     → AreRowsOf registrations info.references more
     → IsLinkedRow registrations (ends ++ end ∷ []) (numbers ++ more) (length ends)
 row_added registrations ends numbers more end info whole is registers links =
-    let first = start_kept ends end (length ends) (omega arith) in
-    let last = start_last ends end in
-    record {
-      rises = omega (arith, first, last, whole, is);
-      within = omega (arith, last, is, length-append numbers more);
-      info = info;
-      registers = registers;
-      links = subst (AreRowsOf registrations info.references)
-          (sym (range_behind numbers more _ _ (first ∙ whole) (last ∙ is))) links;
-    }
+    search (rules, start_kept, start_last, length-append, range_behind)
 
 -- one more row is linked
 pub linked_more : (registrations : List Registration) (ends numbers more : List ℕ) (end : ℕ)

@@ -1,5 +1,5 @@
 -- Marks of rows, one bit each.
-use Rattle.std.proofs.Common.{◌≡◌, ◌≢◌, ℕ, ◌*◌, ◌/◌, ◌%◌, ◌^◌, ◌<◌, true, false, not, nat_eq, List, [], ◌∷◌, ◌++◌, inl, inr, length, replicate, get_or, set, refl, sym, ◌∙◌, ap, arith, get_or-set_same, get_or-set_other, eq-eqb, ne_eqb, w64}
+use Rattle.std.proofs.Common.{◌≡◌, ◌≢◌, ℕ, ◌*◌, ◌/◌, ◌%◌, ◌^◌, ◌<◌, true, false, not, nat_eq, List, [], ◌∷◌, ◌++◌, inl, inr, length, replicate, get_or, set, refl, sym, ◌∙◌, ap, arith, get_or-set_same, get_or-set_other, eq-eqb, ne_eqb, w64, rules}
 use Rattle.std.proofs.Math.Bool.{or-false, or-true}
 use Rattle.std.specs.Prelude.{bit_and, bit_or}
 use Rattle.std.specs.Int.{bit_at}
@@ -15,20 +15,12 @@ use Rattle.indexmap.specs.IndexSet.{insert_key}
 use Rattle.valid_table.specs.Marking.{AreMarked, mark_of}
 
 zero_at : (n i : ℕ) → get_or {A = ℕ} (replicate n 0) i 0 ≡ 0
-zero_at n i =
-    elim (cases_lt i n) [
-      | inl below ↦ get_or-replicate n i 0 0 below
-      | inr past ↦ get_or_past (replicate n 0) i 0 (omega (arith, length-replicate {A = ℕ} n 0))
-    ]
+zero_at n i = search (rules, cases_lt, get_or-replicate, get_or_past, length-replicate)
 
 -- where each bit is 0, no row is marked
 pub none_marked : (n : ℕ) → AreMarked (replicate n 0) []
 unfolding IsDistinct
-none_marked n = record {
-  distinct = tt;
-  marked = λ row. ap (λ word. nat_eq (bit_at word (row % 64)) 1) (zero_at n (row / 64))
-      ∙ ap (λ bit. nat_eq bit 1) (bit_at-zero (row % 64));
-}
+none_marked n = search (rules, nat_eq, zero_at, bit_at-zero)
 
 -- what the test `word & bit != 0` says of a bit
 pub bit_is_set : (word k : ℕ) → k < 64 → bit_and word (1 * 2 ^ k % 2 ^ 64) ≢ 0
@@ -64,7 +56,7 @@ insert_marked marks rows row are set = rw (sym (are.marked row) ∙ set) refl
 -- one that is not comes last
 pub insert_unmarked : (marks rows : List ℕ) (row : ℕ) → AreMarked marks rows
     → nat_eq (mark_of marks row) 1 ≡ false → rows ++ row ∷ [] ≡ insert_key nat_eq rows row
-insert_unmarked marks rows row are clear = rw (sym (are.marked row) ∙ clear) refl
+insert_unmarked marks rows row are clear = search rules
 
 -- one more row, with its mark
 pub marked_more : (marks rows : List ℕ) (row word : ℕ) → AreMarked marks rows → row
@@ -95,12 +87,10 @@ marked_more marks rows row word are within read clear =
     }
   where
     here : (r : ℕ) → list_any (nat_eq r) (rows ++ r ∷ []) ≡ true
-    here r = list_any-append (nat_eq r) rows (r ∷ [])
-        ∙ rw (nat_eq_equiv.refl r) (or-true (list_any (nat_eq r) rows))
+    here r = search (rules, list_any-append, nat_eq, or-true)
 
     apart : (r : ℕ) → r ≢ row → list_any (nat_eq r) (rows ++ row ∷ []) ≡ list_any (nat_eq r) rows
-    apart r other = list_any-append (nat_eq r) rows (row ∷ [])
-        ∙ rw (ne_eqb r row other) (or-false (list_any (nat_eq r) rows))
+    apart r other = search (rules, list_any-append, nat_eq, ne_eqb, or-false)
 
     kept : (r : ℕ) → r ≢ row
         → nat_eq (mark_of (set marks (row / 64) (bit_or word (1 * 2 ^ (row % 64) % 2 ^ 64))) r) 1
@@ -123,10 +113,4 @@ marked_more marks rows row word are within read clear =
 -- what the test `word & bit != 0` answers
 pub bit_test : (word k : ℕ) → k < 64 → not (nat_eq (bit_and word (1 * 2 ^ k % 2 ^ 64)) 0)
     ≡ nat_eq (bit_at word k) 1
-bit_test word k low = elim (cases_eq (bit_and word (1 * 2 ^ k % 2 ^ 64)) 0) [
-  | inl clear ↦
-      ap not (eq-eqb (bit_and word (1 * 2 ^ k % 2 ^ 64)) 0 clear)
-      ∙ sym (bit_is_clear word k low clear)
-  | inr set ↦
-      ap not (ne_eqb (bit_and word (1 * 2 ^ k % 2 ^ 64)) 0 set) ∙ sym (bit_is_set word k low set)
-]
+bit_test word k low = search (rules, cases_eq, not, eq-eqb, bit_is_clear, set, ne_eqb, bit_is_set)

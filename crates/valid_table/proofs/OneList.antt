@@ -1,5 +1,5 @@
 -- The bytes of a journal's text tell its lines, and these tell its entries.
-use Rattle.std.proofs.Common.{◌≡◌, ℕ, List, [], ◌∷◌, ◌++◌, inl, inr, length, map, refl, ap, sym, subst, ◌∙◌, arith, Option, ◌≢◌}
+use Rattle.std.proofs.Common.{◌≡◌, ℕ, List, [], ◌∷◌, ◌++◌, inl, inr, map, refl, ap, sym, subst, ◌∙◌, Option, ◌≢◌, rules}
 use Rattle.std.specs.List.{flat_map}
 use Rattle.std.proofs.lemmas.List.{append-nil, append_assoc, length-append}
 use Rattle.nix_names.specs.declared.digest.Digest.{Digest}
@@ -39,12 +39,7 @@ lines_told version dir from a b one two e =
   where
     none : (c : List Line) → [] ≡ lines_text version c → c ≡ []
     none [] e = refl
-    none (line ∷ c) e =
-        absurd (omega (
-          arith,
-          ap length (e ∙ line_and version line (lines_text version c)),
-          length-append (body version line) (10 ∷ lines_text version c),
-        ))
+    none (line ∷ c) e = search (rules, line_and, length-append, body)
 
 -- ---- lines tell entries
 
@@ -155,8 +150,8 @@ one_in version dir bytes a b one two =
 
 -- a text with a version's line isn't empty
 not_empty : (version : Version) (bytes : List ℕ) → BeginsVersion version bytes → bytes ≢ []
-not_empty One bytes (rest, begins) none = absurd (omega (arith, ap length (sym none ∙ begins)))
-not_empty Two bytes (rest, begins) none = absurd (omega (arith, ap length (sym none ∙ begins)))
+not_empty One bytes (rest, begins) none = search (rules, none)
+not_empty Two bytes (rest, begins) none = search (rules, none)
 
 -- one text is that of one list of entries
 pub text_has_one_list : TextHasOneList
@@ -165,7 +160,7 @@ text_has_one_list dir bytes a b (inl (version, one)) (inl (other, two)) =
     (text_begins version dir bytes a one) in
     one_in version dir bytes a b one (subst (λ v. IsTextIn v dir b bytes) same two)
 text_has_one_list dir bytes a b (inl (version, one)) (inr none) =
-    absurd (not_empty version bytes (text_begins version dir bytes a one) none.1)
+    search (rules, not_empty, text_begins)
 text_has_one_list dir bytes a b (inr none) (inl (version, two)) =
-    absurd (not_empty version bytes (text_begins version dir bytes b two) none.1)
+    search (rules, not_empty, text_begins)
 text_has_one_list dir bytes a b (inr none) (inr also) = none.0 ∙ sym also.0

@@ -1,5 +1,5 @@
 -- Lists of paths of which no two are the same, and the parts of a list.
-use Rattle.std.proofs.Common.{◌≡◌, ◌∙◌, ℕ, false, List, [], ◌∷◌, ◌++◌, length, get_or, refl, sym, subst, arith, nat_eq, length-append}
+use Rattle.std.proofs.Common.{◌≡◌, ◌∙◌, ℕ, false, List, [], ◌∷◌, ◌++◌, length, get_or, refl, sym, subst, arith, nat_eq, length-append, rules}
 use Rattle.std.specs.Prelude.{All, Contains}
 use Rattle.std.specs.Cmp.Lexicographic.{pointwise, nat_list_eq_equiv}
 use Rattle.std.specs.List.{AllByRecursion, IsDistinct}
@@ -47,11 +47,8 @@ once_front before after once =
 apart_from_unknown : (x : List ℕ) (xs ys : List (List ℕ)) → AreUnknown (x ∷ xs) ys
     → AllByRecursion (λ y. pointwise nat_eq x y ≡ false) ys
 apart_from_unknown x xs [] new = tt
-apart_from_unknown x xs (y ∷ ys) new = (
-  false_from_ne_true _
-      (λ same. All-head (IsNotKnown (x ∷ xs)) y ys new (0, omega arith, equal_from_eq x y same)),
-  apart_from_unknown x xs ys (All-tail (IsNotKnown (x ∷ xs)) y ys new),
-)
+apart_from_unknown x xs (y ∷ ys) new =
+    search (rules, false_from_ne_true, All-head, equal_from_eq, All-tail, apart_from_unknown x xs ys (All-tail (IsNotKnown (x ∷ xs)) y ys new))
 
 -- a path that differs from each of two lists does from both, one behind the other
 apart_from_both : (x : List ℕ) (xs ys : List (List ℕ))

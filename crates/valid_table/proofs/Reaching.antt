@@ -1,5 +1,5 @@
 -- What paths reach by references, and lists that have all of it.
-use Rattle.std.proofs.Common.{◌≡◌, ℕ, ◌<◌, List, [], ◌∷◌, ◌++◌, length, get_or, nat_eq, refl, sym, ap, subst, ◌∙◌, arith, All, Contains, inl, inr, rules}
+use Rattle.std.proofs.Common.{◌≡◌, ℕ, ◌<◌, List, [], ◌∷◌, ◌++◌, length, get_or, nat_eq, sym, ap, ◌∙◌, arith, All, Contains, inl, inr, rules}
 use Rattle.std.specs.Cmp.Lexicographic.{pointwise, nat_list_eq_equiv}
 use Rattle.std.specs.List.{IsDistinct}
 use Rattle.std.proofs.lemmas.Bool.{cases_lt, false≢true}
@@ -24,8 +24,7 @@ pub valid_from_leads : (registrations : List Registration) (from to : List ℕ)
     (steps : List (List ℕ)) → LeadsByReferences registrations from to steps
     → IsValid registrations from
 valid_from_leads registrations from to [] leads = leads.0
-valid_from_leads registrations from to (next ∷ steps) leads =
-    valid_from_registers registrations from leads.0.0 leads.0.1
+valid_from_leads registrations from to (next ∷ steps) leads = search (rules, valid_from_registers)
 
 leads_more : (registrations : List Registration) (from to next : List ℕ) (steps : List (List ℕ))
     → LeadsByReferences registrations from to steps → RefersTo registrations to next
@@ -51,13 +50,13 @@ reached_more registrations roots path next reached refers valid = (
 -- a valid path reaches itself
 pub reached_itself : (registrations : List Registration) (roots : List (List ℕ)) (path : List ℕ)
     → Contains roots path → IsValid registrations path → IsReachedFrom registrations roots path
-reached_itself registrations roots path has valid = (path, has, ([], (valid, refl)))
+reached_itself registrations roots path has valid = search rules
 
 -- paths that have all their valid references have all that one of them reaches
 pub has_reached : (registrations : List Registration) (paths : List (List ℕ))
     → All (HasReferences registrations paths) paths → (from to : List ℕ) (steps : List (List ℕ))
     → Contains paths from → LeadsByReferences registrations from to steps → Contains paths to
-has_reached registrations paths closed from to [] has leads = subst (Contains paths) leads.1 has
+has_reached registrations paths closed from to [] has leads = search rules
 has_reached registrations paths closed from to (next ∷ steps) has leads =
     has_reached registrations paths closed next to steps
     (All-contains (HasReferences registrations paths) paths from closed has next leads.0

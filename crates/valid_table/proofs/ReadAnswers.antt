@@ -26,12 +26,7 @@ line_some version line = search (rules, line_and, length-append, body)
 -- lines are at most as many as their bytes
 lines_fit : (version : Version) (some : List Line) → length some ≤ length (lines_text version some)
 lines_fit version [] = omega arith
-lines_fit version (line ∷ some) = omega (
-  arith,
-  line_some version line,
-  lines_fit version some,
-  length-append (line_text version line) (lines_text version some),
-)
+lines_fit version (line ∷ some) = search (rules, line_some, length-append, lines_fit version some)
 
 -- a text that isn't too long has few lines
 pub few_lines : (dir bytes : List ℕ) (entries : List Entry) → (IsTooLong bytes → ⊥)
@@ -45,8 +40,7 @@ few_lines dir bytes entries within (inl (version, is)) =
           ap length is.bytes_are in
           omega (arith, short, whole, lines_fit version (lines entries))
     ]
-few_lines dir bytes entries within (inr none) =
-    omega (arith, ap (λ (es : List Entry). length (lines es)) none.0)
+few_lines dir bytes entries within (inr none) = search rules
 
 -- the line behind the newlines before the place where lines stop is the first bad one
 pub bad_line_number : (dir bytes : List ℕ) (left n : ℕ) → IsStoreDir dir
@@ -69,20 +63,16 @@ bad_line_number dir bytes left n of_dir (inr (none, some, all)) number =
 -- the text of some entries begins with the line of its version
 some_begin : (dir bytes : List ℕ) (entries : List Entry) → IsJournalText dir entries bytes
     → entries ≢ [] → (version : Version) × BeginsVersion version bytes
-some_begin dir bytes entries (inl (version, is)) some =
-    (version, text_begins version dir bytes entries is)
+some_begin dir bytes entries (inl (version, is)) some = search (rules, text_begins)
 some_begin dir bytes entries (inr none) some = absurd (some none.0)
 
 -- what is answered for the entries whose text the bytes are
 pub read_as : (dir bytes : List ℕ) (entries : List Entry) (answer : Result (List Entry) TableFault)
     → (IsTooLong bytes → ⊥) → (IsOtherVersion bytes → ⊥) → IsJournalText dir entries bytes
     → IsEntriesChecking entries answer → IsJournalReading dir bytes answer
-read_as dir bytes entries (Ok journal) within other is checked =
-    record { within = within; entries = entries; is_text = is; checked = checked }
-read_as dir bytes entries (Err (NotClosed n)) within other is checked =
-    record { within = within; entries = entries; is_text = is; checked = checked }
-read_as dir bytes entries (Err (Twice n)) within other is checked =
-    record { within = within; entries = entries; is_text = is; checked = checked }
+read_as dir bytes entries (Ok journal) within other is checked = search rules
+read_as dir bytes entries (Err (NotClosed n)) within other is checked = search rules
+read_as dir bytes entries (Err (Twice n)) within other is checked = search rules
 read_as dir bytes entries (Err NoMemory) within other is checked =
     (within, other, some_begin dir bytes entries is checked)
 read_as dir bytes entries (Err fault) within other is checked = absurd checked

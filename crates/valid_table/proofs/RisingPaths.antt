@@ -1,5 +1,5 @@
 -- Lists that rise strictly, one path longer, and their last path.
-use Rattle.std.proofs.Common.{◌≡◌, ℕ, suc, ◌-◌, List, [], ◌∷◌, ◌++◌, length, map, Option, Some, None, refl, sym, ap, ◌∙◌, arith}
+use Rattle.std.proofs.Common.{◌≡◌, ℕ, ◌-◌, List, [], ◌∷◌, ◌++◌, length, map, Option, Some, None, refl, sym, ap, ◌∙◌, rules}
 use Rattle.std.specs.List.{last_or, slice_get}
 use Rattle.std.specs.Option.{option_map}
 use Rattle.nix_names.specs.Rising.{IsRising}
@@ -41,9 +41,7 @@ rising_more (x ∷ y ∷ paths) path h above = (h.0, rising_more (y ∷ paths) p
 pub last_is : {A : Type 0} (xs : List A) → slice_get xs (length xs - 1) ≡ last_or None xs
 last_is [] = refl
 last_is (x ∷ []) = refl
-last_is (x ∷ y ∷ xs) =
-    let at : length (x ∷ y ∷ xs) - 1 ≡ suc (length (y ∷ xs) - 1) = omega arith in
-    ap (slice_get (x ∷ y ∷ xs)) at ∙ last_is (y ∷ xs)
+last_is (x ∷ y ∷ xs) = search (rules, last_is (y ∷ xs))
 
 -- the last of what is made of each element is made of the last
 pub last_map : {A B : Type 0} (f : A → B) (o : Option A) (xs : List A)

@@ -24,12 +24,12 @@ paths_are_keys rows = search (rules, map-map)
 -- there are as many paths as rows
 pub path_count : (registrations : List Registration) → length (paths_registered registrations)
     ≡ length registrations
-path_count registrations = length-map registrations (λ (r : Registration). r.path)
+path_count registrations = search (rules, length-map)
 
 -- the path of the registration at a place
 pub path_read : (rs : List Registration) (i : ℕ) (r : Registration) (d : List ℕ) → i < length rs
     → get_or (paths_registered rs) i d ≡ (get_or rs i r).path
-path_read rs i r d lt = get_or-map (λ (x : Registration). x.path) rs i r d lt
+path_read rs i r d lt = search (rules, get_or-map)
 
 -- a row is a registration
 pub row_count : (rows : List (List ℕ × PathInfo)) → length (registrations_of rows) ≡ length rows

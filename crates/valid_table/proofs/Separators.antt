@@ -1,6 +1,6 @@
 -- Newlines and spaces part a text in one way only, where what stands before them has none; paths
 -- and digests have none.
-use Rattle.std.proofs.Common.{◌≡◌, ◌≢◌, ℕ, Bool, true, false, List, [], ◌∷◌, ◌++◌, Option, Some, None, refl, sym, ap, ◌∙◌, subst, IsTrue, arith, rules}
+use Rattle.std.proofs.Common.{◌≡◌, ◌≢◌, ℕ, Bool, true, false, List, [], ◌∷◌, ◌++◌, Option, Some, None, refl, sym, ap, ◌∙◌, subst, IsTrue, rules}
 use Rattle.std.specs.List.{All, AllPass, flat_map, list_all}
 use Rattle.std.proofs.lemmas.Bool.{and_parts, false≢true}
 use Rattle.std.proofs.lemmas.List.{append_assoc, append_cancel_left}
@@ -9,7 +9,7 @@ use Rattle.std.proofs.lemmas.List.Sums.{AllPass-from_list_all}
 use Rattle.hex.specs.Hex.{is_hex_digit}
 use Rattle.hex.proofs.HexLemmas.{decode_of-encode_lower, decode_of-ok}
 use Rattle.nix_names.specs.Base32.{is_digit}
-use Rattle.nix_names.specs.Digests.{IsDigest, algorithm_of, bytes_of, digits_of, name_of}
+use Rattle.nix_names.specs.Digests.{IsDigest, bytes_of, digits_of, name_of}
 use Rattle.nix_names.specs.Names.{IsStoreDir, is_component, is_name, is_name_char}
 use Rattle.nix_names.specs.StorePaths.{IsPathOf, is_hash_part}
 use Rattle.nix_names.specs.declared.digest.Algorithm.{Algorithm}
@@ -139,8 +139,4 @@ pub digest_lacks : (version : Version) (digest : Option Digest) → IsDigestOf v
     → Lacks 10 (digest_text version digest)
 digest_lacks version None is = search (rules, All-cons, All-nil)
 digest_lacks One (Some digest) is = digits_lack digest is.1
-digest_lacks Two (Some digest) is =
-    All-append (λ b. b ≢ 10) (name_of (algorithm_of digest)) (58 ∷ digits_of digest)
-    (name_lacks (algorithm_of digest))
-    (All-cons (λ b. b ≢ 10) 58 (digits_of digest) (λ e. absurd (omega arith))
-    (digits_lack digest is))
+digest_lacks Two (Some digest) is = search (rules, All-append, name_lacks, All-cons, digits_lack)

@@ -1,6 +1,6 @@
 -- The paths of rows, sorted: they rise strictly, since no path has two rows.
 use Rattle.std.proofs.lemmas.Grind.{common_steps}
-use Rattle.std.proofs.Common.{◌≡◌, ℕ, ◌+◌, ◌<◌, All, false, true, List, map, refl, [], ◌∷◌, ◌++◌, length, take, get_or, nat_eq, Some, sym, ap, subst, ◌∙◌, arith}
+use Rattle.std.proofs.Common.{◌≡◌, ℕ, ◌+◌, ◌<◌, All, false, true, List, map, refl, [], ◌∷◌, ◌++◌, length, take, get_or, nat_eq, Some, sym, ap, subst, ◌∙◌, arith, rules}
 use Rattle.std.specs.Cmp.Lexicographic.{pointwise, slice_cmp, nat_list_eq_equiv}
 use Rattle.std.specs.declared.cmp.Ordering.{Ordering}
 use Rattle.std.specs.declared.cmp.Ordering.TheVariants.{Equal, Greater, Less}
@@ -35,11 +35,10 @@ paths_distinct registrations once rows are = IsDistinct-from_apart (pointwise na
 
     row_at : (k : ℕ) (d : List ℕ) → k < length rows → get_or paths k d
         ≡ get_or (paths_registered registrations) (get_or rows k 0) []
-    row_at k d below = get_or-map (path_at registrations) rows k 0 d below
+    row_at k d below = search (rules, get_or-map)
 
     within : (k : ℕ) → k < length rows → get_or rows k 0 < length (paths_registered registrations)
-    within k below = let h = All-get_or (λ r. r < length registrations) rows k 0 below are.below
-        in omega (arith, h, path_count registrations)
+    within k below = search (rules, All-get_or, path_count)
 
     apart : (i j : ℕ) (d : List ℕ) → i < j → j < length paths
         → pointwise nat_eq (get_or paths i d) (get_or paths j d) ≡ false
@@ -103,9 +102,7 @@ pub paths_moved : (registrations : List Registration) (rows : List ℕ) (keyed s
     → paths ≡ paths_at registrations (map (λ (k : ℕ × ℕ). k.1) sorted)
     → IsPermutation (paths_at registrations rows) paths
 paths_moved registrations rows keyed sorted paths is moved paths_are =
-    rw (← is, paths_are)
-    (IsPermutation-map (path_at registrations) _ _
-    (IsPermutation-map (λ (k : ℕ × ℕ). k.1) keyed sorted moved))
+    search (rules, IsPermutation-map)
 
 -- and stay below a bound
 pub keyed_below : (bound : ℕ) (rows : List ℕ) (keyed sorted : List (ℕ × ℕ))

@@ -1,5 +1,5 @@
 -- The text of a journal has no wrong version, and no wrong line.
-use Rattle.std.proofs.Common.{◌+◌, ◌++◌, ℕ, List, [], ◌∷◌, length, take, drop, get_or, inl, inr, ap, sym, subst, ◌∙◌, arith, nat_eq}
+use Rattle.std.proofs.Common.{◌+◌, ◌++◌, ℕ, List, [], ◌∷◌, take, drop, get_or, inl, inr, ap, sym, subst, ◌∙◌, nat_eq, rules}
 use Rattle.std.specs.Prelude.{◌⊎◌, All}
 use Rattle.std.specs.Cmp.Lexicographic.{pointwise}
 use Rattle.std.specs.List.{IsDistinct}
@@ -27,9 +27,8 @@ pub not_other_version : (dir bytes : List ℕ) (entries : List Entry)
     → IsJournalText dir entries bytes
     → IsOtherVersion bytes → ⊥
 not_other_version dir bytes entries (inl (version, is)) other =
-    not_other version bytes (text_begins version dir bytes entries is) other
-not_other_version dir bytes entries (inr none) other =
-    absurd (omega (arith, ap length (sym none.1 ∙ other.parts)))
+    search (rules, not_other, text_begins)
+not_other_version dir bytes entries (inr none) other = search rules
 
 -- ---- journals have no wrong line
 

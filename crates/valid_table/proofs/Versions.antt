@@ -2,13 +2,12 @@
 use Rattle.std.proofs.Common.{◌≡◌, ◌≢◌, ◌<◌, ◌≤◌, ℕ, Bor, List, [], ◌∷◌, ◌++◌, inl, inr, refl, sym, ap, ◌∙◌, subst, arith, codes, get_or, length, IsTrue, rules}
 use Rattle.std.specs.Prelude.{◌↔◌, MatchOption, Option}
 use Rattle.std.specs.Char.{is_ascii_digit}
-use Rattle.std.specs.List.{All, flat_map}
+use Rattle.std.specs.List.{All}
 use Rattle.std.proofs.lemmas.List.{append_cancel_left}
 use Rattle.std.proofs.lemmas.List.Elements.{All-cons, All-nil}
 use Rattle.valid_table.specs.BadLines.{IsOtherVersion}
-use Rattle.valid_table.specs.LineTexts.{lines_text}
 use Rattle.valid_table.specs.Reading.{BeginsVersion, IsTooLong, max_len}
-use Rattle.valid_table.specs.Texts.{IsTextIn, entry_lines, text, version_line}
+use Rattle.valid_table.specs.Texts.{IsTextIn, text, version_line}
 use Rattle.valid_table.specs.declared.entry.Entry.{Entry}
 use Rattle.valid_table.specs.declared.version.Version.{Version}
 use Rattle.valid_table.specs.declared.version.Version.TheVariants.{One, Two}
@@ -23,7 +22,7 @@ IsOtherNumber bytes = (bytes ≢ []) × All (λ b. IsTrue (is_ascii_digit b)) by
 
 -- decimal digits have no newline
 digits_lack : (digits : List ℕ) → All (λ b. IsTrue (is_ascii_digit b)) digits → Lacks 10 digits
-digits_lack digits decimal = apart is_ascii_digit 10 digits refl decimal
+digits_lack digits decimal = search (rules, apart)
 
 -- the first line is another version's where such a number stands up to its newline
 pub by_number : (bytes version number rest : List ℕ) → bytes ≡ codes "realiser-journal " ++ version
@@ -60,7 +59,7 @@ no_line bytes version begins none is = search (rules, append_cancel_left, lacks_
 
 -- a digit is no newline
 digit_lacks : (digit : ℕ) → digit ≢ 10 → Lacks 10 (digit ∷ [])
-digit_lacks digit other = All-cons (λ b. b ≢ 10) digit [] other (All-nil (λ b. b ≢ 10))
+digit_lacks digit other = search (rules, All-cons, All-nil)
 
 -- bytes that begin with a version's line don't begin with that of another
 pub not_other : (version : Version) (bytes : List ℕ) → BeginsVersion version bytes
@@ -80,19 +79,15 @@ digit_in bytes = get_or bytes 17 0
 pub one_version : (a b : Version) (bytes : List ℕ) → BeginsVersion a bytes → BeginsVersion b bytes
     → a ≡ b
 one_version One One bytes first second = refl
-one_version One Two bytes (rest, one) (more, two) =
-    absurd (omega (arith, ap digit_in (sym one ∙ two)))
-one_version Two One bytes (rest, one) (more, two) =
-    absurd (omega (arith, ap digit_in (sym one ∙ two)))
+one_version One Two bytes (rest, one) (more, two) = search (rules, digit_in)
+one_version Two One bytes (rest, one) (more, two) = search (rules, digit_in)
 one_version Two Two bytes first second = refl
 
 -- what is behind a prefix, which is this line
 pub stripped : (bytes line prefix : List ℕ) (found : Option (Bor (List ℕ))) → prefix ≡ line
     → MatchOption found ((rest : List ℕ) → bytes ≢ prefix ++ rest) (λ x. bytes ≡ prefix ++ x.now)
     → MatchOption found ((rest : List ℕ) → bytes ≢ line ++ rest) (λ x. bytes ≡ line ++ x.now)
-stripped bytes line prefix found same is =
-    subst (λ (l : List ℕ). MatchOption found ((rest : List ℕ) → bytes ≢ l ++ rest)
-    (λ x. bytes ≡ l ++ x.now)) same is
+stripped bytes line prefix found same is = search rules
 
 -- bytes that begin neither with the line of version 1 nor with that of version 2 begin with no
 -- version's
@@ -106,8 +101,7 @@ no_version bytes one two Two (rest, begins) = two rest begins
 pub text_begins : (version : Version) (dir bytes : List ℕ) (entries : List Entry)
     → IsTextIn version dir entries bytes → BeginsVersion version bytes
 unfolding text
-text_begins version dir bytes entries is =
-    (lines_text version (flat_map entry_lines entries), is.bytes_are)
+text_begins version dir bytes entries is = search rules
 
 -- ---- the limits
 
@@ -123,8 +117,7 @@ too_long_in version bytes begins = (λ long. inr (version, begins, long), back)
   where
     back : IsTooLong bytes → max_len version < length bytes
     back (inl long) = omega (arith, most version, long)
-    back (inr (other, also, long)) =
-        subst (λ v. max_len v < length bytes) (one_version other version bytes also begins) long
+    back (inr (other, also, long)) = search (rules, one_version)
 
 -- bytes that begin with no version's line are too long where they are past all limits
 pub too_long_without : (bytes : List ℕ)

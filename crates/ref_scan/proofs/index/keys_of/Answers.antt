@@ -3,8 +3,8 @@ use Rattle.std.proofs.lemmas.List.{map-append}
 use Rattle.std.proofs.lemmas.List.Elements.{All-push}
 use Rattle.nix_names.specs.Keys.{key_of}
 use Rattle.nix_names.specs.StorePaths.{IsStorePath}
-use Rattle.ref_scan.proofs.Findings.{taken_with}
 use Rattle.ref_scan.proofs.index.keys_of.Goals as goal
+use Rattle.nix_names.proofs.Lists.{taken_more}
 
 pub loop-path-preserved : goal.loop-path-preserved
 loop-path-preserved c =
@@ -12,7 +12,7 @@ loop-path-preserved c =
     let i = c.loop-path.path-index in
     let path = c.path-item.result in
     let held = c.loop-path.invariant in
-    let taken = taken_with paths i path (omega arith) c.path-item.is in
+    let taken = taken_more paths i path (omega arith) c.path-item.is in
     record {
       value = c.in_ok-push.ensures.items ∙ ap (λ ks. ks ++ c.key.result ∷ []) held.value
           ∙ ap (λ k. map key_of (take i paths) ++ k ∷ []) c.key.ensures.value

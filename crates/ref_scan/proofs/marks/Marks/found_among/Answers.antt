@@ -5,9 +5,10 @@ use Rattle.nix_names.specs.Rising.{IsRising}
 use Rattle.nix_names.specs.StorePaths.{hash_part_of}
 use Rattle.nix_names.proofs.RisingLists.{rising_take}
 use Rattle.ref_scan.specs.Scan.{OccursIn}
-use Rattle.ref_scan.proofs.Findings.{found_one, found_no_more, taken_with}
+use Rattle.ref_scan.proofs.Findings.{found_one, found_no_more}
 use Rattle.ref_scan.proofs.marks.Marks.found_among.Goals as goal
 use Rattle.ref_scan.proofs.marks.Marks.found_among.Goals.{then-is_met+in_ok-copy+in_ok-push, else-is_met}
+use Rattle.nix_names.proofs.Lists.{taken_more}
 
 pub loop-number-preserved : goal.loop-number-preserved
 loop-number-preserved c =
@@ -15,7 +16,7 @@ loop-number-preserved c =
     let i = c.loop-number.number in
     let path = c.index-paths-number.result in
     let lists = c.args.self.now.ended ++ c.args.self.now.present ∷ [] in
-    let taken = taken_with paths i path (omega arith) c.index-paths-number.is in
+    let taken = taken_more paths i path (omega arith) c.index-paths-number.is in
     let rises = subst IsRising taken (rising_take paths (i + 1) c.requires.rising) in
     let here : get_or paths i [] ≡ path = get_or_default paths i [] path (omega arith)
     ∙ sym c.index-paths-number.is in
