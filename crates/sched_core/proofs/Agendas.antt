@@ -1,5 +1,5 @@
 -- What is to be done as tallies change.
-use Rattle.std.proofs.Common.{◌≡◌, ◌≢◌, ◌∙◌, ◌⊎◌, inl, inr, ⊎_elim, ℕ, zero, suc, ◌+◌, ◌-◌, ◌<◌, ◌≤◌, ◌&&◌, not, Bool, true, false, List, [], ◌∷◌, ◌++◌, length, drop, take, get_or, Some, refl, sym, ap, subst, arith, if◌then◌else◌}
+use Rattle.std.proofs.Common.{◌≡◌, ◌≢◌, ◌∙◌, ◌⊎◌, inl, inr, ⊎_elim, ℕ, zero, suc, ◌+◌, ◌-◌, ◌<◌, ◌≤◌, ◌&&◌, not, Bool, true, false, List, [], ◌∷◌, ◌++◌, length, drop, take, get_or, Some, refl, sym, ap, subst, arith, if◌then◌else◌, rules}
 use Rattle.std.specs.Prelude.{All, Contains, slice_get}
 use Rattle.std.proofs.Math.ListN.{set}
 use Rattle.std.proofs.lemmas.Bool.{false≢true}
@@ -24,10 +24,7 @@ pub count_set : (test : Tally → Bool) (tallies : List Tally) (d : ℕ) (before
     → tally_count test (set tallies d after) + one (test before)
     ≡ tally_count test tallies + one (test after)
 count_set test [] d before after at = absurd cc
-count_set test (tally ∷ tallies) zero before after at =
-    let same : tally ≡ before = cc in
-    let told : one (test tally) ≡ one (test before) = ap (λ t. one (test t)) same in
-    omega arith
+count_set test (tally ∷ tallies) zero before after at = search (rules, one)
 count_set test (tally ∷ tallies) (suc d) before after at =
     omega (arith, count_set test tallies d before after at)
 
@@ -50,10 +47,7 @@ count_most test (tally ∷ tallies) =
 pub count_none : (test : Tally → Bool) (tallies : List Tally) (d : ℕ) (tally : Tally)
     → tally_count test tallies ≡ 0 → slice_get tallies d ≡ Some tally → test tally ≡ true → ⊥
 count_none test [] d tally none at is = cc
-count_none test (t ∷ tallies) zero tally none at is =
-    let same : t ≡ tally = cc in
-    let told : one (test t) ≡ 1 = ap (λ u. one (test u)) same ∙ ap one is in
-    omega arith
+count_none test (t ∷ tallies) zero tally none at is = search (rules, one, is)
 count_none test (t ∷ tallies) (suc d) tally none at is =
     count_none test tallies d tally (omega arith) at is
 
@@ -124,8 +118,7 @@ ready_is (Refused cause) is = absurd (false≢true is)
 room_one : (w o p r : Bool) → (p ≡ true → o ≡ true) → (r ≡ true → p ≡ false)
     → one (w && o && r) + one p ≤ one o
 room_one false o false r from apart = omega arith
-room_one false o true r from apart =
-    let was : one o ≡ 1 = ap one (from refl) in omega arith
+room_one false o true r from apart = search (rules, one)
 room_one true false false r from apart = omega arith
 room_one true false true r from apart = absurd (false≢true (from refl))
 room_one true true false true from apart = omega arith
@@ -162,18 +155,11 @@ wanted_set tallies d e before after at same (tally, there, is) =
     either zero zero = inl refl
     either zero (suc b) = inr (λ same. omega arith)
     either (suc a) zero = inr (λ same. omega arith)
-    either (suc a) (suc b) = ⊎_elim (λ same. inl (ap suc same))
-        (λ apart. inr (λ same. apart (omega arith))) (either a b)
+    either (suc a) (suc b) = search (rules, either a b)
 
     by : (e ≡ d) ⊎ (e ≢ d) → IsWantedAt (set tallies d after) e
-    by (inl here) =
-        let its : tally ≡ before = cc in (
-          after,
-          subst (λ n. slice_get (set tallies d after) n ≡ Some after) (sym here)
-              (set_same tallies d before after at),
-          same ∙ ap (λ (t : Tally). t.wanted) (sym its) ∙ is,
-        )
-    by (inr apart) = (tally, set_other tallies d e after tally apart there, is)
+    by (inl here) = search (rules, set, here, set_same, is)
+    by (inr apart) = search (rules, set_other, apart, is)
 
 -- what is to be done once a tally changed
 pub noted_agenda : (tallies : List Tally) (agenda : Agenda) (d : ℕ) (before after : Tally)
@@ -243,20 +229,11 @@ noted_agenda tallies agenda d before after at turns same is = record {
 
         here : (e ≡ d) × (tally ≡ after)
             → Contains (agenda.ring ++ alone_if (frees before after) d) e
-        here both =
-            let w : after.wanted ≡ true = ap (λ (t : Tally). t.wanted) (sym both.1) ∙ wanted in
-            let r : after.state ≡ Ready = ap (λ (t : Tally). t.state) (sym both.1) ∙ now in
-            subst (Contains (agenda.ring ++ alone_if (frees before after) d)) (sym both.0)
-            (⊎_elim
-            (λ was. Contains-append_left agenda.ring (alone_if (frees before after) d) d
-            (is.ready d before at (sym same ∙ w) was))
-            (λ was. pushed w (ap is_blocked was) (ap is_ready r))
-            (turn_ready before.state after.state turns r))
+        here both = search (rules, Contains-append_left, pushed, turn_ready)
 
         elsewhere : (e ≢ d) × (slice_get tallies e ≡ Some tally)
             → Contains (agenda.ring ++ alone_if (frees before after) d) e
-        elsewhere both = Contains-append_left agenda.ring (alone_if (frees before after) d) e
-            (is.ready e tally both.1 wanted now)
+        elsewhere both = search (rules, Contains-append_left)
 
     unsettled_falls : tally_count is_unsettled (set tallies d after) + one (settles before after)
         ≡ tally_count is_unsettled tallies
@@ -341,11 +318,7 @@ ring_falls_at tallies agenda d default first waits is =
     (slice_get-get_or tallies d default low) waits is
   where
     low : d < length tallies
-    low =
-        let read = get_or_from_slice_get agenda.ring 0 d d first in
-        let has = is.ring 0 d (slice_get_within agenda.ring 0 d first) in
-        slice_get_within tallies d has.0
-        (subst (λ n. slice_get tallies n ≡ Some has.0) read has.1)
+    low = search (rules, get_or_from_slice_get, slice_get_within)
 
 -- The first so many tallies were looked at, and what can be begun of them is in the ring.
 pub record IsOpening (tallies : List Tally) (d : ℕ) (ring : List ℕ) (unsettled : ℕ) : Type 0 where
@@ -358,26 +331,12 @@ pub record IsOpening (tallies : List Tally) (d : ℕ) (ring : List ℕ) (unsettl
   })
   pub ready : All (λ e. kept (states_in tallies) e ≡ Ready) ring
 
-pub opening_none : (tallies : List Tally) → IsOpening tallies 0 [] 0
-opening_none tallies = record {
-  is = record {
-    ready = λ e tally at wanted now. absurd cc;
-    ring = All-nil (IsWantedAt []);
-    room = omega arith;
-    work = All-nil (λ e. e < 0);
-    space = omega arith;
-    unsettled = refl;
-  };
-  ready = All-nil (λ e. kept (states_in tallies) e ≡ Ready);
-}
-
 push_cases : (xs : List Tally) (x y : Tally) (e : ℕ) → slice_get (xs ++ x ∷ []) e ≡ Some y
     → ((e ≡ length xs) × (y ≡ x)) ⊎ (slice_get xs e ≡ Some y)
 push_cases [] x y zero at = inl (refl, cc)
 push_cases [] x y (suc e) at = absurd cc
 push_cases (z ∷ xs) x y zero at = inr at
-push_cases (z ∷ xs) x y (suc e) at = ⊎_elim
-    (λ both. inl (ap suc both.0, both.1)) (λ was. inr was) (push_cases xs x y e at)
+push_cases (z ∷ xs) x y (suc e) at = search (rules, push_cases xs x y e at)
 
 push_old : (xs : List Tally) (x y : Tally) (e : ℕ) → slice_get xs e ≡ Some y
     → slice_get (xs ++ x ∷ []) e ≡ Some y
@@ -449,8 +408,7 @@ agenda_more xs ring unsettled x is = record {
     apart : (w r b : Bool) → (r ≡ true → b ≡ false) → one (w && r) + one b ≤ 1
     apart false r b from = omega (arith, one_most b)
     apart true false b from = omega (arith, one_most b)
-    apart true true b from =
-        let none : one b ≡ 0 = ap one (from refl) in omega arith
+    apart true true b from = search (rules, one)
 
     ready_or_blocked : (w : Bool) (s : State) → one (w && is_ready s) + one (is_blocked s) ≤ 1
     ready_or_blocked w s = apart w (is_ready s) (is_blocked s) (ready_not_blocked s)
@@ -591,59 +549,23 @@ pub opening_done : (tallies : List Tally) (d : ℕ) (ring : List ℕ) (unsettled
       unsettled = unsettled;
     })
 opening_done tallies d ring unsettled room space work past low room_is space_is none before =
-    let all : take d tallies ≡ tallies = take_all d tallies past in
-    let wide : d ≡ room = omega (arith, past, low, room_is) in
-    let long : d ≡ space = omega (arith, past, low, space_is) in
-    subst (λ n. IsAgenda tallies (record {
-      ring = ring;
-      room = n;
-      work = work;
-      space = space;
-      unsettled = unsettled;
-    })) wide (subst (λ n. IsAgenda tallies (record {
-      ring = ring;
-      room = d;
-      work = work;
-      space = n;
-      unsettled = unsettled;
-    })) long (subst (λ l. IsAgenda tallies (record {
-      ring = ring;
-      room = d;
-      work = l;
-      space = d;
-      unsettled = unsettled;
-    })) (sym none) (subst (λ l. IsAgenda l (record {
-      ring = ring;
-      room = d;
-      work = [];
-      space = d;
-      unsettled = unsettled;
-    })) all before.is)))
+    search (rules, take_all, low)
 
 pub opening_fresh : (tallies : List Tally) (d : ℕ) (ring : List ℕ) (unsettled : ℕ)
     → IsOpening tallies d ring unsettled → (e : ℕ) → slice_get ring 0 ≡ Some e
     → kept (states_in tallies) e ≡ Ready
 opening_fresh tallies d ring unsettled before e at =
-    subst (λ n. kept (states_in tallies) n ≡ Ready) (get_or_from_slice_get ring 0 e e at)
-    (before.ready 0 e (slice_get_within ring 0 e at))
+    search (rules, get_or_from_slice_get, slice_get_within)
 
 -- what is put into a ring with room
 pub all_kept : (xs : List ℕ) (room : ℕ) → length xs ≤ room → drop (length xs - room) xs ≡ xs
-all_kept xs room low =
-    let none : length xs - room ≡ 0 = omega (arith, low) in ap (λ n. drop n xs) none
+all_kept xs room low = search (rules, low)
 
 pub room_for : (tallies : List Tally) (d : ℕ) (ring : List ℕ) (unsettled room : ℕ)
     → d < length tallies → room ≡ length tallies → IsOpening tallies d ring unsettled
     → length (ring ++ d ∷ []) ≤ room
-room_for tallies d ring unsettled room low wide before =
-    omega (arith, length_push ring d, before.is.room)
+room_for tallies d ring unsettled room low wide before = search (rules, length_push)
 
 pub few_unsettled : (tallies : List Tally) (d : ℕ) (ring : List ℕ) (unsettled : ℕ)
     → d < length tallies → IsOpening tallies d ring unsettled → unsettled ≤ d
-few_unsettled tallies d ring unsettled low before =
-    omega (
-      arith,
-      before.is.unsettled,
-      count_most is_unsettled (take d tallies),
-      length-take-le d tallies (omega (arith, low)),
-    )
+few_unsettled tallies d ring unsettled low before = search (rules, count_most, length-take-le, low)

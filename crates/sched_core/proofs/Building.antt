@@ -1,11 +1,9 @@
 -- What is building is built from what is valid by the entries that are shown.
-use Rattle.std.proofs.Common.{◌≡◌, ◌∙◌, ◌++◌, ◌∷◌, [], ℕ, Bool, true, false, List, append-nil, refl, sym, subst}
+use Rattle.std.proofs.Common.{◌≡◌, ◌++◌, ◌∷◌, [], ℕ, Bool, true, false, List, append-nil, refl, subst, rules}
 use Rattle.std.specs.Prelude.{if◌then◌else◌}
 use Rattle.std.proofs.Math.Dec.{eqb}
 use Rattle.nix_drv.proofs.Fixed.{eqb_same}
 use Rattle.nix_names.proofs.Lists.{All-from_contains}
-use Rattle.valid_table.specs.Entries.{registered}
-use Rattle.valid_table.specs.Valid.{IsValid}
 use Rattle.valid_table.specs.declared.entry.Entry.{Entry}
 use Rattle.sched_core.specs.Books.{BuildsOver, CanBegin, IsBooksLease}
 use Rattle.sched_core.specs.Jobs.{IsJob}
@@ -25,8 +23,7 @@ use Rattle.sched_core.proofs.Seeds.{phase_push}
 pub builds_over_all : (run : Run) (history : History) → IsLegal run history
     → BuildsOver run history history.entries
 builds_over_all run history legal job number lease =
-    All-from_contains (IsValid (registered history.entries)) job.seeds.items
-    (seeds_of_lease run history job number legal lease)
+    search (rules, All-from_contains, seeds_of_lease)
 
 -- and behind one Begin more
 pub builds_behind_begin : (run : Run) (history : History) (d : ℕ) → IsLegal run history
@@ -38,15 +35,7 @@ builds_behind_begin run history d legal can =
 -- which gives a lease
 pub begun_lease : (run : Run) (history : History) (d : ℕ) (job : Job) → IsJob run.graph d job
     → IsBooksLease run (begun history d) job (begins history.events)
-begun_lease run history d job is =
-    let number = begins history.events in
-    let building : phase_of (begun history d).events d ≡ Begun number =
-    phase_push history.events (Begin d number) d ∙ rw (eqb_same d) refl in
-    record {
-      building = subst (λ e. phase_of (begun history d).events e ≡ Begun number)
-          (sym is.derivation) building;
-      is_job = subst (λ e. IsJob run.graph e job) (sym is.derivation) is;
-    }
+begun_lease run history d job is = search (rules, phase_push, eqb_same)
 
 -- ---- behind an event that ends a lease
 
@@ -65,11 +54,9 @@ begun_before : (events : List Event) (event : Event) (d number : ℕ) → is_beg
     → phase_of (events ++ event ∷ []) d ≡ Begun number → phase_of events d ≡ Begun number
 begun_before events (Begin e n) d number ends is = absurd cc
 begun_before events (Finish e n) d number ends is =
-    begun_before_done (eqb e d) (phase_of events d) number
-    (sym (phase_push events (Finish e n) d) ∙ is)
+    search (rules, begun_before_done, eqb, phase_push)
 begun_before events (Fail e n reason) d number ends is =
-    begun_before_fail (eqb e d) (phase_of events d) reason number
-    (sym (phase_push events (Fail e n reason) d) ∙ is)
+    search (rules, begun_before_fail, eqb, phase_push)
 
 -- so it is built from what was valid then
 builds_behind : (run : Run) (history after : History) (event : Event) (shown : List Entry)
@@ -112,7 +99,4 @@ builds_still run after_run history after shown after_shown builds same_run same 
 -- what is published is all that the outlet holds
 pub all_shown : (entries held shown pending : List Entry) → held ≡ entries → shown ≡ held
     → pending ≡ [] → (shown ≡ entries) × (shown ++ pending ≡ entries)
-all_shown entries held shown pending same all none = (
-  all ∙ same,
-  rw (none, all, same) (append-nil entries),
-)
+all_shown entries held shown pending same all none = search (rules, append-nil)

@@ -1,7 +1,7 @@
 -- What is closed stays as good or as bad as it is, whatever becomes of what is open.
-use Rattle.std.proofs.Common.{◌≡◌, ◌∙◌, ◌⊎◌, ⊎_elim, ℕ, zero, suc, ◌<◌, ◌||◌, Bool, true, false, List, [], ◌∷◌, Option, Some, None, refl, sym, ap, subst, if◌then◌else◌, arith}
+use Rattle.std.proofs.Common.{◌≡◌, ◌∙◌, ◌⊎◌, ⊎_elim, ℕ, zero, suc, ◌<◌, ◌||◌, Bool, true, false, List, [], ◌∷◌, Option, Some, None, refl, sym, ap, subst, if◌then◌else◌, arith, rules}
 use Rattle.std.specs.Prelude.{cond, find}
-use Rattle.std.specs.List.{list_all, list_any}
+use Rattle.std.specs.List.{list_any}
 use Rattle.std.proofs.lemmas.Bool.{cases_lt, false≢true, or_cases, or_left, or_parts, or_right, true≢false}
 use Rattle.sched_core.specs.States.{Begun, Broken, Ended, Idle, Phase, Rows, by_first, by_hindrance, by_inputs, by_phase, by_twins, by_validity, is_bad, is_done, is_good, is_open, state, table}
 use Rattle.sched_core.specs.declared.reason.State.{State}
@@ -112,13 +112,8 @@ module _ (f g : ℕ → State) (stay : (i : ℕ) → Stays (f i) (g i)) where
           → (j : ℕ) × (cond (is_bad (g n)) (Some n) (find (λ m. is_bad (g m)) ns) ≡ Some j)
       by old true is_old is_new there rest =
           (n, ap (λ b. cond b (Some n) (find (λ m. is_bad (g m)) ns)) is_new)
-      by true false is_old is_new there rest = absurd (false≢true
-          (sym is_new ∙ (stay n (bad_is_closed (f n) is_old)).2 ∙ is_old))
-      by false false is_old is_new there rest =
-          let found = rest i there in (
-            found.0,
-            ap (λ b. cond b (Some n) (find (λ m. is_bad (g m)) ns)) is_new ∙ found.1,
-          )
+      by true false is_old is_new there rest = search (rules, false≢true, bad_is_closed)
+      by false false is_old is_new there rest = search rules
 
   first_stays : (x y : Option ℕ) (all more : Bool)
       → ((i : ℕ) → x ≡ Some i → (j : ℕ) × (y ≡ Some j)) → Stays (by_first x all) (by_first y more)
@@ -131,12 +126,8 @@ module _ (f g : ℕ → State) (stay : (i : ℕ) → Stays (f i) (g i)) where
   hindrance_stays : (s : Standing) (numbers : List ℕ)
       → Stays (by_hindrance s (by_inputs f numbers)) (by_hindrance s (by_inputs g numbers))
   hindrance_stays (Hindered cause) numbers closed = (refl, refl, refl)
-  hindrance_stays AllValid numbers closed = first_stays (find (λ n. is_bad (f n)) numbers)
-      (find (λ n. is_bad (g n)) numbers) (list_all (λ n. is_good (f n)) numbers)
-      (list_all (λ n. is_good (g n)) numbers) (bad_stays numbers) closed
-  hindrance_stays Free numbers closed = first_stays (find (λ n. is_bad (f n)) numbers)
-      (find (λ n. is_bad (g n)) numbers) (list_all (λ n. is_good (f n)) numbers)
-      (list_all (λ n. is_good (g n)) numbers) (bad_stays numbers) closed
+  hindrance_stays AllValid numbers closed = search (rules, first_stays, bad_stays)
+  hindrance_stays Free numbers closed = search (rules, first_stays, bad_stays)
 
 -- by whether an earlier twin was built, and whether one is open, before and after
 twins_stay : (built still : Bool) (o : State) (built' still' : Bool) (o' : State)
@@ -191,8 +182,7 @@ module _ (rows : Rows) (phase : ℕ → Phase)
   behind = record rows { phase = phase }
 
   moved_stays : (a b c d : State) → a ≡ c → b ≡ d → Stays c d → Stays a b
-  moved_stays a b c d first second stay =
-      subst (λ s. Stays s b) (sym first) (subst (Stays c) (sym second) stay)
+  moved_stays a b c d first second stay = search rules
 
   below_stay : (bound d : ℕ) → d < bound → Stays (state rows d) (state behind d)
   unfolding state table
@@ -215,12 +205,8 @@ module _ (rows : Rows) (phase : ℕ → Phase)
 
       reads : ((i : ℕ) → i < bound → Stays (state rows i) (state behind i)) → (i : ℕ)
           → Stays (before i) (after i)
-      reads earlier i = ⊎_elim
-          (λ less. moved_stays (before i) (after i) (state rows i) (state behind i)
-          (state_at (table rows) d i less) (state_at (table behind) d i less)
-          (earlier i (omega arith)))
-          (λ past. open_stays (before i) (after i) (ap is_open (state_past (table rows) d i past)))
-          (cases_lt i d)
+      reads earlier i =
+          search (rules, moved_stays, before, after, behind, state_at, open_stays, state_past, cases_lt)
 
   pub states_stay : (d : ℕ) → Stays (state rows d) (state behind d)
   states_stay d = below_stay (suc d) d (omega arith)

@@ -1,5 +1,5 @@
 -- A job, and parts of jobs, compared.
-use Rattle.std.proofs.Common.{◌≡◌, ◌∙◌, ◌↔◌, ◌+◌, ◌<◌, ℕ, Bool, List, [], ◌∷◌, ◌++◌, length, map, take, get_or, Some, IsTrue, IfSome, refl, sym, ap, subst}
+use Rattle.std.proofs.Common.{◌≡◌, ◌∙◌, ◌↔◌, ◌+◌, ◌<◌, ℕ, Bool, List, [], ◌∷◌, ◌++◌, length, map, take, get_or, Some, IsTrue, IfSome, refl, sym, ap, subst, rules}
 use Rattle.std.specs.Prelude.{slice_get}
 use Rattle.std.specs.Option.{option_map}
 use Rattle.std.proofs.lemmas.List.{length-map, map-append, map-id, take_more}
@@ -70,36 +70,23 @@ paths_more made paths n output path low low' is is' here before =
 
 pub recipe_of : (graph : Graph) (d : ℕ) (job : Job) (drv : Drv) → slice_get (drvs_of graph.nodes) d
     ≡ Some drv → IsJob graph d job → HasRecipe drv job
-recipe_of graph d job drv at is =
-    let same : drv ≡ is.node.drv = drv_is graph.nodes d drv is.node is.is_node at in
-    subst (λ (x : Drv). HasRecipe x job) (sym same)
-    (record { builder = is.builder; args = is.args; env = is.env })
+recipe_of graph d job drv at is = search (rules, drv_is)
 
 pub kind_of_job : (graph : Graph) (d : ℕ) (job : Job) (kind : Kind)
     → IfSome (slice_get graph.nodes d) (λ (n : Node). HasKind n.drv kind) → IsJob graph d job
     → job.kind ≡ kind
-kind_of_job graph d job kind told is =
-    one_kind is.node.drv job.kind kind is.kind
-    (subst (λ o. IfSome o (λ (n : Node). HasKind n.drv kind)) is.is_node told)
+kind_of_job graph d job kind told is = search (rules, one_kind)
 
 names_of : (lent : List OutputStruct) (drv : Drv) → map output_of lent ≡ drv.outputs
     → map (λ (o : OutputStruct). o.name.items) lent ≡ map (λ (o : Output). o.name) drv.outputs
-names_of lent drv view = sym (map-map (λ (o : Output). o.name) output_of lent)
-    ∙ ap (map (λ (o : Output). o.name)) view
+names_of lent drv view = search (rules, map-map)
 
 pub makes_of : (graph : Graph) (d : ℕ) (job : Job) (drv : Drv) (lent : List OutputStruct)
     (paths : List (List ℕ)) → slice_get (drvs_of graph.nodes) d ≡ Some drv
     → map output_of lent ≡ drv.outputs → IfSome (slice_get graph.nodes d)
     (λ (n : Node). paths ≡ output_paths_of n.drv) → IsJob graph d job
     → MakesAt lent paths job.outputs.items
-makes_of graph d job drv lent paths at view told is =
-    let same : drv ≡ is.node.drv = drv_is graph.nodes d drv is.node is.is_node at in
-    record {
-      names = is.names ∙ sym (names_of lent is.node.drv (view ∙ ap (λ (x : Drv). x.outputs) same));
-      paths_are = is.paths
-          ∙ sym (subst (λ o. IfSome o (λ (n : Node). paths ≡ output_paths_of n.drv)) is.is_node
-          told);
-    }
+makes_of graph d job drv lent paths at view told is = search (rules, drv_is, names_of)
 
 pub as_many_paths : (graph : Graph) (d : ℕ) (drv : Drv) (lent : List OutputStruct)
     (paths : List (List ℕ)) → d < length graph.nodes → slice_get (drvs_of graph.nodes) d ≡ Some drv

@@ -1,5 +1,5 @@
 -- News of inputs, counted one after the other.
-use Rattle.std.proofs.Common.{◌≡◌, ◌∙◌, ⊎_elim, ℕ, ◌+◌, ◌-◌, ◌<◌, ◌≤◌, Bool, true, false, List, [], ◌∷◌, ◌++◌, length, take, get_or, refl, sym, ap, subst, arith}
+use Rattle.std.proofs.Common.{◌≡◌, ◌∙◌, ℕ, ◌+◌, ◌-◌, ◌<◌, ◌≤◌, Bool, true, false, List, [], ◌∷◌, ◌++◌, length, take, get_or, refl, sym, ap, arith, rules}
 use Rattle.std.specs.List.{position_or_len, slice_index_or}
 use Rattle.std.proofs.Math.Nat.{eq-or-lt_of_le}
 use Rattle.std.proofs.lemmas.List.{get_or-map, take_all, take_more}
@@ -50,21 +50,13 @@ module _ (heard : List News) (place waits first : ℕ) (low : place < length hea
       → ((k : ℕ) → k < place + 1 → k < now → is_bad_news (slice_index_or heard k Open) ≡ false)
       → (now < length heard → is_bad_news (slice_index_or heard now Open) ≡ true)
       → AreCounted heard (place + 1) fewer now
-  counted_more fewer number now short before here = record {
-    short = short;
-    number = omega (arith, number, taken, are.number);
-    before = before;
-    here = here;
-  }
+  counted_more fewer number now short before here =
+      search (rules, short, number, taken, before, here)
 
   -- before the next place
   before_more : (now : ℕ) → (place < now → is_bad_news news ≡ false) → now ≤ first
       → (k : ℕ) → k < place + 1 → k < now → is_bad_news (slice_index_or heard k Open) ≡ false
-  before_more now harmless short k under sooner = ⊎_elim
-      (λ same. subst (λ n. is_bad_news (slice_index_or heard n Open) ≡ false) (sym same)
-      (harmless (omega (arith, same, sooner))))
-      (λ less. are.before k less (omega (arith, sooner, short)))
-      (eq-or-lt_of_le {n = k} {m = place} (omega (arith, under)))
+  before_more now harmless short k under sooner = search (rules, heard, short, eq-or-lt_of_le)
 
   -- an input of which there is good news
   pub good_counted : is_good_news news ≡ true
@@ -119,11 +111,9 @@ module _ (tallies : List Tally) (inputs : List ℕ) (place : ℕ) (any : Tally)
   pub good_read : (served result : Bool)
       → served ≡ is_good (get_or tallies (get_or inputs place 0) any).state → served ≡ result
       → is_good_news heard ≡ result
-  good_read served result is said = ap is_good_news read
-      ∙ good_news (get_or tallies (get_or inputs place 0) any).state ∙ sym is ∙ said
+  good_read served result is said = search (rules, read, good_news)
 
   pub bad_read : (failed result : Bool)
       → failed ≡ is_bad (get_or tallies (get_or inputs place 0) any).state → failed ≡ result
       → is_bad_news heard ≡ result
-  bad_read failed result is said = ap is_bad_news read
-      ∙ bad_news (get_or tallies (get_or inputs place 0) any).state ∙ sym is ∙ said
+  bad_read failed result is said = search (rules, read, bad_news)

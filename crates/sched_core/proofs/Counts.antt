@@ -1,5 +1,5 @@
 -- How many tallies pass a test, by their places.
-use Rattle.std.proofs.Common.{◌≡◌, ◌∙◌, ⊎_elim, ℕ, zero, suc, ◌+◌, ◌<◌, Bool, true, false, List, [], ◌∷◌, get_or, length, Some, refl, sym, ap, subst, arith}
+use Rattle.std.proofs.Common.{◌≡◌, ℕ, zero, suc, ◌+◌, ◌<◌, Bool, true, false, List, [], ◌∷◌, length, Some, refl, subst, arith, rules}
 use Rattle.std.specs.Prelude.{All, Contains, slice_get}
 use Rattle.std.specs.List.Sorted.{IsStrictlyIncreasing}
 use Rattle.nix_names.proofs.Lists.{All-from_contains, Contains-cons_cases, Contains-first, Contains-later, Contains-nothing}
@@ -48,9 +48,7 @@ places_hold test from (tally ∷ tallies) d has =
         → (Contains (places test (suc from) tallies) d → IsPlace test from (tally ∷ tallies) d)
         → Contains (before_if is from (places test (suc from) tallies)) d
         → IsPlace test from (tally ∷ tallies) d
-    by true passes rest has = ⊎_elim
-        (λ same. (0, tally, refl, passes, omega (arith, same)))
-        rest (Contains-cons_cases from (places test (suc from) tallies) d has)
+    by true passes rest has = search (rules, Contains-cons_cases, places)
     by false passes rest has = rest has
 
 -- and the place of each that passes is listed
@@ -59,13 +57,7 @@ places_have : (test : Tally → Bool) (from : ℕ) (tallies : List Tally) (i : �
     → Contains (places test from tallies) (from + i)
 places_have test from [] i tally at passes = absurd cc
 places_have test from (t ∷ tallies) zero tally at passes =
-    let same : t ≡ tally = cc in
-    let here : test t ≡ true = ap test same ∙ passes in
-    let first : from + 0 ≡ from = omega arith in
-    subst (λ is. Contains (before_if is from (places test (suc from) tallies)) (from + 0))
-    (sym here)
-    (subst (Contains (from ∷ places test (suc from) tallies)) (sym first)
-    (Contains-first from (places test (suc from) tallies)))
+    search (rules, before_if, places, Contains-first)
 places_have test from (t ∷ tallies) (suc i) tally at passes =
     let next : suc from + i ≡ from + suc i = omega arith in
     by (test t) (subst (Contains (places test (suc from) tallies)) next
@@ -73,19 +65,17 @@ places_have test from (t ∷ tallies) (suc i) tally at passes =
   where
     by : (is : Bool) → Contains (places test (suc from) tallies) (from + suc i)
         → Contains (before_if is from (places test (suc from) tallies)) (from + suc i)
-    by true has = Contains-later from (places test (suc from) tallies) (from + suc i) has
+    by true has = search (rules, Contains-later, places)
     by false has = has
 
 rising_more : (x : ℕ) (xs : List ℕ) → All (λ d. x < d) xs → IsStrictlyIncreasing xs
     → IsStrictlyIncreasing (x ∷ xs)
 rising_more x xs above rising zero low = above 0 0 (omega (arith, low))
-rising_more x xs above rising (suc k) low =
-    let next : suc k + 1 ≡ suc (k + 1) = omega arith in
-    subst (λ n. get_or xs k 0 < get_or (x ∷ xs) n 0) (sym next) (rising k (omega (arith, low)))
+rising_more x xs above rising (suc k) low = search rules
 
 places_rise : (test : Tally → Bool) (from : ℕ) (tallies : List Tally)
     → IsStrictlyIncreasing (places test from tallies)
-places_rise test from [] = λ k low. absurd (omega (arith, low))
+places_rise test from [] = search rules
 places_rise test from (tally ∷ tallies) = by (test tally) (places_rise test (suc from) tallies)
   where
     above : All (λ d. from < d) (places test (suc from) tallies)
@@ -123,9 +113,4 @@ tallies_counted test tallies is_such such its = record {
 -- so many are such by another name too
 pub so_many_same : (is_such is_so : ℕ → Type 0) (count : ℕ) → ((d : ℕ) → is_such d → is_so d)
     → ((d : ℕ) → is_so d → is_such d) → AreSoMany is_such count → AreSoMany is_so count
-so_many_same is_such is_so count to from many = record {
-  numbers = many.numbers;
-  rising = many.rising;
-  just = λ d. (λ has. to d ((many.just d).0 has), λ is. (many.just d).1 (from d is));
-  count_is = many.count_is;
-}
+so_many_same is_such is_so count to from many = search rules

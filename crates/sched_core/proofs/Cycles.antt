@@ -1,6 +1,6 @@
 -- A round among the outputs' numbers is a cycle among their paths, and where there is none, there
 -- is no cycle.
-use Rattle.std.proofs.Common.{◌≡◌, ◌≢◌, ◌↔◌, ℕ, ◌<◌, Bool, true, false, List, [], ◌∷◌, ◌++◌, length, nat_eq, Some, refl, sym, subst, arith}
+use Rattle.std.proofs.Common.{◌≡◌, ◌≢◌, ◌↔◌, ℕ, ◌<◌, Bool, true, false, List, [], ◌∷◌, ◌++◌, length, nat_eq, Some, refl, sym, subst, arith, rules}
 use Rattle.std.specs.Prelude.{Contains, IfOk, IsTrue, Result, Ok, Err}
 use Rattle.std.specs.Cmp.Lexicographic.{pointwise}
 use Rattle.std.specs.Global.{Vec}
@@ -42,23 +42,13 @@ module _ (paths : List (List ℕ)) (infos : List PathInfo) (links : List (Vec �
       have.are.sound from next linked in (h.0, h.2)
 
   pub round_is_cycle : HaveRound links → IsCyclic paths infos
-  round_is_cycle round =
-      let first = key_of_start round.one round.other round.there round.different in
-      let second = key_of_start round.other round.one round.back (λ e. round.different (sym e)) in
-      let there = goes_leads round.one round.other round.there first.0 second.0 first.1 second.1 in
-      let back = goes_leads round.other round.one round.back second.0 first.0 second.1 first.1 in
-      let apart : first.0 ≢ second.0 = λ e. round.different
-      (same_key have.keys have.once.distinct round.one round.other second.0 (rw (sym e) first.1)
-      second.1) in
-      (first.0, second.0, there.0, back.0, apart, there.1, back.1)
+  round_is_cycle round = search (rules, key_of_start, goes_leads, same_key)
 
   leads_on : (a b c : List ℕ) (steps more : List (List ℕ))
       → LeadsBy (OutputRefersTo paths infos) a b steps
       → LeadsBy (OutputRefersTo paths infos) b c more
       → LeadsBy (OutputRefersTo paths infos) a c (steps ++ more)
-  leads_on a b c [] more is leads = subst (λ (p : List ℕ). LeadsBy (OutputRefersTo paths infos) p c
-      more)
-      (sym is) leads
+  leads_on a b c [] more is leads = search rules
   leads_on a b c (next ∷ steps) more (refers, rest) leads =
       (refers, leads_on next b c steps more rest leads)
 
@@ -94,7 +84,7 @@ module _ (paths : List (List ℕ)) (infos : List PathInfo) (links : List (Vec �
           × OutputRefersTo paths infos a later
           × LeadsBy (OutputRefersTo paths infos) later b more
       by true e past = past e
-      by false e past = (next, steps, unequal_from_eq a next e, refers, rest)
+      by false e past = search (rules, unequal_from_eq)
 
   no_round : (n : ℕ) → IsGrounded links n → (a b : List ℕ) (there back : List (List ℕ))
       → slice_get have.keys n ≡ Some a → a ≢ b
@@ -122,10 +112,7 @@ module _ (paths : List (List ℕ)) (infos : List PathInfo) (links : List (Vec �
   -- what a walk tells of the links, it tells of the outputs
   pub told : (cyclic : Bool) → TellsRound links cyclic → IsTrue cyclic ↔ IsCyclic paths infos
   told true round = (λ _. round_is_cycle round, λ _. refl)
-  told false none = (
-    λ is. absurd (false≢true is),
-    λ cyclic. absurd (grounded_is_acyclic none cyclic),
-  )
+  told false none = search (rules, false≢true, grounded_is_acyclic)
 
   pub told_of : {E : Type 0} (answer : Result Bool E) → IfOk answer (TellsRound links)
       → IfOk answer (λ cyclic. IsTrue cyclic ↔ IsCyclic paths infos)

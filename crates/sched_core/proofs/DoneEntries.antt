@@ -1,5 +1,5 @@
 -- The entry of a derivation that was built, by what is tested of its records.
-use Rattle.std.proofs.Common.{◌≡◌, ◌≢◌, ◌∙◌, ◌↔◌, ℕ, ◌+◌, ◌<◌, ◌≤◌, Bool, true, false, List, [], ◌∷◌, length, map, take, get_or, Option, Some, refl, sym, ap, subst}
+use Rattle.std.proofs.Common.{◌≡◌, ◌≢◌, ◌∙◌, ◌↔◌, ℕ, ◌+◌, ◌<◌, ◌≤◌, Bool, true, false, List, [], ◌∷◌, length, map, take, get_or, Some, refl, sym, ap, subst, rules}
 use Rattle.std.specs.Prelude.{All, Contains, IfSome, IsTrue, slice_get}
 use Rattle.std.specs.Option.{option_map}
 use Rattle.std.proofs.lemmas.Bool.{false≢true}
@@ -64,10 +64,7 @@ pub judged : (known : List Registration) (kind : Kind) (paths : List (List ℕ))
     (infos : List PathInfo) (digests : Bool) → length infos ≡ length paths
     → All (IsNotValid known) paths → (IsTrue digests ↔ HaveDigest kind infos)
     → IsTrue digests ↔ AreFitting known kind paths infos
-judged known kind paths infos digests count new told = (
-  λ yes. record { count = count; new = new; digests = told.0 yes },
-  λ fitting. told.1 fitting.digests,
-)
+judged known kind paths infos digests count new told = search (rules, digests)
 
 -- the records of outputs of a kind at their paths, by what is tested
 fitting_own : (entries : List Entry) (drv : Drv) (kind : Kind) (infos : List PathInfo)
@@ -129,13 +126,7 @@ beside all path info = (there, back)
         × (slice_get (infos_of all) n ≡ Some info))
         → Contains all (record { path = path; info = info })
     back (n, path_at, info_at) =
-        let one = get_source path_in all n path path_at in
-        let info_is : one.0.info ≡ info = same_element (infos_of all) n one.0.info info
-        (slice_get-map info_in all n ∙ ap (option_map info_in) one.1) info_at in
-        let path_is : one.0.path ≡ path = one.2 in
-        let same : ◌≡◌ {A = Registration} one.0 (record { path = path; info = info }) =
-        λ i. record { path = path_is i; info = info_is i } in
-        subst (Contains all) same (Contains-from_get all n one.0 one.1)
+        search (rules, get_source, path_in, path_at, same_element, slice_get-map, info_in, Contains-from_get)
 
 sorted_entry : (node : Node) (infos : List PathInfo) (all outputs : List Registration)
     → paths_registered all ≡ output_paths_of node.drv
@@ -163,15 +154,12 @@ sorted_entry node infos all outputs paths same sorted = record {
 node_at : (nodes : List Node) (d : ℕ) (node : Node) (Holds : Node → Type 0)
     → IfSome (slice_get nodes d) Holds
     → slice_get nodes d ≡ Some node → Holds node
-node_at nodes d node Holds holds at = subst (λ (o : Option Node). IfSome o Holds) at holds
+node_at nodes d node Holds holds at = search rules
 
 path_at : (nodes : List Node) (d : ℕ) (node : Node) (path : List ℕ) → slice_get (node_paths nodes) d
     ≡ Some path
     → slice_get nodes d ≡ Some node → node.path ≡ path
-path_at nodes d node path is at =
-    let path_in : Node → List ℕ = λ n. n.path in
-    same_element (node_paths nodes) d node.path path
-    (slice_get-map path_in nodes d ∙ ap (option_map path_in) at) is
+path_at nodes d node path is at = search (rules, same_element, slice_get-map)
 
 -- What a plan tells of one of its derivations.
 pub record IsTold (graph : Graph) (d : ℕ) (kind : Kind) (paths : List (List ℕ)) : Type 0 where
@@ -235,9 +223,7 @@ pub cycle_not_allowed : (graph : Graph) (d : ℕ) (entries : List Entry) (kind :
     (paths : List (List ℕ)) (infos : List PathInfo) → IsTold graph d kind paths
     → IsCyclic paths infos → IsNotAllowed graph entries d infos
 cycle_not_allowed graph d entries kind paths infos told cyclic node at allowed =
-    let own : paths ≡ output_paths_of node.drv =
-    node_at graph.nodes d node (λ n. paths ≡ output_paths_of n.drv) told.outputs at in
-    allowed.records.acyclic (subst (λ (ps : List (List ℕ)). IsCyclic ps infos) own cyclic)
+    search (rules, node_at)
 
 -- outputs of a derivation of a plan can be sorted: there are some, and their paths differ
 pub can_be_sorted : (graph : Graph) (d : ℕ) (kind : Kind) (paths : List (List ℕ))
@@ -257,8 +243,7 @@ can_be_sorted graph d kind paths all within distinct told are =
   where
     some_outputs : (drv : Drv) (k : Kind) → HasKind drv k → drv.outputs ≡ [] → ⊥
     some_outputs drv Addressed has none = has.0 none
-    some_outputs drv (Fixed method digest) has none = let one : has.0 ∷ [] ≡ [] = sym has.1.0 ∙ none
-        in absurd cc
+    some_outputs drv (Fixed method digest) has none = search rules
 
     no_outputs : (outputs : List Output) → map (λ (o : Output). o.path) outputs ≡ [] → outputs ≡ []
     no_outputs [] none = refl

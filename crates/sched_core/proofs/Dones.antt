@@ -1,25 +1,22 @@
 -- What a Done may register: its entry is new and closed behind those before, and has one path for
 -- each output.
-use Rattle.std.proofs.Common.{◌≡◌, ◌≤◌, ◌∙◌, ℕ, List, [], ◌∷◌, ◌++◌, length, Some, sym, ap, subst, ⊎_elim, arith}
-use Rattle.std.specs.Prelude.{Contains, flat_map, slice_get}
+use Rattle.std.proofs.Common.{◌≡◌, ◌≤◌, ◌∙◌, ℕ, List, [], ◌∷◌, ◌++◌, length, sym, subst, ⊎_elim, arith, rules}
+use Rattle.std.specs.Prelude.{Contains, flat_map}
 use Rattle.std.specs.Cmp.Lexicographic.{bytes_decides, nat_list_eq_equiv}
 use Rattle.std.proofs.lemmas.List.{length-map}
-use Rattle.std.proofs.lemmas.List.Elements.{All-contains, Contains-append_cases}
+use Rattle.std.proofs.lemmas.List.Elements.{Contains-append_cases}
 use Rattle.std.proofs.lemmas.Map.Made.{is_member-Decides, length-le_from_is_member}
 use Rattle.std.proofs.lemmas.Option.{slice_get_within}
 use Rattle.nix_names.specs.StorePaths.{IsDrvPath}
-use Rattle.nix_names.proofs.RisingLists.{distinct_from_rising}
 use Rattle.nix_drv.specs.Derivation.{Output}
 use Rattle.drv_graph.specs.Loading.{AreDistinct}
 use Rattle.drv_graph.specs.Nodes.{Node}
 use Rattle.drv_graph.specs.PlanNodes.{output_paths_of}
-use Rattle.drv_graph.specs.Plans.{Graph}
-use Rattle.drv_graph.specs.SoundGraphs.{IsSound}
 use Rattle.valid_table.specs.Adding.{AreClosed, AreNew}
 use Rattle.valid_table.specs.Closure.{LeadsByReferences}
 use Rattle.valid_table.specs.Entries.{paths_registered, registered, registered_by}
 use Rattle.valid_table.specs.PathInfos.{PathInfo}
-use Rattle.valid_table.specs.Valid.{HasDrvPath, IsJournal, IsNotValid, IsValid, references_of}
+use Rattle.valid_table.specs.Valid.{IsJournal, IsNotValid, IsValid, references_of}
 use Rattle.valid_table.specs.declared.entry.Entry.{Entry}
 use Rattle.valid_table.specs.declared.entry.Entry.TheVariants.{Done}
 use Rattle.valid_table.specs.declared.entry.Registration.{Registration}
@@ -55,7 +52,7 @@ no_more_than xs ys distinct among =
 pub reached_is_valid : (registrations : List Registration) (from to : List ℕ)
     (steps : List (List ℕ)) → LeadsByReferences registrations from to steps
     → IsValid registrations to
-reached_is_valid registrations from to [] leads = subst (IsValid registrations) leads.1 leads.0
+reached_is_valid registrations from to [] leads = search rules
 reached_is_valid registrations from to (next ∷ steps) leads =
     reached_is_valid registrations next to steps leads.1
 
@@ -123,43 +120,9 @@ module _ (run : Run) (entries : List Entry) (node : Node) (infos : List PathInfo
   done_is_closed = subst (λ (e : Entry). AreClosed (registered entries) (registered_by e))
       (sym is.is_done) closed_outputs
 
-  -- its deriver is a derivation's file
-  pub done_has_drv_path : IsDrvPath node.path → HasDrvPath entry
-  done_has_drv_path named = subst HasDrvPath (sym is.is_done) named
-
   -- a journal with it is one
   pub done_is_journal : IsJournal entries → IsDrvPath node.path → IsJournal (entries ++ entry ∷ [])
   done_is_journal journal named =
       subst (λ (e : Entry). IsJournal (entries ++ e ∷ [])) (sym is.is_done)
       (journal_push entries (Done node.path is.outputs) journal named closed_outputs
       (once_more (registered entries) is.outputs journal.once is.rising new_outputs))
-
-  -- it registers as many paths as there are outputs, where no two outputs have one
-  pub done_counts : AreDistinct (output_paths_of node.drv) → length (registered_by entry)
-      ≡ length node.drv.outputs
-  done_counts distinct =
-      let path_in : Registration → List ℕ = λ r. r.path in
-      let few = no_more_than (paths_registered is.outputs) (output_paths_of node.drv)
-      (distinct_from_rising (paths_registered is.outputs) is.rising)
-      (λ path there.
-      let r = Contains-from_map path_in is.outputs path there in
-      subst (Contains (output_paths_of node.drv)) r.2
-      (registered_output node infos entry is r.0 r.1).0) in
-      let many = no_more_than (output_paths_of node.drv) (paths_registered is.outputs) distinct
-      (output_registered node infos is.outputs entry is
-      (records_for_paths run entries node infos allowed)) in
-      ap (λ (e : Entry). length (registered_by e)) is.is_done
-      ∙ omega (
-        arith,
-        few,
-        many,
-        length-map is.outputs path_in,
-        length-map node.drv.outputs (λ (o : Output). o.path),
-      )
-
--- a plan's derivation stands at a derivation's file
-pub node_is_named : (graph : Graph) (d : ℕ) (node : Node) → IsSound graph → slice_get graph.nodes d
-    ≡ Some node → IsDrvPath node.path
-node_is_named graph d node sound at =
-    All-contains (λ (n : Node). IsDrvPath n.path) graph.nodes node sound.named
-    (Contains-from_get graph.nodes d node at)

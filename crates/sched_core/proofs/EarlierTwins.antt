@@ -1,5 +1,5 @@
 -- The earlier twins of a derivation: the nearest of them, behind its own.
-use Rattle.std.proofs.Common.{◌≡◌, ◌∙◌, ◌⊎◌, inl, inr, ⊎_elim, ℕ, zero, suc, ◌+◌, ◌<◌, ◌&&◌, Bool, true, false, List, [], ◌∷◌, ◌++◌, Option, Some, None, refl, sym, ap, subst, arith, append-nil}
+use Rattle.std.proofs.Common.{◌≡◌, ◌∙◌, ◌⊎◌, inl, inr, ⊎_elim, ℕ, zero, suc, ◌+◌, ◌<◌, ◌&&◌, Bool, true, false, List, [], ◌∷◌, ◌++◌, Option, Some, None, refl, sym, ap, subst, arith, append-nil, rules}
 use Rattle.std.specs.Prelude.{Contains, cond, filter, slice_get}
 use Rattle.std.specs.List.{list_all, range_with_len}
 use Rattle.std.proofs.lemmas.Bool.{and_from, and_parts, and_right, false≢true}
@@ -26,9 +26,7 @@ no_twin None = refl
 -- twins have the same twins
 same_twins : (a b c : Option Node) → are_twins_at b c ≡ true
     → are_twins_at a b ≡ are_twins_at a c
-same_twins a b c are = same_test (are_twins_at a b) (are_twins_at a c)
-    (λ first. through a b c first are)
-    (λ first. through a c b first (turned b c are))
+same_twins a b c are = search (rules, same_test, through, turned)
 
 -- where all outputs of one were valid, those of its twin were
 valid_twin : (system : List ℕ) (opening : List Entry) (a b : Option Node)
@@ -114,7 +112,7 @@ passing_none test n none = by (last_passing test n)
   where
     by : (passing test n ≡ []) ⊎ ((t : ℕ) × IsLast test n t) → passing test n ≡ []
     by (inl is) = is
-    by (inr (t, last)) = absurd (false≢true (sym (none t) ∙ last.passes))
+    by (inr (t, last)) = search (rules, false≢true)
 
 -- ---- the earlier twins
 
@@ -145,8 +143,7 @@ module _ (run : Run) (opening : List Entry) where
 
   is_twin_same : (d t : ℕ) → are_twins_at (node t) (node d) ≡ true → (u : ℕ)
       → is_twin t u ≡ is_twin d u
-  is_twin_same d t are u = ap (λ b. is_wanted run opening u && b)
-      (same_twins (node u) (node t) (node d) are)
+  is_twin_same d t are u = search (rules, same_twins, node)
 
   pub twins_first : (d t : ℕ) → Contains (earlier_twins run opening d) t → t < d
   twins_first d t has = (has_twin d t has).earlier
@@ -169,23 +166,13 @@ module _ (run : Run) (opening : List Entry) where
 
   twins_last : (d : ℕ) → (earlier_twins run opening d ≡ [])
       ⊎ ((t : ℕ) × (earlier_twins run opening d ≡ earlier_twins run opening t ++ t ∷ []))
-  twins_last d = ⊎_elim
-      (λ none. inl (twins_are d ∙ none))
-      (λ last.
-      let t : ℕ = last.0 in
-      let is : IsLast (is_twin d) d t = last.1 in
-      let same : passing (is_twin d) t ≡ earlier_twins run opening t =
-      sym (twins_are t ∙ filter_agree (is_twin t) (is_twin d) (is_twin_same d t
-      (and_parts (is_wanted run opening t) (are_twins_at (node t) (node d)) is.passes).1)
-      (range_with_len 0 t)) in
-      inr (t, twins_are d ∙ is.parts ∙ ap (λ l. l ++ t ∷ []) same))
-      (last_passing (is_twin d) d)
+  twins_last d =
+      search (rules, twins_are, is_twin, passing, filter_agree, is_twin_same, and_parts, node, last_passing)
 
   twins_valid : (d t : ℕ) → Contains (earlier_twins run opening d) t
       → standing_at run.system opening (node t) ≡ AllValid
       → standing_at run.system opening (node d) ≡ AllValid
-  twins_valid d t has = valid_twin run.system opening (node t) (node d)
-      (has_twin d t has).twins
+  twins_valid d t has = search (rules, valid_twin, node, has_twin)
 
   -- whatever happened in a run
   pub run_twins : (events : List Event) → HaveTwins (rows_of run opening events)
@@ -201,5 +188,4 @@ module _ (run : Run) (opening : List Entry) where
   twins_past d past = twins_are d ∙ passing_none (is_twin d) d (λ t. alone t)
     where
       alone : (t : ℕ) → is_twin d t ≡ false
-      alone t = and_right (is_wanted run opening t) (are_twins_at (node t) (node d))
-          (ap (λ o. are_twins_at (node t) o) past ∙ no_twin (node t))
+      alone t = search (rules, and_right, node, no_twin)

@@ -1,5 +1,5 @@
 -- How a lease ends.
-use Rattle.std.proofs.Common.{◌≡◌, ◌++◌, ◌∷◌, [], ℕ, List, ap, append_assoc, refl, subst, sym, ◌∙◌}
+use Rattle.std.proofs.Common.{◌≡◌, ◌++◌, ◌∷◌, [], ℕ, List, append_assoc, subst, rules}
 use Rattle.drv_graph.specs.PlanNodes.{output_paths_of}
 use Rattle.valid_table.specs.Adding.{AreClosed, AreNew}
 use Rattle.valid_table.specs.Entries.{registered, registered_by}
@@ -65,9 +65,7 @@ pub append_fault : (before : Ledger) (run : Run) (history : History) (shown pend
     → IsDoneEntry run.graph d history.entries infos entry → fault ≡ NoMemory
     → IsFinishFault before job number infos fault
 append_fault before run history shown pending job number d infos entry fault view lease is_d told
-    is =
-    entry_fault before run history shown pending job number d infos fault view lease is_d
-    (entry_new run.graph d history.entries infos entry fault told is)
+    is = search (rules, entry_fault, entry_new)
 
 -- what an outlet asks of such an entry, where it holds just the entries
 pub may_append : (run : Run) (entries held : List Entry) (d : ℕ) (infos : List PathInfo)
@@ -86,10 +84,7 @@ pub holding : (entries more shown after_shown pending after_pending : List Entry
     → after_shown ≡ shown → after_pending ≡ pending ++ copy ∷ [] → copy ≡ entry
     → after_shown ++ after_pending ≡ more
 holding entries more shown after_shown pending after_pending entry copy held more_is same added
-    same_entry =
-    rw (same, added, same_entry, more_is)
-    (sym (append_assoc shown pending (entry ∷ []))
-    ∙ ap (λ es. es ++ entry ∷ []) held)
+    same_entry = search (rules, append_assoc)
 
 -- the entries are a journal behind the entry, too
 pub journal_behind : (run : Run) (entries more : List Entry) (d : ℕ) (infos : List PathInfo)
@@ -115,15 +110,4 @@ pub finishing : (before : Ledger) (run after_run : Run) (history between after :
 finishing before run after_run history between after shown after_shown pending after_pending job
     number d n infos entry copy
     view lease done same_run same_history is_d is_n is_after same_shown added same_entry =
-    subst (λ (ledger : Ledger). IsFinishing ledger
-    (record { run = after_run; history = after; shown = after_shown; pending = after_pending })
-    job number infos) view
-    (record {
-      lease = lease;
-      entry = entry;
-      done = done;
-      run = same_run;
-      history = is_after ∙ rw (same_history, is_d, is_n) refl;
-      shown = same_shown;
-      pending = added ∙ ap (λ e. pending ++ e ∷ []) same_entry;
-    })
+    search rules

@@ -1,5 +1,5 @@
 -- What is left of paths behind some of them.
-use Rattle.std.proofs.Common.{◌≡◌, ◌↔◌, ◌⊎◌, ⊎_elim, ◌<◌, ◌≤◌, ◌+◌, ◌++◌, ◌∙◌, ◌==◌, ℕ, Bool, true, false, List, [], ◌∷◌, Option, Some, None, IfSome, IsTrue, MatchOption, append_assoc, ap, filter, flat_map, get_or, length, map, refl, sym, subst, take, arith}
+use Rattle.std.proofs.Common.{◌≡◌, ◌↔◌, ◌⊎◌, ⊎_elim, ◌<◌, ◌≤◌, ◌+◌, ◌++◌, ◌∙◌, ◌==◌, ℕ, Bool, true, false, List, [], ◌∷◌, Option, Some, None, IfSome, IsTrue, MatchOption, append_assoc, ap, filter, flat_map, get_or, length, map, refl, sym, subst, arith, rules}
 use Rattle.std.specs.Borrow.{Bor}
 use Rattle.std.specs.List.{list_any}
 use Rattle.std.specs.Prelude.{Contains, slice_get}
@@ -17,29 +17,21 @@ use Rattle.drv_graph.specs.PlanNodes.{drvs_of, output_paths_of}
 use Rattle.drv_graph.proofs.Numbers.{numbers_length}
 use Rattle.sched_core.specs.Following.{IsBehind}
 use Rattle.sched_core.specs.Jobs.{named_outputs, paths_named, seeds_of}
-use Rattle.sched_core.proofs.SeedParts.{at_input, first_more, first_named, first_seeds, input_added, output_at, outputs_count, path_at, read_at, take_next}
+use Rattle.sched_core.proofs.SeedParts.{at_input, first_more, first_named, first_seeds, input_added, output_at, outputs_count, path_at, read_at}
 use Rattle.nix_names.proofs.Lists.{element_at}
-
--- nothing is passed over
-pub behind_nothing : (paths : List (List ℕ)) (left : Bor (List (List ℕ))) → left.now ≡ paths
-    → IsBehind paths [] (Some left)
-behind_nothing paths left same = sym same
 
 -- behind one front, and another behind that
 pub behind_both : (paths front more : List (List ℕ)) (between : Bor (List (List ℕ)))
     (left : Option (Bor (List (List ℕ)))) → IsBehind paths front (Some between)
     → IsBehind between.now more left → IsBehind paths (front ++ more) left
-behind_both paths front more between (Some left) first second = first ∙ ap (λ l. front ++ l) second
-    ∙ sym (append_assoc front more left.now)
-behind_both paths front more between None first second = λ rest same.
-    second rest (append_cancel_left front between.now (more ++ rest)
-    (sym first ∙ same ∙ append_assoc front more rest))
+behind_both paths front more between (Some left) first second = search (rules, append_assoc)
+behind_both paths front more between None first second =
+    search (rules, append_cancel_left, append_assoc)
 
 -- paths that don't begin with a front don't begin with a longer one
 pub behind_none : (paths front more : List (List ℕ)) → IsBehind paths front None
     → IsBehind paths (front ++ more) None
-behind_none paths front more none = λ rest same.
-    none (more ++ rest) (same ∙ append_assoc front more rest)
+behind_none paths front more none = search (rules, append_assoc)
 
 -- What is left behind more paths, where something was left before.
 abbrev pub IsStep : Option (Bor (List (List ℕ))) → (more : List (List ℕ))
@@ -49,23 +41,14 @@ IsStep left more next = MatchOption left (next ≡ None)
 
 pub behind_step : (paths front more : List (List ℕ)) (left next : Option (Bor (List (List ℕ))))
     → IsBehind paths front left → IsStep left more next → IsBehind paths (front ++ more) next
-behind_step paths front more (Some between) next first step =
-    behind_both paths front more between next first step
+behind_step paths front more (Some between) next first step = search (rules, behind_both)
 behind_step paths front more None next first step =
     subst (IsBehind paths (front ++ more)) (sym step) (behind_none paths front more first)
-
-pub path_step : (paths all : List (List ℕ)) (n : ℕ) (path : List ℕ)
-    (left next : Option (Bor (List (List ℕ)))) → n < length all → path ≡ get_or all n path
-    → IsBehind paths (take n all) left → IsStep left (path ∷ []) next
-    → IsBehind paths (take (n + 1) all) next
-path_step paths all n path left next low is first step =
-    subst (λ l. IsBehind paths l next) (sym (take_next all n path (read_at all n path low is)))
-    (behind_step paths (take n all) (path ∷ []) left next first step)
 
 -- nothing more is left
 pub all_left : (paths front : List (List ℕ)) (rest : Bor (List (List ℕ)))
     → IsBehind paths front (Some rest) → rest.now ≡ [] → paths ≡ front
-all_left paths front rest is nothing = is ∙ ap (λ l. front ++ l) nothing ∙ append-nil front
+all_left paths front rest is nothing = search (rules, append-nil)
 
 pub nothing_left : (paths front : List (List ℕ)) (rest : Bor (List (List ℕ)))
     → IsBehind paths front (Some rest) → paths ≡ front → rest.now ≡ []
@@ -74,13 +57,11 @@ nothing_left paths front rest is same = append_cancel_left front rest.now []
 
 pub step_some : (left next : Option (Bor (List (List ℕ)))) (rest : Bor (List (List ℕ)))
     (more : List (List ℕ)) → left ≡ Some rest → IsBehind rest.now more next → IsStep left more next
-step_some left next rest more is behind =
-    subst (λ (o : Option (Bor (List (List ℕ)))). IsStep o more next) (sym is) behind
+step_some left next rest more is behind = search rules
 
 pub step_none : (left next : Option (Bor (List (List ℕ)))) (more : List (List ℕ)) → left ≡ None
     → next ≡ None → IsStep left more next
-step_none left next more is none = subst (λ (o : Option (Bor (List (List ℕ)))). IsStep o more next)
-    (sym is) none
+step_none left next more is none = search rules
 
 -- what is left behind an element of a list
 pub element_some : (left next given : Option (Bor (List (List ℕ)))) (rest : Bor (List (List ℕ)))
@@ -88,16 +69,11 @@ pub element_some : (left next given : Option (Bor (List (List ℕ)))) (rest : Bo
     → left ≡ Some rest → IsBehind rest.now (path ∷ []) given → next ≡ given
     → IsStep left (get_or paths n [] ∷ []) next
 element_some left next given rest paths n path low is some behind same =
-    let its : path
-    ≡ get_or paths n [] =
-    sym (get_or_from_slice_get paths n path [] (read_at paths n path low is)) in
-    step_some left next rest (get_or paths n [] ∷ []) some
-    (subst (IsBehind rest.now (get_or paths n [] ∷ [])) (sym same)
-    (subst (λ p. IsBehind rest.now (p ∷ []) given) its behind))
+    search (rules, get_or_from_slice_get, read_at, step_some)
 
 pub element_none : (left next : Option (Bor (List (List ℕ)))) (paths : List (List ℕ)) (n : ℕ) → left
     ≡ None → next ≡ None → IsStep left (get_or paths n [] ∷ []) next
-element_none left next paths n none same = step_none left next (get_or paths n [] ∷ []) none same
+element_none left next paths n none same = search (rules, step_none)
 
 -- an output of an input is used or not
 pub used_step : (inputs : List Input) (place : ℕ) (used : Drv) (seeds paths : List (List ℕ))
@@ -181,11 +157,11 @@ input_step nodes d drv used numbers place number seeds left next once is_drv are
   where
     one_input : (inputs : List Input) (n : ℕ) (a b : Input) → slice_get inputs n ≡ Some a
         → slice_get inputs n ≡ Some b → a ≡ b
-    one_input inputs n a b is also = let both : Some a ≡ Some b = sym is ∙ also in cc
+    one_input inputs n a b is also = search rules
 
     one_node : (nodes : List Node) (n : ℕ) (a b : Node) → slice_get nodes n ≡ Some a
         → slice_get nodes n ≡ Some b → a ≡ b
-    one_node nodes n a b is also = let both : Some a ≡ Some b = sym is ∙ also in cc
+    one_node nodes n a b is also = search rules
 
 pub input_some : (inputs : List Input) (place : ℕ) (used : Drv)
     (left next given : Option (Bor (List (List ℕ)))) (rest : Bor (List (List ℕ))) → left ≡ Some rest
@@ -194,15 +170,13 @@ pub input_some : (inputs : List Input) (place : ℕ) (used : Drv)
     → (input : Input) → slice_get inputs place ≡ Some input
     → IsStep left (paths_named input.names used) next
 input_some inputs place used left next given rest some behind same input at =
-    step_some left next rest (paths_named input.names used) some
-    (subst (IsBehind rest.now (paths_named input.names used)) (sym same) (behind input at))
+    search (rules, step_some)
 
 pub input_none : (inputs : List Input) (place : ℕ) (used : Drv)
     (left next : Option (Bor (List (List ℕ)))) → left ≡ None → next ≡ None
     → (input : Input) → slice_get inputs place ≡ Some input
     → IsStep left (paths_named input.names used) next
-input_none inputs place used left next none same input at =
-    step_none left next (paths_named input.names used) none same
+input_none inputs place used left next none same input at = search (rules, step_none)
 
 -- all inputs were seen
 pub seeds_left : (nodes : List Node) (d : ℕ) (numbers : List ℕ) (seeds : List (List ℕ)) (count : ℕ)
@@ -237,10 +211,7 @@ seeds_told nodes d seeds rest told behind nothing = by (slice_get nodes d) behin
     by : (o : Option Node) → IfSome o (λ node. IsBehind seeds (seeds_of nodes node.drv) (Some rest))
         → IfSome o (λ node. IsTrue told ↔ (seeds ≡ seeds_of nodes node.drv))
     by None its = tt
-    by (Some node) its = (
-      λ yes_told. all_left seeds (seeds_of nodes node.drv) rest its (nothing.0 yes_told),
-      λ same. nothing.1 (nothing_left seeds (seeds_of nodes node.drv) rest its same),
-    )
+    by (Some node) its = search (rules, all_left, nothing_left)
 
 pub seeds_untold : (nodes : List Node) (d : ℕ) (seeds : List (List ℕ))
     → IfSome (slice_get nodes d) (λ node. IsBehind seeds (seeds_of nodes node.drv) None)
@@ -258,8 +229,4 @@ seeds_untold nodes d seeds behind = by (slice_get nodes d) behind
 pub nothing_told : (paths : List (List ℕ)) (told : Bool) → told ≡ (length paths == 0) → IsTrue told
     ↔ (paths ≡ [])
 nothing_told [] told is = (λ _. refl, λ _. is)
-nothing_told (path ∷ paths) told is = (
-  λ yes_told. let none : length (path ∷ paths) ≡ 0 = eqb-true _ _ (sym is ∙ yes_told)
-      in absurd (omega arith),
-  λ same. absurd cc,
-)
+nothing_told (path ∷ paths) told is = search (rules, eqb-true)

@@ -1,5 +1,5 @@
 -- Tallies are right but for the edges along which users are still to be told: what keeps it so.
-use Rattle.std.proofs.Common.{◌≡◌, ◌∙◌, ◌⊎◌, inl, inr, ⊎_elim, ℕ, zero, suc, ◌+◌, ◌<◌, ◌==◌, ◌&&◌, Bool, true, false, List, [], ◌∷◌, ◌++◌, drop, length, take, Some, get_or, set, if◌then◌else◌, refl, sym, ap, subst, eqb, eqb-true, eq-eqb, ne_eqb, le_of_lt, le_refl, lt_of_lt_of_le, ◌≤◌, arith}
+use Rattle.std.proofs.Common.{◌≡◌, ◌∙◌, ◌⊎◌, inl, inr, ⊎_elim, ℕ, zero, suc, ◌+◌, ◌<◌, ◌==◌, ◌&&◌, Bool, true, false, List, [], ◌∷◌, ◌++◌, drop, length, take, Some, get_or, set, if◌then◌else◌, refl, sym, ap, subst, eqb, eqb-true, eq-eqb, ne_eqb, le_of_lt, le_refl, lt_of_lt_of_le, ◌≤◌, arith, rules}
 use Rattle.std.specs.Prelude.{Contains, slice_get, slice_set}
 use Rattle.std.specs.List.{slice_index_or}
 use Rattle.std.proofs.lemmas.Bool.{cases_Bool, eqb-false}
@@ -9,11 +9,11 @@ use Rattle.nix_names.proofs.Lists.{Contains-from_get, element_at, get_mapped, ge
 use Rattle.sched_core.specs.Courses.{Awaited, all_of}
 use Rattle.sched_core.specs.Coursing.{AreStatesOf, kept, phase_in}
 use Rattle.sched_core.specs.Nearest.{News, Open, Good, Bad, by_twin_news, near_table, news_of}
-use Rattle.sched_core.specs.States.{Idle, IsInOrder, Rows, by_hindrance, by_phase, by_validity, is_good}
-use Rattle.sched_core.proofs.KnownNews.{by_news_in, known_news}
+use Rattle.sched_core.specs.States.{Idle, IsInOrder, Rows, by_hindrance, by_phase, by_validity}
+use Rattle.sched_core.proofs.KnownNews.{by_news_in}
 use Rattle.sched_core.proofs.StateLaws.{near_are_one}
-use Rattle.sched_core.specs.Tallies.{CanHear, HaveHeard, Hears, IsTally, Knows, Turns, turns_begun, turns_done, turns_failed, turns_freed, turns_named, turns_refused, turns_reused, turns_stays, are_news, by_heard, by_news, news_by, news_in, of_inputs, of_twins, states_in, to_tell}
-use Rattle.sched_core.specs.Users.{AreUsers, once_at, times, users_of}
+use Rattle.sched_core.specs.Tallies.{CanHear, HaveHeard, Hears, IsTally, Knows, Turns, turns_begun, turns_done, turns_failed, turns_freed, turns_named, turns_refused, turns_reused, turns_stays, are_news, by_heard, by_news, news_in, of_inputs, of_twins, states_in, to_tell}
+use Rattle.sched_core.specs.Users.{AreUsers, times, users_of}
 use Rattle.sched_core.specs.declared.reason.State.{State}
 use Rattle.sched_core.specs.declared.reason.State.TheVariants.{Blocked, Building, Done, Failed, Ready, Refused, Reused}
 use Rattle.sched_core.specs.declared.tally.Tally.{Tally}
@@ -33,12 +33,11 @@ times-where user place false edges = refl
 
 times-first : (edge : Edge) (left : List Edge)
     → times edge.user edge.place (edge ∷ left) ≡ 1 + times edge.user edge.place left
-times-first edge left = rw (eq-eqb edge.user edge.user refl, eq-eqb edge.place edge.place refl) refl
+times-first edge left = search (rules, eq-eqb)
 
 times-other_user : (user place : ℕ) (edge : Edge) (left : List Edge) → (user ≡ edge.user → ⊥)
     → times user place (edge ∷ left) ≡ times user place left
-times-other_user user place edge left apart =
-    rw (ne_eqb edge.user user (λ e. apart (sym e))) (omega arith)
+times-other_user user place edge left apart = search (rules, ne_eqb)
 
 times-other_place : (user place : ℕ) (edge : Edge) (left : List Edge) → (place ≡ edge.place → ⊥)
     → times user place (edge ∷ left) ≡ times user place left
@@ -58,10 +57,7 @@ get_set_cases [] i j x y is = absurd (none-some y is)
 get_set_cases (z ∷ xs) zero zero x y is = inl (refl, same_Some x y is)
 get_set_cases (z ∷ xs) zero (suc j) x y is = inr (λ e. omega (arith, e), is)
 get_set_cases (z ∷ xs) (suc i) zero x y is = inr (λ e. omega (arith, e), is)
-get_set_cases (z ∷ xs) (suc i) (suc j) x y is =
-    ⊎_elim (λ here. inl (ap suc here.0, here.1))
-    (λ other. inr (λ e. other.0 (omega (arith, e)), other.1))
-    (get_set_cases xs i j x y is)
+get_set_cases (z ∷ xs) (suc i) (suc j) x y is = search (rules, get_set_cases xs i j x y is)
 
 -- ---- news
 
@@ -90,28 +86,12 @@ knows_turned : (before after : State) (known : News) (left here : ℕ) → Turns
     → Knows known (news_of after)
     (left + (if are_news (news_of before) (news_of after) then here else 0))
 knows_turned before after known left here turns once knows =
-    ⊎_elim
-    (λ same. ⊎_elim
-    (λ heard. inl (heard.0 ∙ sym same.1, rw same.0 (omega (arith, heard.1))))
-    (λ unheard. inr (
-      unheard.0,
-      λ e. unheard.1 (sym same.1 ∙ e),
-      rw same.0 (omega (arith, unheard.2)),
-    ))
-    knows)
-    (λ news. ⊎_elim
-    (λ heard. inr (heard.0 ∙ news.1, news.2, rw news.0 (omega (arith, heard.1, once))))
-    (λ unheard. absurd (unheard.1 news.1))
-    knows)
-    (turns_news before after turns)
+    search (rules, turns_news, before, after)
 
 -- of one whose state stays
 knows_more : (known now : News) (left more : ℕ) → more ≡ 0 → Knows known now left
     → Knows known now (left + more)
-knows_more known now left more none knows =
-    ⊎_elim (λ heard. inl (heard.0, omega (arith, heard.1, none)))
-    (λ unheard. inr (unheard.0, unheard.1, omega (arith, unheard.2, none)))
-    knows
+knows_more known now left more none knows = search rules
 
 -- a tally that is right for some states is right for others where so much is left to tell
 hears_others : (inputs : Awaited) (before after : ℕ → State) (left more : ℕ → ℕ) (tally : Tally)
@@ -148,35 +128,25 @@ module _ (inputs : ℕ → Awaited) (count : ℕ) (users : List (List Edge)) (ta
   more = left ++ to_tell tally.state new.state (users_of users d)
 
   in_plan : (u : ℕ) (t : Tally) → slice_get tallies u ≡ Some t → u < count
-  in_plan u t is = subst (λ n. u < n) long (slice_get_within tallies u t is)
+  in_plan u t is = search (rules, slice_get_within)
 
   state_at : slice_get (states_in tallies) d ≡ Some tally.state
   state_at = get_mapped state_of tallies d tally at
 
   before_is : before d ≡ tally.state
-  before_is = get_or_from_slice_get (states_in tallies) d tally.state Blocked state_at
+  before_is = search (rules, get_or_from_slice_get, state_at)
 
   after_is : after d ≡ new.state
-  after_is =
-      ap (λ ss. get_or ss d Blocked) (map-set state_of tallies d new)
-      ∙ get_or-set_same (states_in tallies) d new.state Blocked
-      (slice_get_within (states_in tallies) d tally.state state_at)
+  after_is = search (rules, map-set, state_of, get_or-set_same, slice_get_within, state_at)
 
   after_other : (i : ℕ) → (i ≡ d → ⊥) → after i ≡ before i
-  after_other i apart =
-      ap (λ ss. get_or ss i Blocked) (map-set state_of tallies d new)
-      ∙ get_or-set_other (states_in tallies) d i new.state Blocked apart
+  after_other i apart = search (rules, map-set, state_of, get_or-set_other)
 
   -- how often the edge from the one that changed is to be told
   times_more : (u place input : ℕ) → u < count → slice_get (all_of (inputs u)) place ≡ Some input
       → times u place more
       ≡ times u place left + (if news then (if input == d then 1 else 0) else 0)
-  times_more u place input low is =
-      times-append u place left (to_tell tally.state new.state (users_of users d))
-      ∙ ap (λ n. times u place left + n)
-      (times-where u place news (users_of users d)
-      ∙ ap (λ n. if news then n else 0)
-      (are.each d u place (in_plan d tally at) low ∙ ap (λ o. once_at o d) is))
+  times_more u place input low is = search (rules, times-append, times-where, news, in_plan, low)
 
   -- of each input of a user
   pub knows_step : (u place input : ℕ) (known : News) → u < count
@@ -289,7 +259,7 @@ module _ (inputs : ℕ → Awaited) (tallies : List Tally) (edge : Edge) (w : �
   told_news = set hears.heard edge.place (news_of (state w))
 
   low : edge.place < length hears.heard
-  low = omega (arith, hears.is.count, slice_get_within (all_of (inputs edge.user)) edge.place w it)
+  low = search (rules, slice_get_within)
 
   unheard : (slice_index_or hears.heard edge.place Open ≡ Open)
       × (times edge.user edge.place left ≡ 0)
@@ -297,12 +267,6 @@ module _ (inputs : ℕ → Awaited) (tallies : List Tally) (edge : Edge) (w : �
       (λ heard. absurd (omega (arith, heard.1, times-first edge left)))
       (λ unheard. (unheard.0, omega (arith, unheard.2, times-first edge left)))
       (hears.knows edge.place w it)
-
-  -- there is news of the input
-  pub told_news_is : news_by (is_good (state w)) ≡ news_of (state w)
-  told_news_is = known_news (state w)
-      (⊎_elim (λ heard. absurd (omega (arith, heard.1, times-first edge left)))
-      (λ unheard. unheard.1) (hears.knows edge.place w it))
 
   hearing : CanHear (inputs edge.user) hears.heard tally edge.place w
   hearing = record {
@@ -341,11 +305,7 @@ module _ (inputs : ℕ → Awaited) (tallies : List Tally) (edge : Edge) (w : �
       → ((heard : List News) → CanHear (inputs edge.user) heard tally edge.place w
       → IsTally (inputs edge.user) (slice_set heard edge.place (news_of (state w))) new)
       → Hears (inputs edge.user) state (λ place. times edge.user place left) new
-  hears_told new told = record {
-    heard = told_news;
-    is = told hears.heard hearing;
-    knows = knows_told;
-  }
+  hears_told new told = search (rules, told_news, hearing, knows_told)
 
 pub heard_told : (inputs : ℕ → Awaited) (count : ℕ) (users : List (List Edge))
     (tallies : List Tally) (edge : Edge) (w : ℕ) (tally new : Tally) (left : List Edge)
@@ -395,11 +355,7 @@ heard_more inputs tallies tally first have hears = record {
         → Hears (inputs d) (kept (states_in tallies)) (λ place. 0) t
         → Hears (inputs d) after (λ place. 0) t
     grown d t low =
-        hears_others (inputs d) (kept (states_in tallies)) after (λ place. 0) (λ place. 0) t
-        (λ place input known it knows. subst (λ s. Knows known (news_of s) 0)
-        (sym (stays input
-        (lt_of_lt_of_le (first d input (Contains-from_get (all_of (inputs d)) place input it))
-        low))) knows)
+        search (rules, hears_others, after, stays, lt_of_lt_of_le, Contains-from_get, low)
 
 -- ---- once nothing is left to tell, the states are those by the nearest twins
 
@@ -421,9 +377,7 @@ news_of_parts : (state : ℕ → State) (xs ys : List ℕ)
     → (take (length xs) (news_in state (xs ++ ys)) ≡ news_in state xs)
     × (drop (length xs) (news_in state (xs ++ ys)) ≡ news_in state ys)
 news_of_parts state [] ys = (refl, refl)
-news_of_parts state (x ∷ xs) ys =
-    let rest = news_of_parts state xs ys in
-    (ap (λ l. news_of (state x) ∷ l) rest.0, rest.1)
+news_of_parts state (x ∷ xs) ys = search (rules, state, news_of_parts state xs ys)
 
 pub heard_states : (rows : Rows) (tallies : List Tally) → IsInOrder rows
     → ((d : ℕ) (tally : Tally) → slice_get tallies d ≡ Some tally

@@ -1,5 +1,5 @@
 -- What holds of every legal history: one Begin for each derivation, one lease for each number.
-use Rattle.std.proofs.Common.{◌≡◌, ◌⊎◌, inl, inr, ℕ, zero, suc, ◌+◌, ◌<◌, ◌≤◌, Bool, true, false, List, [], ◌∷◌, ◌++◌, length, Some, refl, sym, ap, ◌∙◌, subst, ⊎_elim, arith}
+use Rattle.std.proofs.Common.{◌≡◌, ◌⊎◌, inl, inr, ℕ, zero, suc, ◌+◌, ◌<◌, ◌≤◌, Bool, true, false, List, [], ◌∷◌, ◌++◌, length, Some, refl, sym, ◌∙◌, subst, ⊎_elim, arith, rules}
 use Rattle.std.specs.Prelude.{slice_get, if◌then◌else◌}
 use Rattle.std.proofs.Math.Dec.{eqb}
 use Rattle.std.proofs.lemmas.List.Sums.{sum_by_push}
@@ -10,7 +10,7 @@ use Rattle.sched_core.specs.declared.reason.State.{State}
 use Rattle.sched_core.specs.declared.reason.State.TheVariants.{Building, Ready}
 use Rattle.sched_core.specs.Books.{opened}
 use Rattle.sched_core.specs.Headline.{BeginsOnce, LeasesApart, LeasesBelow}
-use Rattle.sched_core.specs.Legal.{IsLegal, legal_opening, legal_begin, legal_done, legal_fail, begins, is_begin}
+use Rattle.sched_core.specs.Legal.{IsLegal, legal_opening, legal_begin, legal_done, legal_fail, begins}
 use Rattle.sched_core.specs.Runs.{History, Run, state_in}
 use Rattle.sched_core.specs.States.{Phase, Idle, Begun, Ended, Broken, phase_by, phase_of, later, state, table, by_phase}
 
@@ -20,8 +20,7 @@ pub at_push : {X : Type 0} (xs : List X) (y x : X) (i : ℕ) → slice_get (xs +
 at_push [] y x zero is = inr (refl, cc)
 at_push [] y x (suc i) is = absurd cc
 at_push (z ∷ zs) y x zero is = inl is
-at_push (z ∷ zs) y x (suc i) is = ⊎_elim (λ here. inl here) (λ last. inr (ap suc last.0, last.1))
-    (at_push zs y x i is)
+at_push (z ∷ zs) y x (suc i) is = search (rules, at_push zs y x i is)
 
 later_first : (a b : Phase) → later a b ≡ Idle → a ≡ Idle
 later_first a Idle is = is
@@ -46,10 +45,7 @@ begin_is_no_rest d n is = by (eqb d d) (eqb_same d) is
 pub idle_not_begun : (events : List Event) (d n i : ℕ) → phase_of events d ≡ Idle
     → slice_get events i ≡ Some (Begin d n) → ⊥
 idle_not_begun [] d n i idle is = absurd cc
-idle_not_begun (e ∷ es) d n zero idle is =
-    let same : e ≡ Begin d n = cc in
-    begin_is_no_rest d n (sym (ap (λ x. phase_by x d) same)
-    ∙ later_first (phase_by e d) (phase_of es d) idle)
+idle_not_begun (e ∷ es) d n zero idle is = search (rules, begin_is_no_rest, later_first)
 idle_not_begun (e ∷ es) d n (suc i) idle is =
     idle_not_begun es d n i (later_second (phase_by e d) (phase_of es d) idle) is
 
@@ -84,10 +80,10 @@ opening_legal run _ (legal_fail history e lease reason legal phase) =
     opening_legal run history legal
 
 begins_push : (es : List Event) (e : Event) → begins es ≤ begins (es ++ e ∷ [])
-begins_push es e = omega (arith, sum_by_push (λ x. if is_begin x then 1 else 0) es e)
+begins_push es e = search (rules, sum_by_push)
 
 begins_begin : (es : List Event) (d n : ℕ) → begins (es ++ Begin d n ∷ []) ≡ begins es + 1
-begins_begin es d n = sum_by_push (λ x. if is_begin x then 1 else 0) es (Begin d n)
+begins_begin es d n = search (rules, sum_by_push)
 
 pub leases_below : LeasesBelow
 leases_below run _ (legal_opening entries journal) d n i is = absurd cc

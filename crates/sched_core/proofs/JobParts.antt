@@ -1,5 +1,5 @@
 -- The parts of the job of a plan's derivation.
-use Rattle.std.proofs.Common.{◌≡◌, ◌∙◌, ℕ, ◌+◌, ◌<◌, ◌≤◌, List, [], ◌∷◌, ◌++◌, length, map, take, get_or, Option, Some, IfSome, sym, ap, subst, arith}
+use Rattle.std.proofs.Common.{◌≡◌, ◌∙◌, ℕ, ◌+◌, ◌<◌, ◌≤◌, List, [], ◌∷◌, ◌++◌, length, map, take, get_or, Option, Some, IfSome, sym, ap, subst, arith, rules}
 use Rattle.std.specs.Prelude.{slice_get}
 use Rattle.std.proofs.lemmas.List.{length-map, map_push, take_all}
 use Rattle.std.proofs.lemmas.Simd.{map-map}
@@ -51,10 +51,7 @@ made_more outputs paths made n output path one low same is_output is_path name i
 pub made_all : (outputs : List OutputStruct) (paths : List (List ℕ)) (made : List JobOutput) (n : ℕ)
     → length paths ≤ n → length paths ≡ length outputs → AreMade outputs paths made n
     → (named_texts made ≡ output_texts outputs) × (map (λ (o : JobOutput). o.path) made ≡ paths)
-made_all outputs paths made n all same are = (
-  are.names ∙ ap output_texts (take_all n outputs (omega (arith, all, same))),
-  are.paths_are ∙ take_all n paths all,
-)
+made_all outputs paths made n all same are = search (rules, take_all)
 
 -- there is a path for each output
 pub paths_count : (nodes : List Node) (d : ℕ) (drv : Drv) (lent : List OutputStruct)

@@ -1,8 +1,8 @@
 -- What is kept of a run, and that it is kept behind each event.
-use Rattle.std.proofs.Common.{◌≡◌, ◌≢◌, ℕ, ◌+◌, ◌*◌, ◌<◌, ◌≤◌, Bool, true, false, List, [], ◌∷◌, ◌++◌, length, Option, refl, sym, ap, ◌∙◌, subst, ⊎_elim, arith, take}
+use Rattle.std.proofs.Common.{◌≡◌, ℕ, ◌+◌, ◌*◌, ◌<◌, ◌≤◌, Bool, true, false, List, [], ◌∷◌, ◌++◌, length, Option, refl, sym, ap, ◌∙◌, subst, arith, take, rules}
 use Rattle.std.specs.Prelude.{◌==◌, if◌then◌else◌, slice_set}
 use Rattle.std.specs.List.{slice_index_or, sum_by}
-use Rattle.std.proofs.Math.Dec.{T, eqb}
+use Rattle.std.proofs.Math.Dec.{eqb}
 use Rattle.std.proofs.Math.Facts.{eqb_yes}
 use Rattle.std.proofs.lemmas.Bool.{cases_lt}
 use Rattle.std.proofs.lemmas.Grind.{get_or-set_at}
@@ -32,13 +32,7 @@ use Rattle.sched_core.proofs.Seeds.{phase_push}
 pub has_begun : (system : List ℕ) (history : History) (course : Course) (given room : ℕ)
     → IsRunKept system history course given room
     → (d lease : ℕ) → phase_of history.events d ≡ Begun lease → HasBegun course d
-has_begun system history course given room kept d lease is =
-    ⊎_elim
-    (λ below. (below, (lease, kept.phases d ∙ is)))
-    (λ past.
-    let idle = get_or_past course.phases d Idle (omega (arith, kept.count)) in
-    let same : Idle ≡ Begun lease = sym idle ∙ kept.phases d ∙ is in absurd cc)
-    (cases_lt d (length course.graph.nodes))
+has_begun system history course given room kept d lease is = search (rules, get_or_past, cases_lt)
 
 -- ---- one event more
 
@@ -53,31 +47,15 @@ phases_set phases events d event p within before own last e =
   where
     by : (same : Bool) → eqb d e ≡ same → slice_index_or (slice_set phases d p) e Idle
         ≡ phase_of (events ++ event ∷ []) e
-    by true is =
-        get_or-set_at phases d e p Idle (sym (eqb_yes (subst T (sym is) tt))) within
-        ∙ sym (phase_push events event e ∙ ap (later (phase_of events e))
-        (own e ∙ ap (λ b. if b then p else Idle) is) ∙ last (phase_of events e))
-    by false is =
-        let other : e ≢ d = λ same. let yes : eqb d e
-        ≡ true = subst (λ x. eqb d x ≡ true) (sym same) (eqb_same d) in let no : true
-        ≡ false = sym yes ∙ is in absurd cc in
-        get_or-set_other phases d e p Idle other ∙ before e
-        ∙ sym (phase_push events event e ∙ ap (later (phase_of events e))
-        (own e ∙ ap (λ b. if b then p else Idle) is))
+    by true is = search (rules, get_or-set_at, eqb_yes, phase_push)
+    by false is = search (rules, eqb, eqb_same, get_or-set_other, phase_push)
 
 room_set : (phases : List Phase) (events : List Event) (d room : ℕ) (event : Event) (p : Phase) → d
     < length phases
     → events_left p + 1 ≤ events_left (slice_index_or phases d Idle) → length events
     + sum_by events_left phases ≤ room
     → length (events ++ event ∷ []) + sum_by events_left (slice_set phases d p) ≤ room
-room_set phases events d room event p within less fits =
-    omega (
-      arith,
-      sum_by-set events_left phases d p Idle within,
-      length_push events event,
-      less,
-      fits,
-    )
+room_set phases events d room event p within less fits = search (rules, sum_by-set, length_push)
 
 -- what is kept behind one event more
 behind_event : (system : List ℕ) (before after : History) (course : Course) (given more room d : ℕ)
@@ -113,7 +91,7 @@ behind_event system before after course given more room d event p kept legal ope
 
 begins_by : (events : List Event) (event : Event) → begins (events ++ event ∷ []) ≡ begins events
     + (if is_begin event then 1 else 0)
-begins_by events event = sum_by_push (λ x. if is_begin x then 1 else 0) events event
+begins_by events event = search (rules, sum_by_push)
 
 pub begin_kept : (system : List ℕ) (opening : ℕ) (entries : List Entry) (events after : List Event)
     (course later_course : Course) (given room later_room d : ℕ)

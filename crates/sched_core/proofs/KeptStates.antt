@@ -1,5 +1,5 @@
 -- What a course that is kept tells of its run.
-use Rattle.std.proofs.Common.{◌≡◌, ℕ, ◌-◌, Bool, true, false, List, [], ◌++◌, length, Option, Some, None, refl, sym, ap, ◌∙◌, subst, ⊎_elim, arith}
+use Rattle.std.proofs.Common.{◌≡◌, ℕ, ◌-◌, Bool, true, false, List, [], ◌++◌, length, Option, Some, None, refl, sym, ap, ◌∙◌, subst, ⊎_elim, arith, rules}
 use Rattle.std.specs.Prelude.{IsTrue, MatchOption, ◌↔◌, if◌then◌else◌, slice_get}
 use Rattle.std.specs.List.{slice_index_or}
 use Rattle.std.proofs.Math.Dec.{T, eqb}
@@ -19,7 +19,7 @@ use Rattle.sched_core.specs.States.{Phase, Idle, Begun, Ended, Broken, by_first,
 use Rattle.sched_core.specs.Steps.{awaited_by, edges_ahead, edges_ahead_in, told_in}
 use Rattle.sched_core.specs.ToldEdges.{course_ahead, course_told, rested}
 use Rattle.sched_core.specs.declared.reason.State.{State}
-use Rattle.sched_core.specs.declared.reason.State.TheVariants.{Blocked, Building, Refused, Reused}
+use Rattle.sched_core.specs.declared.reason.State.TheVariants.{Blocked, Building, Reused}
 use Rattle.sched_core.specs.declared.standing.Standing.{Standing}
 use Rattle.sched_core.specs.declared.standing.Standing.TheVariants.{AllValid, Hindered, Free}
 use Rattle.sched_core.proofs.Counts.{so_many_same}
@@ -36,13 +36,7 @@ twins_same : (system : List ℕ) (history : History) (course : Course) (given ro
     → (d : ℕ) → listed (slice_index_or course.twins d None)
     ≡ last_alone (earlier_twins (run_over course system) history.opening d)
 twins_same system history course given room kept d =
-    ⊎_elim
-    (λ below. kept.twins.each d below)
-    (λ past.
-    ap listed (get_or_past course.twins d None (omega (arith, kept.twins.count)))
-    ∙ sym (ap last_alone (twins_past (run_over course system) history.opening d
-    (slice_get_past course.graph.nodes d past))))
-    (cases_lt d (length course.graph.nodes))
+    search (rules, get_or_past, twins_past, slice_get_past, cases_lt)
 
 rows_same : (system : List ℕ) (history : History) (course : Course) (given room : ℕ)
     → IsRunKept system history course given room
@@ -146,16 +140,13 @@ not_by_standing : (standing : Standing) (built still : Bool) (found : Option ℕ
     (lease : ℕ) → by_validity standing (if built then Reused else if still then Blocked
     else by_hindrance standing (by_first found all)) ≡ Building lease → ⊥
 not_by_standing AllValid built still found all lease is = absurd cc
-not_by_standing (Hindered cause) built still found all lease is =
-    not_by_twins built still (Refused cause) lease (λ refused. absurd cc) is
-not_by_standing Free built still found all lease is =
-    not_by_twins built still (by_first found all) lease (not_by_first found all lease) is
+not_by_standing (Hindered cause) built still found all lease is = search (rules, not_by_twins)
+not_by_standing Free built still found all lease is = search (rules, not_by_twins, not_by_first)
 
 begun_by_phase : (p : Phase) (standing : Standing) (built still : Bool) (found : Option ℕ)
     (all : Bool) (lease : ℕ) → stands_by p standing built still found all ≡ Building lease
     → p ≡ Begun lease
-begun_by_phase Idle standing built still found all lease is =
-    absurd (not_by_standing standing built still found all lease is)
+begun_by_phase Idle standing built still found all lease is = search (rules, not_by_standing)
 begun_by_phase (Begun n) standing built still found all lease is = cc
 begun_by_phase Ended standing built still found all lease is = absurd cc
 begun_by_phase (Broken reason) standing built still found all lease is = absurd cc
@@ -197,8 +188,7 @@ pub report_told : (system : List ℕ) (history : History) (course : Course) (giv
     → IsRunKept system history course given room
     → (text : List ℕ) → IsReportOf course text → IsReportIn (run_over course system) history text
 report_told system history course given room kept text report =
-    report_in (run_over course system) history course text refl kept.wanted
-    (states_told system history course given room kept) report
+    search (rules, report_in, states_told)
 
 -- ---- along how many edges users were told
 
@@ -223,7 +213,7 @@ told_kept system history course given room kept =
     ahead_same : (a b : ℕ → State) → ((d : ℕ) → a d ≡ b d)
         → edges_ahead (λ d. all_of (awaited_at course.graph course.twins d)) a count
         ≡ edges_ahead (awaited_by run history) b count
-    ahead_same a b same = λ i. edges_ahead (λ d. awaited_same d i) (λ d. same d i) count
+    ahead_same a b same = search (rules, awaited_same, same, count)
 
     same : AreSame (course_rows (rested course)) (nearest (rows_of run history.opening []))
     same = record {
@@ -240,5 +230,4 @@ told_kept system history course given room kept =
         ∙ nearest_told run (opened history.opening) (opening_legal run history kept.legal) d)
 
     now : course_ahead course ≡ edges_ahead_in run history
-    now = ahead_same (course_state course) (state_in run history)
-        (states_told system history course given room kept)
+    now = search (rules, ahead_same, run, states_told)

@@ -1,5 +1,5 @@
 -- The nearest earlier twins, by the last wanted one of those that have the same first twin.
-use Rattle.std.proofs.Common.{◌≡◌, ◌∙◌, ⊎_elim, ℕ, ◌+◌, ◌<◌, ◌≤◌, Bool, true, false, List, [], ◌∷◌, ◌++◌, length, replicate, Option, Some, None, refl, sym, ap, subst, arith}
+use Rattle.std.proofs.Common.{◌≡◌, ◌∙◌, ⊎_elim, ℕ, ◌+◌, ◌<◌, Bool, true, false, List, [], ◌∷◌, ◌++◌, length, replicate, Option, Some, None, refl, sym, ap, subst, arith, rules}
 use Rattle.std.specs.Prelude.{◌==◌, ◌&&◌, All, Contains, cond, filter, slice_get}
 use Rattle.std.specs.List.{range_with_len, slice_index_or}
 use Rattle.std.proofs.Math.ListN.{get_or-append, length-append, length-set, set}
@@ -49,27 +49,19 @@ wanted_with nodes wanted first count = filter (is_wanted_with nodes wanted first
 wanted_more : (nodes : List Node) (wanted : List Bool) (first d : ℕ)
     → wanted_with nodes wanted first (d + 1) ≡ wanted_with nodes wanted first d
     ++ cond (is_wanted_with nodes wanted first d) (d ∷ []) []
-wanted_more nodes wanted first d =
-    ap (filter (is_wanted_with nodes wanted first)) (range_more d)
-    ∙ filter-append (is_wanted_with nodes wanted first) (range_with_len 0 d) (d ∷ [])
+wanted_more nodes wanted first d = search (rules, is_wanted_with, nodes, range_more, filter-append)
 
 -- one of them more is their last
 last_with : (nodes : List Node) (wanted : List Bool) (first d : ℕ)
     → is_wanted_with nodes wanted first d ≡ true
     → last_alone (wanted_with nodes wanted first (d + 1)) ≡ d ∷ []
-last_with nodes wanted first d is =
-    ap last_alone (wanted_more nodes wanted first d
-    ∙ ap (λ b. wanted_with nodes wanted first d ++ cond b (d ∷ []) []) is)
-    ∙ last_pushed (wanted_with nodes wanted first d) d
+last_with nodes wanted first d is = search (rules, wanted_more, nodes, wanted_with, last_pushed)
 
 -- another leaves them as they were
 none_with : (nodes : List Node) (wanted : List Bool) (first d : ℕ)
     → is_wanted_with nodes wanted first d ≡ false
     → wanted_with nodes wanted first (d + 1) ≡ wanted_with nodes wanted first d
-none_with nodes wanted first d is_not =
-    wanted_more nodes wanted first d
-    ∙ ap (λ b. wanted_with nodes wanted first d ++ cond b (d ∷ []) []) is_not
-    ∙ append-nil (wanted_with nodes wanted first d)
+none_with nodes wanted first d is_not = search (rules, wanted_more, nodes, wanted_with, append-nil)
 
 -- ---- what is known on the way
 
@@ -122,17 +114,11 @@ near_more nodes wanted last twins d twin low read known before = record {
 }
   where
     within : first_twin_of nodes d < length nodes
-    within =
-        let no_more : first_twin_of nodes d ≤ d = first_within nodes d low in
-        omega (arith, no_more, low)
+    within = search (rules, nodes, first_within)
 
     here : listed (slice_index_or (twins ++ twin ∷ []) d None)
         ≡ last_alone (wanted_with nodes wanted (first_twin_of nodes d) d)
-    here =
-        let seam : slice_index_or (twins ++ twin ∷ []) d None ≡ twin =
-        subst (λ n. slice_index_or (twins ++ twin ∷ []) n None ≡ twin) before.size
-        (get_or-append_seam twins twin [] None) in
-        ap listed (seam ∙ read) ∙ known.each (first_twin_of nodes d) within
+    here = search (rules, get_or-append_seam, nodes, within)
 
 -- a wanted derivation is the last of its twins
 pub last_wanted : (nodes : List Node) (wanted : List Bool) (last : List (Option ℕ)) (d : ℕ) → d
@@ -148,26 +134,13 @@ last_wanted nodes wanted last d low is before = record {
         → listed (slice_index_or (set last (first_twin_of nodes d) (Some d)) first None)
         ≡ last_alone (wanted_with nodes wanted first (d + 1))
     here first within same =
-        let own = first_twin_of nodes d in
-        let own_within : own < length last = omega (arith, within, same, before.size) in
-        let its : is_wanted_with nodes wanted first d ≡ true =
-        and_from (slice_index_or wanted d false) (own == first) is
-        (eq-eqb own first (sym same)) in
-        ap (λ n. listed (slice_index_or (set last own (Some d)) n None)) same
-        ∙ ap listed (get_or-set_same last own (Some d) None own_within)
-        ∙ sym (last_with nodes wanted first d its)
+        search (rules, nodes, within, is_wanted_with, and_from, eq-eqb, set, get_or-set_same, last_with)
 
     kept : (first : ℕ) → first < length nodes → (first ≡ first_twin_of nodes d → ⊥)
         → listed (slice_index_or (set last (first_twin_of nodes d) (Some d)) first None)
         ≡ last_alone (wanted_with nodes wanted first (d + 1))
     kept first within apart =
-        let own = first_twin_of nodes d in
-        let is_not : is_wanted_with nodes wanted first d ≡ false =
-        and_right (slice_index_or wanted d false) (own == first)
-        (ne_eqb own first (λ same. apart (sym same))) in
-        ap listed (get_or-set_other last own first (Some d) None apart)
-        ∙ before.each first within
-        ∙ ap last_alone (sym (none_with nodes wanted first d is_not))
+        search (rules, nodes, is_wanted_with, and_right, ne_eqb, get_or-set_other, within, none_with)
 
 -- another is_not
 pub last_unwanted : (nodes : List Node) (wanted : List Bool) (last : List (Option ℕ)) (d : ℕ)
@@ -219,10 +192,7 @@ nearest_are graph wanted twins sound near run opening same are = record {
     nodes = run.graph.nodes
 
     near_here : AreNear run.graph.nodes wanted twins (length run.graph.nodes)
-    near_here = subst (λ (g : Graph). AreNear g.nodes wanted twins (length g.nodes)) (sym same) near
+    near_here = search rules
 
     told : (t : ℕ) → slice_index_or wanted t false ≡ is_wanted run opening t
-    told t =
-        let test = wanted_told run opening t (subst IsSound (sym same) sound) in
-        same_test (slice_index_or wanted t false) (is_wanted run opening t)
-        (λ is. test.1 (are.yes t is)) (λ is. are.no t (test.0 is))
+    told t = search (rules, wanted_told, same_test)

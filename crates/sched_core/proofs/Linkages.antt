@@ -1,5 +1,5 @@
 -- The links among outputs, by the places of their paths.
-use Rattle.std.proofs.Common.{◌≡◌, ◌∙◌, ◌⊎◌, inl, inr, ⊎_elim, ℕ, ◌+◌, ◌<◌, ◌≤◌, Bool, true, false, cond, List, [], ◌∷◌, ◌++◌, length, take, get_or, nat_eq, position, is_some, Option, Some, None, MatchOption, refl, sym, ap, subst, arith}
+use Rattle.std.proofs.Common.{◌≡◌, ◌∙◌, ◌⊎◌, inl, inr, ⊎_elim, ℕ, ◌+◌, ◌<◌, ◌≤◌, Bool, true, false, cond, List, [], ◌∷◌, ◌++◌, length, take, get_or, nat_eq, position, is_some, Option, Some, None, MatchOption, refl, sym, ap, subst, arith, rules}
 use Rattle.std.specs.Prelude.{Contains}
 use Rattle.std.specs.Cmp.Lexicographic.{nat_list_eq_equiv, pointwise}
 use Rattle.std.specs.Global.{Vec}
@@ -74,13 +74,7 @@ insert_keeps keys key path has = by (list_any (pointwise nat_eq key) keys)
 
 pub once_none : (keys : List (List ℕ)) → keys ≡ [] → IsDistinct (pointwise nat_eq) keys
     → AreEachOnce [] keys
-once_none keys is distinct = record {
-  distinct = distinct;
-  same = λ path. (
-    λ has. subst (λ (l : List (List ℕ)). Contains l path) is has,
-    λ has. absurd (omega (arith, has.1)),
-  );
-}
+once_none keys is distinct = search rules
 
 pub once_more : (outputs : List (List ℕ)) (i : ℕ) (output copy : List ℕ) (keys new : List (List ℕ))
     → i < length outputs → output ≡ get_or outputs i output → copy ≡ output
@@ -112,14 +106,12 @@ once_more outputs i output copy keys new below is same before new_is distinct =
 
 pub once_all : (outputs : List (List ℕ)) (i : ℕ) (keys : List (List ℕ)) → length outputs ≤ i
     → AreEachOnce (take i outputs) keys → AreEachOnce outputs keys
-once_all outputs i keys all once = subst (λ (l : List (List ℕ)). AreEachOnce l keys)
-    (take_all i outputs all) once
+once_all outputs i keys all once = search (rules, take_all)
 
 -- ---- links of one output
 
 pub adds_none : (keys : List (List ℕ)) (old : List ℕ) → AddsLinks keys [] old old
-adds_none keys old n =
-    (λ has. inl has, λ h. ⊎_elim (λ has. has) (λ none. absurd (omega (arith, none.2.1))) h)
+adds_none keys old n = search rules
 
 pub adds_place : (keys references : List (List ℕ)) (path : List ℕ) (old before new : List ℕ)
     (to : ℕ) → IsDistinct (pointwise nat_eq) keys → AddsLinks keys references old before
@@ -179,8 +171,7 @@ links_none paths infos keys links count none = record {
 
 widened : (paths : List (List ℕ)) (infos : List PathInfo) (count more : ℕ) (a b : List ℕ) → count
     ≤ more → MayLink paths infos count a b → MayLink paths infos more a b
-widened paths infos count more a b up (n, info, below, at, at', has) =
-    (n, info, omega arith, at, at', has)
+widened paths infos count more a b up (n, info, below, at, at', has) = search rules
 
 -- a link stays where a number is given more links
 linked_set : (links : List (Vec ℕ)) (i : ℕ) (own new : Vec ℕ) (from to : ℕ) → slice_get links i
@@ -268,32 +259,6 @@ links_more paths infos keys count links after path info place own new once was p
         (λ k earlier. (adds k).1 (inl earlier))
         (was.whole from to a b at at' (n, info', omega arith, here, has, refers)))
         (eq-or-lt_of_le {n = n} {m = count} (omega arith))
-
-pub links_all : (paths : List (List ℕ)) (infos : List PathInfo) (keys : List (List ℕ)) (count : ℕ)
-    (links : List (Vec ℕ)) → length infos ≤ count → AreEachOnce paths keys
-    → AreLinks paths infos keys count links → HaveLinks paths infos links
-links_all paths infos keys count links all once was = record {
-  keys = keys;
-  once = once;
-  are = record {
-    places = was.places;
-    sound = λ from to linked. let h = was.sound from to linked
-        in (
-          h.0,
-          h.1,
-          h.2,
-          h.3,
-          (h.4.0, h.4.1, slice_get_within infos h.4.0 h.4.1 h.4.4, h.4.3, h.4.4, h.4.5),
-        );
-    whole = λ from to a b at at' may. was.whole from to a b at at'
-        (widened paths infos (length infos) count a b all may);
-  };
-}
-
--- no list has no link
-pub no_links_none : (links : List (Vec ℕ)) → links ≡ [] → HaveNoLinks links
-no_links_none links is from to (own, at, has) = let none : slice_get [] from
-    ≡ Some own = subst (λ (l : List (Vec ℕ)). slice_get l from ≡ Some own) is at in absurd cc
 
 -- no list of none has a link
 pub no_links_more : (links after : List (Vec ℕ)) (own : Vec ℕ) → HaveNoLinks links → own.items ≡ []

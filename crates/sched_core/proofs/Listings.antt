@@ -1,5 +1,5 @@
 -- The derivations that the code lists by path, and what it writes of them.
-use Rattle.std.proofs.Common.{◌≡◌, ◌∙◌, ◌⊎◌, inl, inr, ⊎_elim, ℕ, ◌+◌, ◌<◌, Bool, true, false, nat_eq, List, [], ◌∷◌, ◌++◌, map, Some, refl, sym, ap, subst, arith}
+use Rattle.std.proofs.Common.{◌≡◌, ◌∙◌, ◌⊎◌, ⊎_elim, ℕ, ◌+◌, ◌<◌, Bool, true, false, nat_eq, List, [], ◌∷◌, ◌++◌, map, Some, refl, sym, ap, subst, arith, rules}
 use Rattle.std.specs.Prelude.{All, Contains, flat_map, slice_get}
 use Rattle.std.specs.Cmp.Lexicographic.{nat_list_eq_equiv, pointwise, slice_cmp}
 use Rattle.std.specs.List.{IsDistinct, slice_index_or}
@@ -29,14 +29,10 @@ use Rattle.sched_core.specs.declared.listing.Listed.{Listed}
 pub listed_none : (nodes : List Node) (marks : List Bool)
     → AreListed nodes (IsMarked marks 0) []
 unfolding IsDistinct
-listed_none nodes marks = record {
-  each = All-nil (HasItsPath nodes);
-  just = λ d. (λ has. absurd (Contains-nothing d has), λ is. absurd (omega (arith, is.0)));
-  once = tt;
-}
+listed_none nodes marks = search (rules, All-nil, Contains-nothing)
 
 below_or_same : (d n : ℕ) → d < n + 1 → (d < n) ⊎ (d ≡ n)
-below_or_same d n low = ⊎_elim (λ less. inl less) (λ past. inr (omega arith)) (cases_lt d n)
+below_or_same d n low = search (rules, cases_lt)
 
 -- one that isn't marked
 pub listed_skip : (nodes : List Node) (marks : List Bool) (n : ℕ) (listed : List Listed)
@@ -104,10 +100,10 @@ listed_push nodes marks n listed one distinct is at marked are = record {
 }
   where
     numbers : numbers_of (listed ++ one ∷ []) ≡ numbers_of listed ++ one.number ∷ []
-    numbers = map-append (λ (l : Listed). l.number) listed (one ∷ [])
+    numbers = search (rules, map-append)
 
     paths : listed_paths (listed ++ one ∷ []) ≡ listed_paths listed ++ one.path.now ∷ []
-    paths = map-append (λ (l : Listed). l.path.now) listed (one ∷ [])
+    paths = search (rules, map-append)
 
 -- the same behind keys
 pub keyed_new : (nodes : List Node) (marks : List Bool) (n : ℕ) (keyed more : List Keyed)
@@ -128,11 +124,7 @@ paths_are : (nodes : List Node) (listed : List Listed) → All (HasItsPath nodes
     → listed_paths listed ≡ map (path_at nodes) (numbers_of listed)
 paths_are nodes [] each = refl
 paths_are nodes (l ∷ listed) each =
-    let first : l.path.now ≡ path_at nodes l.number =
-    sym (get_or_from_slice_get (paths_of nodes) l.number l.path.now []
-    (All-head (HasItsPath nodes) l listed each)) in
-    ap (λ p. p ∷ listed_paths listed) first ∙ ap (λ ps. path_at nodes l.number ∷ ps)
-    (paths_are nodes listed (All-tail (HasItsPath nodes) l listed each))
+    search (rules, get_or_from_slice_get, All-head, All-tail, paths_are nodes listed (All-tail (HasItsPath nodes) l listed each))
 
 -- sorted by path they rise
 listed_by_path : (nodes : List Node) (is_such : ℕ → Type 0) (listed sorted : List Listed)
@@ -186,8 +178,4 @@ pub lines_made : (line : ℕ → List ℕ) (others : List ℕ) (listed : List Li
     (start lines text : List ℕ) → start ≡ []
     → lines ≡ start ++ flat_map (λ (l : Listed). line l.number) listed → text ≡ lines ++ others
     → text ≡ flat_map line (numbers_of listed) ++ others
-lines_made line others listed start lines text empty first all =
-    let lines_are : lines ≡ flat_map line (numbers_of listed) =
-    first ∙ ap (λ (s : List ℕ). s ++ flat_map (λ (l : Listed). line l.number) listed) empty
-    ∙ sym (flat_map-map line (λ (l : Listed). l.number) listed) in
-    all ∙ ap (λ (ls : List ℕ). ls ++ others) lines_are
+lines_made line others listed start lines text empty first all = search (rules, flat_map-map)

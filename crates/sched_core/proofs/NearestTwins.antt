@@ -1,6 +1,6 @@
 -- In a legal history the nearest earlier twin alone says what all earlier twins say: once a
 -- derivation has begun, each of its earlier twins has failed or is refused.
-use Rattle.std.proofs.Common.{◌≡◌, ◌∙◌, ◌⊎◌, inl, inr, ⊎_elim, ℕ, ◌<◌, ◌||◌, Bool, true, false, List, [], ◌∷◌, ◌++◌, Option, Some, None, refl, sym, ap, subst, if◌then◌else◌}
+use Rattle.std.proofs.Common.{◌≡◌, ◌∙◌, ◌⊎◌, inl, inr, ⊎_elim, ℕ, ◌<◌, ◌||◌, Bool, true, false, List, [], ◌∷◌, ◌++◌, Option, Some, None, refl, sym, ap, subst, if◌then◌else◌, rules}
 use Rattle.std.specs.Prelude.{Contains, find, map}
 use Rattle.std.specs.List.{list_all, list_any}
 use Rattle.std.proofs.lemmas.Bool.{cases_eq, false≢true, false_from_ne_true, ne_eqb, true≢false}
@@ -10,11 +10,11 @@ use Rattle.nix_names.proofs.Lists.{All-from_contains}
 use Rattle.sched_core.specs.Legal.{IsLegal, legal_begin, legal_done, legal_fail, legal_opening, begins}
 use Rattle.sched_core.specs.Nearest.{by_twin_news, last_alone, near_state, near_table, nearest, news_of}
 use Rattle.sched_core.specs.Runs.{History, Run, rows_of, state_in}
-use Rattle.sched_core.specs.States.{Begun, Broken, Ended, Idle, Phase, Rows, by_first, by_hindrance, by_inputs, by_phase, by_twins, by_validity, is_bad, is_done, is_good, is_open, later, phase_by, phase_of, state, table}
+use Rattle.sched_core.specs.States.{Begun, Broken, Ended, Idle, Phase, Rows, by_first, by_hindrance, by_inputs, by_phase, by_twins, by_validity, is_bad, is_done, is_good, is_open, phase_by, phase_of, state, table}
 use Rattle.sched_core.specs.declared.reason.Event.{Event}
 use Rattle.sched_core.specs.declared.reason.Event.TheVariants.{Begin, Done as Finish, Fail}
 use Rattle.sched_core.specs.declared.reason.State.{State}
-use Rattle.sched_core.specs.declared.reason.State.TheVariants.{Blocked, Ready, Refused, Reused}
+use Rattle.sched_core.specs.declared.reason.State.TheVariants.{Blocked, Ready, Reused}
 use Rattle.sched_core.specs.declared.standing.Standing.{Standing}
 use Rattle.sched_core.specs.declared.standing.Standing.TheVariants.{AllValid, Free, Hindered}
 use Rattle.sched_core.proofs.ClosedStates.{bad_is_closed, bad_is_not_done, states_stay}
@@ -98,13 +98,12 @@ bad_by (Broken reason) s built still first all not_valid none not_done closed = 
 
 none_has : (test : ℕ → Bool) (numbers : List ℕ) (n : ℕ) → list_any test numbers ≡ false
     → Contains numbers n → test n ≡ false
-none_has test numbers n none (k, low, is) = false_from_ne_true (test n) (λ passes.
-    false≢true (sym none ∙ list_any_at test numbers k n low (ap test is ∙ passes)))
+none_has test numbers n none (k, low, is) =
+    search (rules, false_from_ne_true, false≢true, list_any_at)
 
 pub none_from : (test : ℕ → Bool) (numbers : List ℕ)
     → ((n : ℕ) → Contains numbers n → test n ≡ false) → list_any test numbers ≡ false
-none_from test numbers none = list_any_none test numbers
-    (All-from_contains (λ n. test n ≡ false) numbers none)
+none_from test numbers none = search (rules, list_any_none, All-from_contains)
 
 module _ (rows : Rows) (twins : HaveTwins rows) where
   pub ready_ended : (d t : ℕ) → state rows d ≡ Ready → Contains (rows.twins d) t
@@ -140,18 +139,16 @@ module _ (rows : Rows) (twins : HaveTwins rows) where
       (states_stay rows phase moves t (bad_is_closed (state rows t) before)).2 ∙ before
     where
       moves : (d : ℕ) → (phase d ≡ rows.phase d) ⊎ (is_open (state rows d) ≡ true)
-      moves d = ⊎_elim (λ same. inr (ap (λ n. is_open (state rows n)) same ∙ still))
-          (λ apart. inl (others d apart)) (cases_eq d e)
+      moves d = search (rules, cases_eq)
 
 -- an event of another derivation leaves it where it stood
 phase_stays : (events : List Event) (event : Event) (d : ℕ) → phase_by event d ≡ Idle
     → phase_of (events ++ event ∷ []) d ≡ phase_of events d
-phase_stays events event d none = phase_push events event d
-    ∙ ap (later (phase_of events d)) none
+phase_stays events event d none = search (rules, phase_push)
 
 pub legal_ended : (run : Run) (history : History) → IsLegal run history
     → HaveEnded (rows_of run history.opening history.events)
-legal_ended run _ (legal_opening entries journal) = λ d t begun has. absurd (begun refl)
+legal_ended run _ (legal_opening entries journal) = search rules
 legal_ended run _ (legal_begin history e legal within wanted ready) =
     let rows = rows_of run history.opening history.events in
     let event = Begin e (begins history.events) in
@@ -204,23 +201,15 @@ one_twin Idle Free false true first all other not_valid begun = refl
 one_twin Idle Free false false (Some i) all other not_valid begun = refl
 one_twin Idle Free false false None true other not_valid begun = refl
 one_twin Idle Free false false None false other not_valid begun = refl
-one_twin (Begun lease) s built still first all other not_valid begun =
-    let none = begun (λ is. absurd cc) in rw (none.0, none.1) refl
-one_twin Ended s built still first all other not_valid begun =
-    let none = begun (λ is. absurd cc) in rw none.0 refl
-one_twin (Broken reason) s built still first all other not_valid begun =
-    let none = begun (λ is. absurd cc) in rw (none.0, none.1) refl
+one_twin (Begun lease) s built still first all other not_valid begun = search rules
+one_twin Ended s built still first all other not_valid begun = search rules
+one_twin (Broken reason) s built still first all other not_valid begun = search rules
 
 module _ (rows : Rows) (twins : HaveTwins rows) (ended : HaveEnded rows) where
   -- the twins of one that has begun
   begun_none : (t : ℕ) → (rows.phase t ≡ Idle → ⊥)
       → (any_twin rows is_done t ≡ false) × (any_twin rows is_open t ≡ false)
-  begun_none t begun = (
-    none_from (λ u. is_done (state rows u)) (rows.twins t)
-        (λ u has. bad_is_not_done (state rows u) (ended t u begun has)),
-    none_from (λ u. is_open (state rows u)) (rows.twins t)
-        (λ u has. bad_is_closed (state rows u) (ended t u begun has)),
-  )
+  begun_none t begun = search (rules, none_from, bad_is_not_done, bad_is_closed)
 
   -- what is read of the earlier twins
   any_behind : (test : State → Bool) (d t : ℕ) → rows.twins d ≡ rows.twins t ++ t ∷ []
@@ -246,8 +235,7 @@ module _ (rows : Rows) (twins : HaveTwins rows) (ended : HaveEnded rows) where
       by : (rows.twins d ≡ []) ⊎ ((t : ℕ) × (rows.twins d ≡ rows.twins t ++ t ∷ []))
           → by_twins reads (rows.twins d) other
           ≡ by_twin_news (map (λ t. news_of (reads t)) (last_alone (rows.twins d))) other
-      by (inl none) = subst (λ l. by_twins reads l other
-          ≡ by_twin_news (map (λ t. news_of (reads t)) (last_alone l)) other) (sym none) refl
+      by (inl none) = search (rules, reads)
       by (inr (t, parts)) =
           let has : Contains (rows.twins d) t =
           subst (λ l. Contains l t) (sym parts) (Contains-push (rows.twins t) t) in
@@ -286,10 +274,8 @@ module _ (rows : Rows) (twins : HaveTwins rows) (ended : HaveEnded rows) where
           (by_twin_news (map (λ t. news_of (reads t)) (last_alone (rows.twins d)))
           (by_hindrance s (by_inputs reads (rows.inputs d))))
       by AllValid is = refl
-      by (Hindered cause) is = twins_told d (Refused cause)
-          (λ valid. let clash : Hindered cause ≡ AllValid = sym is ∙ valid in absurd cc)
-      by Free is = twins_told d (by_inputs reads (rows.inputs d))
-          (λ valid. let clash : Free ≡ AllValid = sym is ∙ valid in absurd cc)
+      by (Hindered cause) is = search (rules, twins_told)
+      by Free is = search (rules, twins_told, reads)
 
   pub near_told : (d : ℕ) → near_state (nearest rows) d ≡ state rows d
   unfolding near_state state
@@ -298,6 +284,4 @@ module _ (rows : Rows) (twins : HaveTwins rows) (ended : HaveEnded rows) where
 -- in a legal history both tables say the same
 pub nearest_told : (run : Run) (history : History) → IsLegal run history → (d : ℕ)
     → near_state (nearest (rows_of run history.opening history.events)) d ≡ state_in run history d
-nearest_told run history legal =
-    near_told (rows_of run history.opening history.events)
-    (run_twins run history.opening history.events) (legal_ended run history legal)
+nearest_told run history legal = search (rules, near_told, run_twins, legal_ended)

@@ -1,5 +1,5 @@
 -- There is one report.
-use Rattle.std.proofs.Common.{◌≡◌, ◌∙◌, ⊎_elim, ℕ, List, [], ◌∷◌, ◌++◌, map, refl, sym, ap, subst}
+use Rattle.std.proofs.Common.{◌≡◌, ◌∙◌, ⊎_elim, ℕ, List, [], ◌∷◌, ◌++◌, map, refl, sym, ap, subst, rules}
 use Rattle.std.specs.Prelude.{◌↔◌, Contains, flat_map}
 use Rattle.nix_names.specs.Rising.{IsRising}
 use Rattle.nix_names.proofs.RisingLists.{IsBelow, below_trans, first_below, not_below_itself, rising_later}
@@ -15,8 +15,7 @@ HaveSame xs ys = (d : ℕ) → Contains xs d ↔ Contains ys d
 -- the first number is below each later one, by its key
 below_later : (key : ℕ → List ℕ) (x : ℕ) (xs : List ℕ) (d : ℕ) → IsRising (map key (x ∷ xs))
     → Contains xs d → IsBelow (key x) (key d)
-below_later key x xs d rises has = first_below (key x) (map key xs) (key d) rises
-    (Contains-map key xs d has)
+below_later key x xs d rises has = search (rules, first_below, Contains-map)
 
 -- the first numbers of two lists are the same
 same_first : (key : ℕ → List ℕ) (x y : ℕ) (xs ys : List ℕ) → IsRising (map key (x ∷ xs))

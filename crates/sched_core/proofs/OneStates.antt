@@ -1,38 +1,16 @@
 -- How the state of a derivation changes with what is known of its inputs and of its nearest earlier
 -- twin.
-use Rattle.std.proofs.Common.{◌≡◌, ◌∙◌, ◌⊎◌, inl, inr, ℕ, ◌&&◌, not, Bool, true, false, List, [], ◌∷◌, Option, Some, None, refl, sym, ap, subst, if◌then◌else◌}
-use Rattle.std.proofs.lemmas.Bool.{false≢true}
+use Rattle.std.proofs.Common.{◌≡◌, ℕ, Bool, true, false, List, [], ◌∷◌, Option, Some, None, refl, if◌then◌else◌, rules}
 use Rattle.sched_core.specs.Coursing.{phase_in}
 use Rattle.sched_core.specs.Nearest.{News, Open, Good, Bad}
 use Rattle.sched_core.specs.States.{by_first, by_hindrance, by_phase}
-use Rattle.sched_core.specs.Tallies.{Turns, turns_freed, turns_refused, turns_stays, by_all, is_held, news_by}
+use Rattle.sched_core.specs.Tallies.{Turns, turns_freed, turns_refused, turns_stays, by_all, news_by}
 use Rattle.sched_core.specs.declared.reason.Refusal.{Refusal}
 use Rattle.sched_core.specs.declared.reason.Refusal.TheVariants.{InputNotRealised}
 use Rattle.sched_core.specs.declared.reason.State.{State}
 use Rattle.sched_core.specs.declared.reason.State.TheVariants.{Blocked, Building, Done, Failed, Ready, Refused, Reused}
 use Rattle.sched_core.specs.declared.standing.Standing.{Standing}
 use Rattle.sched_core.specs.declared.standing.Standing.TheVariants.{AllValid, Free, Hindered}
-
--- good news of an input change one that is Blocked, as the table has it
-pub freed_now : (standing : Standing) (twins : List News) (first : Option ℕ) (held all : Bool)
-    → held ≡ is_held twins → Blocked ≡ by_all standing twins (by_first first false)
-    → ◌≡◌ {A = State} (if all && not held then Ready else Blocked)
-    (by_all standing twins (by_first first all))
-freed_now AllValid twins first held all is stands = absurd cc
-freed_now (Hindered cause) [] first held all is stands = absurd cc
-freed_now (Hindered cause) (Good ∷ more) first held all is stands = absurd cc
-freed_now (Hindered cause) (Bad ∷ more) first held all is stands = absurd cc
-freed_now (Hindered cause) (Open ∷ more) first held true is stands = rw is refl
-freed_now (Hindered cause) (Open ∷ more) first held false is stands = refl
-freed_now Free (Open ∷ more) first held true is stands = rw is refl
-freed_now Free (Open ∷ more) first held false is stands = refl
-freed_now Free (Good ∷ more) first held all is stands = absurd cc
-freed_now Free [] (Some input) held all is stands = absurd cc
-freed_now Free [] None held true is stands = rw is refl
-freed_now Free [] None held false is stands = refl
-freed_now Free (Bad ∷ more) (Some input) held all is stands = absurd cc
-freed_now Free (Bad ∷ more) None held true is stands = rw is refl
-freed_now Free (Bad ∷ more) None held false is stands = refl
 
 -- what the inputs alone would make doesn't matter to one that has begun
 begun_else : (state before after : State)
@@ -70,48 +48,6 @@ not_freed state standing twins first all apart is =
     by Free (Bad ∷ more) (Some input) now = now
     by Free (Bad ∷ more) None now = absurd (apart now)
 
--- news of an input change nothing of one that its twin holds
-held_else : (standing : Standing) (twins : List News) (before after : State)
-    → is_held twins ≡ true → by_all standing twins before ≡ by_all standing twins after
-held_else standing [] before after is = absurd (false≢true is)
-held_else standing (Open ∷ more) before after is = refl
-held_else standing (Good ∷ more) before after is = absurd (false≢true is)
-held_else standing (Bad ∷ more) before after is = absurd (false≢true is)
-
-pub held_stays : (state : State) (standing : Standing) (twins : List News) (before after : State)
-    (held : Bool) → held ≡ true → held ≡ is_held twins
-    → state ≡ by_phase (phase_in state) (by_all standing twins before)
-    → state ≡ by_phase (phase_in state) (by_all standing twins after)
-held_stays state standing twins before after held holds says is =
-    is ∙ ap (by_phase (phase_in state)) (held_else standing twins before after (sym says ∙ holds))
-
--- bad news of an input make one refused that stands free, and that is Blocked or Refused
-refused_idle : (twins : List News) (first : Option ℕ) (input : ℕ) → is_held twins ≡ false
-    → (Reused ≡ by_all Free twins (by_first first false) → ⊥)
-    → ◌≡◌ {A = State} (Refused (InputNotRealised input))
-    (by_all Free twins (by_first (Some input) false))
-refused_idle [] first input held fresh = refl
-refused_idle (Open ∷ more) first input held fresh = absurd (false≢true (sym held))
-refused_idle (Good ∷ more) first input held fresh = absurd (fresh refl)
-refused_idle (Bad ∷ more) first input held fresh = refl
-
-pub refused_now : (state : State) (twins : List News) (first : Option ℕ) (input : ℕ) (held : Bool)
-    → held ≡ false → held ≡ is_held twins
-    → (state ≡ Blocked) ⊎ ((cause : Refusal) × (state ≡ Refused cause))
-    → state ≡ by_phase (phase_in state) (by_all Free twins (by_first first false))
-    → ◌≡◌ {A = State} (Refused (InputNotRealised input))
-    (by_all Free twins (by_first (Some input) false))
-refused_now state twins first input held free says (inl same) is =
-    let now : Blocked ≡ by_all Free twins (by_first first false) =
-    subst (λ s. s ≡ by_phase (phase_in s) (by_all Free twins (by_first first false))) same is in
-    refused_idle twins first input (sym says ∙ free) (λ reused. let clash : Reused ≡ Blocked =
-    reused ∙ sym now in cc)
-refused_now state twins first input held free says (inr (cause, same)) is =
-    let now : Refused cause ≡ by_all Free twins (by_first first false) =
-    subst (λ s. s ≡ by_phase (phase_in s) (by_all Free twins (by_first first false))) same is in
-    refused_idle twins first input (sym says ∙ free) (λ reused. let clash : Reused ≡ Refused cause =
-    reused ∙ sym now in cc)
-
 -- they change nothing of one that stands free and is neither
 pub not_refused : (state : State) (standing : Standing) (twins : List News) (first : Option ℕ)
     (input : ℕ) → standing ≡ Free → (state ≡ Blocked → ⊥)
@@ -129,9 +65,9 @@ not_refused state Free twins first input free apart known is =
         → state ≡ by_all Free twins (by_first (Some input) false)
     by (Good ∷ more) first now = now
     by (Open ∷ more) first now = now
-    by [] (Some other) now = absurd (known (InputNotRealised other) now)
+    by [] (Some other) now = search rules
     by [] None now = absurd (apart now)
-    by (Bad ∷ more) (Some other) now = absurd (known (InputNotRealised other) now)
+    by (Bad ∷ more) (Some other) now = search rules
     by (Bad ∷ more) None now = absurd (apart now)
 
 -- nor of one that doesn't stand free

@@ -1,7 +1,7 @@
 -- There is one verdict on an answer.
-use Rattle.std.proofs.Common.{◌≡◌, ◌≢◌, ◌<◌, ◌∙◌, ℕ, suc, List, [], ◌∷◌, length, Option, Some, None, refl, sym, ap, subst, arith}
+use Rattle.std.proofs.Common.{◌≡◌, ◌≢◌, ◌<◌, ◌∙◌, ℕ, suc, List, [], ◌∷◌, length, Option, Some, None, refl, sym, ap, subst, arith, rules}
 use Rattle.std.specs.Prelude.{ℤ, pos, Result, Ok, Err}
-use Rattle.std.specs.List.{range_with_len, slice_get}
+use Rattle.std.specs.List.{slice_get}
 use Rattle.nix_names.specs.declared.digest.Algorithm.{Algorithm}
 use Rattle.nix_names.proofs.FirstElements.{number_within, one_first}
 use Rattle.drv_graph.specs.declared.kinds.Kind.{Kind}
@@ -12,20 +12,19 @@ use Rattle.sched_core.specs.declared.job.Answer.{Answer}
 use Rattle.sched_core.specs.declared.job.Job.{Job}
 use Rattle.sched_core.specs.declared.reason.Reason.{Reason}
 use Rattle.sched_core.specs.declared.reason.Reason.TheVariants.{ExitStatus, NoStart, MissingOutput, NotFlatFile, HashMismatch, OutputCycle, TooLarge, ReadFault, OutOfMemory, Killed}
-use Rattle.sched_core.specs.Verdicts.{AreRecords, HasOneVerdict, IsCyclic, IsFaulty, IsFirstFault, IsFirstNumber, IsRecordOf, IsTaken, AreOutputsThere, IsTreeFault, IsVerdict, algorithm_for, digest_of, outputs_of, tree_at}
+use Rattle.sched_core.specs.Verdicts.{AreRecords, HasOneVerdict, IsCyclic, IsFaulty, IsFirstFault, IsFirstNumber, IsRecordOf, IsTaken, AreOutputsThere, IsTreeFault, IsVerdict, algorithm_for, outputs_of, tree_at}
 use Rattle.sched_core.proofs.Verdicts.{TreeFault, mismatched, not_flat, one_tree, too_large, tree_fault_cases}
 
 some_is_one : {X : Type 0} (o : Option X) (x y : X) → o ≡ Some x → o ≡ Some y → x ≡ y
-some_is_one o x y at at' = let same : Some x ≡ Some y = sym at ∙ at' in cc
+some_is_one o x y at at' = search rules
 
 none_or_some : {X : Type 0} (o : Option X) (x : X) → o ≡ None → o ≡ Some x → ⊥
-none_or_some o x none some = let clash : None ≡ Some x = sym none ∙ some in absurd cc
+none_or_some o x none some = search rules
 
 -- there is one first number
 one_number : (Holds : ℕ → Type 0) (count n m : ℕ) → IsFirstNumber Holds count n
     → IsFirstNumber Holds count m → n ≡ m
-one_number Holds count =
-    one_first (λ k. Holds k → ⊥) Holds (λ k none. none) (range_with_len 0 count)
+one_number Holds count = search (rules, one_first)
 
 -- lists are one where they are as long and have the same at each place
 same_list : {X : Type 0} (xs ys : List X) → length xs ≡ length ys
@@ -59,11 +58,11 @@ one_tree_fault kind tree _ _ (too_large not_fit) (mismatched found fits some) =
 one_tree_fault kind tree _ _ (not_flat fits none) (too_large not_fit) = absurd (not_fit fits)
 one_tree_fault kind tree _ _ (not_flat fits none) (not_flat fits' none') = refl
 one_tree_fault kind tree _ _ (not_flat fits none) (mismatched found fits' some) =
-    absurd (none_or_some (digest_of (algorithm_for kind) tree) found none some)
+    search (rules, none_or_some)
 one_tree_fault kind tree _ _ (mismatched found fits some) (too_large not_fit) =
     absurd (not_fit fits)
 one_tree_fault kind tree _ _ (mismatched found fits some) (not_flat fits' none) =
-    absurd (none_or_some (digest_of (algorithm_for kind) tree) found none some)
+    search (rules, none_or_some)
 one_tree_fault kind tree _ _ (mismatched found fits some) (mismatched found' fits' some') = refl
 
 module _ (job : Job) (permitted : List (List ℕ)) (answer : Answer) where
@@ -98,14 +97,11 @@ module _ (job : Job) (permitted : List (List ℕ)) (answer : Answer) where
   -- the first output without a tree, and the first faulty one, are among the outputs
   missing_within : (n : ℕ) → IsFirstNumber (λ m. tree_at answer m ≡ None)
       (length job.outputs.items) n → n < length job.outputs.items
-  missing_within n first = number_within (λ m. tree_at answer m ≡ None → ⊥)
-      (λ m. tree_at answer m ≡ None) (length job.outputs.items) n first
+  missing_within n first = search (rules, number_within)
 
   faulty_within : (why : Reason) (fault : IsFirstFault job answer why)
       → fault.0 < length job.outputs.items
-  faulty_within why (n, first, fault) = number_within
-      (λ m. ((reason : Reason) × IsFaulty job answer reason m) → ⊥)
-      (λ m. (reason : Reason) × IsFaulty job answer reason m) (length job.outputs.items) n first
+  faulty_within why (n, first, fault) = search (rules, number_within)
 
   one_list : (a b : List PathInfo) → AreRecords job permitted answer a
       → AreRecords job permitted answer b → a ≡ b
@@ -198,6 +194,4 @@ module _ (job : Job) (permitted : List (List ℕ)) (answer : Answer) where
       ap Ok (one_list infos infos2 records records2)
 
 pub has_one_verdict : HasOneVerdict
-has_one_verdict job permitted answer a b verdict verdict' =
-    one job permitted answer a b (outcome_of job permitted answer a verdict)
-    (outcome_of job permitted answer b verdict')
+has_one_verdict job permitted answer a b verdict verdict' = search (rules, one, outcome_of)

@@ -1,11 +1,9 @@
 -- Where derivations stand by themselves: what look-ups tell of paths, and a list of standings.
-use Rattle.std.proofs.Common.{◌≡◌, ◌↔◌, ◌∙◌, ℕ, ◌+◌, ◌<◌, Bool, true, false, List, [], ◌∷◌, ◌++◌, ◌||◌, codes, length, map, nat_eq, not, Option, Some, None, IfSome, IsTrue, refl, sym, ap, ⊎_elim, arith}
+use Rattle.std.proofs.Common.{◌≡◌, ◌↔◌, ◌∙◌, ℕ, ◌<◌, Bool, true, false, List, [], ◌∷◌, ◌||◌, codes, length, map, nat_eq, not, Option, Some, None, IfSome, IsTrue, refl, sym, ap, rules}
 use Rattle.std.specs.Prelude.{slice_get}
 use Rattle.std.specs.List.{list_any, position, slice_index_or, starts_with}
 use Rattle.std.specs.Cmp.Lexicographic.{nat_list_eq_equiv}
-use Rattle.std.proofs.Math.Seq.{get_or-append_seam}
-use Rattle.std.proofs.lemmas.Bool.{cases_lt, false≢true}
-use Rattle.std.proofs.lemmas.List.{get_or_append_left, length-append}
+use Rattle.std.proofs.lemmas.Bool.{false≢true}
 use Rattle.std.proofs.lemmas.Map.Views.{Contains-from_any, list_any-from_Contains}
 use Rattle.nix_names.specs.Names.{same_bytes}
 use Rattle.nix_names.proofs.RisingLists.{equal_from_eq}
@@ -18,7 +16,6 @@ use Rattle.drv_graph.specs.PlanNodes.{drvs_of, output_paths_of}
 use Rattle.valid_table.specs.Entries.{paths_registered, registered}
 use Rattle.valid_table.specs.Valid.{IsValid}
 use Rattle.valid_table.specs.declared.entry.Entry.{Entry}
-use Rattle.sched_core.specs.Courses.{AreStandings}
 use Rattle.sched_core.specs.Runs.{cause_at, is_unsupported, is_valid, left_out, own_cause, standing_at}
 use Rattle.sched_core.specs.declared.reason.Refusal.TheVariants.{MissingSource}
 use Rattle.sched_core.specs.declared.standing.Standing.{Standing}
@@ -46,35 +43,6 @@ pub record AreFirst (system : List ℕ) (entries : List Entry) (nodes : List Nod
   pub each : (k : ℕ) → k < count → slice_index_or standings k Free
       ≡ standing_at system entries (slice_get nodes k)
 
-pub one_more_standing : (system : List ℕ) (entries : List Entry) (nodes : List Node)
-    (standings : List Standing) (d : ℕ) (standing : Standing)
-    → AreFirst system entries nodes standings d → standing
-    ≡ standing_at system entries (slice_get nodes d)
-    → AreFirst system entries nodes (standings ++ standing ∷ []) (d + 1)
-one_more_standing system entries nodes standings d standing before is = record {
-  length_is = length-append standings (standing ∷ []) ∙ ap (λ n. n + 1) before.length_is;
-  each = λ k low. ⊎_elim
-      (λ earlier. get_or_append_left standings (standing ∷ []) Free k
-      (omega (arith, before.length_is, earlier)) ∙ before.each k earlier)
-      (λ last.
-      let here : k ≡ length standings = omega (arith, before.length_is, low, last) in
-      let same : k ≡ d = omega (arith, low, last) in
-      ap (λ n. slice_index_or (standings ++ standing ∷ []) n Free) here
-      ∙ get_or-append_seam standings standing [] Free ∙ is
-      ∙ ap (λ n. standing_at system entries (slice_get nodes n)) (sym same))
-      (cases_lt k d);
-}
-
--- where all were seen
-pub all_standings : (system : List ℕ) (entries : List Entry) (nodes : List Node)
-    (standings : List Standing) (count : ℕ)
-    → count ≡ length nodes → AreFirst system entries nodes standings count
-    → AreStandings system entries nodes standings
-all_standings system entries nodes standings count all first = record {
-  count = first.length_is ∙ all;
-  each = λ d low. first.each d (omega (arith, all, low));
-}
-
 -- a test of some made elements
 pub any_mapped : {X Y : Type 0} (p : Y → Bool) (h : X → Y) (xs : List X) → list_any p (map h xs)
     ≡ list_any (λ x. p (h x)) xs
@@ -84,10 +52,7 @@ any_mapped p h (x ∷ xs) = ap (λ b. p (h x) || b) (any_mapped p h xs)
 -- the derivation with a number is that of its node
 pub drv_is : (nodes : List Node) (d : ℕ) (drv : Drv) (node : Node) → slice_get nodes d ≡ Some node
     → slice_get (drvs_of nodes) d ≡ Some drv → drv ≡ node.drv
-drv_is nodes d drv node is_node is_drv =
-    let both : Some drv ≡ Some node.drv = sym is_drv
-    ∙ get_mapped (λ (n : Node). n.drv) nodes d node is_node in
-    cc
+drv_is nodes d drv node is_node is_drv = search (rules, get_mapped)
 
 -- where none of the earlier causes is there, the first source that isn't valid is the cause
 pub last_cause : (system : List ℕ) (entries : List Entry) (nodes : List Node) (d : ℕ) (drv : Drv)
@@ -127,18 +92,12 @@ or_true false = refl
 
 pub builtin_asks : (drv : Drv) (builder : List ℕ) (told : Bool) → builder ≡ drv.builder → told
     ≡ starts_with nat_eq builder (codes "builtin:") → told ≡ true → is_unsupported drv ≡ true
-builtin_asks drv builder told same is told_true =
-    let here : starts_with nat_eq drv.builder (codes "builtin:")
-    ≡ true = ap (λ b. starts_with nat_eq b (codes "builtin:")) (sym same) ∙ sym is ∙ told_true
-    in
-    rw here refl
+builtin_asks drv builder told same is told_true = search (rules, nat_eq, codes)
 
 keys_told : (drv : Drv) (env : List EnvEntryStruct) (told : Bool) → map entry_of env ≡ drv.env
     → told ≡ list_any (λ (e : EnvEntryStruct). list_any (same_bytes e.key.items) left_out) env
     → told ≡ list_any (λ (e : EnvEntry). list_any (same_bytes e.key) left_out) drv.env
-keys_told drv env told same is =
-    let asks = λ (e : EnvEntry). list_any (same_bytes e.key) left_out in is
-    ∙ sym (any_mapped asks entry_of env) ∙ ap (list_any asks) same
+keys_told drv env told same is = search (rules, any_mapped)
 
 pub key_asks : (drv : Drv) (env : List EnvEntryStruct) (told : Bool) → map entry_of env ≡ drv.env
     → told ≡ list_any (λ (e : EnvEntryStruct). list_any (same_bytes e.key.items) left_out) env
@@ -158,13 +117,4 @@ pub tree_asks : (drv : Drv) (builder : List ℕ) (env : List EnvEntryStruct)
     → tree ≡ list_any (λ (o : OutputStruct). same_bytes o.algo.items (codes "r:sha256")) outputs
     → tree ≡ is_unsupported drv
 tree_asks drv builder env outputs builtin keys tree same_builder same_env same_outputs by_builder
-    no_builtin by_key no_key by_output =
-    let whole = λ (o : Output). same_bytes o.algo (codes "r:sha256") in
-    let first : starts_with nat_eq drv.builder (codes "builtin:")
-    ≡ false = ap (λ b. starts_with nat_eq b (codes "builtin:")) (sym same_builder)
-    ∙ sym by_builder ∙ no_builtin in
-    let second : list_any (λ (e : EnvEntry). list_any (same_bytes e.key) left_out) drv.env
-    ≡ false = sym (keys_told drv env keys same_env by_key) ∙ no_key in
-    let third : tree ≡ list_any whole drv.outputs = by_output
-    ∙ sym (any_mapped whole output_of outputs) ∙ ap (list_any whole) same_outputs in
-    rw (first, second) third
+    no_builtin by_key no_key by_output = search (rules, codes, nat_eq, keys_told, any_mapped)

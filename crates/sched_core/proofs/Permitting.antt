@@ -1,7 +1,7 @@
 -- The permitted paths: a closure and outputs, put together.
-use Rattle.std.proofs.Common.{◌≡◌, inl, inr, ℕ, Bool, true, false, List, [], ◌∷◌, refl, sym, subst, ⊎_elim}
+use Rattle.std.proofs.Common.{◌≡◌, inl, inr, ℕ, Bool, true, false, List, [], ◌∷◌, refl, sym, subst, ⊎_elim, rules}
 use Rattle.std.specs.Prelude.{All, Contains, Err, if◌then◌else◌}
-use Rattle.std.proofs.Math.Dec.{T, eqb}
+use Rattle.std.proofs.Math.Dec.{eqb}
 use Rattle.std.proofs.Math.Facts.{eqb_yes}
 use Rattle.std.proofs.lemmas.List.Elements.{All-contains, Contains-append_right}
 use Rattle.valid_table.specs.Closing.{HaveSame}
@@ -40,8 +40,7 @@ pub only_memory : (registrations : List Registration) (roots : List (List ℕ)) 
     → All (IsValid registrations) roots → IsClosing registrations roots (Err fault)
     → fault ≡ NoMemory
 only_memory registrations roots NoMemory valid closing = refl
-only_memory registrations roots (NotValid path) valid first =
-    absurd (all_are_valid registrations roots path valid first)
+only_memory registrations roots (NotValid path) valid first = search (rules, all_are_valid)
 only_memory registrations roots (BadLine line) valid none = absurd none
 only_memory registrations roots (NotClosed line) valid none = absurd none
 only_memory registrations roots (Twice line) valid none = absurd none
@@ -82,8 +81,7 @@ begun_by (Begin e n) d lease is = by (eqb e d) refl is
   where
     by : (same : Bool) → eqb e d ≡ same → (if same then Begun n else Idle) ≡ Begun lease → Begin e n
         ≡ Begin d lease
-    by true same is = let numbers : e ≡ d = eqb_yes (subst T (sym same) tt) in let leases : n
-        ≡ lease = cc in rw (numbers, leases) refl
+    by true same is = search (rules, eqb_yes)
     by false other is = absurd cc
 begun_by (Finish e n) d lease is = by (eqb e d) is
   where
@@ -105,9 +103,8 @@ begun_event (event ∷ events) d lease is = by (phase_of events d) (begun_event 
   where
     by : (p : Phase) → (p ≡ Begun lease → Contains events (Begin d lease))
         → later (phase_by event d) p ≡ Begun lease → Contains (event ∷ events) (Begin d lease)
-    by Idle rest is = subst (Contains (event ∷ events)) (begun_by event d lease is)
-        (Contains-first event events)
-    by (Begun n) rest is = Contains-later event events (Begin d lease) (rest is)
+    by Idle rest is = search (rules, begun_by, Contains-first)
+    by (Begun n) rest is = search (rules, Contains-later)
     by Ended rest is = absurd cc
     by (Broken reason) rest is = absurd cc
 

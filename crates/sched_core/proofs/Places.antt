@@ -1,5 +1,5 @@
 -- Elements of lists by their places.
-use Rattle.std.proofs.Common.{◌≡◌, ◌≢◌, ◌⊎◌, inl, inr, ⊎_elim, ℕ, zero, suc, List, [], ◌∷◌, Some, refl, ap, arith}
+use Rattle.std.proofs.Common.{◌≡◌, ◌≢◌, ◌⊎◌, inl, inr, ℕ, zero, suc, List, [], ◌∷◌, Some, refl, ap, arith, rules}
 use Rattle.std.specs.List.{slice_get}
 use Rattle.std.proofs.Math.ListN.{set}
 
@@ -10,11 +10,7 @@ set_cases [] i j y z at = absurd cc
 set_cases (x ∷ xs) zero zero y z at = inl (refl, cc)
 set_cases (x ∷ xs) zero (suc j) y z at = inr (λ e. omega arith, at)
 set_cases (x ∷ xs) (suc i) zero y z at = inr (λ e. omega arith, at)
-set_cases (x ∷ xs) (suc i) (suc j) y z at =
-    ⊎_elim
-    (λ h. inl (ap suc h.0, h.1))
-    (λ h. inr (λ e. h.0 (omega arith), h.1))
-    (set_cases xs i j y z at)
+set_cases (x ∷ xs) (suc i) (suc j) y z at = search (rules, set_cases xs i j y z at)
 
 -- what was set stands there, and all else stays
 pub set_same : {X : Type 0} (xs : List X) (i : ℕ) (x y : X) → slice_get xs i ≡ Some x

@@ -1,5 +1,5 @@
 -- The inputs of a plan's derivations, by their numbers.
-use Rattle.std.proofs.Common.{◌≡◌, ◌∙◌, ℕ, suc, ◌<◌, false, List, [], ◌∷◌, ◌++◌, length, map, take, drop, get_or, Option, Some, None, refl, sym, ap, subst, arith, nat_eq}
+use Rattle.std.proofs.Common.{◌≡◌, ◌∙◌, ℕ, suc, ◌<◌, false, List, [], ◌∷◌, ◌++◌, length, map, take, drop, get_or, Option, Some, None, refl, sym, ap, subst, arith, nat_eq, rules}
 use Rattle.std.specs.Prelude.{Contains, IfSome, slice_get}
 use Rattle.std.specs.Cmp.Lexicographic.{pointwise, nat_list_eq_equiv}
 use Rattle.std.specs.List.{position_or_len}
@@ -43,10 +43,7 @@ numbers_are nodes [] [] once are = refl
 numbers_are nodes [] (p ∷ ps) once are = absurd cc
 numbers_are nodes (n ∷ ns) [] once are = absurd cc
 numbers_are nodes (n ∷ ns) (p ∷ ps) once are =
-    let first = place_is (paths_of nodes) n p once (first_number nodes n ns p ps are) in
-    let rest = numbers_are nodes ns ps once (later_numbers nodes n ns p ps are) in
-    ap (λ m. m ∷ ns) (sym first) ∙ ap (λ l. position_or_len (same_bytes p) (paths_of nodes) ∷ l)
-    rest
+    search (rules, place_is, first_number, later_numbers, numbers_are nodes ns ps once (later_numbers nodes n ns p ps are))
 
 -- an input is found before its user
 path_before : (graph : Graph) (d : ℕ) (node : Node) (path : List ℕ) → IsSound graph
@@ -95,10 +92,7 @@ inputs_first graph sound d i has = by (slice_get graph.nodes d) refl has
 
 -- what the state of each derivation follows from has smaller numbers
 pub rows_in_order : RowsInOrder
-rows_in_order run opening events sound = record {
-  inputs = inputs_first run.graph sound;
-  twins = twins_first run opening;
-}
+rows_in_order run opening events sound = search (rules, inputs_first, twins_first)
 
 -- the numbers of a derivation's inputs are those of its row
 pub numbers_at : (graph : Graph) (d : ℕ) (ns : List ℕ) → d < length graph.nodes → IsSound graph
@@ -109,9 +103,4 @@ numbers_at graph d ns low sound are = by (element_at graph.nodes d low).0
   where
     by : (node : Node) → slice_get graph.nodes d ≡ Some node → ns
         ≡ inputs_at graph.nodes (slice_get graph.nodes d)
-    by node at =
-        let its : AreNumbers graph.nodes ns (inputs_of node.drv) =
-        subst (λ o. IfSome o (λ (n : Node). AreNumbers graph.nodes ns (inputs_of n.drv))) at are
-        in
-        numbers_are graph.nodes ns (inputs_of node.drv) sound.distinct its
-        ∙ ap (inputs_at graph.nodes) (sym at)
+    by node at = search (rules, numbers_are)

@@ -1,6 +1,6 @@
 -- What the Done events of a legal history register: its entries stay a journal, and each Done is
 -- allowed.
-use Rattle.std.proofs.Common.{◌≡◌, ℕ, List, [], ◌∷◌, ◌++◌, refl, sym, ap, ◌∙◌, subst, ⊎_elim, append_assoc}
+use Rattle.std.proofs.Common.{◌≡◌, ℕ, List, [], ◌∷◌, ◌++◌, refl, sym, subst, ⊎_elim, append_assoc, rules}
 use Rattle.std.proofs.lemmas.List.{append-nil}
 use Rattle.std.proofs.lemmas.List.Elements.{Contains-append_cases}
 use Rattle.valid_table.specs.declared.entry.Entry.{Entry}
@@ -22,29 +22,14 @@ entries_are_journal run _ named (legal_fail history d lease reason legal phase) 
     entries_are_journal run history named legal
 entries_are_journal run _ named
     (legal_done history d lease node infos entry legal phase is_node allowed is_entry) =
-    done_is_journal run history.entries node infos entry allowed is_entry
-    (entries_are_journal run history named legal)
-    (named node (Contains-from_get run.graph.nodes d node is_node))
+    search (rules, done_is_journal, Contains-from_get, entries_are_journal run history named legal)
 
 -- ---- each Done was allowed
 
 done_with_more : (run : Run) (history after : History) (d : ℕ) (more : List Entry) → after.entries
     ≡ history.entries ++ more → after.opening ≡ history.opening → WasDone run history d
     → WasDone run after d
-done_with_more run history after d more same opening was = record {
-  node = was.node;
-  is_node = was.is_node;
-  before = was.before;
-  more = was.more;
-  goes_on = was.goes_on ∙ ap (λ (es : List Entry). es ++ was.more) (sym opening);
-  entry = was.entry;
-  after = was.after ++ more;
-  parts = same ∙ ap (λ (es : List Entry). es ++ more) was.parts
-      ∙ append_assoc was.before (was.entry ∷ was.after) more;
-  infos = was.infos;
-  allowed = was.allowed;
-  is_entry = was.is_entry;
-}
+done_with_more run history after d more same opening was = search (rules, append_assoc)
 
 pub dones_are_allowed : DonesAreAllowed
 dones_are_allowed run _ (legal_opening entries journal) d lease has =

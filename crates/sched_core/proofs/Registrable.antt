@@ -1,5 +1,5 @@
 -- What a verdict on a derivation's job gives.
-use Rattle.std.proofs.Common.{◌≡◌, ◌∙◌, ℕ, Bool, true, false, List, length, nat_eq, Option, Some, None, refl, sym, ap, subst, arith}
+use Rattle.std.proofs.Common.{◌≡◌, ◌∙◌, ℕ, Bool, true, false, List, length, nat_eq, Option, Some, None, refl, sym, ap, subst, arith, rules}
 use Rattle.std.specs.Cmp.Lexicographic.{pointwise}
 use Rattle.std.proofs.lemmas.List.{length-map}
 use Rattle.std.proofs.lemmas.Option.{slice_get_within}
@@ -15,7 +15,6 @@ use Rattle.drv_graph.specs.Nodes.{Node}
 use Rattle.drv_graph.specs.declared.kinds.Kind.{Kind}
 use Rattle.drv_graph.specs.declared.kinds.Kind.TheVariants.{Fixed}
 use Rattle.drv_graph.specs.declared.kinds.Method.{Method}
-use Rattle.ref_scan.specs.Trees.{joined}
 use Rattle.ref_scan.specs.declared.tree.Tree.{Tree, File, Pieces, Dir'}
 use Rattle.sched_core.specs.VerdictLaws.{AreRegistrable, VerdictsAreRegistrable}
 use Rattle.sched_core.specs.Verdicts.{IsCyclic, IsTreeFault, algorithm_for, digest_by, digest_of}
@@ -34,9 +33,7 @@ made_again (OfSha256 bytes) = refl
 made_again (OfSha512 bytes) = refl
 
 one_digest : (a b : Digest) → algorithm_of a ≡ algorithm_of b → bytes_of a ≡ bytes_of b → a ≡ b
-one_digest a b algorithm bytes =
-    sym (made_again a) ∙ ap (λ which. digest_with which (bytes_of a)) algorithm
-    ∙ ap (digest_with (algorithm_of b)) bytes ∙ made_again b
+one_digest a b algorithm bytes = search (rules, made_again)
 
 -- what an algorithm gives is a digest by it
 made_by : (algorithm : Algorithm) (bytes : List ℕ) → algorithm_of (digest_by algorithm bytes)
@@ -48,12 +45,8 @@ made_by Sha512 bytes = refl
 
 found_by : (algorithm : Algorithm) (tree : Tree) (found : Digest)
     → digest_of algorithm tree ≡ Some found → algorithm_of found ≡ algorithm
-found_by algorithm (File bytes) found is =
-    let same : digest_by algorithm bytes.items ≡ found = cc in
-    ap algorithm_of (sym same) ∙ made_by algorithm bytes.items
-found_by algorithm (Pieces parts) found is =
-    let same : digest_by algorithm (joined parts.items) ≡ found = cc in
-    ap algorithm_of (sym same) ∙ made_by algorithm (joined parts.items)
+found_by algorithm (File bytes) found is = search (rules, made_by)
+found_by algorithm (Pieces parts) found is = search (rules, made_by)
 found_by algorithm (Dir' shape entries) found is = absurd cc
 
 -- a tree that a fixed derivation's output may have has the declared digest
@@ -65,9 +58,7 @@ fixed_digest tree method digest taken = by (digest_of (algorithm_of digest) tree
     by_test : (found : Digest) → digest_of (algorithm_of digest) tree ≡ Some found → (same : Bool)
         → pointwise nat_eq (bytes_of found) (bytes_of digest) ≡ same
         → digest_of (algorithm_of digest) tree ≡ Some digest
-    by_test found is true e =
-        let bytes = equal_from_eq (bytes_of found) (bytes_of digest) e in
-        is ∙ ap Some (one_digest found digest (found_by (algorithm_of digest) tree found is) bytes)
+    by_test found is true e = search (rules, equal_from_eq, one_digest, found_by)
     by_test found is false e =
         let other = unequal_from_eq (bytes_of found) (bytes_of digest) e in
         absurd (taken TooLarge (λ fits.

@@ -1,5 +1,5 @@
 -- The parts of a derivation's seeds: its sources, and the outputs that it uses of each input.
-use Rattle.std.proofs.Common.{◌≡◌, ◌∙◌, ◌↔◌, ◌⊎◌, ⊎_elim, ℕ, ◌+◌, ◌<◌, ◌≤◌, Bool, true, false, List, [], ◌∷◌, ◌++◌, length, map, filter, flat_map, take, get_or, append_assoc, Option, Some, None, IfSome, IsTrue, refl, sym, ap, subst, arith}
+use Rattle.std.proofs.Common.{◌≡◌, ◌∙◌, ◌↔◌, ◌⊎◌, ⊎_elim, ℕ, ◌+◌, ◌<◌, ◌≤◌, Bool, true, false, List, [], ◌∷◌, ◌++◌, length, map, filter, flat_map, take, get_or, append_assoc, Option, Some, None, IfSome, IsTrue, refl, sym, ap, subst, arith, rules}
 use Rattle.std.specs.Prelude.{All, Contains, cond, find, slice_get}
 use Rattle.std.specs.List.{list_any, position_or_len}
 use Rattle.std.specs.Cmp.Lexicographic.{nat_list_eq_equiv}
@@ -43,9 +43,7 @@ pub added_more : (old seeds paths : List (List ℕ)) (n : ℕ) (path copy : List
     → path ≡ get_or paths n path
     → seeds ≡ old ++ take n paths → copy ≡ path → seeds ++ copy ∷ [] ≡ old ++ take (n + 1) paths
 added_more old seeds paths n path copy low is before same =
-    ap (λ l. l ++ copy ∷ []) before ∙ append_assoc old (take n paths) (copy ∷ [])
-    ∙ ap (λ p. old ++ (take n paths ++ p ∷ [])) same
-    ∙ ap (λ l. old ++ l) (sym (take_next paths n path (read_at paths n path low is)))
+    search (rules, append_assoc, take_next, read_at)
 
 -- ---- the outputs that are used of an input
 
@@ -81,17 +79,12 @@ first_more names outputs n output told at is =
 pub output_at : (lent : List OutputStruct) (used : Drv) (n : ℕ) (output : OutputStruct)
     → map output_of lent ≡ used.outputs → slice_get lent n ≡ Some output → slice_get used.outputs n
     ≡ Some (output_of output)
-output_at lent used n output view at = ap (λ (l : List Output). slice_get l n) (sym view)
-    ∙ slice_get-map output_of lent n ∙ ap (option_map output_of) at
+output_at lent used n output view at = search (rules, slice_get-map)
 
 pub path_at : (paths : List (List ℕ)) (used : Drv) (n : ℕ) (path : List ℕ) (output : Output) → paths
     ≡ output_paths_of used → slice_get paths n ≡ Some path → slice_get used.outputs n ≡ Some output
     → path ≡ output.path
-path_at paths used n path output are at is =
-    let both : Some path ≡ Some output.path = sym at ∙ ap (λ l. slice_get l n) are
-    ∙ slice_get-map (λ (o : Output). o.path) used.outputs n
-    ∙ ap (option_map (λ (o : Output). o.path)) is in
-    cc
+path_at paths used n path output are at is = search (rules, slice_get-map)
 
 pub at_input : (inputs : List Input) (place : ℕ) (input : Input) (told : Bool) (name : List ℕ)
     → slice_get inputs place ≡ Some input
@@ -152,13 +145,11 @@ adds_unused inputs place used old seeds lent n output told view at told_is is_un
 -- there is an output for each path
 pub outputs_count : (used : Drv) (paths : List (List ℕ)) (lent : List OutputStruct)
     → map output_of lent ≡ used.outputs → paths ≡ output_paths_of used → length paths ≡ length lent
-outputs_count used paths lent view are =
-    ap length are ∙ length-map used.outputs (λ (o : Output). o.path) ∙ sym (ap length view)
-    ∙ length-map lent output_of
+outputs_count used paths lent view are = search (rules, length-map)
 
 pub paths_count_is : (used : Drv) (paths : List (List ℕ)) → paths ≡ output_paths_of used
     → length paths ≡ length used.outputs
-paths_count_is used paths are = ap length are ∙ length-map used.outputs (λ (o : Output). o.path)
+paths_count_is used paths are = search (rules, length-map)
 
 -- an output is used or not
 pub output_seen : (inputs : List Input) (place : ℕ) (used : Drv)
@@ -189,11 +180,7 @@ pub adds_all : (inputs : List Input) (place : ℕ) (used : Drv) (old new : List 
     → length used.outputs ≤ n → AddsFirst inputs place used old new n
     → (input : Input) → slice_get inputs place ≡ Some input → new ≡ old
     ++ paths_named input.names used
-adds_all inputs place used old new n all adds input at =
-    adds input at
-    ∙ ap (λ l. old ++ map (λ (o : Output). o.path)
-    (filter (λ (o : Output). list_any (same_bytes o.name) input.names) l))
-    (take_all n used.outputs all)
+adds_all inputs place used old new n all adds input at = search (rules, filter, take_all)
 
 -- ---- the inputs
 
@@ -220,11 +207,8 @@ used_named nodes node numbers place number input used once are at_number at_inpu
   where
     by : (o : Option Node) → slice_get nodes number ≡ o → paths_of_found input.names o
         ≡ paths_named input.names used
-    by None is = let clash : None ≡ Some used =
-        sym (slice_get-map (λ (n : Node). n.drv) nodes number
-        ∙ ap (option_map (λ (n : Node). n.drv)) is) ∙ at_used in absurd cc
-    by (Some other) is = ap (paths_named input.names)
-        (sym (drv_is nodes number used other is at_used))
+    by None is = search (rules, slice_get-map)
+    by (Some other) is = search (rules, drv_is)
 
 -- the seeds of the sources and the first inputs, so many, of a node
 abbrev pub first_seeds : (nodes : List Node) → Node → (count : ℕ) → List (List ℕ)
@@ -236,13 +220,6 @@ abbrev pub AreFirstSeeds : (nodes : List Node) → (d : ℕ) → (seeds : List (
     → Type 0
 AreFirstSeeds nodes d seeds count = (node : Node) → slice_get nodes d ≡ Some node → seeds
     ≡ node.drv.sources ++ flat_map (named_outputs nodes) (take count node.drv.inputs)
-
-pub no_inputs_yet : (nodes : List Node) (d : ℕ) (seeds sources : List (List ℕ)) → seeds ≡ sources
-    → IfSome (slice_get nodes d) (λ node. sources ≡ node.drv.sources)
-    → AreFirstSeeds nodes d seeds 0
-no_inputs_yet nodes d seeds sources same are node at =
-    same ∙ subst (λ (o : Option Node). IfSome o (λ (n : Node). sources ≡ n.drv.sources)) at are
-    ∙ sym (append-nil node.drv.sources)
 
 -- an input's place is one of a number
 pub input_within : (nodes : List Node) (d : ℕ) (drv : Drv) (numbers : List ℕ) (place : ℕ) → d
@@ -267,19 +244,7 @@ pub number_within : (nodes : List Node) (d : ℕ) (numbers : List ℕ) (place nu
     < length nodes → All (λ input. input < d) numbers → slice_get numbers place ≡ Some number
     → number < length nodes
 number_within nodes d numbers place number low smaller at =
-    let less : number < d = All-contains (λ input. input < d) numbers number smaller
-    (Contains-from_get numbers place number at) in
-    omega (arith, low, less)
-
--- the paths of a node's outputs are those of its derivation
-pub paths_beside : (nodes : List Node) (number : ℕ) (used : Drv) (paths : List (List ℕ)) → number
-    < length nodes → slice_get (drvs_of nodes) number ≡ Some used
-    → IfSome (slice_get nodes number) (λ node. paths ≡ output_paths_of node.drv) → paths
-    ≡ output_paths_of used
-paths_beside nodes number used paths low is_drv are =
-    let there = element_at nodes number low in
-    subst (λ (o : Option Node). IfSome o (λ (n : Node). paths ≡ output_paths_of n.drv)) there.1 are
-    ∙ ap output_paths_of (sym (drv_is nodes number used there.0 there.1 is_drv))
+    search (rules, All-contains, Contains-from_get)
 
 -- the seeds with those of one input more
 pub input_added : (nodes : List Node) (d : ℕ) (drv used : Drv) (numbers : List ℕ) (place number : ℕ)

@@ -1,6 +1,6 @@
 -- The seeds of a derivation that has begun are valid.
-use Rattle.std.proofs.Common.{◌≡◌, ◌⊎◌, inl, inr, ℕ, suc, ◌+◌, Bool, true, false, List, [], ◌∷◌, ◌++◌, length, Option, Some, None, refl, sym, ap, ◌∙◌, subst, ⊎_elim, arith, append_assoc, append-nil}
-use Rattle.std.specs.Prelude.{Contains, slice_get, cond, not, nat_lt, if◌then◌else◌, filter, find, flat_map}
+use Rattle.std.proofs.Common.{◌≡◌, ◌⊎◌, inl, inr, ℕ, suc, ◌+◌, Bool, true, false, List, [], ◌∷◌, ◌++◌, Option, Some, None, refl, sym, ap, ◌∙◌, subst, ⊎_elim, arith, append_assoc, append-nil, rules}
+use Rattle.std.specs.Prelude.{Contains, slice_get, cond, not, if◌then◌else◌, filter, find, flat_map}
 use Rattle.std.specs.List.{list_all, list_any, position, position_or_len, slice_index_or}
 use Rattle.std.proofs.Math.Dec.{T, eqb}
 use Rattle.std.proofs.Math.Facts.{eqb_yes}
@@ -58,8 +58,7 @@ later_idle (Broken reason) = refl
 pub phase_push : (events : List Event) (e : Event) (d : ℕ) → phase_of (events ++ e ∷ []) d
     ≡ later (phase_of events d) (phase_by e d)
 phase_push [] e d = sym (later_idle (phase_by e d))
-phase_push (x ∷ xs) e d = ap (later (phase_by x d)) (phase_push xs e d)
-    ∙ later_assoc (phase_by x d) (phase_of xs d) (phase_by e d)
+phase_push (x ∷ xs) e d = search (rules, later_assoc, phase_push xs e d)
 
 -- it was built before, if not now
 ended_by_begin : (same : Bool) (p : Phase) (n : ℕ) → later p (if same then Begun n else Idle)
@@ -248,10 +247,7 @@ test_fails false x is = refl
 
 pub none_found : {X : Type 0} (p : X → Bool) (xs : List X) → position p xs ≡ None → (x : X)
     → Contains xs x → p x ≡ false
-none_found p xs is x (k, lt, at) =
-    let past = ltb-false (position_or_len p xs) (length xs)
-    (test_fails (nat_lt (position_or_len p xs) (length xs)) (position_or_len p xs) is) in
-    ap p (sym at) ∙ fails_before_first p xs k x (omega arith)
+none_found p xs is x (k, lt, at) = search (rules, ltb-false, test_fails, fails_before_first)
 
 pub not_false : (b : Bool) → not b ≡ false → b ≡ true
 not_false true is = refl
@@ -261,11 +257,7 @@ not_false false is = absurd cc
 
 pub done_is_ended : (rows : Rows) (d : ℕ) → is_done (state rows d) ≡ true → rows.phase d ≡ Ended
 unfolding state table
-done_is_ended rows d is =
-    let f : ℕ → State = λ i. slice_index_or (states_by (table rows) d) i Blocked in
-    done_by (rows.phase d) (rows.standing d) (list_any (λ t. is_done (f t)) (rows.twins d))
-    (list_any (λ t. is_open (f t)) (rows.twins d)) (find (λ i. is_bad (f i)) (rows.inputs d))
-    (list_all (λ i. is_good (f i)) (rows.inputs d)) is
+done_is_ended rows d is = search (rules, done_by)
 
 -- a derivation of which an earlier twin was built has valid outputs
 twin_is_valid : (run : Run) (history : History) → IsLegal run history → (d t : ℕ)
@@ -328,8 +320,7 @@ found_by_number (n ∷ ns) path = by (same_bytes path n.path) (found_by_number n
         ≡ slice_get (n ∷ ns)
         (cond (not b) (1 + position_or_len (same_bytes path) (node_paths ns)) 0)
     by true rest = refl
-    by false rest = rest ∙ ap (slice_get (n ∷ ns))
-        (one_more (position_or_len (same_bytes path) (node_paths ns)))
+    by false rest = search (rules, one_more)
 
 filtered : {X : Type 0} (p : X → Bool) (xs : List X) (x : X) → Contains (filter p xs) x
     → Contains xs x
@@ -338,8 +329,7 @@ filtered p (y ∷ ys) x has = by (p y) has (filtered p ys x)
   where
     by : (b : Bool) → Contains (cond b (y ∷ filter p ys) (filter p ys)) x
         → (Contains (filter p ys) x → Contains ys x) → Contains (y ∷ ys) x
-    by true here rest = ⊎_elim (λ same. subst (Contains (y ∷ ys)) same (Contains-first y ys))
-        (λ later. Contains-later y ys x (rest later)) (Contains-cons_cases y (filter p ys) x here)
+    by true here rest = search (rules, Contains-first, Contains-later, Contains-cons_cases)
     by false here rest = Contains-later y ys x (rest here)
 
 -- the outputs that an input names are among those of the node with the input's number
@@ -354,9 +344,7 @@ named_at nodes input path has =
   where
     by : (o : Option Node) → find (λ (n : Node). same_bytes input.path n.path) nodes ≡ o
         → (node : Node) × (o ≡ Some node) × Contains (output_paths_of node.drv) path
-    by None e = absurd
-        (Contains-nothing path
-        (subst (λ (o : Option Node). Contains (paths_of_found input.names o) path) e has))
+    by None e = search (rules, Contains-nothing)
     by (Some node) e =
         let there = subst (λ (o : Option Node). Contains (paths_of_found input.names o) path) e has
         in
@@ -372,7 +360,7 @@ named_at nodes input path has =
         )
 
 blocked_is_not_good : (s : State) → s ≡ Blocked → is_good s ≡ true → ⊥
-blocked_is_not_good s is good = let clash : false ≡ true = sym (ap is_good is) ∙ good in cc
+blocked_is_not_good s is good = search rules
 
 -- where a derivation is ready its seeds are valid
 seeds_at : (run : Run) (history : History) → IsLegal run history → (d : ℕ) → state_in run history d
@@ -465,23 +453,5 @@ seeds_are_valid run _
 -- ---- what is permitted
 
 pub permitted_stays : PermittedStays
-permitted_stays first more seeds outputs path closed once valid = (
-  λ may. ⊎_elim
-      (λ reached. inl (
-        reached.0,
-        reached.1,
-        (reached.2.0, leads_behind first more reached.0 path reached.2.0 reached.2.1),
-      ))
-      (λ own. inr own) may,
-  λ may. ⊎_elim
-      (λ reached. inl (
-        reached.0,
-        reached.1,
-        (
-          reached.2.0,
-          leads_before first more closed once reached.0 path reached.2.0
-              (valid reached.0 reached.1) reached.2.1,
-        ),
-      ))
-      (λ own. inr own) may,
-)
+permitted_stays first more seeds outputs path closed once valid =
+    search (rules, leads_behind, leads_before)

@@ -1,5 +1,5 @@
 -- The table of states has one solution, and the states are it.
-use Rattle.std.proofs.Common.{◌≡◌, ℕ, zero, suc, ◌<◌, ◌≤◌, Bool, List, [], ◌∷◌, ◌++◌, length, refl, sym, ap, ◌∙◌, subst, ⊎_elim, arith}
+use Rattle.std.proofs.Common.{◌≡◌, ℕ, zero, suc, ◌<◌, ◌≤◌, Bool, List, [], ◌∷◌, ◌++◌, length, refl, sym, ap, ◌∙◌, subst, ⊎_elim, arith, rules}
 use Rattle.std.specs.Prelude.{Contains, find, map}
 use Rattle.std.specs.List.{list_all, list_any, slice_index_or}
 use Rattle.std.proofs.Math.ListN.{get_or-append, length-append}
@@ -25,13 +25,7 @@ state_by rule d = rule (reads_at rule d) d
 pub length_states : (rule : (ℕ → State) → ℕ → State) (n : ℕ) → length (states_by rule n) ≡ n
 unfolding states_by
 length_states rule zero = refl
-length_states rule (suc n) =
-    omega (
-      arith,
-      length-append (states_by rule n)
-          (rule (λ i. slice_index_or (states_by rule n) i Blocked) n ∷ []),
-      length_states rule n,
-    )
+length_states rule (suc n) = search (rules, length-append, length_states rule n)
 
 -- among the first states each is that of its derivation
 pub state_at : (rule : (ℕ → State) → ℕ → State) (n i : ℕ) → i < n
@@ -54,8 +48,7 @@ state_at rule (suc n) i below =
 -- behind them nothing is known
 pub state_past : (rule : (ℕ → State) → ℕ → State) (n i : ℕ) → n ≤ i
     → slice_index_or (states_by rule n) i Blocked ≡ Blocked
-state_past rule n i past = get_or_past (states_by rule n) i Blocked
-    (omega (arith, length_states rule n))
+state_past rule n i past = search (rules, get_or_past, length_states)
 
 -- the rule gives the same at a derivation where the states of smaller numbers are the same
 abbrev pub ReadsBelow : ((ℕ → State) → ℕ → State) → Type 0
@@ -94,8 +87,7 @@ module _ (rule other : (ℕ → State) → ℕ → State)
       (rules_same n)
 
   pub states_alike : (d : ℕ) → state_by rule d ≡ state_by other d
-  states_alike d = same d
-      ∙ ap (λ (ss : List State). other (λ i. slice_index_or ss i Blocked) d) (rules_same d)
+  states_alike d = search (rules, rules_same)
 
 -- ---- what the tables read
 
@@ -196,19 +188,17 @@ pub record AreSame (a b : Rows) : Type 0 where
 
 table_rows : (a b : Rows) → AreSame a b → (f : ℕ → State) (d : ℕ) → table a f d ≡ table b f d
 unfolding table
-table_rows a b same f d = rw (same.inputs d, same.twins d, same.standing d, same.phase d) refl
+table_rows a b same f d = search rules
 
 near_rows : (a b : Rows) → AreSame a b → (f : ℕ → State) (d : ℕ)
     → near_table a f d ≡ near_table b f d
 unfolding near_table
-near_rows a b same f d = rw (same.inputs d, same.twins d, same.standing d, same.phase d) refl
+near_rows a b same f d = search rules
 
 pub state_same : (a b : Rows) → AreSame a b → (d : ℕ) → state a d ≡ state b d
 unfolding state
-state_same a b same = states_alike (table a) (table b)
-    (λ d. table_rows a b same (reads_at (table a) d) d)
+state_same a b same = search (rules, states_alike, table_rows, reads_at)
 
 pub near_same : (a b : Rows) → AreSame a b → (d : ℕ) → near_state a d ≡ near_state b d
 unfolding near_state
-near_same a b same = states_alike (near_table a) (near_table b)
-    (λ d. near_rows a b same (reads_at (near_table a) d) d)
+near_same a b same = search (rules, states_alike, near_rows, reads_at)

@@ -1,5 +1,5 @@
 -- A course by the tallies that are kept.
-use Rattle.std.proofs.Common.{◌≡◌, ◌∙◌, ◌↔◌, inl, inr, ⊎_elim, ℕ, zero, suc, ◌+◌, ◌<◌, ◌≤◌, ◌^◌, ◌==◌, ◌&&◌, Bool, true, false, List, [], ◌∷◌, ◌++◌, length, map, take, get_or, IsTrue, Option, Some, None, refl, if◌then◌else◌, sym, ap, subst, arith, eqb-true, eq-eqb}
+use Rattle.std.proofs.Common.{◌≡◌, ◌∙◌, ◌↔◌, inl, inr, ⊎_elim, ℕ, zero, suc, ◌+◌, ◌<◌, ◌≤◌, ◌^◌, ◌==◌, ◌&&◌, Bool, true, false, List, [], ◌∷◌, ◌++◌, length, map, take, get_or, IsTrue, Option, Some, None, refl, if◌then◌else◌, sym, ap, subst, arith, eqb-true, eq-eqb, rules}
 use Rattle.std.specs.Prelude.{All, Contains, MatchOption, slice_get}
 use Rattle.std.specs.List.{slice_index_or}
 use Rattle.std.proofs.lemmas.Bool.{false≢true}
@@ -18,7 +18,7 @@ use Rattle.sched_core.specs.Runs.{inputs_at}
 use Rattle.sched_core.specs.States.{Begun, Idle, IsInOrder, is_open}
 use Rattle.sched_core.specs.Steps.{edges_ahead, total}
 use Rattle.sched_core.specs.Tallies.{HaveHeard, Hears, states_in}
-use Rattle.sched_core.specs.ToldEdges.{HasTold, course_ahead, course_told, open_edges, rested, sizes}
+use Rattle.sched_core.specs.ToldEdges.{HasTold, course_ahead, course_told, open_edges, sizes}
 use Rattle.sched_core.specs.UserSpans.{uses}
 use Rattle.sched_core.specs.Users.{AreUsers, users_of_all}
 use Rattle.sched_core.specs.declared.reason.State.{State}
@@ -46,8 +46,7 @@ part_at part tallies d tally default at =
 phase_at : (tallies : List Tally) (d : ℕ) (tally : Tally) → slice_get tallies d ≡ Some tally
     → get_or (phases_in tallies) d Idle ≡ phase_in tally.state
 phase_at [] d tally at = absurd cc
-phase_at (t ∷ tallies) zero tally at = let same : t ≡ tally = cc in
-    ap (λ (u : Tally). phase_in u.state) same
+phase_at (t ∷ tallies) zero tally at = search rules
 phase_at (t ∷ tallies) (suc d) tally at = phase_at tallies d tally at
 
 -- what is read past the end of the tallies
@@ -73,8 +72,7 @@ module _ (graph : Graph) (tallies : List Tally) (users : List (List Edge)) (agen
   awaited = awaited_at graph (twins_in tallies)
 
   heard : HaveHeard awaited tallies []
-  heard = subst (λ l. HaveHeard awaited tallies (users_of_all users l))
-      is.steady.none is.steady.told.heard
+  heard = search (rules, awaited)
 
   in_order : IsInOrder (course_rows course)
   in_order = record {
@@ -87,11 +85,7 @@ module _ (graph : Graph) (tallies : List Tally) (users : List (List Edge)) (agen
   -- the states that are kept are the course's
   pub state_kept : (d : ℕ) → d < length graph.nodes
       → kept (states_in tallies) d ≡ course_state course d
-  state_kept d low = heard_states (course_rows course) tallies in_order
-      (λ e tally at. (
-        sym (part_at (λ (t : Tally). t.standing) tallies e tally Free at),
-        sym (phase_at tallies e tally at),
-      )) heard d (omega (arith, low, is.count))
+  state_kept d low = search (rules, heard_states, course, in_order, part_at, phase_at, heard)
 
   pub state_told : (d : ℕ) (none : Tally) → d < length graph.nodes
       → (get_or tallies d none).state ≡ course_state course d
@@ -102,8 +96,7 @@ module _ (graph : Graph) (tallies : List Tally) (users : List (List Edge)) (agen
 
   pub wanted_told : (d : ℕ) (none : Tally) → d < length graph.nodes
       → (get_or tallies d none).wanted ≡ slice_index_or course.wanted d false
-  wanted_told d none low = sym (get_or-map (λ (t : Tally). t.wanted) tallies d none false
-      (omega (arith, low, is.count)))
+  wanted_told d none low = search (rules, get_or-map, none)
 
   -- what the ring says
   pub next_told : (first : Option ℕ) → first ≡ slice_get agenda.ring 0
@@ -190,11 +183,7 @@ module _ (graph : Graph) (tallies : List Tally) (users : List (List Edge)) (agen
   settled_told settled settled_is = (forward, back)
     where
       forward : IsTrue settled → IsSettled course
-      forward holds d low wanted still =
-          let none : agenda.unsettled ≡ 0 = eqb-true agenda.unsettled 0 (sym settled_is ∙ holds) in
-          let its = unsettled_at d (low, wanted, still) in
-          count_none is_unsettled tallies d its.0 (sym is.steady.told.listed.unsettled ∙ none)
-          its.1 its.2
+      forward holds d low wanted still = search (rules, eqb-true, unsettled_at, count_none)
 
       back : IsSettled course → IsTrue settled
       back settled =
@@ -207,10 +196,7 @@ module _ (graph : Graph) (tallies : List Tally) (users : List (List Edge)) (agen
 
 pub ahead_same : (inputs : ℕ → List ℕ) (a b : ℕ → State) (count : ℕ) → ((d : ℕ) → a d ≡ b d)
     → edges_ahead inputs a count ≡ edges_ahead inputs b count
-ahead_same inputs a b count same =
-    total_below (λ d. if is_open (a d) then uses inputs count d else 0)
-    (λ d. if is_open (b d) then uses inputs count d else 0) count
-    (λ d low. ap (λ s. if is_open s then uses inputs count d else 0) (same d))
+ahead_same inputs a b count same = search (rules, total_below, count)
 
 edges_most : (size : ℕ → ℕ) (tallies : List Tally)
     → open_edges size tallies ≤ total size (length tallies)
@@ -263,25 +249,12 @@ module _ (graph : Graph) (tallies : List Tally) (users : List (List Edge)) (agen
   -- at the opening, along none
   pub told_none : ((d : ℕ) → slice_index_or (phases_in tallies) d Idle ≡ Idle)
       → total (sizes users) (length graph.nodes) < 2 ^ 63 → HasTold graph tallies users 0
-  told_none idle few = record {
-    few = omega (arith, edges_most (sizes users) tallies, ap (total (sizes users)) is.count, few);
-    size = size;
-    all =
-        let all_open = open_ahead
-        ∙ ahead_same (λ d. all_of (awaited_at graph (twins_in tallies) d))
-        (course_state (course_by graph tallies))
-        (course_state (rested (course_by graph tallies))) (length graph.nodes)
-        (near_same (course_rows (course_by graph tallies))
-        (course_rows (rested (course_by graph tallies)))
-        (record { inputs = λ d. refl; twins = λ d. refl; standing = λ d. refl; phase = idle })) in
-        omega (arith, all_open);
-  }
+  told_none idle few = search (rules, edges_most, open_ahead, ahead_same, near_same, idle)
 
 pub edges_told : (graph : Graph) (tallies : List Tally) (users : List (List Edge))
     (agenda : Agenda) → IsCourse graph tallies users agenda → (told : ℕ)
     → HasTold graph tallies users told → told ≡ course_told (course_by graph tallies)
-edges_told graph tallies users agenda is told has =
-    omega (arith, has.all, open_ahead graph tallies users agenda is has.size)
+edges_told graph tallies users agenda is told has = search (rules, open_ahead)
 
 -- behind an event
 pub told_more : (graph : Graph) (before after : List Tally) (users : List (List Edge))
@@ -290,21 +263,12 @@ pub told_more : (graph : Graph) (before after : List Tally) (users : List (List 
     → twins_in after ≡ twins_in before
     → more + open_edges (sizes users) after ≡ open_edges (sizes users) before
     → now ≡ told + more → HasTold graph after users now
-told_more graph before after users told more now has stand want twin fell sum_is = record {
-  few = omega (arith, has.few, fell, sum_is);
-  size = λ d low. has.size d low ∙ ap (λ l. uses (λ e. all_of (awaited_at graph l e))
-      (length graph.nodes) d) (sym twin);
-  all =
-      let same : course_ahead (rested (course_by graph after))
-      ≡ course_ahead (rested (course_by graph before)) = rw (stand, twin) refl in
-      omega (arith, has.all, fell, sum_is, same);
-}
+told_more graph before after users told more now has stand want twin fell sum_is =
+    search (rules, stand)
 
 pub same_length : (before after : List Tally) → standings_in after ≡ standings_in before
     → length before ≡ length after
-same_length before after stand =
-    sym (length-map before (λ (t : Tally). t.standing)) ∙ sym (ap length stand)
-    ∙ length-map after (λ (t : Tally). t.standing)
+same_length before after stand = search (rules, length-map, stand)
 
 -- the tallies of a plan behind an event
 pub noted_course : (graph : Graph) (before after : List Tally) (users : List (List Edge))
@@ -344,17 +308,6 @@ pub record AreOpened (graph : Graph) (standings : List Standing) (wanted : List 
   pub are_twins : twins_in tallies ≡ take d twins
   pub idle : (e : ℕ) → get_or (phases_in tallies) e Idle ≡ Idle
   pub heard : HaveHeard (awaited_at graph twins) tallies []
-
-pub opened_none : (graph : Graph) (standings : List Standing) (wanted : List Bool)
-    (twins : List (Option ℕ)) → AreOpened graph standings wanted twins 0 []
-opened_none graph standings wanted twins = record {
-  count = refl;
-  stand = refl;
-  are_wanted = refl;
-  are_twins = refl;
-  idle = λ e. refl;
-  heard = record { each = λ d tally at. absurd cc };
-}
 
 -- what a derivation of a plan waits for has smaller numbers
 pub awaited_first : (graph : Graph) (twins : List (Option ℕ)) → IsSound graph
@@ -407,7 +360,7 @@ module _ (graph : Graph) (standings : List Standing) (wanted : List Bool)
       here : ◌≡◌ {A = Awaited}
           (record { inputs = inputs; twins = listed (get_or twins d no_twin) })
           (awaited_at graph twins d)
-      here = rw (are, any_default twins d no_twin None inside) refl
+      here = search (rules, any_default)
 
   pub opened_all : (d : ℕ) (tallies : List Tally) → d ≡ length graph.nodes
       → length standings ≡ length graph.nodes → length wanted ≡ length graph.nodes

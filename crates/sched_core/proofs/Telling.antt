@@ -1,5 +1,5 @@
 -- Users are told, one after the other.
-use Rattle.std.proofs.Common.{◌≡◌, ◌≢◌, ◌∙◌, ⊎_elim, ℕ, zero, suc, ◌+◌, ◌<◌, ◌≤◌, ◌==◌, ◌&&◌, not, Bool, true, false, List, [], ◌∷◌, ◌++◌, length, map, drop, get_or, Option, Some, None, refl, sym, ap, subst, arith, if◌then◌else◌, eqb-true, eq-eqb}
+use Rattle.std.proofs.Common.{◌≡◌, ◌≢◌, ◌∙◌, ⊎_elim, ℕ, zero, suc, ◌+◌, ◌<◌, ◌≤◌, ◌==◌, ◌&&◌, not, Bool, true, false, List, [], ◌∷◌, ◌++◌, length, map, drop, get_or, Option, Some, None, refl, sym, ap, subst, arith, if◌then◌else◌, eqb-true, eq-eqb, rules}
 use Rattle.std.specs.Prelude.{slice_get, slice_set}
 use Rattle.std.proofs.Math.ListN.{set}
 use Rattle.std.proofs.lemmas.Bool.{false≢true}
@@ -28,16 +28,7 @@ use Rattle.sched_core.proofs.KnownNews.{known_news}
 times_has : (row : List Edge) (i : ℕ) (edge : Edge) → slice_get row i ≡ Some edge
     → 0 < times edge.user edge.place row
 times_has [] i edge at = absurd cc
-times_has (x ∷ row) zero edge at =
-    let same : x ≡ edge = cc in
-    let user : (x.user == edge.user) ≡ true = eq-eqb x.user edge.user
-    (ap (λ (e : Edge). e.user) same) in
-    let place : (x.place == edge.place) ≡ true = eq-eqb x.place edge.place
-    (ap (λ (e : Edge). e.place) same) in
-    let counted : ◌≡◌ {A = ℕ}
-    (if (x.user == edge.user) && (x.place == edge.place) then 1 else 0) 1 =
-    rw (user, place) refl in
-    omega arith
+times_has (x ∷ row) zero edge at = search (rules, edge, eq-eqb)
 times_has (x ∷ row) (suc i) edge at = omega (arith, times_has row i edge at)
 
 once_is : (o : Option ℕ) (w : ℕ) → 0 < once_at o w → o ≡ Some w
@@ -46,9 +37,7 @@ once_is (Some n) w has = by (n == w) refl
   where
     by : (same : Bool) → (n == w) ≡ same → Some n ≡ Some w
     by true is = ap Some (eqb-true n w is)
-    by false is =
-        let none : once_at (Some n) w ≡ 0 = ap (λ b. if b then 1 else 0) is in
-        absurd (omega (arith, has, none))
+    by false is = search rules
 
 -- the input stands where an edge to its user says
 edge_is : (inputs : ℕ → List ℕ) (users : List (List Edge)) (count w i : ℕ) (edge : Edge)
@@ -67,9 +56,7 @@ edge_is inputs users count w i edge edges low at =
 users_of_more : (users : List (List Edge)) (xs ys : List ℕ)
     → users_of_all users (xs ++ ys) ≡ users_of_all users xs ++ users_of_all users ys
 users_of_more users [] ys = refl
-users_of_more users (x ∷ xs) ys =
-    ap (λ l. users_of users x ++ l) (users_of_more users xs ys)
-    ∙ sym (append_assoc (users_of users x) (users_of_all users xs) (users_of_all users ys))
+users_of_more users (x ∷ xs) ys = search (rules, append_assoc, users_of_more users xs ys)
 
 users_alone : (users : List (List Edge)) (is : Bool) (u : ℕ)
     → users_of_all users (alone_if is u) ≡ (if is then users_of users u else [])
@@ -82,12 +69,7 @@ edges_set : (size : ℕ → ℕ) (tallies : List Tally) (d : ℕ) (before after 
     → open_edges size (set tallies d after) + (if is_open before.state then size d else 0)
     ≡ open_edges size tallies + (if is_open after.state then size d else 0)
 edges_set size [] d before after at = absurd cc
-edges_set size (tally ∷ tallies) zero before after at =
-    let same : tally ≡ before = cc in
-    let told : ◌≡◌ {A = ℕ} (if is_open tally.state then size 0 else 0)
-    (if is_open before.state then size 0 else 0) =
-    ap (λ (t : Tally). if is_open t.state then size 0 else 0) same in
-    omega arith
+edges_set size (tally ∷ tallies) zero before after at = search (rules, before)
 edges_set size (tally ∷ tallies) (suc d) before after at =
     omega (arith, edges_set (λ e. size (suc e)) tallies d before after at)
 
@@ -164,37 +146,19 @@ left_noted : (users : List (List Edge)) (agenda : Agenda) (u : ℕ) (before afte
     → (left ++ users_of_all users agenda.work) ++ to_tell before.state after.state
     (users_of users u) ≡ left ++ users_of_all users (noted agenda u before after).work
 left_noted users agenda u before after left =
-    append_assoc left (users_of_all users agenda.work)
-    (to_tell before.state after.state (users_of users u))
-    ∙ ap (λ l. left ++ l) (sym (users_of_more users agenda.work (alone_if (ends before after) u)
-    ∙ ap (λ l. users_of_all users agenda.work ++ l) (users_alone users (ends before after) u
-    ∙ ap (λ b. if b then users_of users u else []) (sym (news_end before.state after.state)))))
+    search (rules, append_assoc, users_of_more, before, after, users_alone, news_end)
 
 -- ---- what telling leaves as it was
 
-pub same_refl : (tallies : List Tally) → AreSameElse tallies tallies
-same_refl tallies = record { standings = refl; wanted = refl; twins = refl; phases = refl }
-
 pub same_then : (a b c : List Tally) → AreSameElse a b → AreSameElse b c → AreSameElse a c
-same_then a b c first second = record {
-  standings = second.standings ∙ first.standings;
-  wanted = second.wanted ∙ first.wanted;
-  twins = second.twins ∙ first.twins;
-  phases = second.phases ∙ first.phases;
-}
-
-set_stays : {X : Type 0} (xs : List X) (i : ℕ) (x : X) → slice_get xs i ≡ Some x → set xs i x ≡ xs
-set_stays [] i x at = refl
-set_stays (y ∷ xs) zero x at = let same : y ≡ x = cc in ap (λ z. z ∷ xs) (sym same)
-set_stays (y ∷ xs) (suc i) x at = ap (λ l. y ∷ l) (set_stays xs i x at)
+same_then a b c first second = search rules
 
 -- a part of tallies that a new tally has as the old one
 part_stays : {X : Type 0} (part : Tally → X) (tallies : List Tally) (u : ℕ) (before after : Tally)
     → slice_get tallies u ≡ Some before → part after ≡ part before
     → map part (set tallies u after) ≡ map part tallies
 part_stays part [] u before after at same = refl
-part_stays part (t ∷ tallies) zero before after at same =
-    let is : t ≡ before = cc in ap (λ z. z ∷ map part tallies) (same ∙ ap part (sym is))
+part_stays part (t ∷ tallies) zero before after at same = search (rules, before)
 part_stays part (t ∷ tallies) (suc u) before after at same =
     ap (λ l. part t ∷ l) (part_stays part tallies u before after at same)
 
@@ -206,14 +170,8 @@ phases_are (t ∷ tallies) = ap (λ l. phase_in t.state ∷ l) (phases_are talli
 pub same_set : (tallies : List Tally) (u : ℕ) (before after : Tally)
     → slice_get tallies u ≡ Some before → IsSameElse before after
     → AreSameElse tallies (set tallies u after)
-same_set tallies u before after at same = record {
-  standings = part_stays (λ (t : Tally). t.standing) tallies u before after at same.standing;
-  wanted = part_stays (λ (t : Tally). t.wanted) tallies u before after at same.wanted;
-  twins = part_stays (λ (t : Tally). t.twin) tallies u before after at same.twin;
-  phases = phases_are (set tallies u after)
-      ∙ part_stays (λ (t : Tally). phase_in t.state) tallies u before after at same.phase
-      ∙ sym (phases_are tallies);
-}
+same_set tallies u before after at same =
+    search (rules, part_stays, before, after, at, phases_are, set)
 
 -- ---- one user is told
 
@@ -241,9 +199,7 @@ module _ (inputs : ℕ → Awaited) (users : List (List Edge)) (tallies : List T
   rest = drop (i + 1) (users_of users w) ++ users_of_all users agenda.work
 
   heard : HaveHeard inputs tallies (edge ∷ rest)
-  heard = subst (λ l. HaveHeard inputs tallies (l ++ users_of_all users agenda.work))
-      (ap (drop i) (sym row_is) ∙ drop_more row i no_edge here
-      ∙ ap (λ l. edge ∷ drop (i + 1) l) row_is) is.heard
+  heard = search (rules, drop_more, edge)
 
   -- what `told` requires
   pub can_tell : (ins : Awaited) × (heard : List News) × CanHear ins heard before edge.place w
@@ -281,14 +237,11 @@ module _ (inputs : ℕ → Awaited) (users : List (List Edge)) (tallies : List T
     told_space = omega (arith, told_agenda.space)
 
     pub told_settles : one (settles before after) ≤ agenda.unsettled
-    told_settles =
-        settles_most tallies agenda edge.user before after at turns same.wanted is.listed
+    told_settles = search (rules, settles_most, before, after, at)
 
     pub told_good : kept (states_in (set tallies edge.user after)) w
         ≡ kept (states_in tallies) w
-    told_good =
-        ap (λ l. kept l w) (map-set (λ (t : Tally). t.state) tallies edge.user after)
-        ∙ get_or-set_other (states_in tallies) edge.user w after.state Blocked user_apart
+    told_good = search (rules, map-set, after, get_or-set_other, user_apart)
 
     pub told_same : AreSameElse tallies (set tallies edge.user after)
     told_same = same_set tallies edge.user before after at same
@@ -326,17 +279,7 @@ module _ (inputs : ℕ → Awaited) (users : List (List Edge)) (tallies : List T
 
 first_work : (xs : List ℕ) (w : ℕ) → slice_get xs 0 ≡ Some w → xs ≡ w ∷ drop 1 xs
 first_work [] w at = absurd cc
-first_work (x ∷ xs) w at = let same : x ≡ w = cc in ap (λ y. y ∷ xs) same
-
-no_work : (xs : List ℕ) → slice_get xs 0 ≡ None → xs ≡ []
-no_work [] at = refl
-no_work (x ∷ xs) at = absurd cc
-
-pub work_within : (tallies : List Tally) (agenda : Agenda) (w : ℕ)
-    → slice_get agenda.work 0 ≡ Some w → IsAgenda tallies agenda → w < length tallies
-work_within tallies agenda w at is =
-    subst (λ n. n < length tallies) (get_or_from_slice_get agenda.work 0 w 0 at)
-    (is.work 0 0 (slice_get_within agenda.work 0 w at))
+first_work (x ∷ xs) w at = search rules
 
 pub work_taken : (inputs : ℕ → Awaited) (users : List (List Edge)) (tallies : List Tally)
     (agenda : Agenda) (w : ℕ) → slice_get agenda.work 0 ≡ Some w
@@ -358,34 +301,18 @@ work_taken inputs users tallies agenda w at is = record {
   };
 }
 
-pub work_falls : (tallies : List Tally) (agenda : Agenda) (w : ℕ)
-    → slice_get agenda.work 0 ≡ Some w
-    → to_end tallies (record agenda { work = drop 1 agenda.work }) < to_end tallies agenda
-work_falls tallies agenda w at = omega (arith, ap length (first_work agenda.work w at))
-
 -- its edges are followed
 pub work_edges : (users : List (List Edge)) (agenda : Agenda) (w : ℕ)
     → slice_get agenda.work 0 ≡ Some w → length (users_of_all users agenda.work)
     ≡ sizes users w + length (users_of_all users (drop 1 agenda.work))
-work_edges users agenda w at =
-    ap (λ l. length (users_of_all users l)) (first_work agenda.work w at)
-    ∙ length-append (users_of users w) (users_of_all users (drop 1 agenda.work))
-
-pub work_none : (agenda : Agenda) → slice_get agenda.work 0 ≡ None → agenda.work ≡ []
-work_none agenda at = no_work agenda.work at
-
-pub work_stays : (agenda now : Agenda) → slice_get agenda.work 0 ≡ None
-    → now ≡ record agenda { work = drop 1 agenda.work } → now ≡ agenda
-work_stays agenda now at is =
-    is ∙ ap (λ l. record agenda { work = l })
-    (ap (drop 1) (no_work agenda.work at) ∙ sym (no_work agenda.work at))
+work_edges users agenda w at = search (rules, first_work, at, length-append)
 
 -- ---- an event
 
 -- what is known of a derivation's state by the tallies
 pub state_read : (tallies : List Tally) (d : ℕ) (none : Tally) → d < length tallies
     → kept (states_in tallies) d ≡ (get_or tallies d none).state
-state_read tallies d none low = get_or-map (λ (t : Tally). t.state) tallies d none Blocked low
+state_read tallies d none low = search (rules, get_or-map)
 
 module _ (tallies : List Tally) (agenda : Agenda) (d : ℕ) (none : Tally) (state : State)
     (low : d < length tallies) (turns : Turns (kept (states_in tallies) d) state) where
@@ -399,7 +326,7 @@ module _ (tallies : List Tally) (agenda : Agenda) (d : ℕ) (none : Tally) (stat
   old_at = slice_get-get_or tallies d none low
 
   turned : Turns old.state state
-  turned = subst (λ s. Turns s state) (state_read tallies d none low) turns
+  turned = search (rules, state_read)
 
   module _ (listed : IsAgenda tallies agenda) where
     pub turned_agenda : IsAgenda (set tallies d now) (noted agenda d old now)
@@ -415,17 +342,16 @@ module _ (tallies : List Tally) (agenda : Agenda) (d : ℕ) (none : Tally) (stat
     turned_settles = settles_most tallies agenda d old now old_at turned refl listed
 
   pub turned_standings : standings_in (set tallies d now) ≡ standings_in tallies
-  turned_standings = part_stays (λ (t : Tally). t.standing) tallies d old now old_at refl
+  turned_standings = search (rules, part_stays, old, now, old_at)
 
   pub turned_wanted : wanted_in (set tallies d now) ≡ wanted_in tallies
-  turned_wanted = part_stays (λ (t : Tally). t.wanted) tallies d old now old_at refl
+  turned_wanted = search (rules, part_stays, old, now, old_at)
 
   pub turned_twins : twins_in (set tallies d now) ≡ twins_in tallies
-  turned_twins = part_stays (λ (t : Tally). t.twin) tallies d old now old_at refl
+  turned_twins = search (rules, part_stays, old, now, old_at)
 
   pub turned_phases : phases_in (set tallies d now) ≡ set (phases_in tallies) d (phase_in state)
-  turned_phases = ap (map phase_in) (map-set (λ (t : Tally). t.state) tallies d now)
-      ∙ map-set phase_in (states_in tallies) d state
+  turned_phases = search (rules, map-set, now)
 
   pub turned_edges : (users : List (List Edge)) → open_edges (sizes users) (set tallies d now)
       + length (users_of_all users (noted agenda d old now).work)
@@ -450,13 +376,4 @@ pub steady_after : (inputs : ℕ → Awaited) (users : List (List Edge)) (tallie
     (agenda later : Agenda) → IsSpreading inputs users tallies agenda [] → agenda.work ≡ []
     → IsAgenda tallies later → IsFresh tallies later → later.work ≡ agenda.work
     → IsSteady inputs users tallies later
-steady_after inputs users tallies agenda later is none listed fresh same = record {
-  told = record {
-    first = is.first;
-    edges = is.edges;
-    heard = subst (λ l. HaveHeard inputs tallies (users_of_all users l)) (sym same) is.heard;
-    listed = listed;
-  };
-  none = same ∙ none;
-  fresh = fresh;
-}
+steady_after inputs users tallies agenda later is none listed fresh same = search (rules, heard)

@@ -1,6 +1,6 @@
 -- Tests of a list's elements: one that passes, and all that do.
-use Rattle.std.proofs.Common.{◌≡◌, ◌∙◌, ⊎_elim, ℕ, ◌<◌, ◌+◌, zero, suc, Bool, true, false, List, [], ◌∷◌, ◌++◌, refl, sym, ap, subst, arith}
-use Rattle.std.specs.Prelude.{All, Contains, ◌==◌}
+use Rattle.std.proofs.Common.{◌≡◌, ◌∙◌, ⊎_elim, ℕ, ◌<◌, ◌+◌, zero, suc, Bool, true, false, List, [], ◌∷◌, ◌++◌, refl, sym, ap, subst, arith, rules}
+use Rattle.std.specs.Prelude.{All, Contains}
 use Rattle.std.specs.List.{list_all, list_any, range_with_len}
 use Rattle.std.proofs.lemmas.Bool.{and_from, and_parts, eq-eqb, eqb-true, false≢true, or_cases}
 use Rattle.std.proofs.lemmas.List.Folds.{list_any_at}
@@ -51,12 +51,10 @@ same_test false false there back = refl
 
 -- a number that is found among some is one of them
 pub is_among : (numbers : List ℕ) (n : ℕ) → is_one_of numbers n ≡ true → Contains numbers n
-is_among numbers n is =
-    let found = one_passes (λ m. m == n) numbers is in
-    subst (Contains numbers) (eqb-true found.0 n found.2) found.1
+is_among numbers n is = search (rules, one_passes, eqb-true)
 
 pub is_found : (numbers : List ℕ) (n : ℕ) → Contains numbers n → is_one_of numbers n ≡ true
-is_found numbers n has = any_passes (λ m. m == n) numbers n has (eq-eqb n n refl)
+is_found numbers n has = search (rules, any_passes, eq-eqb)
 
 -- the first numbers, so many
 pub in_range : (n k : ℕ) → k < n → Contains (range_with_len 0 n) k
@@ -67,15 +65,11 @@ in_range n k low = (
 )
 
 pub range_below : (n : ℕ) → All (λ k. k < n) (range_with_len 0 n)
-range_below n = λ k d low.
-    let within : k < n = omega (arith, low, length-range_with_len 0 n) in
-    omega (arith, within, get_or-range_with_len 0 n k d within)
+range_below n = search (rules, length-range_with_len, get_or-range_with_len)
 
 range_more_from : (a n : ℕ) → range_with_len a (suc n) ≡ range_with_len a n ++ (a + n) ∷ []
 range_more_from a zero = ap (λ k. k ∷ []) (omega arith)
-range_more_from a (suc n) =
-    ap (λ l. a ∷ l)
-    (range_more_from (a + 1) n ∙ ap (λ k. range_with_len (a + 1) n ++ k ∷ []) (omega arith))
+range_more_from a (suc n) = search (rules, range_more_from (a + 1) n)
 
 -- one number more
 pub range_more : (n : ℕ) → range_with_len 0 (n + 1) ≡ range_with_len 0 n ++ n ∷ []

@@ -1,5 +1,5 @@
 -- The states of derivations that are told of one that they wait for.
-use Rattle.std.proofs.Common.{◌≡◌, ◌∙◌, ◌⊎◌, inl, inr, ⊎_elim, ℕ, ◌+◌, ◌-◌, ◌<◌, ◌≤◌, ◌==◌, ◌++◌, Bool, true, false, List, [], ◌∷◌, drop, length, map, take, get_or, set, Option, Some, None, zero, suc, refl, sym, ap, subst, ne_eqb, arith, Bor, option_copied, if◌then◌else◌}
+use Rattle.std.proofs.Common.{◌≡◌, ◌∙◌, ◌⊎◌, inl, inr, ⊎_elim, ℕ, ◌+◌, ◌-◌, ◌<◌, ◌≤◌, ◌==◌, ◌++◌, Bool, true, false, List, [], ◌∷◌, drop, length, map, take, get_or, set, Option, Some, None, zero, suc, refl, sym, ap, subst, ne_eqb, arith, Bor, option_copied, if◌then◌else◌, rules}
 use Rattle.std.proofs.lemmas.Bool.{false≢true}
 use Rattle.std.specs.Prelude.{All, slice_get, slice_set}
 use Rattle.std.specs.List.{position_or_len}
@@ -75,9 +75,7 @@ dropped (x ∷ xs) ys (suc n) same = dropped xs ys n (omega (arith, same))
 waiting-set : (heard : List News) (place : ℕ) (news : News) → slice_get heard place ≡ Some Open
     → waiting (set heard place news) + 1 ≡ waiting heard + waiting (news ∷ [])
 waiting-set [] place news at = absurd (none-some Open at)
-waiting-set (n ∷ heard) zero news at =
-    let here : n ≡ Open = same_Some n Open at in
-    rw here (omega arith)
+waiting-set (n ∷ heard) zero news at = search (rules, n, same_Some)
 waiting-set (n ∷ heard) (suc place) news at = omega (arith, waiting-set heard place news at)
 
 module _ (heard : List News) (place : ℕ) (at : slice_get heard place ≡ Some Open) where
@@ -131,19 +129,16 @@ IsCounted awaited heard tally = tally.state
 by_counts : (inputs : List ℕ) (heard : List News) (tally : Tally) → length heard ≡ length inputs
     → tally.waits ≡ waiting heard → tally.first ≡ position_or_len is_bad_news heard
     → by_news inputs heard ≡ by_first (slice_get inputs tally.first) (tally.waits == 0)
-by_counts inputs heard tally same waits first = by_news_counted inputs heard same
-    ∙ rw (waits, first) refl
+by_counts inputs heard tally same waits first = search (rules, by_news_counted, same)
 
 -- of so much is known, of the inputs at least
 inputs_known : (awaited : Awaited) (heard : List News) → length heard ≡ length (all_of awaited)
     → length awaited.inputs ≤ length heard
-inputs_known awaited heard count =
-    omega (arith, count, length-append awaited.inputs awaited.twins)
+inputs_known awaited heard count = search (rules, count, length-append)
 
 count_of_inputs : (awaited : Awaited) (heard : List News) → length heard ≡ length (all_of awaited)
     → length (of_inputs awaited heard) ≡ length awaited.inputs
-count_of_inputs awaited heard count =
-    length_taken heard (length awaited.inputs) (inputs_known awaited heard count)
+count_of_inputs awaited heard count = search (rules, length_taken, inputs_known, count)
 
 pub tally_from_counts : (awaited : Awaited) (heard : List News) (tally : Tally)
     → length awaited.twins ≤ 1 → length heard ≡ length (all_of awaited)
@@ -152,25 +147,14 @@ pub tally_from_counts : (awaited : Awaited) (heard : List News) (tally : Tally)
     → tally.failed ≡ slice_get awaited.inputs tally.first
     → tally.held ≡ is_held (of_twins awaited heard) → IsCounted awaited heard tally
     → IsTally awaited heard tally
-tally_from_counts awaited heard tally one count inputs waits first failed held is = record {
-  one = one;
-  count = count;
-  state = is ∙ ap (λ s. by_phase (phase_in tally.state)
-      (by_all tally.standing (of_twins awaited heard) s))
-      (sym (by_counts awaited.inputs (of_inputs awaited heard) tally
-      (count_of_inputs awaited heard count) waits first));
-  inputs = inputs;
-  waits = waits;
-  first = first;
-  failed = failed;
-  held = held;
-}
+tally_from_counts awaited heard tally one count inputs waits first failed held is =
+    search (rules, count, by_counts, count_of_inputs)
 
 -- the element that a slice lends
 pub read_at : (xs : List ℕ) (i : ℕ) (r : Option (Bor ℕ)) → IsItemAt xs i r
     → option_copied r ≡ slice_get xs i
 read_at xs i None lent = sym (slice_get_past xs i lent.3)
-read_at xs i (Some x) lent = sym (slice_get_read xs (length xs) i x.now refl lent.3.0 lent.1)
+read_at xs i (Some x) lent = search (rules, slice_get_read)
 
 -- ---- a tally that is told of an input
 
@@ -196,10 +180,7 @@ is_input tally awaited heard place one can apart =
     either zero zero = inl refl
     either zero (suc b) = inr (inl (omega arith))
     either (suc a) zero = inr (inr (omega arith))
-    either (suc a) (suc b) = ⊎_elim (λ same. inl (ap suc same))
-        (λ other. inr (⊎_elim (λ less. inl (omega (arith, less)))
-        (λ more. inr (omega (arith, more))) other))
-        (either a b)
+    either (suc a) (suc b) = search (rules, either a b)
 
 module _ (tally : Tally) (awaited : Awaited) (heard : List News) (place input : ℕ)
     (can : CanHear awaited heard tally place input) (low : place < tally.inputs) where
@@ -213,27 +194,26 @@ module _ (tally : Tally) (awaited : Awaited) (heard : List News) (place input : 
   inside = omega (arith, low, can.is.inputs)
 
   input_is : slice_get awaited.inputs place ≡ Some input
-  input_is = sym (get_front awaited.inputs awaited.twins place inside) ∙ can.is_awaited
+  input_is = search (rules, get_front, inside)
 
   unknown : slice_get ins place ≡ Some Open
-  unknown = get_taken heard (length awaited.inputs) place inside ∙ can.unknown
+  unknown = search (rules, get_taken, inside)
 
   ins_now : (news : News) → of_inputs awaited (set heard place news) ≡ set ins place news
-  ins_now news = take_set heard (length awaited.inputs) place news inside
+  ins_now news = search (rules, take_set, inside)
 
   tws_now : (news : News) → of_twins awaited (set heard place news) ≡ tws
-  tws_now news = drop_set heard (length awaited.inputs) place news inside
+  tws_now news = search (rules, drop_set, inside)
 
   number : (news : News)
       → waiting (of_inputs awaited (set heard place news)) + 1 ≡ tally.waits + waiting (news ∷ [])
-  number news = ap (λ l. waiting l + 1) (ins_now news) ∙ waiting-set ins place news unknown
-      ∙ ap (λ n. n + waiting (news ∷ [])) (sym can.is.waits)
+  number news = search (rules, ins_now, waiting-set, ins, unknown)
 
   count : (news : News) → length (set heard place news) ≡ length (all_of awaited)
   count news = length-set heard place news ∙ can.is.count
 
   held_now : (news : News) → tally.held ≡ is_held (of_twins awaited (set heard place news))
-  held_now news = can.is.held ∙ sym (ap is_held (tws_now news))
+  held_now news = search (rules, tws_now)
 
   -- an input isn't built yet
   pub told_waits : 1 ≤ tally.waits
@@ -295,19 +275,7 @@ module _ (tally : Tally) (awaited : Awaited) (heard : List News) (place input : 
   pub told_later : (good : Bool) → good ≡ false → tally.first ≤ place
       → IsTally awaited (slice_set heard place (news_by good)) tally
   told_later good failed past =
-      let one : waiting (Bad ∷ []) ≡ 1 = refl in
-      rw failed (tally_from_counts awaited (set heard place Bad) tally can.is.one (count Bad)
-      can.is.inputs
-      (omega (arith, number Bad, one))
-      (can.is.first
-      ∙ sym (ap (position_or_len is_bad_news) (ins_now Bad)
-      ∙ first-later ins place unknown (omega (arith, past, can.is.first))))
-      can.is.failed (held_now Bad)
-      (can.is.state ∙ ap (λ s. by_phase (phase_in tally.state) (by_all tally.standing tws s))
-      (by_counts awaited.inputs ins tally (count_of_inputs awaited heard can.is.count) can.is.waits
-      can.is.first)
-      ∙ ap (λ t. by_phase (phase_in tally.state) (by_all tally.standing t
-      (by_first (slice_get awaited.inputs tally.first) (tally.waits == 0)))) (sym (tws_now Bad))))
+      search (rules, tally_from_counts, set, count, number, ins_now, first-later, ins, unknown, held_now, tws, by_counts, count_of_inputs, tws_now)
 
 -- ---- a tally that is told of its twin
 
@@ -320,13 +288,13 @@ module _ (tally : Tally) (awaited : Awaited) (heard : List News) (twin : ℕ)
   behind = drop (n + 1) heard
 
   unknown_twin : slice_get heard n ≡ Some Open
-  unknown_twin = subst (λ k. slice_get heard k ≡ Some Open) can.is.inputs can.unknown
+  unknown_twin = search rules
 
   twin_within : n < length heard
   twin_within = slice_get_within heard n Open unknown_twin
 
   told_now : (news : News) → set heard tally.inputs news ≡ set heard n news
-  told_now news = ap (λ k. set heard k news) can.is.inputs
+  told_now news = search (rules, set)
 
   abbrev by_own : State
   by_own = by_first (slice_get awaited.inputs tally.first) (tally.waits == 0)
@@ -368,9 +336,7 @@ module _ (tally : Tally) (awaited : Awaited) (heard : List News) (twin : ℕ)
 
   blocked_before : tally.state ≡ Blocked
       → Blocked ≡ by_all tally.standing (Open ∷ behind) by_own
-  blocked_before blocked =
-      subst (λ s. s ≡ by_phase (phase_in s) (by_all tally.standing (Open ∷ behind) by_own)) blocked
-      released_before
+  blocked_before blocked = search (rules, behind, by_own, released_before)
 
   pub released_good : (good : Bool) → good ≡ true → tally.state ≡ Blocked
       → IsTally awaited (slice_set heard tally.inputs (news_by good))
@@ -388,23 +354,19 @@ module _ (tally : Tally) (awaited : Awaited) (heard : List News) (twin : ℕ)
       (ap phase_in same ∙ rests)))
     where
       own_here : state ≡ by_hindrance tally.standing by_own
-      own_here = own ∙ ap (λ o. by_hindrance tally.standing (by_first o (tally.waits == 0)))
-          can.is.failed
+      own_here = search (rules, own)
 
       same : state ≡ by_all tally.standing (news_by good ∷ behind) by_own
-      same = own_here ∙ sym (ap (λ b. if b then Reused else by_hindrance tally.standing by_own)
-          failed)
-          ∙ released_now tally.standing behind by_own good (blocked_before blocked)
+      same = search (rules, own_here, by_own, released_now, behind, blocked_before)
 
       rests : phase_in (by_all tally.standing (news_by good ∷ behind) by_own) ≡ Idle
-      rests = sym (ap phase_in same) ∙ ap phase_in own_here
-          ∙ own_is_idle tally.standing (slice_get awaited.inputs tally.first) (tally.waits == 0)
+      rests = search (rules, same, own_here, own_is_idle)
 
   pub released_else : (good : Bool) → (tally.state ≡ Blocked → ⊥)
       → IsTally awaited (slice_set heard tally.inputs (news_by good))
       (record tally { held = false })
-  released_else good apart = released_is good tally.state
-      (not_released tally.state tally.standing behind by_own good apart released_before)
+  released_else good apart =
+      search (rules, released_is, not_released, behind, by_own, released_before)
 
 -- ---- a tally that was counted
 
@@ -441,7 +403,7 @@ module _ (standing : Standing) (wanted : Bool) (twin : Option ℕ) (inputs : Lis
   back = dropped known unheard (length inputs) (sym long)
 
   idle : phase_in state ≡ Idle
-  idle = ap phase_in is ∙ opening_is_idle standing held (slice_get inputs first) (waits == 0)
+  idle = search (rules, opening_is_idle)
 
   at_most_one : (twin : Option ℕ) → length (listed twin) ≤ 1
   at_most_one None = omega arith
@@ -522,7 +484,7 @@ set_last (x ∷ xs) y z (suc n) same = ap (λ l. x ∷ l) (set_last xs y z n (om
 news_push : (state_of : ℕ → State) (inputs : List ℕ) (t : ℕ)
     → news_in state_of inputs ++ news_of (state_of t) ∷ [] ≡ news_in state_of (inputs ++ t ∷ [])
 news_push state_of [] t = refl
-news_push state_of (i ∷ is) t = ap (λ l. news_of (state_of i) ∷ l) (news_push state_of is t)
+news_push state_of (i ∷ is) t = search (rules, news_push state_of is t)
 
 -- of one that has nothing before it there is news
 news_closed : (s : State) → is_open s ≡ false → news_by (is_good s) ≡ news_of s
@@ -553,14 +515,10 @@ module _ (inputs : List ℕ) (t : ℕ) (state_of : ℕ → State) (tally : Tally
   opened = news_in state_of inputs ++ Open ∷ []
 
   at_end : tally.inputs ≡ length (news_in state_of inputs)
-  at_end = is.inputs ∙ sym (length-map inputs (λ i. news_of (state_of i)))
+  at_end = search (rules, length-map)
 
   pub can_release : CanHear with_twin opened tally tally.inputs t
-  can_release = record {
-    is = is;
-    unknown = get_last (news_in state_of inputs) Open tally.inputs at_end;
-    is_awaited = get_last inputs t tally.inputs is.inputs;
-  }
+  can_release = search (rules, unknown, get_last, at_end)
 
   pub hears_open : is_open (state_of t) ≡ true
       → Hears with_twin state_of (λ place. 0) tally
@@ -586,21 +544,15 @@ module _ (inputs : List ℕ) (t : ℕ) (state_of : ℕ → State) (tally : Tally
 pub hears_inputs : (inputs : List ℕ) (state_of : ℕ → State) (tally : Tally)
     → IsTally (record { inputs = inputs; twins = [] }) (news_in state_of inputs ++ []) tally
     → Hears (record { inputs = inputs; twins = [] }) state_of (λ place. 0) tally
-hears_inputs inputs state_of tally is =
-    hears_all (record { inputs = inputs; twins = [] }) state_of (news_in state_of inputs ++ [])
-    tally
-    is (append-nil (news_in state_of inputs)
-    ∙ ap (news_in state_of) (sym (append-nil inputs)))
+hears_inputs inputs state_of tally is = search (rules, hears_all, append-nil)
 
 -- the state that a tally holds, as it is kept
 pub tally_state : (tallies : List Tally) (t : ℕ) (none : Tally) → t < length tallies
     → (get_or tallies t none).state ≡ kept (states_in tallies) t
-tally_state tallies t none low =
-    sym (get_or-map (λ (u : Tally). u.state) tallies t none Blocked low)
+tally_state tallies t none low = search (rules, get_or-map, low)
 
 -- what is listed of a number that is there
 pub listed_low : (twin : Option ℕ) (t bound : ℕ) → twin ≡ Some t
     → All (λ u. u < bound) (listed twin)
     → t < bound
-listed_low twin t bound is low =
-    subst (λ (o : Option ℕ). All (λ u. u < bound) (listed o)) is low 0 0 (omega arith)
+listed_low twin t bound is low = search (rules, low)

@@ -1,5 +1,5 @@
 -- Twins: which derivations are each other's, the first of them, and the earlier ones.
-use Rattle.std.proofs.Common.{◌≡◌, ◌∙◌, ⊎_elim, ℕ, ◌<◌, ◌≤◌, Bool, true, false, List, length, get_or, Option, Some, None, refl, sym, ap, subst, arith}
+use Rattle.std.proofs.Common.{◌≡◌, ◌∙◌, ⊎_elim, ℕ, ◌<◌, ◌≤◌, Bool, true, false, List, length, get_or, Option, Some, None, refl, sym, ap, subst, rules}
 use Rattle.std.specs.Prelude.{◌==◌, ◌&&◌, Contains, filter, slice_get}
 use Rattle.std.specs.Cmp.Lexicographic.{nat_list_eq_equiv}
 use Rattle.std.specs.List.{list_any, range_with_len}
@@ -44,27 +44,13 @@ twins_path a b path are has =
 
 -- each derivation is a twin of itself
 pub twins_alone : (a : Drv) → are_twins a a ≡ true
-twins_alone a =
-    let paths = output_paths_of a in
-    let all : are_among paths paths ≡ true = among_from paths paths (λ path has. has) in
-    and_from (are_among paths paths) (are_among paths paths) all all
+twins_alone a = search (rules, among_from, and_from)
 
 twins_turned : (a b : Drv) → are_twins a b ≡ true → are_twins b a ≡ true
-twins_turned a b are =
-    let there = are_among (output_paths_of a) (output_paths_of b) in
-    let back = are_among (output_paths_of b) (output_paths_of a) in
-    let parts = and_parts there back are in
-    and_from back there parts.1 parts.0
+twins_turned a b are = search (rules, and_parts, and_from)
 
 twins_through : (a b c : Drv) → are_twins a b ≡ true → are_twins b c ≡ true → are_twins a c ≡ true
-twins_through a b c are more =
-    and_from (are_among (output_paths_of a) (output_paths_of c))
-    (are_among (output_paths_of c) (output_paths_of a))
-    (among_from (output_paths_of a) (output_paths_of c)
-    (λ path has. twins_path b c path more (twins_path a b path are has)))
-    (among_from (output_paths_of c) (output_paths_of a)
-    (λ path has. twins_path b a path (twins_turned a b are)
-    (twins_path c b path (twins_turned b c more) has)))
+twins_through a b c are more = search (rules, and_from, among_from, twins_path, twins_turned)
 
 -- ---- of nodes that are there
 
@@ -87,8 +73,7 @@ is_there None b are = absurd (false≢true are)
 
 pub itself : (nodes : List Node) (d : ℕ) (node : Node) → slice_get nodes d ≡ Some node
     → are_twins_at (slice_get nodes d) (slice_get nodes d) ≡ true
-itself nodes d node at = subst (λ (o : Option Node). are_twins_at o o ≡ true) (sym at)
-    (twins_alone node.drv)
+itself nodes d node at = search (rules, twins_alone)
 
 -- an output of one of two twins is one of the other
 pub path_of_twin : (a b : Option Node) (x y : Node) (path : List ℕ) → a ≡ Some x → b ≡ Some y
@@ -140,9 +125,7 @@ pub same_first : (nodes : List Node) (d t : ℕ) → d < length nodes
 same_first nodes d t low = by (are_twins_at (slice_get nodes t) (slice_get nodes d)) refl
   where
     first_low : (k : ℕ) → k < length nodes → first_twin_of nodes k < length nodes
-    first_low k below =
-        let within : first_twin_of nodes k ≤ k = first_within nodes k below in
-        omega (arith, within, below)
+    first_low k below = search (rules, first_within)
 
     -- the first of one is no later than that of a twin
     before : (a b : ℕ) → b < length nodes
@@ -157,13 +140,7 @@ same_first nodes d t low = by (are_twins_at (slice_get nodes t) (slice_get nodes
 
     equal : are_twins_at (slice_get nodes t) (slice_get nodes d) ≡ true → first_twin_of nodes t
         ≡ first_twin_of nodes d
-    equal are =
-        let there = is_there (slice_get nodes t) (slice_get nodes d) are in
-        let below : t < length nodes = slice_get_within nodes t there.0 there.1 in
-        let one : first_twin_of nodes d ≤ first_twin_of nodes t = before d t below are in
-        let other : first_twin_of nodes t ≤ first_twin_of nodes d =
-        before t d low (turned (slice_get nodes t) (slice_get nodes d) are) in
-        omega (arith, one, other)
+    equal are = search (rules, is_there, slice_get_within, before, turned)
 
     are_twins_by : first_twin_of nodes t ≡ first_twin_of nodes d
         → are_twins_at (slice_get nodes t) (slice_get nodes d) ≡ true
@@ -178,10 +155,8 @@ same_first nodes d t low = by (are_twins_at (slice_get nodes t) (slice_get nodes
 
     by : (told : Bool) → are_twins_at (slice_get nodes t) (slice_get nodes d) ≡ told
         → (first_twin_of nodes t == first_twin_of nodes d) ≡ told
-    by true are = eq-eqb (first_twin_of nodes t) (first_twin_of nodes d) (equal are)
-    by false apart = ne_eqb (first_twin_of nodes t) (first_twin_of nodes d)
-        (λ same. both_ways (are_twins_at (slice_get nodes t) (slice_get nodes d)) apart
-        (are_twins_by same))
+    by true are = search (rules, eq-eqb, equal)
+    by false apart = search (rules, ne_eqb, both_ways, are_twins_by)
 
 -- ---- the earlier twins
 

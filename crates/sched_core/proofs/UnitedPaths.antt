@@ -1,5 +1,5 @@
 -- Two rising lists, put together from their ends.
-use Rattle.std.proofs.Common.{◌≡◌, ◌∙◌, ◌⊎◌, ◌+◌, ◌<◌, ◌≤◌, ℕ, List, [], ◌∷◌, ◌++◌, length, take, drop, get_or, refl, reverse, sym, ap, subst, inl, inr, ⊎_elim, append-nil, append_assoc, arith, length-drop, Err}
+use Rattle.std.proofs.Common.{◌≡◌, ◌∙◌, ◌⊎◌, ◌+◌, ◌<◌, ◌≤◌, ℕ, List, [], ◌∷◌, ◌++◌, length, take, drop, get_or, refl, reverse, sym, ap, subst, inl, inr, ⊎_elim, append_assoc, arith, length-drop, Err, rules}
 use Rattle.std.specs.Prelude.{Contains, ◌↔◌}
 use Rattle.std.specs.Cmp.Lexicographic.{slice_cmp, texts_ties}
 use Rattle.std.specs.List.{HoldsAt}
@@ -33,8 +33,7 @@ rising_append : (xs ys : List (List ℕ)) → IsRising xs → IsRising ys
     → ((x y : List ℕ) → Contains xs x → Contains ys y → IsBelow x y) → IsRising (xs ++ ys)
 rising_append [] ys rises rises' below = rises'
 rising_append (x ∷ []) [] rises rises' below = tt
-rising_append (x ∷ []) (y ∷ ys) rises rises' below =
-    (below x y (Contains-first x []) (Contains-first y ys), rises')
+rising_append (x ∷ []) (y ∷ ys) rises rises' below = search (rules, Contains-first)
 rising_append (x ∷ z ∷ zs) ys rises rises' below = (
   rises.0,
   rising_append (z ∷ zs) ys rises.1 rises'
@@ -103,33 +102,18 @@ pub record IsUniting (paths others below left above : List (List ℕ)) : Type 0 
   pub left_rises : IsRising (left ++ above)
   pub each : (path : List ℕ) → IsInEither paths others path ↔ IsInAny below left above path
 
--- nothing is put together at first
-pub uniting_none : (paths others : List (List ℕ)) → IsRising paths → IsRising others
-    → IsUniting paths others paths others []
-uniting_none paths others rises rises' = record {
-  below_rises = subst IsRising (sym (append-nil paths)) rises;
-  left_rises = subst IsRising (sym (append-nil others)) rises';
-  each = λ path. (
-    λ has. ⊎_elim inl (λ there. inr (inl there)) has,
-    λ has. ⊎_elim inl (λ more. ⊎_elim inr (λ none. absurd (Contains-nothing path none)) more) has,
-  );
-}
-
 module _ (paths others below left above : List (List ℕ)) (path : List ℕ)
     (before : IsUniting paths others below (left ++ path ∷ []) above) where
   -- the last of the second list is below what stands above
   last_below : (y : List ℕ) → Contains above y → IsBelow path y
-  last_below y has = rising_across (left ++ path ∷ []) above path y before.left_rises
-      (Contains-push left path) has
+  last_below y has = search (rules, rising_across, Contains-push)
 
   -- and above the others of that list
   left_below : (x : List ℕ) → Contains left x → IsBelow x path
-  left_below x has = rising_across left (path ∷ []) x path
-      (rising_front (left ++ path ∷ []) above before.left_rises) has (Contains-first path [])
+  left_below x has = search (rules, rising_across, rising_front, Contains-first)
 
   left_alone : IsRising left
-  left_alone = rising_front left (path ∷ [])
-      (rising_front (left ++ path ∷ []) above before.left_rises)
+  left_alone = search (rules, rising_front)
 
   -- a path that the first list has is left out
   pub uniting_found : Contains below path → IsUniting paths others below left above
@@ -237,10 +221,7 @@ uniting_all paths others below above done = record {
 -- what was put above so far, and the paths that were taken off, in order
 pub turned : (above tail : List (List ℕ)) (path : List ℕ)
     → reverse ((above ++ reverse tail) ++ path ∷ []) ≡ path ∷ (tail ++ reverse above)
-turned above tail path =
-    reverse-append (above ++ reverse tail) (path ∷ [])
-    ∙ ap (λ l. path ∷ l)
-    (reverse-append above (reverse tail) ∙ ap (λ l. l ++ reverse above) (reverse-reverse tail))
+turned above tail path = search (rules, reverse-append, reverse, reverse-reverse)
 
 pub nothing_left : (paths : List (List ℕ)) → length paths ≡ 0 → paths ≡ []
 nothing_left [] none = refl

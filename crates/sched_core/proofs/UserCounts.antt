@@ -1,5 +1,5 @@
 -- How often derivations are waited for.
-use Rattle.std.proofs.Common.{◌≡◌, ⊎_elim, ℕ, zero, suc, ◌+◌, ◌<◌, ◌≤◌, cond, eqb, List, [], ◌∷◌, ◌++◌, length, get_or, refl, sym, ap, arith, add-one, drop, take, Option, Some, None}
+use Rattle.std.proofs.Common.{◌≡◌, ⊎_elim, ℕ, zero, suc, ◌+◌, ◌<◌, ◌≤◌, eqb, List, [], ◌∷◌, ◌++◌, length, get_or, ap, arith, add-one, drop, take, Option, Some, None, rules}
 use Rattle.std.specs.Prelude.{MatchOption}
 use Rattle.std.proofs.Math.ListN.{set}
 use Rattle.std.proofs.lemmas.Bool.{cases_eq, cases_lt, eq-eqb, ne_eqb}
@@ -14,45 +14,21 @@ often_both n (x ∷ xs) ys = omega (arith, often_both n xs ys)
 
 -- a number alone
 pub often_one : (n : ℕ) → often n (n ∷ []) ≡ 1
-often_one n =
-    let one : ◌≡◌ {A = ℕ} (cond (eqb n n) 1 0) 1 =
-    ap (λ t. cond {A = ℕ} t 1 0) (eq-eqb n n refl) in
-    omega (arith, one)
+often_one n = search (rules, eqb, eq-eqb)
 
 pub often_none : (n i : ℕ) → (n ≡ i → ⊥) → often n (i ∷ []) ≡ 0
-often_none n i differ =
-    let none : ◌≡◌ {A = ℕ} (cond (eqb i n) 1 0) 0 =
-    ap (λ t. cond {A = ℕ} t 1 0) (ne_eqb i n (λ e. differ (sym e))) in
-    omega (arith, none)
+often_none n i differ = search (rules, eqb, ne_eqb)
 
 -- the first of what is left and the others
 pub often_left : (n : ℕ) (xs : List ℕ) (k x : ℕ) → k < length xs
     → often n (drop k xs) ≡ often n (get_or xs k x ∷ []) + often n (drop (k + 1) xs)
-often_left n xs k x low =
-    omega (
-      arith,
-      ap (often n) (drop_more xs k x low),
-      often_both n (get_or xs k x ∷ []) (drop (k + 1) xs),
-    )
+often_left n xs k x low = search (rules, drop_more, often_both)
 
 -- the counts after one more of this number
 pub counted_one : (counts : List ℕ) (i n : ℕ) → i < length counts
     → get_or (set counts i (get_or counts i 0 + 1)) n 0 ≡ get_or counts n 0 + often n (i ∷ [])
-counted_one counts i n within = ⊎_elim
-    (λ (same : n ≡ i). omega (
-      arith,
-      ap (λ m. get_or (set counts i (get_or counts i 0 + 1)) m 0) same,
-      get_or-set_same counts i (get_or counts i 0 + 1) 0 within,
-      ap (λ m. get_or counts m 0) same,
-      ap (λ m. often m (i ∷ [])) same,
-      often_one i,
-    ))
-    (λ differ. omega (
-      arith,
-      get_or-set_other counts i n (get_or counts i 0 + 1) 0 differ,
-      often_none n i differ,
-    ))
-    (cases_eq n i)
+counted_one counts i n within =
+    search (rules, set, get_or-set_same, often_one, get_or-set_other, often_none, cases_eq)
 
 -- the counts after one more input
 pub counted : (inputs : List ℕ) (k i : ℕ) (before counts : List ℕ) → k < length inputs
@@ -73,9 +49,7 @@ counted inputs k i before counts low is within each n less =
 -- more users, no fewer uses
 pub uses_grow : (inputs : ℕ → List ℕ) (n few count : ℕ) → few ≤ count
     → uses inputs few n ≤ uses inputs count n
-uses_grow inputs n few zero less =
-    let none : few ≡ 0 = omega (arith, less) in
-    omega (arith, ap (λ c. uses inputs c n) none)
+uses_grow inputs n few zero less = search rules
 uses_grow inputs n few (suc count) less = ⊎_elim
     (λ same. omega (arith, ap (λ c. uses inputs c n) same))
     (λ differ. omega (
@@ -88,9 +62,7 @@ uses_grow inputs n few (suc count) less = ⊎_elim
 -- more users, no fewer pairs
 pub pairs_grow : (inputs : ℕ → List ℕ) (few count : ℕ) → few ≤ count
     → pairs inputs few ≤ pairs inputs count
-pairs_grow inputs few zero less =
-    let none : few ≡ 0 = omega (arith, less) in
-    omega (arith, ap (pairs inputs) none)
+pairs_grow inputs few zero less = search rules
 pairs_grow inputs few (suc count) less = ⊎_elim
     (λ same. omega (arith, ap (pairs inputs) same))
     (λ differ. omega (

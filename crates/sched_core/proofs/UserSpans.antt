@@ -1,13 +1,13 @@
 -- How the reverse edges of a plan are gathered, a user at a time.
-use Rattle.std.proofs.Common.{◌≡◌, ◌∙◌, ◌⊎◌, inl, inr, ⊎_elim, ℕ, zero, suc, ◌+◌, ◌<◌, ◌≤◌, Bool, cond, eqb, ltb, List, [], ◌∷◌, ◌++◌, length, sym, ap, subst, arith, ◌-◌, drop, take, ◌&&◌}
+use Rattle.std.proofs.Common.{◌≡◌, ◌∙◌, ◌⊎◌, inl, inr, ⊎_elim, ℕ, zero, suc, ◌+◌, ◌<◌, ◌≤◌, Bool, cond, eqb, ltb, List, [], ◌∷◌, ◌++◌, length, sym, ap, subst, arith, ◌-◌, drop, take, ◌&&◌, rules}
 use Rattle.std.specs.Prelude.{All, slice_get}
 use Rattle.std.proofs.Math.ListN.{set}
 use Rattle.std.proofs.lemmas.Bool.{cases_eq, cases_lt, eq-eqb, ne_eqb}
 use Rattle.std.proofs.lemmas.Bool.Decides.{nat_tests}
 use Rattle.std.proofs.lemmas.List.Elements.{All-push, All-nil}
-use Rattle.std.proofs.lemmas.List.{drop-set-add, drop-set-lt, get_or-map, get_or-set_other, get_or-set_same, get_or_append_left, get_or_past, get_or_push, length-drop, length-set, length_push, take-set-le, take_more_set}
+use Rattle.std.proofs.lemmas.List.{drop-set-add, drop-set-lt, get_or-map, get_or-set_other, get_or-set_same, get_or_append_left, get_or_push, length-drop, length-set, length_push, take-set-le, take_more_set}
 use Rattle.sched_core.proofs.UserCounts.{often_both, often_none, often_one, uses_grow, uses_next}
-use Rattle.sched_core.specs.Users.{AreUsers, once_at, times, users_of}
+use Rattle.sched_core.specs.Users.{once_at, times, users_of}
 use Rattle.sched_core.specs.UserSpans.{AddsUser, HaveRoom, often, part, parts, span_at, uses}
 use Rattle.sched_core.specs.declared.users.Edge.{Edge}
 use Rattle.sched_core.specs.declared.users.Span.{Span}
@@ -23,28 +23,17 @@ times_push user place (e ∷ edges) edge = omega (arith, times_push user place e
 -- numbers that differ
 apart : (k place : ℕ) (b : Bool) → (k ≡ place → ⊥)
     → ◌≡◌ {A = ℕ} (cond (eqb k place && b) 1 0) 0
-apart k place b differ = ap (λ t. cond {A = ℕ} (t && b) 1 0) (ne_eqb k place differ)
+apart k place b differ = search (rules, ne_eqb)
 
 next_same : (k place : ℕ) → eqb (suc k) (suc place) ≡ eqb k place
-next_same k place = ⊎_elim
-    (λ same. eq-eqb (suc k) (suc place) (ap suc same) ∙ sym (eq-eqb k place same))
-    (λ differ. ne_eqb (suc k) (suc place) (λ e. differ (omega (arith, e)))
-    ∙ sym (ne_eqb k place differ))
-    (cases_eq k place)
+next_same k place = search (rules, eq-eqb, ne_eqb, cases_eq)
 
 once_push : (xs : List ℕ) (x place input : ℕ) → once_at (slice_get (xs ++ x ∷ []) place) input
     ≡ once_at (slice_get xs place) input + cond (eqb (length xs) place && eqb x input) 1 0
 once_push [] x zero input = omega arith
-once_push [] x (suc place) input =
-    omega (arith, apart 0 (suc place) (eqb x input) (λ e. omega (arith, e)))
-once_push (y ∷ xs) x zero input =
-    omega (arith, apart (suc (length xs)) 0 (eqb x input) (λ e. omega (arith, e)))
-once_push (y ∷ xs) x (suc place) input =
-    omega (
-      arith,
-      once_push xs x place input,
-      ap (λ t. cond {A = ℕ} (t && eqb x input) 1 0) (next_same (length xs) place),
-    )
+once_push [] x (suc place) input = search (rules, apart, eqb)
+once_push (y ∷ xs) x zero input = search (rules, apart, eqb)
+once_push (y ∷ xs) x (suc place) input = search (rules, eqb, next_same, once_push xs x place input)
 
 -- ---- the edges of one user
 
@@ -68,44 +57,13 @@ adds_more user k seen i count old mid new size at others prior = record {
     each : (input other place : ℕ) → input < count → (input ≡ i) ⊎ (input ≡ i → ⊥)
         → times other place (new input) ≡ times other place (old input)
         + cond (eqb other user) (once_at (slice_get (seen ++ i ∷ []) place) input) 0
-    each input other place low (inl same) =
-        let here : new input ≡ mid input ++ record { user = user; place = k } ∷ [] =
-        subst (λ d. new d ≡ mid d ++ record { user = user; place = k } ∷ []) (sym same) at
-        in
-        let more = ap (times other place) here ∙ times_push other place (mid input)
-        (record { user = user; place = k }) in
-        let was = prior.each input other place low in
-        let once = once_push seen i place input in
-        grind (arith, nat_tests, size, more, was, once)
-    each input other place low (inr apart) =
-        let stays = ap (times other place) (others input low apart) in
-        let was = prior.each input other place low in
-        let once = once_push seen i place input in
-        grind (arith, nat_tests, stays, was, once)
+    each input other place low (inl same) = search (rules, times_push, once_push, nat_tests, size)
+    each input other place low (inr apart) = search (rules, apart, once_push, nat_tests)
 
     grown : (input : ℕ) → input < count → (input ≡ i) ⊎ (input ≡ i → ⊥)
         → length (new input) ≡ length (old input) + often input (seen ++ i ∷ [])
-    grown input low (inl same) =
-        let here : new input ≡ mid input ++ record { user = user; place = k } ∷ [] =
-        subst (λ d. new d ≡ mid d ++ record { user = user; place = k } ∷ []) (sym same) at
-        in
-        omega (
-          arith,
-          ap length here,
-          length_push (mid input) (record { user = user; place = k }),
-          prior.size input low,
-          often_both input seen (i ∷ []),
-          ap (λ n. often n (i ∷ [])) same,
-          often_one i,
-        )
-    grown input low (inr apart) =
-        omega (
-          arith,
-          ap length (others input low apart),
-          prior.size input low,
-          often_both input seen (i ∷ []),
-          often_none input i apart,
-        )
+    grown input low (inl same) = search (rules, length_push, often_both, often_one)
+    grown input low (inr apart) = search (rules, apart, often_both, often_none)
 
     within : (input bound : ℕ) → input < count → user < bound
         → All (λ (edge : Edge). edge.user < bound) (old input) → (input ≡ i) ⊎ (input ≡ i → ⊥)
@@ -117,9 +75,7 @@ adds_more user k seen i count old mid new size at others prior = record {
         subst (All (λ (edge : Edge). edge.user < bound)) (sym here)
         (All-push (λ (edge : Edge). edge.user < bound) (mid input)
         (record { user = user; place = k }) (prior.within input bound low less all) less)
-    within input bound low less all (inr apart) =
-        subst (All (λ (edge : Edge). edge.user < bound)) (sym (others input low apart))
-        (prior.within input bound low less all)
+    within input bound low less all (inr apart) = search (rules, apart)
 
 -- ---- the edges of the first users
 
@@ -157,30 +113,8 @@ first_more inputs count d old new low adds before = record {
     each : (input user place : ℕ) → input < count → (user ≡ d) ⊎ (user ≡ d → ⊥)
         → times user place (new input)
         ≡ cond (ltb user (d + 1)) (once_at (slice_get (inputs user) place) input) 0
-    each input user place less (inl same) =
-        let more = adds.each input user place less in
-        let was = before.each input user place less in
-        let own = ap (λ n. once_at (slice_get (inputs n) place) input) same in
-        grind (arith, nat_tests, more, was, own)
-    each input user place less (inr apart) =
-        let more = adds.each input user place less in
-        let was = before.each input user place less in
-        grind (arith, nat_tests, more, was)
-
-pub first_all : (inputs : ℕ → List ℕ) (count done : ℕ) (rows : List (List Edge))
-    → length rows ≡ count → count ≤ done → AreOfFirst inputs count done (users_of rows)
-    → AreUsers inputs count rows
-first_all inputs count done rows size all first = record {
-  rows = size;
-  each = λ input user place low less.
-      let is = first.each input user place low in
-      grind (arith, nat_tests, is);
-  within = λ input. ⊎_elim (λ low. first.within input low)
-      (λ past. subst (All (λ (edge : Edge). edge.user < count))
-      (sym (get_or_past rows input [] (omega (arith, past, size))))
-      (All-nil (λ (edge : Edge). edge.user < count)))
-      (cases_lt input count);
-}
+    each input user place less (inl same) = search (rules, nat_tests)
+    each input user place less (inr apart) = search (rules, nat_tests)
 
 -- ---- spans
 
@@ -199,23 +133,16 @@ longer span = record { start = span.start; end = span.end + 1 }
 
 start_kept : (spans : List Span) (i n : ℕ) → i < length spans
     → (span_at (set spans i (longer (span_at spans i))) n).start ≡ (span_at spans n).start
-start_kept spans i n within = ⊎_elim
-    (λ (same : n ≡ i). ap (λ m. (span_at (set spans i (longer (span_at spans i))) m).start) same
-    ∙ ap (λ (s : Span). s.start) (get_or-set_same spans i (longer (span_at spans i)) _ within)
-    ∙ ap (λ m. (span_at spans m).start) (sym same))
-    (λ differ. ap (λ (s : Span). s.start)
-    (get_or-set_other spans i n (longer (span_at spans i)) _ differ))
-    (cases_eq n i)
+start_kept spans i n within =
+    search (rules, set, longer, get_or-set_same, within, get_or-set_other, cases_eq)
 
 end_kept : (spans : List Span) (i n : ℕ) → (n ≡ i → ⊥)
     → (span_at (set spans i (longer (span_at spans i))) n).end ≡ (span_at spans n).end
-end_kept spans i n differ = ap (λ (s : Span). s.end)
-    (get_or-set_other spans i n (longer (span_at spans i)) _ differ)
+end_kept spans i n differ = search (rules, get_or-set_other, longer)
 
 end_grown : (spans : List Span) (i : ℕ) → i < length spans
     → (span_at (set spans i (longer (span_at spans i))) i).end ≡ (span_at spans i).end + 1
-end_grown spans i within = ap (λ (s : Span). s.end)
-    (get_or-set_same spans i (longer (span_at spans i)) _ within)
+end_grown spans i within = search (rules, get_or-set_same, longer, within)
 
 pub room_next : (spans : List Span) (i places : ℕ) (more left : ℕ → ℕ) → i < length spans
     → more i ≡ left i + 1 → ((n : ℕ) → (n ≡ i → ⊥) → more n ≡ left n)
@@ -245,26 +172,14 @@ room_next spans i places more left low here others room = record {
         ≡ (span_at spans n).end + more n)
         × ((span_at spans n).end
         ≤ (span_at (set spans i (longer (span_at spans i))) n).end)
-    ends n = ⊎_elim
-        (λ (same : n ≡ i). subst
-        (λ m. ((span_at (set spans i (longer (span_at spans i))) m).end + left m
-        ≡ (span_at spans m).end + more m)
-        × ((span_at spans m).end
-        ≤ (span_at (set spans i (longer (span_at spans i))) m).end)) (sym same)
-        (omega (arith, end_grown spans i low, here), omega (arith, end_grown spans i low)))
-        (λ differ. (
-          omega (arith, end_kept spans i n differ, others n differ),
-          omega (arith, end_kept spans i n differ),
-        ))
-        (cases_eq n i)
+    ends n = search (rules, set, longer, end_grown, end_kept, cases_eq)
 
 -- a span with one more edge, which it had room for
 pub room_taken : (spans : List Span) (i places : ℕ) (left : ℕ → ℕ) → i < length spans
     → HaveRoom spans places (λ n. often n (i ∷ []) + left n)
     → HaveRoom (set spans i (longer (span_at spans i))) places left
 room_taken spans i places left within room =
-    room_next spans i places (λ n. often n (i ∷ []) + left n) left within
-    (omega (arith, often_one i)) (λ n differ. omega (arith, often_none n i differ)) room
+    search (rules, room_next, within, often_one, often_none)
 
 -- what has room for the edges of the users that are left has it for those of the next
 module _ (inputs : ℕ → List ℕ) (count d : ℕ) (spans : List Span) (places : ℕ) (low : d < count)
@@ -283,15 +198,7 @@ module _ (inputs : ℕ → List ℕ) (count d : ℕ) (spans : List Span) (places
   pub room_others : (numbers : List ℕ) → numbers ≡ inputs d
       → HaveRoom spans places
       (λ n. often n numbers + (uses inputs count n - uses inputs (d + 1) n))
-  room_others numbers same = room_less spans places
-      (λ n. uses inputs count n - uses inputs d n)
-      (λ n. often n numbers + (uses inputs count n - uses inputs (d + 1) n)) room
-      (λ n within. omega (
-        arith,
-        uses_next inputs d n,
-        uses_grow inputs n (d + 1) count (omega (arith, low)),
-        ap (often n) same,
-      ))
+  room_others numbers same = search (rules, room_less, uses_next, uses_grow)
 
 -- an empty span behind the others, and room for its edges
 pub room_pushed : (spans : List Span) (places : ℕ) (more : ℕ → ℕ) → HaveRoom spans places more
@@ -326,25 +233,19 @@ room_pushed spans places more room = record {
     pushed = spans ++ record { start = places; end = places } ∷ []
 
     size : length (spans ++ record { start = places; end = places } ∷ []) ≡ length spans + 1
-    size = length_push spans (record { start = places; end = places })
+    size = search (rules, length_push)
 
     first : (n : ℕ) → n < length spans
         → ((span_at (spans ++ record { start = places; end = places } ∷ []) n).start
         ≡ (span_at spans n).start)
         × ((span_at (spans ++ record { start = places; end = places } ∷ []) n).end
         ≡ (span_at spans n).end)
-    first n low =
-        let same = get_or_append_left spans (record { start = places; end = places } ∷ [])
-        (record { start = 0; end = 0 }) n low in
-        (ap (λ (s : Span). s.start) same, ap (λ (s : Span). s.end) same)
+    first n low = search (rules, get_or_append_left)
 
     last : (n : ℕ) → n ≡ length spans
         → ((span_at (spans ++ record { start = places; end = places } ∷ []) n).start ≡ places)
         × ((span_at (spans ++ record { start = places; end = places } ∷ []) n).end ≡ places)
-    last n is =
-        let same = get_or_push spans (record { start = places; end = places })
-        (record { start = 0; end = 0 }) n (sym is) in
-        (ap (λ (s : Span). s.start) same, ap (λ (s : Span). s.end) same)
+    last n is = search (rules, get_or_push)
 
 -- ---- the edges in spans
 
@@ -364,8 +265,7 @@ part_pushed edges span edge rise within =
 
 part_kept : (edges : List Edge) (at : ℕ) (edge : Edge) (span : Span) → span.start ≤ span.end
     → (at < span.start) ⊎ (span.end ≤ at) → part (set edges at edge) span ≡ part edges span
-part_kept edges at edge span rise (inl before) =
-    ap (take (span.end - span.start)) (drop-set-lt span.start edges at edge before)
+part_kept edges at edge span rise (inl before) = search (rules, drop-set-lt)
 part_kept edges at edge span rise (inr past) =
     let n = at - span.start in
     let is : at ≡ span.start + n = omega (arith, rise, past) in
@@ -376,18 +276,13 @@ part_kept edges at edge span rise (inr past) =
 
 pub parts_at : (spans : List Span) (edges : List Edge) (n : ℕ) → n < length spans
     → users_of (parts spans edges) n ≡ part edges (span_at spans n)
-parts_at spans edges n low =
-    get_or-map (part edges) spans n (record { start = 0; end = 0 }) [] low
+parts_at spans edges n low = search (rules, get_or-map)
 
 -- spans without edges
 pub parts_none : (spans : List Span) (edges : List Edge)
     → All (λ (span : Span). span.start ≡ span.end) spans
     → (n : ℕ) → n < length spans → users_of (parts spans edges) n ≡ []
-parts_none spans edges empty n low =
-    let none : (span_at spans n).end - (span_at spans n).start ≡ 0 =
-    omega (arith, empty n (record { start = 0; end = 0 }) low) in
-    parts_at spans edges n low
-    ∙ ap (λ k. take k (drop (span_at spans n).start edges)) none
+parts_none spans edges empty n low = search (rules, parts_at)
 
 module _ (spans : List Span) (edges : List Edge) (i : ℕ) (edge : Edge) (more : ℕ → ℕ)
     (low : i < length spans) (room : HaveRoom spans (length edges) more) (some : 0 < more i) where
@@ -395,14 +290,7 @@ module _ (spans : List Span) (edges : List Edge) (i : ℕ) (edge : Edge) (more :
   pub edge_added : users_of (parts (set spans i (longer (span_at spans i)))
       (set edges (span_at spans i).end edge)) i
       ≡ users_of (parts spans edges) i ++ edge ∷ []
-  edge_added =
-      parts_at (set spans i (longer (span_at spans i))) (set edges (span_at spans i).end edge) i
-      (omega (arith, low, length-set spans i (longer (span_at spans i))))
-      ∙ ap (part (set edges (span_at spans i).end edge))
-      (get_or-set_same spans i (longer (span_at spans i)) (record { start = 0; end = 0 }) low)
-      ∙ part_pushed edges (span_at spans i) edge (room.rise i low)
-      (omega (arith, room.fit i low, some))
-      ∙ ap (λ l. l ++ edge ∷ []) (sym (parts_at spans edges i low))
+  edge_added = search (rules, parts_at, set, longer, length-set, get_or-set_same, part_pushed)
 
   pub others_stay : (n : ℕ) → n < length spans → (n ≡ i → ⊥)
       → users_of (parts (set spans i (longer (span_at spans i)))

@@ -1,6 +1,6 @@
 -- The verdict on an answer, reason by reason, and that there is one.
-use Rattle.std.proofs.Common.{◌≡◌, ◌∙◌, inl, inr, ⊎_elim, ℕ, suc, ◌+◌, ◌<◌, List, [], ◌∷◌, ◌++◌, length, Some, None, refl, sym, ap, subst, arith}
-use Rattle.std.specs.Prelude.{pos, Ok, Err}
+use Rattle.std.proofs.Common.{◌≡◌, ◌∙◌, inl, ⊎_elim, ℕ, suc, ◌+◌, ◌<◌, List, [], ◌∷◌, ◌++◌, length, Some, None, refl, sym, ap, subst, arith, rules}
+use Rattle.std.specs.Prelude.{pos, Err}
 use Rattle.std.specs.List.{slice_get}
 use Rattle.std.proofs.Math.Nat.{eq-or-lt_of_le}
 use Rattle.nix_names.specs.declared.digest.Algorithm.{Algorithm}
@@ -22,18 +22,10 @@ use Rattle.sched_core.specs.Verdicts.{AreRecords, IsCyclic, IsExamining, IsFault
 abbrev pub ThereSoFar : Answer → ℕ → Type 0
 ThereSoFar answer count = (n : ℕ) → n < count → tree_at answer n ≡ None → ⊥
 
-pub there_more : (answer : Answer) (count : ℕ) → ThereSoFar answer count
-    → (tree_at answer count ≡ None → ⊥) → ThereSoFar answer (count + 1)
-there_more answer count before here n below none =
-    ⊎_elim
-    (λ e. here (subst (λ k. tree_at answer k ≡ None) e none))
-    (λ less. before n less none)
-    (eq-or-lt_of_le {n = n} {m = count} (omega arith))
-
 -- One tree lies at an output.
 pub one_tree : (answer : Answer) (n : ℕ) (a b : Tree) → tree_at answer n ≡ Some a → tree_at answer n
     ≡ Some b → a ≡ b
-one_tree answer n a b at at' = let same : Some a ≡ Some b = sym at ∙ at' in cc
+one_tree answer n a b at at' = search rules
 
 -- None of the first outputs, so many, is faulty.
 abbrev pub SoundSoFar : Job → Answer → ℕ → Type 0
@@ -104,8 +96,7 @@ pub are_records : (job : Job) (permitted : List (List ℕ)) (answer : Answer) (i
     (count : ℕ) → count ≡ length job.outputs.items
     → RecordsSoFar (algorithm_for job.kind) permitted answer infos count
     → AreRecords job permitted answer infos
-are_records job permitted answer infos count all so_far =
-    record { count = so_far.as_many ∙ all; each = so_far.records }
+are_records job permitted answer infos count all so_far = search rules
 
 -- What is at fault with a tree, by its cases.
 pub data TreeFault (kind : Kind) (tree : Tree) : Reason → Type 0 where
@@ -163,22 +154,13 @@ pub first_missing : (job : Job) (permitted : List (List ℕ)) (answer : Answer) 
     < length job.outputs.items → answer.status ≡ Some (pos 0) → ThereSoFar answer count
     → tree_at answer count ≡ None
     → IsVerdict job permitted answer (Err (MissingOutput count))
-first_missing job permitted answer count below ended there none = (
-  ended,
-  first_number (λ m. tree_at answer m ≡ None) (length job.outputs.items) count below none
-      there,
-)
+first_missing job permitted answer count below ended there none = search (rules, first_number)
 
 -- the verdict where no fault was found, by whether there is a cycle
 pub cycle_found : (job : Job) (permitted : List (List ℕ)) (answer : Answer) (infos : List PathInfo)
     → IsTaken job answer → AreRecords job permitted answer infos → IsCyclic (outputs_of job) infos
     → IsExamining job permitted answer (Err OutputCycle)
-cycle_found job permitted answer infos taken records cyclic = inr (taken, (infos, records, cyclic))
-
-pub all_well : (job : Job) (permitted : List (List ℕ)) (answer : Answer) (infos : List PathInfo)
-    → IsTaken job answer → AreRecords job permitted answer infos
-    → (IsCyclic (outputs_of job) infos → ⊥) → IsExamining job permitted answer (Ok infos)
-all_well job permitted answer infos taken records acyclic = inr (taken, records, acyclic)
+cycle_found job permitted answer infos taken records cyclic = search rules
 
 -- memory was refused once all was taken
 pub refused : (job : Job) (permitted : List (List ℕ)) (answer : Answer) (why : Reason)

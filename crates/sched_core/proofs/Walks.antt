@@ -1,6 +1,6 @@
 -- Walks along links: each step keeps what is known, and a walk that ends tells whether there is a
 -- round.
-use Rattle.std.proofs.Common.{◌≡◌, ◌≢◌, ◌∙◌, ⊎_elim, ℕ, zero, suc, ◌+◌, ◌-◌, ◌<◌, ◌≤◌, List, [], ◌∷◌, ◌++◌, length, get_or, map, take, Some, refl, sym, ap, subst, arith}
+use Rattle.std.proofs.Common.{◌≡◌, ◌≢◌, ◌∙◌, ⊎_elim, ℕ, zero, suc, ◌+◌, ◌-◌, ◌<◌, ◌≤◌, List, [], ◌∷◌, ◌++◌, length, get_or, map, take, Some, refl, sym, ap, subst, arith, rules}
 use Rattle.std.specs.Prelude.{Contains}
 use Rattle.std.specs.Global.{Vec}
 use Rattle.std.specs.List.{slice_get, sum_by}
@@ -21,8 +21,7 @@ use Rattle.nix_names.proofs.Lists.{Contains-first, Contains-from_get, element_at
 -- the last link that is left is a link
 next_linked : (links : List (Vec ℕ)) (nodes : List Node) (top to : ℕ) (node other : Node)
     → IsNextLink links nodes top node to other → IsLinked links top to
-next_linked links nodes top to node other next =
-    (next.own, next.has, Contains-from_get next.own.items next.k to next.leads)
+next_linked links nodes top to node other next = search (rules, Contains-from_get)
 
 -- a number whose links are all passed is grounded
 left_grounded : (links : List (Vec ℕ)) (nodes : List Node) (top : ℕ) (node : Node)
@@ -35,73 +34,17 @@ left_grounded links nodes top node after at none =
 after_leave : (links : List (Vec ℕ)) (before after : List Node) (top : ℕ) → IsAfter links before
     → IsWalkStep links before after top Leave → IsAfter links after
 after_leave links before after top was (node, at, none, is) =
-    subst (IsAfter links) (sym is) (record {
-      count = length-set before top _ ∙ was.count;
-      left = λ from later own here has. ⊎_elim
-          (λ h. rw h.1 (omega arith))
-          (λ h. was.left from later own h.1 has)
-          (set_cases before top from _ later here);
-      passed = λ from later own k to here has enough leads apart. ⊎_elim
-          (λ h. was.passed from node own k to (rw h.0 at) has (omega arith) leads apart)
-          (λ h. was.passed from later own k to h.1 has enough leads apart)
-          (set_cases before top from _ later here);
-      closed = λ from later here mark. ⊎_elim
-          (λ h. rw h.0 (left_grounded links before top node was at none))
-          (λ h. was.closed from later h.1 mark)
-          (set_cases before top from _ later here);
-    })
+    search (rules, length-set, set_cases, left_grounded)
 
 after_pass : (links : List (Vec ℕ)) (before after : List Node) (top : ℕ) → IsAfter links before
     → IsWalkStep links before after top Pass → IsAfter links after
 after_pass links before after top was (node, to, other, next, passes, k, last, is) =
-    subst (IsAfter links) (sym is) (record {
-      count = length-set before top _ ∙ was.count;
-      left = λ from later own here has. ⊎_elim
-          (λ h. let old = was.left from node own (rw h.0 next.at) has in rw h.1 (omega arith))
-          (λ h. was.left from later own h.1 has)
-          (set_cases before top from _ later here);
-      passed = λ from later own j goal here has enough leads apart. ⊎_elim
-          (λ h.
-          let low : k ≤ j = rw (sym (ap (λ (n : Node). n.left) h.1)) enough in
-          ⊎_elim
-          (λ same.
-          let owned : own ≡ next.own = same_element links top own next.own (rw (sym h.0) has)
-          next.has in
-          let place : j ≡ next.k = omega (arith, next.last) in
-          let goal_is : goal ≡ to = same_element own.items j goal to leads
-          (rw (owned, place) next.leads) in
-          let away : top ≢ to = λ e. apart (h.0 ∙ e ∙ sym goal_is) in
-          rw goal_is (was.closed to other next.other_at (passes away)))
-          (λ less. was.passed from node own j goal (rw h.0 next.at) has (omega arith) leads apart)
-          (eq-or-lt_of_le {n = k} {m = j} low))
-          (λ h. was.passed from later own j goal h.1 has enough leads apart)
-          (set_cases before top from _ later here);
-      closed = λ from later here mark. ⊎_elim
-          (λ h. was.closed from node (rw h.0 next.at) (sym (ap (λ (n : Node). n.mark) h.1) ∙ mark))
-          (λ h. was.closed from later h.1 mark)
-          (set_cases before top from _ later here);
-    })
+    search (rules, length-set, set_cases, same_element, eq-or-lt_of_le)
 
 after_open : (links : List (Vec ℕ)) (before after : List Node) (to : ℕ) (other : Node)
     → IsAfter links before → slice_get before to ≡ Some other
     → after ≡ set before to (record { mark = Open; left = other.left }) → IsAfter links after
-after_open links before after to other was at is =
-    subst (IsAfter links) (sym is) (record {
-      count = length-set before to _ ∙ was.count;
-      left = λ from later own here has. ⊎_elim
-          (λ h. let old = was.left from other own (rw h.0 at) has in rw h.1 old)
-          (λ h. was.left from later own h.1 has)
-          (set_cases before to from _ later here);
-      passed = λ from later own k goal here has enough leads apart. ⊎_elim
-          (λ h. was.passed from other own k goal (rw h.0 at) has
-          (rw (sym (ap (λ (n : Node). n.left) h.1)) enough) leads apart)
-          (λ h. was.passed from later own k goal h.1 has enough leads apart)
-          (set_cases before to from _ later here);
-      closed = λ from later here mark. ⊎_elim
-          (λ h. let clash : Open ≡ Closed = sym (ap (λ (n : Node). n.mark) h.1) ∙ mark in absurd cc)
-          (λ h. was.closed from later h.1 mark)
-          (set_cases before to from _ later here);
-    })
+after_open links before after to other was at is = search (rules, length-set, set_cases)
 
 pub walk_leave : (links : List (Vec ℕ)) (before after : List Node) (rest : List ℕ) (top : ℕ)
     → IsWalk links before (rest ++ top ∷ []) → IsWalkStep links before after top Leave
@@ -124,18 +67,7 @@ walk_leave links before after rest top was step = record {
 pub walk_pass : (links : List (Vec ℕ)) (before after : List Node) (trail : List ℕ) (top : ℕ)
     → IsWalk links before trail → IsWalkStep links before after top Pass → IsWalk links after trail
 walk_pass links before after trail top was (node, to, other, next, passes, k, last, is) =
-    record {
-      after = after_pass links before after top was.after
-          (node, to, other, next, passes, k, last, is);
-      opened = λ from later here mark. ⊎_elim
-          (λ h. was.opened from node (rw h.0 next.at) (sym (ap (λ (n : Node). n.mark) h.1) ∙ mark))
-          (λ h. was.opened from later h.1 mark)
-          (set_cases before top from _ later
-          (subst (λ (nodes : List Node). slice_get nodes from ≡ Some later) is here));
-      within = λ j n at. let old = was.within j n at in let same : length after
-          ≡ length before = ap length is ∙ length-set before top _ in omega arith;
-      chain = was.chain;
-    }
+    search (rules, after_pass, set_cases, length-set)
 
 pub walk_enter : (links : List (Vec ℕ)) (before after : List Node) (rest : List ℕ) (top to : ℕ)
     → IsWalk links before (rest ++ top ∷ []) → IsWalkStep links before after top (Enter to)
@@ -178,23 +110,7 @@ pub walk_start : (links : List (Vec ℕ)) (before after : List Node) (start : �
     → after ≡ set before start (record { mark = Open; left = node.left })
     → IsWalk links after (start ∷ [])
 walk_start links before after start node was at is =
-    let same : length after ≡ length before = ap length is ∙ length-set before start _ in
-    let below = slice_get_within before start node at in
-    record {
-      after = after_open links before after start node was.after at is;
-      opened = λ from later here mark. ⊎_elim
-          (λ h. rw h.0 (Contains-push [] start))
-          (λ h. let none = was.opened from later h.1 mark in absurd (omega (arith, none.1)))
-          (set_cases before start from _ later
-          (subst (λ (nodes : List Node). slice_get nodes from ≡ Some later) is here));
-      within = λ k n here. ⊎_elim
-          (λ none. let past : 0 < 0 = omega (arith, slice_get_within [] k n none)
-          in absurd (omega arith))
-          (λ h. rw (← h.1) (omega arith))
-          (get_push_cases [] start k n here);
-      chain = λ k from to here here'. let past = slice_get_within (start ∷ []) (suc k) to here'
-          in absurd (omega arith);
-    }
+    search (rules, length-set, slice_get_within, after_open, Contains-push, set_cases, get_push_cases)
 
 -- a number on a trail leads to the trail's last
 goes_to_last : (links : List (Vec ℕ)) (rest : List ℕ) (top to : ℕ)
@@ -231,16 +147,12 @@ pub keeps_set : (nodes before after : List Node) (i : ℕ) (old new : Node) → 
     → slice_get before i ≡ Some old → (old.mark ≢ New → new.mark ≢ New) → after ≡ set before i new
     → KeepsMet nodes after
 keeps_set nodes before after i old new keeps at stays is n met later here =
-    ⊎_elim
-    (λ h. rw h.1 (stays (keeps n met old (rw h.0 at))))
-    (λ h. keeps n met later h.1)
-    (set_cases before i n new later (subst (λ (l : List Node). slice_get l n ≡ Some later) is here))
+    search (rules, keeps, met, set_cases)
 
 pub met_set : (before after : List Node) (i start : ℕ) (old new : Node) → IsMet before start
     → slice_get before i ≡ Some old → (old.mark ≢ New → new.mark ≢ New) → after ≡ set before i new
     → IsMet after start
-met_set before after i start old new met at stays is =
-    keeps_set before before after i old new (λ n m. m) at stays is start met
+met_set before after i start old new met at stays is = search (rules, keeps_set, met)
 
 -- the work that is left after one more mark is set
 pub weight_set : (before after : List Node) (i : ℕ) (old new : Node) → slice_get before i ≡ Some old
@@ -274,11 +186,7 @@ walk_none links nodes is = record {
   where
     fresh_at : (from : ℕ) (node : Node) (own : Vec ℕ) → slice_get nodes from ≡ Some node
         → slice_get links from ≡ Some own → node ≡ fresh own
-    fresh_at from node own at has =
-        let mapped = slice_get-map fresh links from in
-        let both : Some node ≡ Some (fresh own) = sym at
-        ∙ ap (λ (l : List Node). slice_get l from) is ∙ mapped ∙ rw has refl in
-        cc
+    fresh_at from node own at has = search (rules, slice_get-map)
 
     not_other : (from : ℕ) (node : Node) (mark : Mark) → slice_get nodes from ≡ Some node
         → node.mark ≡ mark → mark ≢ New → ⊥
@@ -298,7 +206,7 @@ all_grounded links nodes walk met n below =
     by_mark : (node : Node) → slice_get nodes n ≡ Some node → (mark : Mark) → node.mark ≡ mark
         → IsGrounded links n
     by_mark node at New is = absurd (met n below node at is)
-    by_mark node at Open is = let none = walk.opened n node at is in absurd (omega (arith, none.1))
+    by_mark node at Open is = search rules
     by_mark node at Closed is = walk.after.closed n node at is
 
 -- the last link that is left of a number, where one is
@@ -426,32 +334,9 @@ pub started : (links : List (Vec ℕ)) (start : ℕ) (first after : List Node) (
     → after ≡ set first start (record { mark = Open; left = (get_or first start d).left })
     → IsWalk links after (start ∷ []) × KeepsMet first after × IsMet after start
 started links start first after d walk below is =
-    let old = get_or first start d in
-    let at : slice_get first start ≡ Some old =
-    slice_get-get_or first start d (omega (arith, walk.after.count)) in
-    let new : Node = record { mark = Open; left = old.left } in
-    let other : new.mark ≢ New = λ e. absurd cc in (
-      walk_start links first after start old walk at is,
-      keeps_set first first after start old new (λ n m. m) at (λ was. other) is,
-      λ later here. ⊎_elim
-          (λ h. let e : later.mark ≡ Open = ap (λ (n : Node). n.mark) h.1
-          in λ is_new. let clash : Open ≡ New = sym e ∙ is_new in absurd cc)
-          (λ h. absurd (h.0 refl))
-          (set_cases first start start new later
-          (subst (λ (l : List Node). slice_get l start ≡ Some later) is here)),
-    )
+    search (rules, slice_get-get_or, walk_start, walk, keeps_set, set_cases)
 
 -- a number that isn't new was met
 pub met_at : (nodes : List Node) (n : ℕ) (d : Node) → ((get_or nodes n d).mark ≢ New)
     → IsMet nodes n
-met_at nodes n d other node at is =
-    other (ap (λ (m : Node). m.mark) (get_or_from_slice_get nodes n node d at) ∙ is)
-
--- one more number was met
-pub met_more : (before after : List Node) (count : ℕ) → ((n : ℕ) → n < count → IsMet before n)
-    → KeepsMet before after → IsMet after count → (n : ℕ) → n < count + 1 → IsMet after n
-met_more before after count met keeps here n below =
-    ⊎_elim
-    (λ e. subst (IsMet after) (sym e) here)
-    (λ less. keeps n (met n less))
-    (eq-or-lt_of_le {n = n} {m = count} (omega arith))
+met_at nodes n d other node at is = search (rules, get_or_from_slice_get)

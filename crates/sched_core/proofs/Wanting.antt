@@ -1,13 +1,11 @@
 -- Which derivations are wanted: the test of it, and how they are marked, from the last of a plan to
 -- the first.
-use Rattle.std.proofs.Common.{◌≡◌, ◌∙◌, ◌↔◌, ◌⊎◌, inl, inr, ⊎_elim, ℕ, zero, suc, ◌+◌, ◌-◌, ◌<◌, ◌≤◌, Bool, true, false, List, [], ◌∷◌, ◌++◌, length, replicate, take, Option, Some, None, IfSome, refl, sym, ap, subst, arith}
+use Rattle.std.proofs.Common.{◌≡◌, ◌∙◌, ◌↔◌, ◌⊎◌, inl, inr, ⊎_elim, ℕ, zero, suc, ◌+◌, ◌-◌, ◌<◌, ◌≤◌, Bool, true, false, List, [], ◌∷◌, ◌++◌, length, replicate, take, Option, Some, None, IfSome, refl, sym, ap, subst, arith, rules}
 use Rattle.std.specs.Prelude.{◌&&◌, Contains, slice_get}
 use Rattle.std.specs.List.{list_any, range_with_len, slice_index_or}
-use Rattle.std.proofs.Math.ListN.{set, length-set}
 use Rattle.std.proofs.Math.Seq.{take-append_seam}
 use Rattle.std.proofs.lemmas.Bool.{and_from, and_parts, cases_lt, false≢true, or_cases, or_left, or_right}
-use Rattle.std.proofs.lemmas.List.{get_or-replicate, get_or-set_other, get_or-set_same, get_or_past, length-replicate}
-use Rattle.std.proofs.lemmas.List.Elements.{Contains-append_left, Contains-push, Contains-push_cases}
+use Rattle.std.proofs.lemmas.List.{get_or-replicate, get_or_past, length-replicate}
 use Rattle.std.proofs.lemmas.Option.{get_or_from_slice_get, slice_get_read, slice_get_within}
 use Rattle.drv_graph.specs.Nodes.{Node, inputs_of}
 use Rattle.drv_graph.specs.Plans.{AreNumbers, Graph}
@@ -28,9 +26,7 @@ use Rattle.nix_names.proofs.Lists.{Contains-nothing, either_side}
 grows : (n m : ℕ) (run : Run) (opening : List Entry) (d : ℕ) → n ≤ m
     → is_wanted_over n run opening d ≡ true → is_wanted_over m run opening d ≡ true
 unfolding is_wanted_over
-grows n zero run opening d no_more is =
-    let same : n ≡ 0 = omega arith in
-    subst (λ k. is_wanted_over k run opening d ≡ true) same is
+grows n zero run opening d no_more is = search rules
 grows n (suc m) run opening d no_more is =
     ⊎_elim
     (λ less.
@@ -106,10 +102,7 @@ told_if_wanted run opening sound d (wanted_input user _ by_user free has) users 
     (and_from (is_used_by run opening d user) (is_wanted_over fewer run opening user) used told)))
 
 pub wanted_told : WantedIsTold
-wanted_told run opening d sound = (
-  wanted_if_told (length run.graph.nodes) run opening d,
-  λ wanted. told_if_wanted run opening sound d wanted (length run.graph.nodes) (omega arith),
-)
+wanted_told run opening d sound = search (rules, wanted_if_told, told_if_wanted, sound)
 
 -- ---- how they are marked
 
@@ -132,46 +125,6 @@ marks_none old = record {
   );
 }
 
-pub marks_one : (old wanted : List Bool) (numbers : List ℕ) (number : ℕ) → number < length old
-    → Marks old wanted numbers → Marks old (set wanted number true) (numbers ++ number ∷ [])
-marks_one old wanted numbers number low before = record {
-  count = length-set wanted number true ∙ before.count;
-  each = λ d. (there d, back d);
-}
-  where
-    there : (d : ℕ) → IsMarked (set wanted number true) d → IsMarked old d
-        ⊎ Contains (numbers ++ number ∷ []) d
-    there d is = ⊎_elim
-        (λ same. inr (subst (Contains (numbers ++ number ∷ [])) (sym same)
-        (Contains-push numbers number)))
-        (λ apart.
-        let differ : d ≡ number → ⊥ = λ same.
-        ⊎_elim (λ less. omega (arith, same, less)) (λ less. omega (arith, same, less)) apart in
-        ⊎_elim (λ was. inl was) (λ has. inr (Contains-append_left numbers (number ∷ []) d has))
-        ((before.each d).0 (sym (get_or-set_other wanted number d true false differ) ∙ is)))
-        (either_side d number)
-
-    marked_here : (d : ℕ) → d ≡ number → IsMarked (set wanted number true) d
-    marked_here d same = ap (λ n. slice_index_or (set wanted number true) n false) same
-        ∙ get_or-set_same wanted number true false (omega (arith, low, before.count))
-
-    kept : (d : ℕ) → IsMarked wanted d → IsMarked (set wanted number true) d
-    kept d is = ⊎_elim
-        (λ same. marked_here d same)
-        (λ apart.
-        let differ : d ≡ number → ⊥ = λ same.
-        ⊎_elim (λ less. omega (arith, same, less)) (λ less. omega (arith, same, less)) apart in
-        get_or-set_other wanted number d true false differ ∙ is)
-        (either_side d number)
-
-    back : (d : ℕ) → IsMarked old d ⊎ Contains (numbers ++ number ∷ []) d
-        → IsMarked (set wanted number true) d
-    back d either = ⊎_elim
-        (λ was. kept d ((before.each d).1 (inl was)))
-        (λ has. ⊎_elim (λ earlier. kept d ((before.each d).1 (inr earlier)))
-        (λ last. marked_here d (sym last)) (Contains-push_cases numbers number d has))
-        either
-
 -- The marked derivations are wanted, the roots and all inputs of wanted ones from a number on among
 -- them.
 pub record AreMarked (graph : Graph) (standings : List Standing) (wanted : List Bool) (rest : ℕ)
@@ -187,17 +140,11 @@ pub record AreMarked (graph : Graph) (standings : List Standing) (wanted : List 
 
 -- what is marked stands within the list
 pub marked_within : (wanted : List Bool) (d : ℕ) → IsMarked wanted d → d < length wanted
-marked_within wanted d is = ⊎_elim
-    (λ low. low)
-    (λ past. absurd (false≢true (sym (get_or_past wanted d false past) ∙ is)))
-    (cases_lt d (length wanted))
+marked_within wanted d is = search (rules, false≢true, get_or_past, cases_lt)
 
 -- where no mark is set none is marked
 pub none_marked : (n d : ℕ) → slice_index_or (replicate n false) d false ≡ false
-none_marked n d = ⊎_elim (λ low. get_or-replicate n d false false low)
-    (λ past. get_or_past (replicate n false) d false
-    (omega (arith, past, length-replicate n false)))
-    (cases_lt d n)
+none_marked n d = search (rules, get_or-replicate, get_or_past, length-replicate, cases_lt)
 
 -- the roots are marked
 pub roots_marked : (graph : Graph) (standings : List Standing) (old new : List Bool) (n : ℕ) → n
@@ -217,7 +164,7 @@ roots_marked graph standings old new n all none marks =
     }
   where
     unmarked : (d : ℕ) → slice_index_or old d false ≡ false
-    unmarked d = ap (λ l. slice_index_or l d false) none ∙ none_marked n d
+    unmarked d = search (rules, none_marked)
 
 -- a derivation whose inputs aren't wanted for it is passed
 pub passed_over : (graph : Graph) (standings : List Standing) (wanted : List Bool) (rest d : ℕ)
@@ -279,18 +226,14 @@ inputs_marked graph standings old new numbers rest d is_sound low next are marke
     closed_at : (user e : ℕ) → d ≤ user → IsMarked new user → slice_index_or standings user Free
         ≡ Free → Contains (inputs_at graph.nodes (slice_get graph.nodes user)) e
         → (user ≡ d) ⊎ ((user < d) ⊎ (d < user)) → IsMarked old e ⊎ Contains numbers e
-    closed_at user e past is free has (inl same) =
-        inr (subst (λ l. Contains l e) (sym same_numbers)
-        (subst (λ n. Contains (inputs_at graph.nodes (slice_get graph.nodes n)) e) same has))
-    closed_at user e past is free has (inr (inl less)) = absurd (omega (arith, past, less))
-    closed_at user e past is free has (inr (inr more)) =
-        inl (before.closed user e (omega (arith, next, more)) (was_marked user past is) free has)
+    closed_at user e past is free has (inl same) = search (rules, same_numbers)
+    closed_at user e past is free has (inr (inl less)) = search rules
+    closed_at user e past is free has (inr (inr more)) = search (rules, was_marked)
 
 -- an element that is there is read with any default
 pub read_is : {X : Type 0} (xs : List X) (k : ℕ) (x d : X) → k < length xs → x
     ≡ slice_index_or xs k x → slice_index_or xs k d ≡ x
-read_is xs k x d low is = get_or_from_slice_get xs k x d
-    (slice_get_read xs (length xs) k x refl low is)
+read_is xs k x d low is = search (rules, get_or_from_slice_get, slice_get_read)
 
 pub any_default : {X : Type 0} (xs : List X) (k : ℕ) (x d : X) → k < length xs
     → slice_index_or xs k x ≡ slice_index_or xs k d
@@ -300,7 +243,7 @@ any_default (y ∷ ys) (suc k) x d low = any_default ys k x d (omega arith)
 
 -- what was written through a slice
 pub written : (new rest : List Bool) (n : ℕ) → n ≡ length new → take n (new ++ rest) ≡ new
-written new rest n size = ap (λ k. take k (new ++ rest)) size ∙ take-append_seam new rest
+written new rest n size = search (rules, take-append_seam)
 
 -- all are marked that are wanted
 all_wanted : (run : Run) (opening : List Entry) (standings : List Standing) (wanted : List Bool)
@@ -308,10 +251,7 @@ all_wanted : (run : Run) (opening : List Entry) (standings : List Standing) (wan
     → AreMarked run.graph standings wanted 0 → (d : ℕ) → IsWanted run opening d → IsMarked wanted d
 all_wanted run opening standings wanted standing marked d (wanted_root _ has) = marked.roots d has
 all_wanted run opening standings wanted standing marked d (wanted_input user _ by_user free has) =
-    let is = all_wanted run opening standings wanted standing marked user by_user in
-    let low : user < length run.graph.nodes =
-    omega (arith, marked.count, marked_within wanted user is) in
-    marked.closed user d (omega arith) is (standing.each user low ∙ free) has
+    search (rules, by_user, marked_within, all_wanted run opening standings wanted standing marked user by_user)
 
 pub wanted_are : (graph : Graph) (standings : List Standing) (wanted : List Bool)
     → AreMarked graph standings wanted 0
