@@ -47,23 +47,3 @@ aside_same rows f g d inputs twins = by (rows.standing d) refl
     by AllValid is = refl
     by (Hindered cause) is = search (rules, by_twins_same)
     by Free is = search (rules, by_twins_same, by_inputs_same)
-
--- ---- of some numbers
-
-pub all_from : (f : ℕ → State) (numbers : List ℕ)
-    → ((i : ℕ) → Contains numbers i → is_good (f i) ≡ true)
-    → list_all (λ i. is_good (f i)) numbers ≡ true
-all_from f [] good = refl
-all_from f (i ∷ is) good =
-    let here = good i (Contains-first i is) in
-    let rest = all_from f is (λ j has. good j (Contains-later i is j has)) in
-    rw (here, rest) refl
-
-pub none_bad : (f : ℕ → State) (numbers : List ℕ)
-    → ((i : ℕ) → Contains numbers i → is_good (f i) ≡ true)
-    → find (λ i. is_bad (f i)) numbers ≡ None
-none_bad f [] good = refl
-none_bad f (i ∷ is) good =
-    let here = good_not_bad (f i) (good i (Contains-first i is)) in
-    let rest = none_bad f is (λ j has. good j (Contains-later i is j has)) in
-    rw (here, rest) refl

@@ -19,18 +19,18 @@ use Rattle.sched_core.specs.declared.reason.State.TheVariants.{Blocked, Done, Re
 use Rattle.sched_core.specs.declared.reason.Refusal.TheVariants.{InputNotRealised}
 use Rattle.sched_core.specs.declared.standing.Standing.{Standing}
 use Rattle.sched_core.specs.declared.standing.Standing.TheVariants.{Free}
-use Rattle.sched_core.proofs.ClosedStates.{good_not_bad}
+use Rattle.sched_core.proofs.ClosedStates.{good_not_bad, all_from, none_bad}
 use Rattle.sched_core.proofs.EarlierTwins.{twins_from}
 use Rattle.sched_core.proofs.NearestTwins.{none_from}
 use Rattle.sched_core.proofs.Tests.{any_passes, one_passes, same_test}
-use Rattle.sched_core.proofs.TwinLaws.{first_within, is_earlier_twin, same_first}
+use Rattle.sched_core.proofs.TwinLaws.{is_earlier_twin, same_first}
 use Rattle.sched_core.proofs.Wanting.{any_default, none_marked, wanted_told}
 use Rattle.forecast.specs.Forecasts.{built_if_ready, built_table}
 use Rattle.forecast.specs.Holding.{AreForetold, state_at, state_of, states_of}
 use Rattle.forecast.specs.declared.prospect.Prospect.{Prospect}
 use Rattle.forecast.specs.declared.prospect.Prospect.TheVariants.{Build, Refuse, Reuse}
-use Rattle.forecast.proofs.Aside.{all_from, none_bad}
 use Rattle.forecast.proofs.Foretelling.{built_is}
+use Rattle.drv_graph.proofs.FirstTwins.{first_within}
 
 -- ---- prospects, and the states that they foretell
 

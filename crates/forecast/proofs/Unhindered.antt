@@ -12,13 +12,14 @@ use Rattle.sched_core.specs.declared.reason.Event.{Event}
 use Rattle.sched_core.specs.declared.reason.Event.TheVariants.{Begin, Done as Finish, Fail}
 use Rattle.sched_core.specs.declared.reason.State.TheVariants.{Ready}
 use Rattle.sched_core.specs.declared.standing.Standing.TheVariants.{Free}
-use Rattle.sched_core.proofs.ClosedStates.{bad_is_closed, bad_is_not_done, closed_is_good, good_is_closed, good_not_bad, states_stay}
+use Rattle.sched_core.proofs.ClosedStates.{bad_is_closed, bad_is_not_done, closed_is_good, good_is_closed, good_not_bad, states_stay, all_from, none_bad}
 use Rattle.sched_core.proofs.EarlierTwins.{run_twins}
 use Rattle.sched_core.proofs.NearestTwins.{none_from, ready_ended}
 use Rattle.sched_core.proofs.PlanInputs.{rows_in_order}
 use Rattle.sched_core.proofs.Seeds.{all_good, phase_push, ready_by, same_number}
 use Rattle.sched_core.proofs.Tests.{list_all_has}
-use Rattle.forecast.proofs.Aside.{all_from, aside, none_bad, state_aside}
+use Rattle.forecast.proofs.Aside.{aside, state_aside}
+use Rattle.sched_core.proofs.OtherEvents.{number_of, same_or_other, phase_other, begun_not_idle}
 
 -- Nothing but its own events is in the way of a derivation.
 pub record IsUnhindered (rows : Rows) (d : ℕ) : Type 0 where
@@ -77,31 +78,6 @@ module _ (rows : Rows) (phase : ℕ → Phase)
 
 -- ---- where a derivation stands behind one event more
 
--- the derivation of an event
-abbrev number_of : Event → ℕ
-number_of (Begin d lease) = d
-number_of (Finish d lease) = d
-number_of (Fail d lease reason) = d
-
-same_or_other : (d e : ℕ) → (d ≡ e) ⊎ (d ≡ e → ⊥)
-same_or_other d e = search (rules, either_side)
-
-idle_unless : (p : Phase) (e d : ℕ) → (e ≡ d → ⊥) → (if eqb e d then p else Idle) ≡ Idle
-idle_unless p e d other = by (eqb e d) refl
-  where
-    by : (same : Bool) → eqb e d ≡ same → (if same then p else Idle) ≡ Idle
-    by true is = absurd (other (same_number e d is))
-    by false is = refl
-
-phase_by_other : (x : Event) (d : ℕ) → (number_of x ≡ d → ⊥) → phase_by x d ≡ Idle
-phase_by_other (Begin e n) d other = idle_unless (Begun n) e d other
-phase_by_other (Finish e n) d other = idle_unless Ended e d other
-phase_by_other (Fail e n reason) d other = idle_unless (Broken reason) e d other
-
-phase_other : (events : List Event) (x : Event) (d : ℕ) → (number_of x ≡ d → ⊥)
-    → phase_of (events ++ x ∷ []) d ≡ phase_of events d
-phase_other events x d other = search (rules, phase_push, phase_by_other)
-
 -- an event of an open derivation leaves what is unhindered so
 module _ (run : Run) (opening : _) (events : List Event) (x : Event)
     (still : is_open (state (rows_of run opening events) (number_of x)) ≡ true) where
@@ -123,9 +99,6 @@ building_is_open : (run : Run) → IsSound run.graph → (history : History) (d 
 building_is_open run sound history d lease phase =
     ap is_open (state_aside (rows_of run history.opening history.events)
     (rows_in_order run history.opening history.events sound) d (Begun lease) phase)
-
-begun_not_idle : (p : Phase) (lease : ℕ) → p ≡ Begun lease → p ≡ Idle → ⊥
-begun_not_idle p lease is idle = search rules
 
 module _ (run : Run) (sound : IsSound run.graph) where
   -- nothing but its own events is in the way of a derivation that has begun

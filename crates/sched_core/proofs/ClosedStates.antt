@@ -1,7 +1,7 @@
 -- What is closed stays as good or as bad as it is, whatever becomes of what is open.
 use Rattle.std.proofs.Common.{◌≡◌, ◌∙◌, ◌⊎◌, ⊎_elim, ℕ, zero, suc, ◌<◌, ◌||◌, Bool, true, false, List, [], ◌∷◌, Option, Some, None, refl, sym, ap, subst, if◌then◌else◌, arith, rules}
-use Rattle.std.specs.Prelude.{cond, find}
-use Rattle.std.specs.List.{list_any}
+use Rattle.std.specs.Prelude.{cond, find, Contains}
+use Rattle.std.specs.List.{list_any, list_all}
 use Rattle.std.proofs.lemmas.Bool.{cases_lt, false≢true, or_cases, or_left, or_parts, or_right, true≢false}
 use Rattle.sched_core.specs.States.{Begun, Broken, Ended, Idle, Phase, Rows, by_first, by_hindrance, by_inputs, by_phase, by_twins, by_validity, is_bad, is_done, is_good, is_open, state, table}
 use Rattle.sched_core.specs.declared.reason.State.{State}
@@ -9,6 +9,7 @@ use Rattle.sched_core.specs.declared.reason.State.TheVariants.{Blocked, Building
 use Rattle.sched_core.specs.declared.standing.Standing.{Standing}
 use Rattle.sched_core.specs.declared.standing.Standing.TheVariants.{AllValid, Free, Hindered}
 use Rattle.sched_core.proofs.StateLaws.{reads_at, state_at, state_past}
+use Rattle.nix_names.proofs.Lists.{Contains-first, Contains-later}
 
 done_is_closed : (s : State) → is_done s ≡ true → is_open s ≡ false
 done_is_closed Done is = refl
@@ -210,3 +211,23 @@ module _ (rows : Rows) (phase : ℕ → Phase)
 
   pub states_stay : (d : ℕ) → Stays (state rows d) (state behind d)
   states_stay d = below_stay (suc d) d (omega arith)
+
+-- ---- of some numbers
+
+pub all_from : (f : ℕ → State) (numbers : List ℕ)
+    → ((i : ℕ) → Contains numbers i → is_good (f i) ≡ true)
+    → list_all (λ i. is_good (f i)) numbers ≡ true
+all_from f [] good = refl
+all_from f (i ∷ is) good =
+    let here = good i (Contains-first i is) in
+    let rest = all_from f is (λ j has. good j (Contains-later i is j has)) in
+    rw (here, rest) refl
+
+pub none_bad : (f : ℕ → State) (numbers : List ℕ)
+    → ((i : ℕ) → Contains numbers i → is_good (f i) ≡ true)
+    → find (λ i. is_bad (f i)) numbers ≡ None
+none_bad f [] good = refl
+none_bad f (i ∷ is) good =
+    let here = good_not_bad (f i) (good i (Contains-first i is)) in
+    let rest = none_bad f is (λ j has. good j (Contains-later i is j has)) in
+    rw (here, rest) refl

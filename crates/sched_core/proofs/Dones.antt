@@ -1,15 +1,12 @@
 -- What a Done may register: its entry is new and closed behind those before, and has one path for
 -- each output.
-use Rattle.std.proofs.Common.{◌≡◌, ◌≤◌, ◌∙◌, ℕ, List, [], ◌∷◌, ◌++◌, length, sym, subst, ⊎_elim, arith, rules}
+use Rattle.std.proofs.Common.{◌≡◌, ◌∙◌, ℕ, List, [], ◌∷◌, ◌++◌, length, sym, subst, ⊎_elim, arith, rules}
 use Rattle.std.specs.Prelude.{Contains, flat_map}
-use Rattle.std.specs.Cmp.Lexicographic.{bytes_decides, nat_list_eq_equiv}
 use Rattle.std.proofs.lemmas.List.{length-map}
 use Rattle.std.proofs.lemmas.List.Elements.{Contains-append_cases}
-use Rattle.std.proofs.lemmas.Map.Made.{is_member-Decides, length-le_from_is_member}
 use Rattle.std.proofs.lemmas.Option.{slice_get_within}
 use Rattle.nix_names.specs.StorePaths.{IsDrvPath}
 use Rattle.nix_drv.specs.Derivation.{Output}
-use Rattle.drv_graph.specs.Loading.{AreDistinct}
 use Rattle.drv_graph.specs.Nodes.{Node}
 use Rattle.drv_graph.specs.PlanNodes.{output_paths_of}
 use Rattle.valid_table.specs.Adding.{AreClosed, AreNew}
@@ -38,14 +35,6 @@ part_with f (z ∷ zs) y has =
     (λ here. (z, Contains-first z zs, here))
     (λ later. let it = part_with f zs y later in (it.0, Contains-later z zs it.0 it.1, it.2))
     (Contains-append_cases (f z) (flat_map f zs) y has)
-
--- different texts, each among others, are no more than those
-no_more_than : (xs ys : List (List ℕ)) → AreDistinct xs
-    → ((x : List ℕ) → Contains xs x → Contains ys x) → length xs ≤ length ys
-no_more_than xs ys distinct among =
-    length-le_from_is_member nat_list_eq_equiv xs ys distinct
-    (λ x is. (is_member-Decides bytes_decides ys x).1
-    (among x ((is_member-Decides bytes_decides xs x).0 is)))
 
 -- ---- what is registered
 

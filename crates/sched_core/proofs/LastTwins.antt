@@ -17,8 +17,9 @@ use Rattle.sched_core.specs.Nearest.{last_alone}
 use Rattle.sched_core.specs.Runs.{Run, earlier_twins, is_wanted}
 use Rattle.drv_graph.specs.Twins.{are_twins_at, first_twin_of}
 use Rattle.sched_core.proofs.Tests.{range_below, range_more, same_test}
-use Rattle.sched_core.proofs.TwinLaws.{first_within, same_first}
+use Rattle.sched_core.proofs.TwinLaws.{same_first}
 use Rattle.sched_core.proofs.Wanting.{wanted_told}
+use Rattle.drv_graph.proofs.FirstTwins.{first_within}
 
 -- ---- the last of a list
 

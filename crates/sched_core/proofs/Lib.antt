@@ -24,6 +24,7 @@ pub mod NearestTwins
 pub mod OneReport
 pub mod OneStates
 pub mod OneVerdict
+pub mod OtherEvents
 pub mod OwnStandings
 pub mod Permitting
 pub mod Places

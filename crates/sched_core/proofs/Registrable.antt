@@ -3,11 +3,10 @@ use Rattle.std.proofs.Common.{◌≡◌, ◌∙◌, ℕ, Bool, true, false, List
 use Rattle.std.specs.Cmp.Lexicographic.{pointwise}
 use Rattle.std.proofs.lemmas.List.{length-map}
 use Rattle.std.proofs.lemmas.Option.{slice_get_within}
-use Rattle.nix_names.specs.Digests.{algorithm_of, bytes_of, digest_with}
+use Rattle.nix_names.specs.Digests.{algorithm_of, bytes_of}
 use Rattle.nix_names.specs.declared.digest.Algorithm.{Algorithm}
 use Rattle.nix_names.specs.declared.digest.Algorithm.TheVariants.{Md5, Sha1, Sha256, Sha512}
 use Rattle.nix_names.specs.declared.digest.Digest.{Digest}
-use Rattle.nix_names.specs.declared.digest.Digest.TheVariants.{Md5 as OfMd5, Sha1 as OfSha1, Sha256 as OfSha256, Sha512 as OfSha512}
 use Rattle.drv_graph.proofs.KindAnswers.{one_kind}
 use Rattle.nix_drv.specs.Derivation.{Output}
 use Rattle.nix_names.proofs.RisingLists.{equal_from_eq, unequal_from_eq}
@@ -22,15 +21,9 @@ use Rattle.sched_core.specs.declared.job.JobOutput.{JobOutput}
 use Rattle.sched_core.specs.declared.reason.Reason.{Reason}
 use Rattle.sched_core.specs.declared.reason.Reason.TheVariants.{HashMismatch, NotFlatFile, TooLarge}
 use Rattle.nix_names.proofs.Lists.{get_from_contains, same_element}
+use Rattle.nix_names.proofs.DigestTexts.{made_again}
 
 -- ---- a fixed output's digest
-
--- a digest is its bytes by its algorithm
-made_again : (digest : Digest) → digest_with (algorithm_of digest) (bytes_of digest) ≡ digest
-made_again (OfMd5 bytes) = refl
-made_again (OfSha1 bytes) = refl
-made_again (OfSha256 bytes) = refl
-made_again (OfSha512 bytes) = refl
 
 one_digest : (a b : Digest) → algorithm_of a ≡ algorithm_of b → bytes_of a ≡ bytes_of b → a ≡ b
 one_digest a b algorithm bytes = search (rules, made_again)

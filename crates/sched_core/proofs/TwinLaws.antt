@@ -1,38 +1,22 @@
 -- Twins: which derivations are each other's, the first of them, and the earlier ones.
-use Rattle.std.proofs.Common.{◌≡◌, ◌∙◌, ⊎_elim, ℕ, ◌<◌, ◌≤◌, Bool, true, false, List, length, get_or, Option, Some, None, refl, sym, ap, subst, rules}
+use Rattle.std.proofs.Common.{◌≡◌, ◌∙◌, ℕ, ◌<◌, ◌≤◌, Bool, true, false, List, length, Option, Some, None, refl, sym, ap, subst, rules}
 use Rattle.std.specs.Prelude.{◌==◌, ◌&&◌, Contains, filter, slice_get}
-use Rattle.std.specs.Cmp.Lexicographic.{nat_list_eq_equiv}
-use Rattle.std.specs.List.{list_any, range_with_len}
-use Rattle.std.proofs.lemmas.Bool.{and_from, and_parts, both_ways, cases_lt, eq-eqb, false≢true, ne_eqb}
+use Rattle.std.specs.List.{range_with_len}
+use Rattle.std.proofs.lemmas.Bool.{and_from, and_parts, both_ways, eq-eqb, false≢true, ne_eqb}
 use Rattle.std.proofs.lemmas.List.Elements.{All-contains, All-filter, filter_passes}
-use Rattle.std.proofs.lemmas.List.Sums.{fails_before_first, passes_at_first}
-use Rattle.std.proofs.lemmas.Map.Views.{Contains-from_any, list_any-from_Contains}
+use Rattle.std.proofs.lemmas.List.Sums.{passes_at_first}
 use Rattle.std.proofs.lemmas.Option.{get_or_from_slice_get, slice_get_within}
-use Rattle.nix_names.specs.Names.{same_bytes}
 use Rattle.nix_names.proofs.Lists.{element_at}
-use Rattle.nix_names.proofs.RisingLists.{equal_from_eq}
 use Rattle.nix_drv.specs.Derivation.{Drv}
 use Rattle.drv_graph.specs.Nodes.{Node}
 use Rattle.drv_graph.specs.PlanNodes.{output_paths_of}
 use Rattle.valid_table.specs.declared.entry.Entry.{Entry}
 use Rattle.sched_core.specs.Runs.{Run, earlier_twins, is_wanted}
 use Rattle.drv_graph.specs.Twins.{are_among, are_twins, are_twins_at, first_twin_of}
-use Rattle.sched_core.proofs.Tests.{all_pass, list_all_has, range_below}
+use Rattle.sched_core.proofs.Tests.{range_below}
+use Rattle.drv_graph.proofs.FirstTwins.{among_has, among_from, twins_alone, no_later, first_within}
 
 -- ---- the same output paths
-
-among_has : (paths others : List (List ℕ)) (path : List ℕ) → are_among paths others ≡ true
-    → Contains paths path → Contains others path
-among_has paths others path is has =
-    Contains-from_any equal_from_eq path others
-    (list_all_has (λ p. list_any (same_bytes p) others) paths path is has)
-
-among_from : (paths others : List (List ℕ))
-    → ((path : List ℕ) → Contains paths path → Contains others path)
-    → are_among paths others ≡ true
-among_from paths others each =
-    all_pass (λ p. list_any (same_bytes p) others) paths
-    (λ path has. list_any-from_Contains nat_list_eq_equiv path others (each path has))
 
 -- an output of a derivation is one of its twin
 pub twins_path : (a b : Drv) (path : List ℕ) → are_twins a b ≡ true
@@ -41,10 +25,6 @@ twins_path a b path are has =
     among_has (output_paths_of a) (output_paths_of b) path
     (and_parts (are_among (output_paths_of a) (output_paths_of b))
     (are_among (output_paths_of b) (output_paths_of a)) are).0 has
-
--- each derivation is a twin of itself
-pub twins_alone : (a : Drv) → are_twins a a ≡ true
-twins_alone a = search (rules, among_from, and_from)
 
 twins_turned : (a b : Drv) → are_twins a b ≡ true → are_twins b a ≡ true
 twins_turned a b are = search (rules, and_parts, and_from)
@@ -86,26 +66,6 @@ path_of_twin a b x y path is_x is_y are has =
     twins_path y.drv x.drv path (twins_turned x.drv y.drv both) has
 
 -- ---- the first of some twins
-
--- no twin has a smaller number than the first
-pub no_later : (nodes : List Node) (d k : ℕ) (node : Node) → slice_get nodes k ≡ Some node
-    → are_twins_at (slice_get nodes k) (slice_get nodes d) ≡ true → first_twin_of nodes d ≤ k
-no_later nodes d k node at are =
-    let test : Node → Bool = λ n. are_twins_at (Some n) (slice_get nodes d) in
-    let passes : test node ≡ true =
-    subst (λ (o : Option Node). are_twins_at o (slice_get nodes d) ≡ true) at are in
-    ⊎_elim
-    (λ less. absurd
-    (both_ways (test (get_or nodes k node)) (fails_before_first test nodes k node less)
-    (ap test (get_or_from_slice_get nodes k node node at) ∙ passes)))
-    (λ within. within)
-    (cases_lt k (first_twin_of nodes d))
-
--- a derivation's first twin has no greater number than its own
-pub first_within : (nodes : List Node) (d : ℕ) → d < length nodes → first_twin_of nodes d ≤ d
-first_within nodes d low =
-    let there = element_at nodes d low in
-    no_later nodes d d there.0 there.1 (itself nodes d there.0 there.1)
 
 -- the first is a twin
 pub first_is_twin : (nodes : List Node) (d : ℕ) → first_twin_of nodes d < length nodes

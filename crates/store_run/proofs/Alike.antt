@@ -34,11 +34,12 @@ use Rattle.sched_core.proofs.PlanInputs.{inputs_first}
 use Rattle.sched_core.proofs.Seeds.{named_at}
 use Rattle.sched_core.proofs.TwinLaws.{is_earlier_twin, is_there, path_of_twin}
 use Rattle.store_run.specs.Scheduling.{AreAlike, HasOneOutcome}
-use Rattle.store_run.proofs.Carried.{IsCarried, first_carried, outputs_carried, valid_from_registers}
+use Rattle.store_run.proofs.Carried.{IsCarried, first_carried, outputs_carried}
 use Rattle.store_run.proofs.OneOutcome.{came_count, came_refers, one_verdict}
 use Rattle.store_run.proofs.Standings.{output_of_reused, source_of_free}
 use Rattle.store_run.proofs.Telling.{CameTo, IsFrom, WasBegun, WasMade, from_built, from_opening}
 use Rattle.store_run.proofs.Unhindered.{IsGoodBy, IsUnhindered, aside_same, good_ended, good_is, good_reused, good_twin, inputs_in, is_good_by, state_by, twins_in, unhindered_ready}
+use Rattle.valid_table.proofs.Reaching.{valid_from_registers}
 
 -- A history in which each derivation that has an event was begun and, once it ended, came to a
 -- verdict, and in which each record comes from the opening or from what was built.

@@ -12,12 +12,7 @@ use Rattle.valid_table.proofs.ClosureLaws.{leads_before, registers_from_valid}
 use Rattle.valid_table.proofs.Following.{one_info}
 use Rattle.sched_core.specs.Legal.{MayRefer}
 use Rattle.sched_core.proofs.Dones.{reached_is_valid}
-
--- what is registered is valid
-pub valid_from_registers : (all : List Registration) (path : List ℕ) (info : PathInfo)
-    → Registers all path info → IsValid all path
-valid_from_registers all path info has =
-    Contains-map (λ (r : Registration). r.path) all (record { path = path; info = info }) has
+use Rattle.valid_table.proofs.Reaching.{valid_from_registers}
 
 -- all that a path reaches among some registrations has the same record among others
 abbrev pub IsCarried : (all other : List Registration) → (from : List ℕ) → Type 0

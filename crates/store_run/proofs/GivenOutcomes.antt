@@ -23,8 +23,9 @@ use Rattle.store_run.specs.Scheduling.{HasOneOutcome, IsEndedRun, IsWholeRun}
 use Rattle.store_run.proofs.OneThreads.{has_one_thread}
 use Rattle.store_run.proofs.SameVerdicts.{same_kind, same_outputs, verdict_too}
 use Rattle.store_run.proofs.Schedules.{any_schedule, one_report_of, whole_runs_are_alike}
-use Rattle.store_run.proofs.Telling.{phase_broken, phase_ended, phase_other, same_or_other}
+use Rattle.store_run.proofs.Telling.{phase_broken, phase_ended}
 use Rattle.store_run.proofs.ToldRuns.{IsTold, told_begin, told_done, told_fail, told_from, told_opening}
+use Rattle.sched_core.proofs.OtherEvents.{phase_other, same_or_other}
 
 -- ---- the outcomes that were given
 

@@ -25,9 +25,10 @@ use Rattle.store_run.proofs.Alike.{HasSameTurn, IsAccounted, IsAlikeAt, alike_be
 use Rattle.store_run.proofs.Carried.{IsCarried, may_refer_there}
 use Rattle.store_run.proofs.OneOutcome.{job_outputs, job_seeds, permitted_job, permitted_whole}
 use Rattle.store_run.proofs.Schedules.{opening_journal, run_accounted, run_told, turns_accounted}
-use Rattle.store_run.proofs.Telling.{CameTo, phase_broken, phase_ended, phase_other, same_or_other}
+use Rattle.store_run.proofs.Telling.{CameTo, phase_broken, phase_ended}
 use Rattle.store_run.proofs.Turns.{HaveTurned, turned_is}
 use Rattle.store_run.proofs.Unhindered.{IsUnhindered, ready_unhindered, unhindered_ready}
+use Rattle.sched_core.proofs.OtherEvents.{phase_other, same_or_other}
 
 -- ---- what a derivation came to here it may come to there
 

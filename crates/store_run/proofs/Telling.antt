@@ -28,7 +28,7 @@ use Rattle.sched_core.specs.declared.reason.Event.TheVariants.{Begin, Done as Fi
 use Rattle.sched_core.specs.declared.reason.Reason.{Reason}
 use Rattle.sched_core.specs.declared.reason.State.{State}
 use Rattle.sched_core.specs.declared.reason.State.TheVariants.{Blocked, Building, Done, Failed, Ready, Refused, Reused}
-use Rattle.sched_core.proofs.ClosedStates.{bad_is_closed, states_stay}
+use Rattle.sched_core.proofs.ClosedStates.{bad_is_closed, states_stay, good_is_closed}
 use Rattle.sched_core.proofs.Dones.{registered_output}
 use Rattle.sched_core.proofs.Histories.{ready_is_idle}
 use Rattle.sched_core.proofs.Permitting.{begun_event}
@@ -37,38 +37,9 @@ use Rattle.sched_core.proofs.Seeds.{phase_push, same_number, seeds_are_valid}
 use Rattle.store_run.specs.Builders.{IsVerdictBehind}
 use Rattle.store_run.proofs.ToldRuns.{IsTold, told_begin, told_done, told_fail, told_opening}
 use Rattle.store_run.proofs.Unhindered.{IsGoodBy, IsUnhindered, good_ended, good_is, good_reused, good_twin, is_good_by, ready_unhindered, state_by}
+use Rattle.sched_core.proofs.OtherEvents.{number_of, same_or_other, phase_other, begun_not_idle}
 
 -- ---- where a derivation stands behind one event more
-
--- the derivation of an event
-abbrev pub number_of : Event → ℕ
-number_of (Begin d lease) = d
-number_of (Finish d lease) = d
-number_of (Fail d lease reason) = d
-
-pub same_or_other : (d e : ℕ) → (d ≡ e) ⊎ (d ≡ e → ⊥)
-same_or_other d e = search (rules, either_side)
-
-phase_by_other : (x : Event) (d : ℕ) → (number_of x ≡ d → ⊥) → phase_by x d ≡ Idle
-phase_by_other (Begin e n) d other = by (eqb e d) refl
-  where
-    by : (same : Bool) → eqb e d ≡ same → (if same then Begun n else Idle) ≡ Idle
-    by true is = absurd (other (same_number e d is))
-    by false is = refl
-phase_by_other (Finish e n) d other = by (eqb e d) refl
-  where
-    by : (same : Bool) → eqb e d ≡ same → (if same then Ended else Idle) ≡ Idle
-    by true is = absurd (other (same_number e d is))
-    by false is = refl
-phase_by_other (Fail e n reason) d other = by (eqb e d) refl
-  where
-    by : (same : Bool) → eqb e d ≡ same → (if same then Broken reason else Idle) ≡ Idle
-    by true is = absurd (other (same_number e d is))
-    by false is = refl
-
-pub phase_other : (events : List Event) (x : Event) (d : ℕ) → (number_of x ≡ d → ⊥)
-    → phase_of (events ++ x ∷ []) d ≡ phase_of events d
-phase_other events x d other = search (rules, phase_push, phase_by_other)
 
 pub phase_begun : (events : List Event) (d lease : ℕ)
     → phase_of (events ++ Begin d lease ∷ []) d ≡ Begun lease
@@ -89,15 +60,6 @@ pub record WasBegun (run : Run) (history : History) (d : ℕ) : Type 0 where
   pub within : d < length run.graph.nodes
   pub wanted : IsWanted run history.opening d
   pub unhindered : IsUnhindered run history d
-
-good_is_closed : (s : State) → is_good s ≡ true → is_open s ≡ false
-good_is_closed Done good = refl
-good_is_closed Reused good = refl
-good_is_closed (Failed reason) good = refl
-good_is_closed (Refused cause) good = refl
-good_is_closed (Building lease) good = absurd cc
-good_is_closed Ready good = absurd cc
-good_is_closed Blocked good = absurd cc
 
 module _ (run : Run) (sound : IsSound run.graph) (history after : History) (x : Event)
     (opening : after.opening ≡ history.opening) (events : after.events ≡ history.events ++ x ∷ [])
@@ -158,10 +120,6 @@ building_is_open : (run : Run) → IsSound run.graph → (history : History) (d 
     → phase_of history.events d ≡ Begun lease → is_open (state_in run history d) ≡ true
 building_is_open run sound history d lease phase =
     ap is_open (state_by run history sound d (Begun lease) phase)
-
--- one phase is no other
-begun_not_idle : (p : Phase) (lease : ℕ) → p ≡ Begun lease → p ≡ Idle → ⊥
-begun_not_idle p lease is idle = search rules
 
 begun_not_ended : (p : Phase) (lease : ℕ) → p ≡ Begun lease → p ≡ Ended → ⊥
 begun_not_ended p lease is ends = search rules

@@ -32,7 +32,7 @@ use Rattle.sched_core.specs.declared.standing.Standing.TheVariants.{AllValid, Hi
 use Rattle.sched_core.proofs.EarlierTwins.{twins_from}
 use Rattle.sched_core.proofs.SharedOutputs.{sharers}
 use Rattle.sched_core.proofs.Histories.{ready_is_idle}
-use Rattle.sched_core.proofs.NearestTwins.{legal_ended}
+use Rattle.sched_core.proofs.NearestTwins.{legal_ended, none_from}
 use Rattle.sched_core.proofs.PlanInputs.{inputs_first}
 use Rattle.sched_core.proofs.Registrable.{verdicts_are_registrable}
 use Rattle.sched_core.proofs.TwinLaws.{is_earlier_twin, turned}
@@ -40,12 +40,13 @@ use Rattle.sched_core.proofs.Wanting.{wanted_told}
 use Rattle.sched_core.specs.VerdictLaws.{AreRegistrable}
 use Rattle.store_run.specs.Builders.{IsOutcomeVerdict, IsVerdictBehind}
 use Rattle.store_run.specs.OneThread.{HadTurns, IsOneThread, turn_done, turn_failed, turn_opening, turn_skipped}
-use Rattle.store_run.proofs.Carried.{valid_from_registers}
 use Rattle.store_run.proofs.OneOutcome.{refers_behind}
 use Rattle.store_run.proofs.Standings.{output_of_free}
-use Rattle.store_run.proofs.Telling.{IsFrom, begun_is, from_built, from_is, from_opening, phase_begun, phase_broken, phase_ended, phase_other, same_or_other}
+use Rattle.store_run.proofs.Telling.{IsFrom, begun_is, from_built, from_is, from_opening, phase_begun, phase_broken, phase_ended}
 use Rattle.store_run.proofs.ToldRuns.{IsTold, told_begin, told_done, told_fail, told_opening}
-use Rattle.store_run.proofs.Unhindered.{aside_same, inputs_in, none_passes, ready_unhindered, standing_in, state_by, twins_in}
+use Rattle.store_run.proofs.Unhindered.{aside_same, inputs_in, ready_unhindered, standing_in, state_by, twins_in}
+use Rattle.sched_core.proofs.OtherEvents.{phase_other, same_or_other}
+use Rattle.valid_table.proofs.Reaching.{valid_from_registers}
 
 -- ---- states of the first derivations
 
@@ -287,7 +288,7 @@ module _ (may : Job → Result Answer Reason → Type 0) (run : Run) (sound : Is
           let ready = idle_open (standing_in run history d) (list_any (λ t. is_done (f t)) twins)
           (list_any (λ t. is_open (f t)) twins) (find (λ i. is_bad (f i)) inputs)
           (list_all (λ i. is_good (f i)) inputs)
-          (none_passes (λ t. is_open (f t)) twins (closed_twin within))
+          (none_from (λ t. is_open (f t)) twins (closed_twin within))
           (λ free. all_good_or_bad f inputs (closed_input within wanted free))
           (subst IsOpen is still) in
           cannot (record {

@@ -9,9 +9,9 @@ use Rattle.sched_core.specs.declared.reason.State.{State}
 use Rattle.sched_core.specs.declared.reason.State.TheVariants.{Blocked, Building, Done, Failed, Ready, Refused, Reused}
 use Rattle.sched_core.specs.declared.standing.Standing.{Standing}
 use Rattle.sched_core.specs.declared.standing.Standing.TheVariants.{AllValid, Hindered, Free}
-use Rattle.sched_core.proofs.ClosedStates.{bad_is_closed, bad_is_not_done}
+use Rattle.sched_core.proofs.ClosedStates.{bad_is_closed, bad_is_not_done, good_not_bad, all_from, none_bad}
 use Rattle.sched_core.proofs.EarlierTwins.{run_twins}
-use Rattle.sched_core.proofs.NearestTwins.{ready_ended}
+use Rattle.sched_core.proofs.NearestTwins.{ready_ended, none_from}
 use Rattle.sched_core.proofs.PlanInputs.{rows_in_order}
 use Rattle.sched_core.proofs.Seeds.{all_good, done_is_ended, ready_by}
 use Rattle.sched_core.proofs.Tests.{any_passes, list_all_has, one_passes}
@@ -52,45 +52,11 @@ pub record IsUnhindered (run : Run) (history : History) (d : ℕ) : Type 0 where
       → is_bad (state_in run history t) ≡ true
   pub good : (i : ℕ) → Contains (inputs_in run d) i → is_good (state_in run history i) ≡ true
 
-good_not_bad : (s : State) → is_good s ≡ true → is_bad s ≡ false
-good_not_bad Done good = refl
-good_not_bad Reused good = refl
-good_not_bad (Failed reason) good = absurd cc
-good_not_bad (Refused cause) good = absurd cc
-good_not_bad (Building lease) good = absurd cc
-good_not_bad Ready good = absurd cc
-good_not_bad Blocked good = absurd cc
-
-all_from : (f : ℕ → State) (inputs : List ℕ) → ((i : ℕ) → Contains inputs i → is_good (f i) ≡ true)
-    → list_all (λ i. is_good (f i)) inputs ≡ true
-all_from f [] good = refl
-all_from f (i ∷ is) good =
-    let here = good i (Contains-first i is) in
-    let rest = all_from f is (λ j has. good j (Contains-later i is j has)) in
-    rw (here, rest) refl
-
-none_bad : (f : ℕ → State) (inputs : List ℕ) → ((i : ℕ) → Contains inputs i → is_good (f i) ≡ true)
-    → find (λ i. is_bad (f i)) inputs ≡ None
-none_bad f [] good = refl
-none_bad f (i ∷ is) good =
-    let here = good_not_bad (f i) (good i (Contains-first i is)) in
-    let rest = none_bad f is (λ j has. good j (Contains-later i is j has)) in
-    rw (here, rest) refl
-
--- a test of some numbers, none of which passes
-pub none_passes : (f : ℕ → Bool) (numbers : List ℕ) → ((n : ℕ) → Contains numbers n → f n ≡ false)
-    → list_any f numbers ≡ false
-none_passes f [] none = refl
-none_passes f (n ∷ ns) none =
-    let here = none n (Contains-first n ns) in
-    let rest = none_passes f ns (λ m has. none m (Contains-later n ns m has)) in
-    rw (here, rest) refl
-
 -- such a derivation is ready, its own events aside
 pub aside_ready : (run : Run) (history : History) (d : ℕ) → IsUnhindered run history d
     → state_aside run history d ≡ Ready
 aside_ready run history d un =
-    search (rules, twins_in, none_passes, bad_is_not_done, bad_is_closed, none_bad, inputs_in, all_from)
+    search (rules, twins_in, none_from, bad_is_not_done, bad_is_closed, none_bad, inputs_in, all_from)
 
 -- and ready where it has no event
 pub unhindered_ready : (run : Run) (history : History) → IsSound run.graph → (d : ℕ)
@@ -111,7 +77,7 @@ blocked_by_twin run history sound d t idle free has still none =
     state_by run history sound d Idle idle
     ∙ rw (
       free,
-      none_passes (λ u. is_done (f u)) twins none,
+      none_from (λ u. is_done (f u)) twins none,
       any_passes (λ u. is_open (f u)) twins t has still,
     ) refl
 
