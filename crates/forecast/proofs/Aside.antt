@@ -1,13 +1,10 @@
 -- What the state of a derivation follows from, its own events aside.
-use Rattle.std.proofs.Common.{◌≡◌, ℕ, true, List, [], ◌∷◌, None, refl, rules}
-use Rattle.std.specs.Prelude.{Contains, find}
-use Rattle.std.specs.List.{list_all}
-use Rattle.nix_names.proofs.Lists.{Contains-first, Contains-later}
-use Rattle.sched_core.specs.States.{IsInOrder, Phase, Rows, by_hindrance, by_inputs, by_phase, by_twins, by_validity, is_bad, is_done, is_good, is_open, state, table}
+use Rattle.std.proofs.Common.{◌≡◌, ℕ, List, refl, rules}
+use Rattle.std.specs.Prelude.{Contains}
+use Rattle.sched_core.specs.States.{IsInOrder, Phase, Rows, by_hindrance, by_inputs, by_phase, by_twins, by_validity, is_done, is_open, state, table}
 use Rattle.sched_core.specs.declared.reason.State.{State}
 use Rattle.sched_core.specs.declared.standing.Standing.{Standing}
 use Rattle.sched_core.specs.declared.standing.Standing.TheVariants.{AllValid, Hindered, Free}
-use Rattle.sched_core.proofs.ClosedStates.{good_not_bad}
 use Rattle.sched_core.proofs.StateLaws.{all_same, any_same, find_same, states_agree}
 
 -- by its standing, its earlier twins and its inputs, in these states

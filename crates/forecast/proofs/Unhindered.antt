@@ -1,13 +1,11 @@
 -- A derivation that has begun was wanted, and nothing has come in its way since.
-use Rattle.std.proofs.Common.{◌≡◌, ◌∙◌, ◌⊎◌, ℕ, Bool, true, false, List, [], ◌∷◌, ◌++◌, refl, sym, ap, subst, ⊎_elim, if◌then◌else◌, rules}
+use Rattle.std.proofs.Common.{◌≡◌, ◌∙◌, ◌⊎◌, ℕ, true, List, [], ◌∷◌, ◌++◌, refl, sym, ap, subst, ⊎_elim, rules}
 use Rattle.std.specs.Prelude.{Contains, find}
 use Rattle.std.specs.List.{list_all, list_any}
-use Rattle.std.proofs.Math.Dec.{eqb}
-use Rattle.nix_names.proofs.Lists.{either_side}
 use Rattle.drv_graph.specs.SoundGraphs.{IsSound}
 use Rattle.sched_core.specs.Legal.{IsLegal, begins, legal_begin, legal_done, legal_fail, legal_opening}
 use Rattle.sched_core.specs.Runs.{History, Run, rows_of, state_in}
-use Rattle.sched_core.specs.States.{Begun, Broken, Ended, Idle, Phase, Rows, by_inputs, is_bad, is_done, is_good, is_open, phase_by, phase_of, state}
+use Rattle.sched_core.specs.States.{Begun, Idle, Phase, Rows, by_inputs, is_bad, is_done, is_good, is_open, phase_of, state}
 use Rattle.sched_core.specs.declared.reason.Event.{Event}
 use Rattle.sched_core.specs.declared.reason.Event.TheVariants.{Begin, Done as Finish, Fail}
 use Rattle.sched_core.specs.declared.reason.State.TheVariants.{Ready}
@@ -16,7 +14,7 @@ use Rattle.sched_core.proofs.ClosedStates.{bad_is_closed, bad_is_not_done, close
 use Rattle.sched_core.proofs.EarlierTwins.{run_twins}
 use Rattle.sched_core.proofs.NearestTwins.{none_from, ready_ended}
 use Rattle.sched_core.proofs.PlanInputs.{rows_in_order}
-use Rattle.sched_core.proofs.Seeds.{all_good, phase_push, ready_by, same_number}
+use Rattle.sched_core.proofs.Seeds.{all_good, ready_by}
 use Rattle.sched_core.proofs.Tests.{list_all_has}
 use Rattle.forecast.proofs.Aside.{aside, state_aside}
 use Rattle.sched_core.proofs.OtherEvents.{number_of, same_or_other, phase_other, begun_not_idle}

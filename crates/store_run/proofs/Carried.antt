@@ -3,7 +3,6 @@
 use Rattle.std.proofs.Common.{◌≡◌, inl, inr, ℕ, List, [], ◌∷◌, ◌++◌, refl, subst, ⊎_elim, rules}
 use Rattle.std.specs.Prelude.{Contains}
 use Rattle.std.proofs.lemmas.List.Elements.{Contains-append_left}
-use Rattle.nix_names.proofs.Lists.{Contains-map}
 use Rattle.valid_table.specs.Closure.{LeadsByReferences, Reaches}
 use Rattle.valid_table.specs.PathInfos.{PathInfo}
 use Rattle.valid_table.specs.Valid.{AreReferencesValid, IsOnce, IsValid, Registers}

@@ -1,10 +1,8 @@
 -- What a told history says of each derivation that has an event.
 use Rattle.std.proofs.Common.{◌≡◌, ◌∙◌, ◌⊎◌, inl, inr, ◌<◌, ℕ, Bool, true, false, List, [], ◌∷◌, ◌++◌, length, Result, Ok, Err, Some, refl, sym, ap, subst, ⊎_elim, append_assoc, rules}
-use Rattle.std.specs.Prelude.{Contains, slice_get, if◌then◌else◌}
-use Rattle.std.proofs.Math.Dec.{eqb}
+use Rattle.std.specs.Prelude.{Contains, slice_get}
 use Rattle.std.proofs.lemmas.List.{append-nil}
 use Rattle.std.proofs.lemmas.List.Elements.{All-contains, Contains-append_cases, Contains-append_left, Contains-append_right}
-use Rattle.nix_names.proofs.Lists.{either_side}
 use Rattle.nix_drv.proofs.Fixed.{eqb_same}
 use Rattle.drv_graph.specs.Nodes.{Node}
 use Rattle.drv_graph.specs.PlanNodes.{output_paths_of}
@@ -20,20 +18,18 @@ use Rattle.sched_core.specs.Headline.{AreDrvPaths}
 use Rattle.sched_core.specs.Jobs.{seeds_of}
 use Rattle.sched_core.specs.Legal.{IsEntryOf, IsLegal, begins, begun, ended, failed}
 use Rattle.sched_core.specs.Runs.{History, IsWanted, Run, earlier_twins, rows_of, standing_at, state_in}
-use Rattle.sched_core.specs.States.{Phase, Idle, Begun, Ended, Broken, is_bad, is_good, is_open, phase_by, phase_of, state}
+use Rattle.sched_core.specs.States.{Phase, Idle, Begun, Ended, Broken, is_bad, is_good, is_open, phase_of, state}
 use Rattle.sched_core.specs.declared.job.Answer.{Answer}
 use Rattle.sched_core.specs.declared.job.Job.{Job}
 use Rattle.sched_core.specs.declared.reason.Event.{Event}
 use Rattle.sched_core.specs.declared.reason.Event.TheVariants.{Begin, Done as Finish, Fail}
 use Rattle.sched_core.specs.declared.reason.Reason.{Reason}
-use Rattle.sched_core.specs.declared.reason.State.{State}
-use Rattle.sched_core.specs.declared.reason.State.TheVariants.{Blocked, Building, Done, Failed, Ready, Refused, Reused}
 use Rattle.sched_core.proofs.ClosedStates.{bad_is_closed, states_stay, good_is_closed}
 use Rattle.sched_core.proofs.Dones.{registered_output}
 use Rattle.sched_core.proofs.Histories.{ready_is_idle}
 use Rattle.sched_core.proofs.Permitting.{begun_event}
 use Rattle.sched_core.proofs.Registering.{entries_are_journal}
-use Rattle.sched_core.proofs.Seeds.{phase_push, same_number, seeds_are_valid}
+use Rattle.sched_core.proofs.Seeds.{phase_push, seeds_are_valid}
 use Rattle.store_run.specs.Builders.{IsVerdictBehind}
 use Rattle.store_run.proofs.ToldRuns.{IsTold, told_begin, told_done, told_fail, told_opening}
 use Rattle.store_run.proofs.Unhindered.{IsGoodBy, IsUnhindered, good_ended, good_is, good_reused, good_twin, is_good_by, ready_unhindered, state_by}

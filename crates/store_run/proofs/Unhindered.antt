@@ -1,22 +1,21 @@
 -- What the state of a derivation follows from, in a history of a run.
-use Rattle.std.proofs.Common.{◌≡◌, ◌∙◌, ℕ, Bool, true, false, List, [], ◌∷◌, Option, Some, None, refl, sym, ap, if◌then◌else◌, rules}
+use Rattle.std.proofs.Common.{◌≡◌, ◌∙◌, ℕ, Bool, true, false, List, Option, Some, None, refl, sym, ap, if◌then◌else◌, rules}
 use Rattle.std.specs.Prelude.{Contains, find, slice_get}
 use Rattle.std.specs.List.{list_all, list_any}
 use Rattle.drv_graph.specs.SoundGraphs.{IsSound}
 use Rattle.sched_core.specs.Runs.{History, Run, earlier_twins, inputs_at, rows_of, standing_at, state_in}
 use Rattle.sched_core.specs.States.{Phase, Idle, Begun, Ended, Broken, by_first, by_hindrance, by_inputs, by_phase, by_twins, by_validity, is_bad, is_done, is_good, is_open, phase_of, table}
 use Rattle.sched_core.specs.declared.reason.State.{State}
-use Rattle.sched_core.specs.declared.reason.State.TheVariants.{Blocked, Building, Done, Failed, Ready, Refused, Reused}
+use Rattle.sched_core.specs.declared.reason.State.TheVariants.{Blocked, Ready, Reused}
 use Rattle.sched_core.specs.declared.standing.Standing.{Standing}
 use Rattle.sched_core.specs.declared.standing.Standing.TheVariants.{AllValid, Hindered, Free}
-use Rattle.sched_core.proofs.ClosedStates.{bad_is_closed, bad_is_not_done, good_not_bad, all_from, none_bad}
+use Rattle.sched_core.proofs.ClosedStates.{bad_is_closed, bad_is_not_done, all_from, none_bad}
 use Rattle.sched_core.proofs.EarlierTwins.{run_twins}
 use Rattle.sched_core.proofs.NearestTwins.{ready_ended, none_from}
 use Rattle.sched_core.proofs.PlanInputs.{rows_in_order}
 use Rattle.sched_core.proofs.Seeds.{all_good, done_is_ended, ready_by}
 use Rattle.sched_core.proofs.Tests.{any_passes, list_all_has, one_passes}
 use Rattle.sched_core.proofs.StateLaws.{all_same, any_same, find_same, states_agree}
-use Rattle.nix_names.proofs.Lists.{Contains-first, Contains-later}
 use Rattle.valid_table.specs.declared.entry.Entry.{Entry}
 
 -- the numbers of a derivation's inputs
