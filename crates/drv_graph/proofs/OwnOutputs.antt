@@ -1,7 +1,7 @@
 -- A plan's derivations stand at the paths of derivations' files, and none has one path for two
 -- outputs: their names differ.
 use Rattle.std.proofs.Common.{◌≡◌, ◌∙◌, ℕ, Bool, true, false, List, [], ◌∷◌, ◌++◌, length, map, refl, sym, ap, nat_eq, arith, Ok, rules}
-use Rattle.std.specs.Prelude.{All, Contains, codes}
+use Rattle.std.specs.Prelude.{All, Contains, codes, if◌then◌else◌}
 use Rattle.std.specs.Cmp.Lexicographic.{pointwise}
 use Rattle.std.specs.List.{AllByRecursion, IsDistinct}
 use Rattle.std.proofs.lemmas.List.{append_cancel_left, length-append}
@@ -40,14 +40,19 @@ one_output name a b same = by (pointwise nat_eq a (codes "out")) (pointwise nat_
     refl refl
   where
     chosen : Bool → List ℕ → List ℕ
-    chosen is_out output = search rules
+    chosen is_out output = if is_out then name else name ++ codes "-" ++ output
 
     by : (x y : Bool) → pointwise nat_eq a (codes "out") ≡ x → pointwise nat_eq b (codes "out") ≡ y
         → a ≡ b
-    by true true e f = search (rules, equal_from_eq)
-    by true false e f = search (rules, no_more, chosen)
-    by false true e f = search (rules, no_more, chosen)
-    by false false e f = search (rules, chosen, append_cancel_left)
+    by true true e f = equal_from_eq a (codes "out") e ∙ sym (equal_from_eq b (codes "out") f)
+    by true false e f =
+        absurd (no_more name b (sym (ap (λ t. chosen t a) e) ∙ same ∙ ap (λ t. chosen t b) f))
+    by false true e f =
+        absurd (no_more name a (sym (ap (λ t. chosen t b) f) ∙ sym same ∙ ap (λ t. chosen t a) e))
+    by false false e f =
+        let whole : name ++ codes "-" ++ a ≡ name ++ codes "-" ++ b = sym (ap (λ t. chosen t a) e)
+        ∙ same ∙ ap (λ t. chosen t b) f in
+        append_cancel_left (name ++ codes "-") a b whole
 
 -- a store path has its name
 name_of_store_path : (kind inner dir name : List ℕ) → is_name name ≡ true
