@@ -1,12 +1,11 @@
 -- What a command line asks for: the subcommand that `clap` finds, and its words and options, with
 -- the default values of options that aren't given (the documentation of clap 4, `ArgMatches`).
-use Rattle.std.specs.Prelude.{◌≡◌, Bool, false, ℕ, List, [], Option, Some, None, codes, map, option_map}
+use Rattle.std.specs.Prelude.{◌≡◌, ◌≤◌, Bool, false, ℕ, List, [], Option, Some, None, codes, map, option_map}
 use Rattle.std.specs.Prelude.{unwrap_or}
 use Rattle.std.specs.Str.Parse.{IsNumeral, digits_value, without_leading_plus}
 use Rattle.clap.specs.Words.{Row, all_of, first_of, subcommand_of}
 use Rattle.nix_names.specs.Bytes.{Bytes, Dir, Name}
 use Rattle.nix_names.specs.Names.{same_bytes}
-use Rattle.sched_core.specs.Workers.{AreWorkers}
 use Rattle.command_line.specs.CommandLine.{command_line}
 use Rattle.command_line.specs.declared.options.AddDrvRequest.{AddDrvRequest}
 use Rattle.command_line.specs.declared.options.AddTextRequest.{AddTextRequest}
@@ -53,9 +52,13 @@ IsNumber text number =
     let digits : Bytes = without_leading_plus text in
     IsNumeral 10 digits × (number ≡ digits_value 10 digits)
 
--- the text is this number of builders, from 1 to 64
+-- a number of builders is from 1 to 64 (this product's own)
+abbrev pub IsJobCount : ℕ → Type 0
+IsJobCount number = (1 ≤ number) × (number ≤ 64)
+
+-- the text is this number of builders
 abbrev pub AreJobs : (text : Bytes) → ℕ → Type 0
-AreJobs text number = IsNumber text number × AreWorkers number
+AreJobs text number = IsNumber text number × IsJobCount number
 
 -- what is asked of `check`
 pub record IsCheckRequest (rows : List Row) (request : CheckRequest) : Type 0 where

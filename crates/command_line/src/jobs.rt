@@ -1,7 +1,6 @@
 //! How many workers a command line asks for.
 ghost use Rattle.std.specs.Prelude.{◌≡◌, MatchOption, ℕ};
-ghost use Rattle.sched_core.specs.Workers.{AreWorkers};
-ghost use Rattle.command_line.specs.Requests.{AreJobs};
+ghost use Rattle.command_line.specs.Requests.{AreJobs, IsJobCount};
 
 use std::marker::Model;
 
@@ -18,9 +17,9 @@ impl Model for Jobs {
 
     ghost view = { λ jobs. jobs.count };
 
-    ghost use Rattle.sched_core.specs.Workers.{AreWorkers};
+    ghost use Rattle.command_line.specs.Requests.{IsJobCount};
 
-    ghost invariant = { λ jobs. AreWorkers jobs.count };
+    ghost invariant = { λ jobs. IsJobCount jobs.count };
 }
 
 impl Jobs {
@@ -38,8 +37,8 @@ impl Jobs {
 
     // The number of workers, if it is from 1 to 64.
     fn new(count: u8) -> Option<Jobs>
-        ensures { MatchOption result (AreWorkers count → ⊥)
-            (λ jobs. (jobs ≡ count) × AreWorkers count) }
+        ensures { MatchOption result (IsJobCount count → ⊥)
+            (λ jobs. (jobs ≡ count) × IsJobCount count) }
     {
         if count == 0 || count > 64 {
             return None;
@@ -50,7 +49,7 @@ impl Jobs {
     /// The number itself.
     pub fn count(&self) -> u8
         ensures value { result ≡ self.now }
-        ensures workers { AreWorkers result }
+        ensures workers { IsJobCount result }
     {
         self.count
     }

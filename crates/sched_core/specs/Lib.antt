@@ -18,7 +18,6 @@ pub mod Users
 pub mod VerdictLaws
 pub mod Verdicts
 pub mod Words
-pub mod Workers
 -- What only private contracts and proofs cite.
 pub mod Agendas
 pub mod Booking

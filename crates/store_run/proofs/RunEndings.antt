@@ -7,13 +7,13 @@ use Rattle.drv_graph.specs.Plans.{Graph}
 use Rattle.valid_table.specs.declared.entry.Entry.{Entry}
 use Rattle.sched_core.specs.Books.{Ledger}
 use Rattle.sched_core.specs.Legal.{IsLegal}
-use Rattle.sched_core.specs.Workers.{AreWorkers}
 use Rattle.sched_core.specs.declared.fault.BookFault.{BookFault}
 use Rattle.sched_core.specs.declared.job.Answer.{Answer}
 use Rattle.sched_core.specs.declared.job.Job.{Job}
 use Rattle.sched_core.specs.declared.reason.Reason.{Reason}
 use Rattle.store_run.specs.Builders.{IsAnswered}
 use Rattle.store_run.specs.Realising.{IsCutOff, IsHandedOut, IsRealised, IsRun, IsRunEndFault, IsRunFault}
+use Rattle.store_run.specs.Workers.{AreWorkers}
 use Rattle.store_run.specs.declared.fault.RunFault.{RunFault}
 use Rattle.store_run.specs.declared.fault.RunFault.TheVariants.{ForeignPlan, NoMemory, NoView, NoWorkers, ThreadFault}
 

@@ -8,6 +8,7 @@ pub mod SameOutcomes
 pub mod ScheduleExample
 pub mod Scheduling
 pub mod TwinExample
+pub mod Workers
 -- What only private contracts and proofs cite.
 pub mod Finding
 pub mod Sharing

@@ -2,9 +2,9 @@
 ghost use Rattle.std.specs.Prelude.{◌≡◌, ◌⊎◌, IfErr, IfOk, vec_len};
 ghost use Rattle.sched_core.specs.Books.{opened};
 ghost use Rattle.sched_core.specs.Legal.{IsLegal};
-ghost use Rattle.sched_core.specs.Workers.{AreWorkers};
 ghost use Rattle.store_run.specs.Builders.{IsAnswered};
 ghost use Rattle.store_run.specs.Realising.{IsOverLent, IsRealised, IsRun, IsRunEnd, IsRunFault};
+ghost use Rattle.store_run.specs.Workers.{AreWorkers};
 ghost use Rattle.store_run.specs.declared.fault.RunFault.TheVariants.{NoMemory, NoView};
 
 use crate::fault::RunFault;

@@ -1,6 +1,6 @@
 use Rattle.std.proofs.Common.{◌∙◌, ◌≤◌, subst, sym, vec_len}
-use Rattle.sched_core.specs.Workers.{AreWorkers}
 use Rattle.store_run.specs.Builders.{answered_opening}
+use Rattle.store_run.specs.Workers.{AreWorkers}
 use Rattle.store_run.proofs.RunEndings.{are_workers, was_cut_off, went_to_its_end}
 use Rattle.store_run.proofs.run.realise.Given.{Over}
 use Rattle.store_run.proofs.run.realise.Goals as goal
